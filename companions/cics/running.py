@@ -1,20 +1,22 @@
 """Runs programs for the checks of the folder of examples, in which a check is when it has imported this."""
 import glob
 import os
+import re
 import resource
 import sys
 
 from cics.child import (ANSWERED, BYTES, CLOCK, CLOCK_SET, SECONDS, TOP, Ended, Overdue, Session, ends_in_time, executable, is_of_page,
                         lines_of, read, run)
+from cics.turned import answered, is_look_in, plain_of
 
-__all__ = ["ANSWERED", "CLOCK", "CLOCK_SET", "FOLDER", "GIVEN", "OF_CICSLOOK", "SECONDS", "Ended", "Overdue", "Session", "actions", "built",
-           "ends_in_time", "examples", "executable", "has_looks", "is_of_page", "lessons", "lines_of", "looks", "program", "read",
-           "reported_of", "run", "transcript_of", "wanted"]
+__all__ = ["ANSWERED", "CLOCK", "CLOCK_SET", "FAULT", "FOLDER", "GIVEN", "SECONDS", "Ended", "Overdue", "Session", "actions",
+           "answered", "built", "cicslook", "ends_in_time", "examples", "executable", "has_looks", "is_look_in", "is_of_page", "lessons",
+           "lines_in", "lines_of", "looks", "plain", "plain_of", "program", "read", "reported_of", "run", "text_of", "transcript_of",
+           "wanted"]
 
 FOLDER = os.path.join(TOP, "examples")
 GIVEN = [os.path.abspath(word) for word in sys.argv[1:] if not word.startswith("--")]
-OF_CICSLOOK = {"RUN", "QUEUES", "QUEUE", "PROGRAMS", "TASKS", "RESOURCES", "COMMAND", "TASK", "AREAS", "STORAGE", "ABEND", "SYMBOL", "SYMBOLS",
-               "XREF", "FAULTS"}
+FAULT = re.compile(rb"(cicsedf: line )([0-9]+)(.*)", re.S)
 
 os.chdir(FOLDER)
 resource.setrlimit(resource.RLIMIT_FSIZE, (BYTES, resource.getrlimit(resource.RLIMIT_FSIZE)[1]))
@@ -30,6 +32,11 @@ def program(crate: str = "cicsedf") -> str:
     return executable(GIVEN[0]) if GIVEN else built(crate)
 
 
+def cicslook() -> str:
+    """The second program that was given, or else `cicslook`."""
+    return executable(GIVEN[1]) if GIVEN[1:] else built("cicslook")
+
+
 def examples() -> list[str]:
     """The names of all examples."""
     patterns = ("*.script", "cases/*.script", "sources/*.script")
@@ -37,26 +44,27 @@ def examples() -> list[str]:
     return names or sys.exit(f"no example stands in {FOLDER}")
 
 
+def lines_in(name: str) -> list[str]:
+    """The lines of an example's script."""
+    return lines_of(read(f"{name}.script").decode())
+
+
+def text_of(lines: list[str]) -> bytes:
+    return "".join(f"{line}\n" for line in lines).encode()
+
+
 def has_looks(name: str) -> bool:
     """Whether an example has a look or RUN outside its blocks: it is a script of `cicslook` alone."""
-    is_inside = False
-    for line in lines_of(read(f"{name}.script").decode()):
-        word = line.split(" ")[0]
-        if not is_inside and word in OF_CICSLOOK:
-            return True
-        is_inside = line != "/*" and (is_inside or word in ("IMAGE", "SOURCE"))
-    return False
+    return is_look_in(lines_in(name))
 
 
-def lessons(*, with_looks: bool = False) -> list[str]:
-    """The names of the examples that are lessons, scripts of `cicsedf`, or those with looks. They are long, and what they do the
-    others do too: few checks take them."""
-    names = [path.removesuffix(".script") for path in sorted(glob.glob("lessons/*/*.script"))]
-    return [name for name in names if has_looks(name) == with_looks]
+def lessons() -> list[str]:
+    """The names of the examples that are lessons. They are long, and what they do the others do too: few checks take them."""
+    return [path.removesuffix(".script") for path in sorted(glob.glob("lessons/*/*.script"))]
 
 
 def looks() -> list[str]:
-    """The names of the examples with looks, which are scripts of `cicslook` alone; of lessons `lessons` has them."""
+    """The names of the examples that show looks, which are scripts of `cicslook` alone. Most lessons are such scripts too."""
     return [path.removesuffix(".script") for path in sorted(glob.glob("looks/*.script"))]
 
 
@@ -67,9 +75,20 @@ def wanted(name: str) -> Ended:
     return Ended(int(status or b"0"), read(f"{name}.transcript"), reported)
 
 
+def plain(name: str) -> tuple[bytes, Ended]:
+    """The script of an example as `cicsedf` runs it, without looks and with the turns of each RUN in its place, and how that run ends."""
+    due = wanted(name)
+    if not has_looks(name):
+        return read(f"{name}.script"), due
+    script, transcript, numbers = plain_of(lines_in(name), due.lines())
+    fault = FAULT.fullmatch(due.reported)
+    reported = b"%s%d%s" % (fault[1], numbers[int(fault[2]) - 1], fault[3]) if fault else due.reported
+    return text_of(script), Ended(due.status, text_of(transcript), reported)
+
+
 def actions(name: str) -> tuple[list[str], list[str]]:
     """The lines of an example without comments and empty lines: up to its first key, and from it on."""
-    lines = [line for line in lines_of(read(f"{name}.script").decode()) if line and not line.startswith("*")]
+    lines = [line for line in lines_in(name) if line and not line.startswith("*")]
     first = next(at for at, line in enumerate(lines) if line.startswith("KEY"))
     return lines[:first], lines[first:]
 
@@ -88,5 +107,5 @@ def reported_of(terminals: list[str], transcript: list[str]) -> list[str]:
 
 def transcript_of(lines: list[str]) -> list[str]:
     """The transcript of a script that must end well, as lines."""
-    ended = run([program()], "".join(f"{line}\n" for line in lines).encode())
+    ended = run([program()], text_of(lines))
     return ended.lines() if ended.is_well() else sys.exit(f"FAILED: {ended}")

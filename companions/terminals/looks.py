@@ -40,11 +40,13 @@ LONGEST = 4096  # bytes of one look
 HEAD, SHOWN = 80, 352  # of a working storage: what every program has, and what EDF's storage page shows
 IN_AREA, IN_FIELD = 64, 16  # bytes that are shown of each
 
-PLACE = re.compile(r"\b(NEXT|R14) ([0-9A-F]{6}) (?:PROGRAM )?([^ +]+)(?: OFFSET |\+)([0-9A-F]{6})(?: LINE (\d+))?")
+# Where a program is: at a level's last command, at the command that abended, at the next instruction.
+PLACES = [re.compile(r"^LEVEL \d\d PROGRAM (?P<program>\S+) R14 .* COMMAND LINE (?P<line>\d+)", re.M),
+          re.compile(r"^COMMAND .* LINE (?P<line>\d+)\nR14 \S+ (?P<program>[^ +]+)\+", re.M),
+          re.compile(r"\bNEXT \S+ (?P<program>[^ +]+)\+\S+ LINE (?P<line>\d+)")]
 LEVEL = re.compile(r"LEVEL \d\d PROGRAM (\S+) .*DFHEISTG (\S+) LENGTH (\S+) .*")
 SYMBOL = re.compile(r"SYMBOL '(\S+)' VALUE ([0-9A-F]{6}) SECTION '(\S+)' LENGTH (\d+) LINE (\d+)( AT \S+)?")
 AREA = re.compile(r"AREA ([0-9A-F]{6}) LENGTH ([0-9A-F]{6}) (GETMAIN|OTHER) OWNER .*")
-EXEC, LOADS_POINTER = re.compile(r"[A-Z0-9@#$]* +EXEC +CICS .*"), re.compile(r"\S+  58.0D048")  # what an EXEC with SET ends with
 Sources = Mapping[str, Sequence[str]]
 
 class Line(NamedTuple):
@@ -76,29 +78,22 @@ def here(name: str, has_task: bool, is_stopped: bool, is_abended: bool, sources:
     lines: list[Line] = []
     if has_task:
         task = yield from asked(f"TASK {name}")
-        lines = (yield from asked(f"COMMAND {name}")) + (yield from source_at(task, sources))
+        lines = (yield from asked(f"COMMAND {name}")) + source_at(task, sources)
         lines += (yield from left_out(name, task)) if is_stopped else []
     elif is_abended:
         lines = yield from asked(f"ABEND {name}")
-        lines = lines + (yield from source_at(lines, sources))
+        lines = lines + source_at(lines, sources)
     tasks = [] if is_stopped else (yield from asked("TASKS"))  # and of the terminals that have none only this one
     return lines + [line for line in tasks if not line.text.endswith(" NO TASK") or line.text.split()[0] == name]
 
-def source_at(lines: Sequence[Line], sources: Sources) -> Work:
-    """The source around the place that lines of a look have, its line bright; where they have R14, the line of the EXEC before."""
-    places = [found for found in (PLACE.search(line.text) for line in lines) if found]
-    at_commands = [found for found in places if found[1] == "R14"]
-    if not places or (at_commands or places)[-1][3] not in sources:
+def source_at(lines: Sequence[Line], sources: Sources) -> list[Line]:
+    """The source around the line of the last command that lines of a look have, or else of the next instruction; that line bright."""
+    text = "\n".join(line.text for line in lines)
+    found = next((places[-1] for places in (list(form.finditer(text)) for form in PLACES) if places), None)
+    if not found or found["program"] not in sources:
         return []
-    kind, address, program, offset, number = (at_commands or places)[-1].groups()
-    source, line = sources[program], int(number or 0)
-    if kind == "R14":
-        if not line:  # as at a literal: the place is before the next symbol, or at the source's end
-            symbols = [it for it in (yield from symbols_of(program)) if it[6] and it[2] >= offset]
-            line = min(((it[2], int(it[5])) for it in symbols), default=("", len(source) + 1))[1]
-        is_within = LOADS_POINTER.match((yield from asked(f"STORAGE {address} 4"))[0].text)
-        line = next((at for at in range(min(line - (not is_within), len(source)), 0, -1) if EXEC.match(source[at - 1])), 0)
-    around = range(max(1, line - AROUND), min(len(source), line + AROUND) + 1) if line else range(0)
+    source, line = sources[found["program"]], int(found["line"])
+    around = range(max(1, line - AROUND), min(len(source), line + AROUND) + 1)
     return [Line(f"{at:5} {source[at - 1]}", at == line) for at in around]
 
 def symbols_of(program: str) -> Work:

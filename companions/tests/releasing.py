@@ -32,8 +32,9 @@ class Command:
 
 
 COMMANDS = [
-    Command(["bin/cicsedf", f"{LESSON}.script"], f"{LESSON}.transcript"),
+    Command(["bin/cicslook", f"{LESSON}.script"], f"{LESSON}.transcript"),
     Command(["crates/cicslook/out/cicslook", f"{LESSON}.script"], f"{LESSON}.transcript"),
+    Command(["bin/cicsedf", "examples/return.script"], "examples/return.transcript"),
     Command(["companions/cics-adapt", "examples/adapt/stkbrws.asm"], has="BNH   SHOWPAGE"),
     Command(["companions/cics-check", "examples/lessons/changing/pgm7.asm"]),
     Command(["companions/cics-run", "examples/lessons/changing/pgm7.asm", "--tran", "TICK=PGM7", "--key", "TICK"], has="01|TICKET 00001"),

@@ -97,7 +97,7 @@ def a_look_at_a_stop() -> None:
         bright = [rows[at // 80] for at, attribute in terminal.attributes.items() if attribute == 0xF8 and at < 1760]
         expect("line", [re.sub(" +", " ", row).strip() for row in bright], ["6 EXEC CICS GETMAIN SET(9) LENGTH(=H'500') INITIMG(=C'*')"])
         expect_page_line(terminal, r"NAME +20 2000B0  00000000 .*")
-        expect_page_line(terminal, r"LEVEL 01 PROGRAM FLDS R14 01002E FLDS\+00002E LINE 00006 DFHEISTG 200060 LENGTH.*")
+        expect_page_line(terminal, r"LEVEL 01 PROGRAM FLDS R14 01002E FLDS\+00002E COMMAND LINE 00006 DFHEISTG 200060")
         expect("main", terminal.enter("", "CLEAR").rows(), main)
         terminal.enter().enter("", "PF14")
         expect_page_line(terminal, r"2001C0  00000000 .*")  # what is after the storage page's last line

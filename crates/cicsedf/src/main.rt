@@ -2,12 +2,17 @@
 #![tactic(auto)]
 
 use cx_script::edf_stage;
-use cx_script_main::start;
+use cx_script_main::{Machine, start};
 use std::process::ExitCode;
 
 /// The line on standard error where the words are refused.
 const USAGE: &str = "cicsedf: usage: cicsedf [FILE]";
 
 fn main(rt: HostRuntime) -> ExitCode {
-    start(&rt, edf_stage(rt.alloc()), USAGE)
+    start(
+        &mut Machine::new(&rt),
+        rt.alloc(),
+        edf_stage(rt.alloc()),
+        USAGE,
+    )
 }

@@ -2,12 +2,17 @@
 #![tactic(auto)]
 
 use cx_look_script::look_stage;
-use cx_script_main::start;
+use cx_script_main::{Machine, start};
 use std::process::ExitCode;
 
 /// The line on standard error where the words are refused.
 const USAGE: &str = "cicslook: usage: cicslook [FILE]";
 
 fn main(rt: HostRuntime) -> ExitCode {
-    start(&rt, look_stage(rt.alloc()), USAGE)
+    start(
+        &mut Machine::new(&rt),
+        rt.alloc(),
+        look_stage(rt.alloc()),
+        USAGE,
+    )
 }

@@ -13,12 +13,12 @@ use Rattle.cx_asm_expressions.specs.declared.faults.FaultKind.{FaultKind}
 use Rattle.cx_asm_expressions.specs.declared.faults.FaultKind.TheVariants.{BadOperand}
 use Rattle.cx_asm_pools.specs.Pools.{PlacedLiterals, OpenLiterals, cap, closed_pool, pool_extent}
 use Rattle.cx_asm_pass1.specs.Facts.Apart.{closing_apart, in_control, lengths_grow, section_ends, statement_stands}
-use Rattle.cx_asm_pass1.specs.Facts.Faults.{none_before}
+use Rattle.cx_asm_pass1.specs.Facts.Faults.{control_named, none_before}
 use Rattle.cx_asm_pass1.specs.Facts.StatementExtents.{lower_none}
 use Rattle.cx_asm_pass1.specs.declared.place.ControlSection.{ControlSection}
 use Rattle.cx_asm_pass1.specs.declared.place.LineFault.{LineFault}
 use Rattle.cx_asm_pass1.specs.Facts.Kept.{last_pool as last_reported, pool_among, pool_kept, pool_listed}
-use Rattle.cx_asm_pass1.specs.PassState.{PassState, next_state, after_line, at_start, control_after, fault_in, first_fault_after, is_control, literal_fault, name_fault, name_in, operation_fault, own_fault, pool_after, section_fault, state_after, extent_in, length_of_section, parts_in, place_in, role_in}
+use Rattle.cx_asm_pass1.specs.PassState.{PassState, next_state, after_line, at_start, named_control, fault_in, first_fault_after, is_control, literal_fault, name_fault, name_in, operation_fault, own_fault, pool_after, section_fault, state_after, extent_in, length_of_section, parts_in, place_in, role_in}
 use Rattle.cx_asm_pass1.specs.Laws.Apart.{Stands, section_length}
 use Rattle.cx_asm_pass1.specs.Layout.{extent_of}
 use Rattle.cx_asm_pass1.specs.Locations.{all_pools, last_pool_extent, final_state}
@@ -70,7 +70,7 @@ no_instruction : (section control : Option (List ℕ)) → control ≡ None → 
 no_instruction section None e f = outside section (unless_inside (is_control section None) f)
 no_instruction section (Some control) e f = cc
 
-no_pool_after : (role : Role) (name section control : Option (List ℕ)) (user : ℕ) (operands : List (List ℕ)) (pool : OpenLiterals) → control_after role name control ≡ None
+no_pool_after : (role : Role) (name section control : Option (List ℕ)) (user : ℕ) (operands : List (List ℕ)) (pool : OpenLiterals) → named_control role name control ≡ None
     → section_fault role name section control ≡ None → (control ≡ None → pool ≡ []) → pool_after role user operands pool ≡ []
 no_pool_after (Instruction size) name section control user operands pool e f h = absurd (no_instruction section control e f)
 no_pool_after Pool name section control user operands pool e f h = refl
@@ -89,7 +89,7 @@ no_pool_line : (line : ℕ) (stmt : Option Stmt) (state : PassState) → (after_
 unfolding next_state
 no_pool_line line None state e f h = h e f
 no_pool_line line (Some stmt) state e f h =
-    no_pool_after (role_in stmt) (name_in stmt) state.section state.control (length state.places) (parts_in stmt) state.pool f (section_sound line stmt state e) (h (none_before line stmt state e))
+    no_pool_after (role_in stmt) (name_in stmt) state.section state.control (length state.places) (parts_in stmt) state.pool (sym (control_named line stmt state e) ∙ f) (section_sound line stmt state e) (h (none_before line stmt state e))
 
 no_pool : (items : List Item) → (state_after items).fault ≡ None → (state_after items).control ≡ None → (state_after items).pool ≡ []
 no_pool [] e f = refl

@@ -85,11 +85,13 @@ abbrev pub first_found : List LineFault → List LineFault → List LineFault
 first_found [] later = later
 first_found (fault ∷ more) later = fault ∷ more
 
--- All faults for which a source is refused: those of the first pass that has any, and without one that of its size.
+-- those of the second pass, and without one that of its size
+abbrev pub later_faults : Source → List LineFault
+later_faults source = first_found (second_faults_of source) (size_faults (size_of source) (end_line source))
+
+-- all faults for which a source is refused: those of the first pass, and where it has none the later ones
 unfoldable pub assembly_faults : Source → List LineFault
-assembly_faults source =
-    let size = size_faults (size_of source) (end_line source) in
-    first_found (place_faults source) (first_found (second_faults_of source) size)
+assembly_faults source = first_found (place_faults source) (later_faults source)
 
 -- ---- the answer
 -- what a source is assembled to, or its first fault

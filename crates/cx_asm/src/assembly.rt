@@ -8,7 +8,7 @@ ghost use Rattle.cx_asm_pass1.specs.AllFaults.{place_faults};
 ghost use Rattle.cx_asm_pass1.specs.Locations.{IsPlaced, final_state};
 ghost use Rattle.cx_asm_pass2.specs.Whole.{whole_by};
 ghost use Rattle.cx_asm_pass2.specs.Statements.{end_of, placed_of, statements_of};
-ghost use Rattle.cx_asm.specs.Assembly.{Assembles, assembly_faults, assembly_of, end_line, entry_by, first_found, made_of, second_faults_of, section_of, size_faults, size_of, standing_of};
+ghost use Rattle.cx_asm.specs.Assembly.{Assembles, assembly_of, end_line, entry_by, later_faults, made_of, second_faults_of, section_of, size_faults, size_of, standing_of};
 
 use crate::faults::{AsmFault, fault_at};
 use crate::laws::what_stands_stands_apart;
@@ -291,8 +291,7 @@ fn placed_faults(
     places: &Places<'_>,
 ) -> Result<List<LineFault>, AllocError>
     requires { IsPlaced (final_state source.now) places.now }
-    ensures { let size = size_faults (size_of source.now) (end_line source.now) in
-        IfOk result (λ faults. faults ≡ first_found (second_faults_of source.now) size) }
+    ensures { IfOk result (λ faults. faults ≡ later_faults source.now) }
 {
     let placed = placed_lines(alloc, source, places.statements.as_slice())?;
     let statements = stated(alloc, placed.as_slice())?;
@@ -307,18 +306,20 @@ fn placed_faults(
     )
 }
 
-/// All faults for which `assemble` refuses a source; none where it is assembled.
+/// The faults of a source: those of the first pass, for which `assemble` refuses it; and, whatever these are, those of
+/// the second pass, and where that finds none TooLarge, if the control section is.
 ///
-/// They are those of the first pass; where that finds none those of the second, and where that finds none TooLarge, if
-/// the control section is. Of each line with a faulty statement the lowest fault of all its statements comes, in the
-/// order in which the lines' first faults are met. An error comes only where an allocation failed.
-#[tactic(auto, unfolding(crate::specs::Assembly::assembly_faults))]
-pub fn assembly_faults(alloc: Global, source: &Source) -> Result<List<LineFault>, AllocError>
-    ensures { IfOk result (λ faults. faults ≡ assembly_faults source.now) }
+/// Where the first pass finds none, `assemble` refuses the source for the first of the others; where there is none
+/// either, it is assembled. Of each line with a faulty statement a pass reports the lowest fault of all its statements, in
+/// the order in which the lines' first faults are met. An error comes only where an allocation failed.
+pub fn pass_faults(
+    alloc: Global,
+    source: &Source,
+) -> Result<(List<LineFault>, List<LineFault>), AllocError>
+    ensures first { IfOk result (λ both. both.0 ≡ place_faults source.now) }
+    ensures later { IfOk result (λ both. both.1 ≡ later_faults source.now) }
 {
-    let (places, faults) = place_with_faults(alloc, source)?;
-    if !faults.as_slice().is_empty() {
-        return Ok(faults);
-    }
-    placed_faults(alloc, source, &places)
+    let (places, first) = place_with_faults(alloc, source)?;
+    let later = placed_faults(alloc, source, &places)?;
+    Ok((first, later))
 }

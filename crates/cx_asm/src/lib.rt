@@ -9,6 +9,6 @@ mod listing;
 mod section;
 mod standing;
 
-pub use assembly::{Assembly, assemble, assembly_faults, disassembly};
+pub use assembly::{Assembly, assemble, disassembly, pass_faults};
 pub use faults::{AsmFault, fault_at};
 pub use listing::object_length;

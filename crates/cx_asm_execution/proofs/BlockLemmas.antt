@@ -156,7 +156,7 @@ goes_on : (line : ℕ) (piece : EibPiece) (state : PassState) (o : ℕ) → Fits
 unfolding next_state
 goes_on line piece state o fits within small begun =
     record {
-      section = rw (role_ds (option_map_or (λ (f : EibField). (eib_field f).name) piece.field []) (bytes_text piece.len)) begun.section;
+      section = rw (role_ds (option_map_or (λ (f : EibField). (eib_field f).name) piece.field []) (bytes_text piece.len), begun.section) refl;
       size = rw (laid_field piece state o fits within begun, begun.section, own_section, capped_same piece.len small) refl;
     }
 
@@ -174,7 +174,7 @@ field_stands : (line : ℕ) (f : EibField) (state : PassState) (o : ℕ) → Fit
 unfolding next_state
 field_stands line f state o fits within place begun sound =
     let piece : EibPiece = record { field = Some f; len = (eib_field f).len } in
-    let given : definitions_in (field piece) state None ≡ ((field_named f).name, field_value f) ∷ [] =
+    let given : definitions_in (field piece) state ≡ ((field_named f).name, field_value f) ∷ [] =
     rw (laid_field piece state o fits within begun, role_ds (eib_field f).name (bytes_text piece.len), (field_named f).is, begun.section, block_named.is, capped_same o within, place) refl in
     let unknown : state.symbols (field_named f).name ≡ None =
     none_known state.symbols (field_named f).name (field_value f) (ap (duplicate state.symbols) (sym given) ∙ (sound_statement line (field piece) state sound).definitions) in

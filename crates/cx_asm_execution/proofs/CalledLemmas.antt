@@ -31,11 +31,11 @@ use Rattle.cx_translate.specs.Expansion.{call, label, load, made_in, made_item, 
 use Rattle.cx_translate.specs.Sections.{lines}
 use Rattle.cx_base_commands.specs.Commands.{row_of as row_of_command}
 use Rattle.cx_asm_pass1.specs.Facts.Apart.{in_control, section_ends, statement_within}
-use Rattle.cx_asm_pass1.specs.Facts.Faults.{none_before, sound_statement}
+use Rattle.cx_asm_pass1.specs.Facts.Faults.{section_named, none_before, sound_statement}
 use Rattle.cx_asm_pass1.specs.Facts.Kept.{value_kept}
 use Rattle.cx_asm_pass1.specs.Facts.StatementExtents.{capped_same, capped_within}
 use Rattle.cx_asm_pass1.specs.Given.{duplicate, location_counter, place_value}
-use Rattle.cx_asm_pass1.specs.PassState.{PassState, next_state, definitions_in, is_control, state_after, extent_in, length_after, length_of_section, name_in, next_in, role_in, section_after, section_fault}
+use Rattle.cx_asm_pass1.specs.PassState.{PassState, next_state, definitions_in, is_control, state_after, extent_in, length_after, length_of_section, name_in, next_in, role_in, named_section, section_fault}
 use Rattle.cx_asm_pass1.specs.Layout.{align, fault_beyond, extent_of, extent_at}
 use Rattle.cx_asm_pass1.specs.Locations.{final_state}
 use Rattle.cx_asm_pass1.specs.declared.roles.Role.TheVariants as role
@@ -133,7 +133,7 @@ unfolding next_state
 name_value line name symbol before named sound =
     let state = state_after before in
     let value = place_value state.section (align 2 (next_in state)) 2 in
-    let given : definitions_in (ds name) state None ≡ (symbol, value) ∷ [] = rw (ds_at line name before sound, role_ds name (codes "0H"), named) refl in
+    let given : definitions_in (ds name) state ≡ (symbol, value) ∷ [] = rw (ds_at line name before sound, role_ds name (codes "0H"), named) refl in
     let unknown : state.symbols symbol ≡ None =
     none_known state.symbols symbol value (ap (duplicate state.symbols) (sym given) ∙ (sound_statement line (ds name) state sound).definitions) in
     rw (given, unknown, is_name-laws.refl symbol) refl
@@ -147,9 +147,10 @@ stands_within line stmt op state is sound = go (is_control state.section state.c
     go false e = absurd (cc)
 
 -- DS 0H stays in its section
-same_section : (line : ℕ) (name : List ℕ) (state : PassState) → (next_state line (ds name) state).section ≡ state.section
-unfolding next_state
-same_section line name state = ap (λ r. section_after r (name_in (ds name)) state.section) (role_ds name (codes "0H"))
+same_section : (line : ℕ) (name : List ℕ) (state : PassState) → (next_state line (ds name) state).fault ≡ None
+    → (next_state line (ds name) state).section ≡ state.section
+same_section line name state sound =
+    section_named line (ds name) state sound ∙ ap (λ r. named_section r (name_in (ds name)) state.section) (role_ds name (codes "0H"))
 
 aligned_even : (n : ℕ) → align 2 (align 2 n) ≡ align 2 n
 aligned_even n = omega arith
@@ -162,8 +163,8 @@ next_after line name before section e sound =
     let state = state_after before in
     let end = (extent_in (ds name) state).end in
     let lengths = length_after state.section end state.lengths in
-    let same : length_of_section (section_after (role_in (ds name)) (name_in (ds name)) state.section) lengths ≡ end =
-    ap (λ r. length_of_section (section_after r (name_in (ds name)) state.section) lengths) (role_ds name (codes "0H")) ∙ ap (λ s. length_of_section s lengths) e ∙ section_ends state end section e in
+    let same : length_of_section (next_state line (ds name) state).section lengths ≡ end =
+    ap (λ s. length_of_section s lengths) (same_section line name state sound ∙ e) ∙ section_ends state end section e in
     let place : end ≡ align 2 (next_in state) = ap (λ l. l.end) (ds_at line name before sound) in
     ap (λ n. align 2 (cap n)) same ∙ ap (align 2) (capped_same end (statement_within before line (ds name) sound) ∙ place) ∙ aligned_even (next_in state)
 
@@ -202,11 +203,11 @@ name_stands line name symbol more before s op named is sound = go state.section 
 
     go : (section : Option (List ℕ)) → state.section ≡ section → Placed all symbol (extent_in s after).offset
     go None e =
-        let none : after.section ≡ None = same_section line name state ∙ e in
+        let none : after.section ≡ None = same_section line name state first ∙ e in
         let no : is_control None after.control ≡ true = subst (λ k. is_control k after.control ≡ true) none within in
         absurd (cc)
     go (Some section) e =
-        let there : after.section ≡ Some section = same_section line name state ∙ e in
+        let there : after.section ≡ Some section = same_section line name state first ∙ e in
         let same : is_control after.section (state_after all).control ≡ true =
         control_same more (made_item line s ∷ made_item line (ds name) ∷ before) after.section (control_same (made_item line s ∷ []) (made_item line (ds name) ∷ before) after.section within) in
         let kept : (state_after all).control ≡ Some section = sym (in_control after.section (state_after all).control same) ∙ there in

@@ -105,7 +105,7 @@ goes_on : (line : ℕ) (f : EistgField) (operand : List ℕ) (state : PassState)
 unfolding next_state
 goes_on line f operand state fits begun =
     record {
-      section = rw (role_ds (eistg_field f).name operand) begun.section;
+      section = rw (role_ds (eistg_field f).name operand, begun.section) refl;
       size = rw (laid_field f operand state fits begun, begun.section, own_section) refl;
     }
 
@@ -116,7 +116,7 @@ field_known : (line : ℕ) (f : EistgField) (operand : List ℕ) (state : PassSt
     → (next_state line (field_stmt f operand) state).fault ≡ None → (next_state line (field_stmt f operand) state).symbols (field_named f).name ≡ Some (field_place f)
 unfolding next_state
 field_known line f operand state fits begun sound =
-    let given : definitions_in (field_stmt f operand) state None ≡ ((field_named f).name, field_place f) ∷ [] =
+    let given : definitions_in (field_stmt f operand) state ≡ ((field_named f).name, field_place f) ∷ [] =
     rw (laid_field f operand state fits begun, role_ds (eistg_field f).name operand, (field_named f).is, begun.section, fits.place) refl in
     let unknown : state.symbols (field_named f).name ≡ None =
     none_known state.symbols (field_named f).name (field_place f) (ap (duplicate state.symbols) (sym given) ∙ (sound_statement line (field_stmt f operand) state sound).definitions) in

@@ -1,5 +1,5 @@
 -- The statements of a source, the bases in use before each, and what each makes.
-use Rattle.std.specs.Prelude.{option_and_then, option_map, reverse, Result, Err, unwrap_or}
+use Rattle.std.specs.Prelude.{is_some, option_and_then, option_map, reverse, Result, Err, unwrap_or}
 use Rattle.std.specs.Option.{option_map_or, option_zip}
 use Rattle.std.proofs.Common.{◌≡◌, ◌≤◌, ℕ, suc, ◌+◌, ◌-◌, ◌*◌, ◌/◌, ◌%◌, Bool, true, false, cond, Option, Some, None, Ok, List, [], ◌∷◌, ◌++◌, length, refl, sym, ◌∙◌, ap, subst, arith}
 use Rattle.std.specs.List.{AllByRecursion, cons_option}
@@ -28,7 +28,7 @@ use Rattle.cx_asm_operations.specs.declared.operations.Directive.TheVariants as 
 use Rattle.cx_asm_pass1.specs.Roles.{directive_role, role_of}
 use Rattle.cx_asm_pass1.specs.Facts.Apart.{statement_stands, statement_within, section_ends}
 use Rattle.cx_asm_pass1.specs.Facts.StatementExtents.{capped_same, lower_none}
-use Rattle.cx_asm_pass1.specs.PassState.{PassState, next_state, after_line, is_control, section_after, length_after, length_of_section, state_after, extent_in, next_in, parts_in, place_in, role_in, section_fault, name_in}
+use Rattle.cx_asm_pass1.specs.PassState.{PassState, next_state, after_line, is_control, control_or_blank, section_after, length_after, length_of_section, state_after, extent_in, next_in, parts_in, place_in, role_in, section_fault, name_in}
 use Rattle.cx_asm_pass1.specs.Layout.{align, extent_of}
 use Rattle.cx_asm_pass1.specs.Laws.Apart.{Stands, section_length}
 use Rattle.cx_asm_pass1.specs.Locations.{final_state}
@@ -231,8 +231,10 @@ next_is : (line : ℕ) (stmt : Stmt) (op : Op) (state : PassState) → role_in s
     → next_in (next_state line stmt state) ≡ (extent_in stmt state).end
 unfolding next_state
 next_is line stmt op state is within small =
-    let same : length_of_section (section_after (role_in stmt) (name_in stmt) state.section) (length_after state.section (extent_in stmt state).end state.lengths) ≡ (extent_in stmt state).end =
-    ap (λ r. length_of_section (section_after r (name_in stmt) state.section) (length_after state.section (extent_in stmt state).end state.lengths)) is
+    let lengths = length_after state.section (extent_in stmt state).end state.lengths in
+    let same : length_of_section (section_after (role_in stmt) (name_in stmt) state.section state.control) lengths ≡ (extent_in stmt state).end =
+    ap (λ r. length_of_section (section_after r (name_in stmt) state.section state.control) lengths) is
+    ∙ ap (λ b. length_of_section (cond (is_some (cond b None (Some BadOperand))) (control_or_blank state.control) state.section) lengths) within
     ∙ section_end state (extent_in stmt state).end state.section refl within in
     ap cap same ∙ capped_same (extent_in stmt state).end small
 

@@ -23,10 +23,11 @@ use Rattle.cx_asm_expressions.specs.declared.faults.FaultKind.{FaultKind}
 use Rattle.cx_asm_expressions.specs.declared.kinds.ConstantKind.TheVariants.{Hexadecimal}
 use Rattle.cx_asm_expressions.specs.declared.values.Value.{Value}
 use Rattle.cx_asm_pools.specs.Pools.{OpenLiterals, PlacedLiterals, cap, literal_text, part_fault, pool_extent, with_part, with_parts}
+use Rattle.cx_asm_pass1.specs.Facts.Faults.{control_named, section_named}
 use Rattle.cx_asm_pass1.specs.Facts.StatementExtents.{capped_same}
 use Rattle.cx_asm_pass1.specs.Given.{definitions, duplicate, value_given}
 use Rattle.cx_asm_pass1.specs.Layout.{align, extent_at, extent_of, items_at}
-use Rattle.cx_asm_pass1.specs.PassState.{PassState, control_after, duplicate_in, extent_in, fault_in, given_in, length_after, length_of_section, literal_fault, name_fault, name_in, next_in, next_state, operation_fault, own_fault, parts_in, place_in, pool_after, pools_after, role_in, section_after, section_fault}
+use Rattle.cx_asm_pass1.specs.PassState.{PassState, named_control, named_section, duplicate_in, extent_in, fault_in, given_in, length_after, length_of_section, literal_fault, name_fault, name_in, next_in, next_state, operation_fault, own_fault, parts_in, place_in, pool_after, pools_after, role_in, section_fault}
 use Rattle.cx_asm_pass1.specs.Roles.{role_of}
 use Rattle.cx_asm_pass1.specs.declared.place.Place.{Place}
 use Rattle.cx_asm_pass1.specs.declared.roles.Role.{Role}
@@ -98,7 +99,7 @@ IsMild (Storage is_ds) = ⊤
 IsMild Nothing = ⊤
 IsMild role = ⊥
 
-mild_section : (r : Role) → IsMild r → (name section : Option (List ℕ)) → section_after r name section ≡ section
+mild_section : (r : Role) → IsMild r → (name section : Option (List ℕ)) → named_section r name section ≡ section
 mild_section (Machine size) m name section = refl
 mild_section (Storage is_ds) m name section = refl
 mild_section Nothing m name section = refl
@@ -110,7 +111,7 @@ mild_section Pool m name section = absurd m
 mild_section Registers m name section = absurd m
 mild_section Member m name section = absurd m
 
-mild_control : (r : Role) → IsMild r → (name control : Option (List ℕ)) → control_after r name control ≡ control
+mild_control : (r : Role) → IsMild r → (name control : Option (List ℕ)) → named_control r name control ≡ control
 mild_control (Machine size) m name control = refl
 mild_control (Storage is_ds) m name control = refl
 mild_control Nothing m name control = refl
@@ -230,14 +231,17 @@ module _ (section operation operand : List ℕ) (at : ℕ) (state : PassState) (
   unfolding next_state
   mild_next line r m role uses offset end size items extent =
       let ends : (extent_in stmt state).end ≡ end = ap (λ k. k.end) extent in
+      let sound : (next_state line stmt state).fault ≡ None = rw (quiet r m role uses (ap (λ k. k.fault) extent), is.fault_is) refl in
       record {
-        section_is = ap (λ k. section_after k (name_in stmt) state.section) role ∙ mild_section r m (name_in stmt) state.section ∙ is.section_is;
-        control_is = ap (λ k. control_after k (name_in stmt) state.control) role ∙ mild_control r m (name_in stmt) state.control ∙ is.control_is;
+        section_is = section_named line stmt state sound ∙ ap (λ k. named_section k (name_in stmt) state.section) role
+            ∙ mild_section r m (name_in stmt) state.section ∙ is.section_is;
+        control_is = control_named line stmt state sound ∙ ap (λ k. named_control k (name_in stmt) state.control) role
+            ∙ mild_control r m (name_in stmt) state.control ∙ is.control_is;
         length_is = own ends;
         others = λ name differs. other name differs;
         pool_is = ap (λ k. pool_after k (length state.places) (parts_in stmt) state.pool) role ∙ mild_pool r m (length state.places) (parts_in stmt) state.pool uses ∙ is.pool_is;
         pools_is = ap (λ k. pools_after k (extent_in stmt state).offset state.pool state.pools) role ∙ mild_pools r m (extent_in stmt state).offset state.pool state.pools ∙ is.pools_is;
-        fault_is = rw (quiet r m role uses (ap (λ k. k.fault) extent), is.fault_is) refl;
+        fault_is = sound;
       }
     where
       own : (extent_in stmt state).end ≡ end → length_after state.section (extent_in stmt state).end state.lengths section ≡ end

@@ -1,12 +1,12 @@
 -- What is known once a statement was taken in.
 use Rattle.std.proofs.Common.{◌≡◌, ℕ, Option, List, [], ◌∷◌, ◌++◌, length, refl, ◌∙◌, ap}
 use Rattle.std.proofs.Math.Path.{fun_ext}
-use Rattle.std.specs.Prelude.{None, unwrap_or}
+use Rattle.std.specs.Prelude.{Some, pos, unwrap_or}
 use Rattle.std.specs.Option.{option_or}
 use Rattle.std.specs.Result.{result_ok}
 use Rattle.cx_source.specs.declared.source.Stmt.{Stmt}
 use Rattle.cx_asm_expressions.specs.Faults.{lower}
-use Rattle.cx_asm_expressions.specs.Symbols.{find_in}
+use Rattle.cx_asm_expressions.specs.Symbols.{absolute, find_in}
 use Rattle.cx_asm_expressions.specs.declared.faults.FaultKind.{FaultKind}
 use Rattle.cx_asm_expressions.specs.declared.values.Value.{Value}
 use Rattle.cx_asm_pools.specs.Pools.{OpenLiterals, PlacedLiterals}
@@ -30,10 +30,10 @@ same a b lengths symbols pool pools places fault other e1 e2 e3 e4 e5 e6 e7 e8 =
 
 pub taken : (line : ℕ) (stmt : Stmt) (state : PassState) (h : Heading) (l : Extent) (v : Option Value) (f : Option FaultKind) (ps : List (List ℕ))
     (user number : ℕ) (literals all : Option FaultKind) (listed : PassState)
-    → h ≡ heading_in stmt state → l ≡ extent_in stmt state → v ≡ unwrap_or (result_ok (given_in stmt state)) None → f ≡ own_fault stmt state → ps ≡ parts_in stmt
+    → h ≡ heading_in stmt state → l ≡ extent_in stmt state → v ≡ unwrap_or (result_ok (given_in stmt state)) (Some (absolute (pos 0))) → f ≡ own_fault stmt state → ps ≡ parts_in stmt
     → user ≡ length state.places → number ≡ length state.pools
-    → listed.section ≡ section_after h.role h.name h.section
-    → listed.control ≡ control_after h.role h.name h.control
+    → listed.section ≡ section_after h.role h.name h.section h.control
+    → listed.control ≡ control_after h.role h.name h.section h.control
     → ((n : List ℕ) → listed.lengths n ≡ length_after h.section l.end state.lengths n)
     → ((n : List ℕ) → listed.symbols n ≡ option_or (state.symbols n) (find_in (definitions h.role h.name h.control state.symbols stmt.operand v) n))
     → listed.pool ≡ pool_after h.role user ps state.pool
@@ -46,8 +46,8 @@ pub taken : (line : ℕ) (stmt : Stmt) (state : PassState) (h : Heading) (l : Ex
 unfolding next_state
 taken line stmt state h l v f ps user number literals all listed eh el ev ef eps eu en e1 e2 e3 e4 e5 e6 e7 elit eall e8 =
     same listed.section listed.control listed.lengths listed.symbols listed.pool listed.pools listed.places listed.fault (next_state line stmt state)
-    (e1 ∙ ap (λ (x : Heading). section_after x.role x.name x.section) eh)
-    (e2 ∙ ap (λ (x : Heading). control_after x.role x.name x.control) eh)
+    (e1 ∙ ap (λ (x : Heading). section_after x.role x.name x.section x.control) eh)
+    (e2 ∙ ap (λ (x : Heading). control_after x.role x.name x.section x.control) eh)
     (fun_ext (λ n. e3 n ∙ ap (λ (x : Heading). length_after x.section l.end state.lengths n) eh ∙ ap (λ (x : Extent). length_after state.section x.end state.lengths n) el))
     (fun_ext (λ n. e4 n ∙ ap (λ (x : Heading). option_or (state.symbols n) (find_in (definitions x.role x.name x.control state.symbols stmt.operand v) n)) eh
     ∙ ap (λ (x : Option Value). option_or (state.symbols n) (find_in (definitions (role_in stmt) (name_in stmt) state.control state.symbols stmt.operand x) n)) ev))

@@ -1,6 +1,6 @@
 -- What is known of a statement by those before it, the latest first (GC33-4010, "CSECT", "DSECT", "EQU", "LTORG" and
 -- "Literal Pool"; the faults are this product's own).
-use Rattle.std.specs.Prelude.{ℕ, Bool, false, ◌||◌, ◌==◌, if◌then◌else◌, Option, Some, None, option_and_then, option_map, Result, List, [], ◌∷◌, ◌++◌, length, is_none, is_some, map, unwrap_or, pos}
+use Rattle.std.specs.Prelude.{ℕ, Bool, true, false, ◌||◌, ◌==◌, if◌then◌else◌, Option, Some, None, option_and_then, option_map, Result, List, [], ◌∷◌, ◌++◌, length, is_none, is_some, map, unwrap_or, pos, replicate}
 use Rattle.std.specs.Option.{option_map_or, option_or}
 use Rattle.std.specs.Result.{result_err, result_ok}
 use Rattle.cx_asm_operations.specs.Operations.{operation_named}
@@ -71,10 +71,10 @@ extent_in stmt state = extent_of (role_in stmt) (parts_in stmt) (pool_extent sta
 abbrev pub given_in : Stmt → PassState → Result (Option Value) FaultKind
 given_in stmt state = value_given (role_in stmt) (name_in stmt) state.symbols state.section stmt.operand (extent_in stmt state)
 
--- what it defines; where its value is at fault, a different one stands for it
-abbrev pub definitions_in : Stmt → PassState → Option Value → Symbols
-definitions_in stmt state other =
-    let value = unwrap_or (result_ok (given_in stmt state)) other in
+-- what it defines; an absolute 0 stands for a value at fault
+abbrev pub definitions_in : Stmt → PassState → Symbols
+definitions_in stmt state =
+    let value = unwrap_or (result_ok (given_in stmt state)) (Some (absolute (pos 0))) in
     definitions (role_in stmt) (name_in stmt) state.control state.symbols stmt.operand value
 
 -- ---- what is wrong with it
@@ -117,9 +117,9 @@ literal_fault (Instruction size) user parts pool =
     lower (lowest (map part_fault parts)) (option_and_then fault_beyond (pool_extent (with_parts user pool parts)))
 literal_fault _ user parts pool = None
 
--- It defines a name again, whatever its value: where that is at fault, any stands for it.
+-- It defines a name again, whatever its value.
 abbrev pub duplicate_in : Stmt → PassState → Option FaultKind
-duplicate_in stmt state = duplicate state.symbols (definitions_in stmt state (Some (absolute (pos 0))))
+duplicate_in stmt state = duplicate state.symbols (definitions_in stmt state)
 
 -- all except the literals
 abbrev pub own_fault : Stmt → PassState → Option FaultKind
@@ -144,15 +144,32 @@ first_fault_after line fault (Some first) =
 
 -- ---- what else is known of the statement after it
 -- CSECT, START and DSECT begin or resume the section of their name.
-abbrev pub section_after : Role → Option (List ℕ) → Option (List ℕ) → Option (List ℕ)
-section_after Control (Some name) section = Some name
-section_after Dummy (Some name) section = Some name
-section_after _ name section = section
+abbrev pub named_section : Role → Option (List ℕ) → Option (List ℕ) → Option (List ℕ)
+named_section Control (Some name) section = Some name
+named_section Dummy (Some name) section = Some name
+named_section _ name section = section
 
 -- The first CSECT or START names the control section.
-abbrev pub control_after : Role → Option (List ℕ) → Option (List ℕ) → Option (List ℕ)
-control_after Control name None = name
-control_after _ name control = control
+abbrev pub named_control : Role → Option (List ℕ) → Option (List ℕ) → Option (List ℕ)
+named_control Control name None = name
+named_control _ name control = control
+
+-- It is astray: in a section where it isn't allowed, or a CSECT or START without a name.
+abbrev pub is_astray : Role → Option (List ℕ) → Option (List ℕ) → Option (List ℕ) → Bool
+is_astray Control None section control = true
+is_astray role name section control = is_some (section_fault role name section control)
+
+-- After what is astray the control section goes on; where there is none, one whose name is blank begins.
+abbrev pub control_or_blank : Option (List ℕ) → Option (List ℕ)
+control_or_blank control = option_or control (Some (replicate 8 64))
+
+abbrev pub section_after : Role → Option (List ℕ) → Option (List ℕ) → Option (List ℕ) → Option (List ℕ)
+section_after role name section control =
+    if is_astray role name section control then control_or_blank control else named_section role name section
+
+abbrev pub control_after : Role → Option (List ℕ) → Option (List ℕ) → Option (List ℕ) → Option (List ℕ)
+control_after role name section control =
+    if is_astray role name section control then control_or_blank control else named_control role name control
 
 -- An instruction uses its literals, and LTORG closes the pool.
 abbrev pub pool_after : Role → ℕ → List (List ℕ) → OpenLiterals → OpenLiterals
@@ -177,10 +194,10 @@ length_after section end lengths name = if stands_in name section then end else 
 unfoldable pub next_state : ℕ → Stmt → PassState → PassState
 next_state line stmt state =
     record {
-      section = section_after (role_in stmt) (name_in stmt) state.section;
-      control = control_after (role_in stmt) (name_in stmt) state.control;
+      section = section_after (role_in stmt) (name_in stmt) state.section state.control;
+      control = control_after (role_in stmt) (name_in stmt) state.section state.control;
       lengths = length_after state.section (extent_in stmt state).end state.lengths;
-      symbols = λ name. option_or (state.symbols name) (find_in (definitions_in stmt state None) name);
+      symbols = λ name. option_or (state.symbols name) (find_in (definitions_in stmt state) name);
       pool = pool_after (role_in stmt) (length state.places) (parts_in stmt) state.pool;
       pools = pools_after (role_in stmt) (extent_in stmt state).offset state.pool state.pools;
       places = state.places ++ place_in stmt state ∷ [];

@@ -1,6 +1,6 @@
 //! What is known of a statement before anything changes.
 
-ghost use Rattle.std.specs.Prelude.{◌≡◌, ◌≤◌, ◌+◌, map, IfOk, IfSome, None, OnOk, List, is_some, unwrap_or, ℕ, Some, pos};
+ghost use Rattle.std.specs.Prelude.{◌≡◌, ◌≤◌, ◌+◌, map, IfOk, IfSome, OnOk, List, unwrap_or, ℕ, Some, pos};
 ghost use Rattle.std.specs.Result.{result_ok};
 ghost use Rattle.std.specs.Option.{option_or};
 ghost use Rattle.cx_asm_expressions.specs.Digits.{bound};
@@ -52,35 +52,24 @@ pub(crate) fn value_or_fault(
     }
 }
 
-/// The value that is given, where it has no fault.
+/// The value that is given; an absolute 0 where it is at fault.
 pub(crate) fn value_in(given: &Result<Option<Value>, FaultKind>) -> Option<Value>
-    ensures { result ≡ unwrap_or (result_ok given.now) None }
+    ensures { result ≡ unwrap_or (result_ok given.now) (Some (absolute (pos 0))) }
 {
     match given {
         Ok(value) => *value,
-        Err(_) => None,
+        Err(_) => Some(Value::absolute(0)),
     }
 }
 
-/// Whether a value is given, even one at fault.
-fn gives_value(given: &Result<Option<Value>, FaultKind>) -> bool
-    ensures { result ≡ is_some (unwrap_or (result_ok given.now) (Some (absolute (pos 0)))) }
-{
-    match given {
-        Ok(value) => value.is_some(),
-        Err(_) => true,
-    }
-}
-
-/// Whether what a statement defines is defined, whatever its value.
+/// Whether what a statement defines is defined.
 pub(crate) fn duplicate(
     heading: &Heading,
     symbols: &SymbolTable,
     operand: &[u8],
-    given: &Result<Option<Value>, FaultKind>,
+    value: Option<Value>,
 ) -> Option<FaultKind>
     ensures { let h = heading.now in let find = find_in symbols.now in
-        let value = unwrap_or (result_ok given.now) (Some (absolute (pos 0))) in
         result ≡ duplicate find (definitions h.role h.name h.control find operand.now value) }
 {
     let is_known = match heading.role {
@@ -88,7 +77,7 @@ pub(crate) fn duplicate(
         Role::Member => operand == b"DFHAID".as_slice() && is_any_defined(symbols, &AIDS),
         _ => match heading.name {
             Some(name) => {
-                gives_value(given)
+                value.is_some()
                     && symbols.get(name).is_some()
                     && !resumes(heading.role, name, heading.control, symbols)
             }

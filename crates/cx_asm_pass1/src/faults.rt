@@ -3,7 +3,7 @@
 ghost use Rattle.std.specs.Prelude.{◌≡◌, ◌||◌, is_none, option_and_then};
 ghost use Rattle.cx_asm_pass1.specs.Layout.{fault_beyond};
 ghost use Rattle.cx_asm_expressions.specs.Faults.{lower};
-ghost use Rattle.cx_asm_pass1.specs.PassState.{bad_label, bad_name, first_fault_after, is_control, name_fault, operation_fault, section_fault};
+ghost use Rattle.cx_asm_pass1.specs.PassState.{bad_label, bad_name, first_fault_after, is_astray, is_control, name_fault, operation_fault, section_fault};
 
 use crate::given::stands_in;
 use crate::layout::beyond;
@@ -102,6 +102,16 @@ fn section_fault(heading: &Heading) -> Option<FaultKind>
         None
     } else {
         Some(FaultKind::BadOperand)
+    }
+}
+
+/// Whether a statement is where it isn't allowed, or a CSECT or START without a name.
+pub(crate) fn is_astray(heading: &Heading) -> bool
+    ensures { result ≡ is_astray heading.now.role heading.now.name heading.now.section heading.now.control }
+{
+    match (heading.role, heading.name) {
+        (Role::Control, None) => true,
+        _ => section_fault(heading).is_some(),
     }
 }
 

@@ -2,12 +2,12 @@
 
 ghost use Rattle.std.specs.Prelude.{◌≡◌, ◌≤◌, ◌+◌, [], List as Elements, ℕ, map, option_and_then, IfOk, OnOk};
 ghost use Rattle.cx_asm_expressions.specs.Digits.{bound};
-ghost use Rattle.cx_asm_pass1.specs.PassState.{next_state, after_line, at_start, control_after, fault_in, length_after, length_of_section, literal_fault, next_in, parts_in, pool_after, pools_after, section_after};
+ghost use Rattle.cx_asm_pass1.specs.PassState.{next_state, after_line, at_start, control_after, control_or_blank, fault_in, length_after, length_of_section, literal_fault, next_in, parts_in, pool_after, pools_after, section_after};
 ghost use Rattle.cx_asm_pass1.specs.Parts.Checking.{heading_in, checked_in};
 ghost use Rattle.cx_asm_pass1.specs.Parts.Passing.{state_of, length_in};
 
 use crate::checked::{Checked, define_all, duplicate, value_in, value_or_fault};
-use crate::faults::{Heading, extent_fault, first_fault_after, lowest_fault};
+use crate::faults::{Heading, extent_fault, first_fault_after, is_astray, lowest_fault};
 use crate::layout::Extent;
 use crate::place::{LineFault, Place};
 use crate::roles::Role;
@@ -17,6 +17,9 @@ use cx_ebcdic::Name8;
 use cx_source::{Delimiter, Item, Stmt, cut};
 use indexmap::IndexMap;
 use std::alloc::{AllocError, Global};
+
+/// The code of a blank.
+const BLANK: u8 = 0x40;
 
 /// What is known after the statements so far.
 #[derive(Drop)]
@@ -61,10 +64,23 @@ fn set_length(
     Ok(())
 }
 
+/// The control section, which goes on; or one whose name is blank, where there is none.
+fn control_or_blank(control: Option<Name8>) -> Option<Name8>
+    ensures { result ≡ control_or_blank control }
+{
+    match control {
+        Some(name) => Some(name),
+        None => Some(Name8::from_bytes([BLANK; 8])),
+    }
+}
+
 /// The section that the next statement is in.
 fn section_after(heading: &Heading) -> Option<Name8>
-    ensures { result ≡ section_after heading.now.role heading.now.name heading.now.section }
+    ensures { let h = heading.now in result ≡ section_after h.role h.name h.section h.control }
 {
+    if is_astray(heading) {
+        return control_or_blank(heading.control);
+    }
     match (heading.role, heading.name) {
         (Role::Control | Role::Dummy, Some(name)) => Some(name),
         _ => heading.section,
@@ -73,8 +89,11 @@ fn section_after(heading: &Heading) -> Option<Name8>
 
 /// The control section after a statement.
 fn control_after(heading: &Heading) -> Option<Name8>
-    ensures { result ≡ control_after heading.now.role heading.now.name heading.now.control }
+    ensures { let h = heading.now in result ≡ control_after h.role h.name h.section h.control }
 {
+    if is_astray(heading) {
+        return control_or_blank(heading.control);
+    }
     match (heading.role, heading.control) {
         (Role::Control, None) => heading.name,
         _ => heading.control,
@@ -168,7 +187,7 @@ impl<'a> Pass<'a> {
         let next = capped(length_of_section(heading.section, &self.lengths));
         let extent = Extent::of(alloc, heading.role, parts, self.pool.extent(), next)?;
         let given = value_or_fault(alloc, heading, &self.symbols, operand, &extent)?;
-        let twice = duplicate(heading, &self.symbols, operand, &given);
+        let twice = duplicate(heading, &self.symbols, operand, value_in(&given));
         let value = value_in(&given);
         let inner = lower(extent.fault, lower(given.err(), twice));
         let fault = lowest_fault(heading, stmt.name.as_slice(), inner);

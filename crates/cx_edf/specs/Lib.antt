@@ -4,7 +4,6 @@ pub mod Answers
 pub mod Sessions
 pub mod State
 pub mod Steps
-pub mod Causes
 pub mod Erasure
 pub mod Runs
 pub mod Laws

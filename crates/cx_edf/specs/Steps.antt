@@ -1,11 +1,13 @@
 -- One event under EDF (own).
-use Rattle.std.specs.Prelude.{◌≡◌, ℕ, List, Option, Some, None, is_some, ◌&&◌, not, unwrap_or, if◌then◌else◌}
+use Rattle.std.specs.Prelude.{◌≡◌, ℕ, List, Option, Some, None, is_some, ◌&&◌, not, unwrap_or, if◌then◌else◌, MatchBool}
 use Rattle.std.specs.Option.{option_map_or}
 use Rattle.cx_edf_display.specs.declared.displays.Display.{Display}
 use Rattle.cx_edf_display.specs.declared.stops.StopPoint.{StopPoint}
 use Rattle.cx_edf_display.specs.Displays.{display_of}
+use Rattle.cx_region_task.specs.declared.cause.AbendRecord.{AbendRecord}
 use Rattle.cx_region.specs.State.{RegionState}
 use Rattle.cx_region.specs.Tables.{terminal_of}
+use Rattle.cx_region.specs.Turn.{TurnHasAbendRecord}
 use Rattle.cx_region.specs.Events.{Applies}
 use Rattle.cx_region.specs.declared.changes.AlterReply.TheVariants as alter
 use Rattle.cx_region.specs.declared.changes.Change.TheVariants as change
@@ -86,3 +88,10 @@ AppliesBy make old e given new = DoorAnswers make old (door_of old e) given new
 -- one event, with the displays that EDF makes
 abbrev pub EdfApplies : EdfState → EdfEvent → Answer → EdfState → Type 0
 EdfApplies = AppliesBy display_of
+
+-- The record of an abend to which an event leads: that of the region's turn, where it isn't held; no other event leads to one
+-- that has a cause: PF12 and ALTER ABEND are the operator's.
+unfoldable pub EdfHasAbendRecord : EdfState → EdfEvent → Option AbendRecord → Type 0
+EdfHasAbendRecord old (edf_event.Plain (event.Turn name)) abend_record =
+    MatchBool (holds old name) (abend_record ≡ None) (TurnHasAbendRecord old.region name abend_record)
+EdfHasAbendRecord old _ abend_record = abend_record ≡ None

@@ -16,7 +16,7 @@ ghost use Rattle.cx_edf.specs.Erasure.{reply_in};
 ghost use Rattle.cx_edf.specs.Runs.{MayTakeEdf};
 ghost use Rattle.cx_edf.specs.Sessions.{nth_back, shown_of};
 ghost use Rattle.cx_edf.specs.State.{ends_by_key, holds, session_at, stopped_at};
-ghost use Rattle.cx_edf.specs.Steps.{EdfApplies, PassesOn};
+ghost use Rattle.cx_edf.specs.Steps.{EdfApplies, EdfHasAbendRecord, PassesOn};
 ghost use Rattle.cx_edf.specs.declared.answers.EdfEvent.TheVariants as edf_event;
 ghost use Rattle.cx_edf.specs.declared.answers.Answer.TheVariants as answer;
 
@@ -27,7 +27,7 @@ use crate::table;
 use cx_ebcdic::{Aid, Name4, Name8};
 use cx_edf_display::Display;
 use cx_load::{CheckedImage, Loaded};
-use cx_region::{Change, DefineFault, Event, Region, TaskInfo};
+use cx_region::{AbendRecord, Change, DefineFault, Event, Region, TaskInfo};
 use cx_service::Screen;
 use cx_storage::Store;
 use indexmap::IndexMap;
@@ -108,7 +108,7 @@ impl<S: Store + Drop> Debugged<S> {
     }
 
     /// Whether the turns of a terminal are held: it is in Stopped, with a live task.
-    pub(crate) fn holds(&self, name: Name4) -> bool
+    fn holds(&self, name: Name4) -> bool
         ensures { result ≡ holds self.now name }
     {
         table::is_stopped(&self.sessions, name) && self.region.task(name).is_some()
@@ -149,7 +149,6 @@ impl<S: Store + Drop> Debugged<S> {
     /// its reply is a stop that the mode takes, the terminal is stopped, with a display of the region as it is then.
     ///
     /// An error comes only where an allocation failed in the region's turn. Then all is as before.
-    #[tactic(auto, unfolding(crate::specs::Steps::AppliesBy, crate::specs::Steps::door_of, crate::specs::Runs::MayTakeEdf, cx_region::specs::Events::Applies, cx_region::specs::Events::MayTakeMemory))]
     pub fn turn(&mut self, name: Name4) -> Result<TurnAnswer, AllocError>
         ensures applies { let turn = edf_event.Plain (event.Turn name) in
             IfOk result (λ given. EdfApplies self.old turn (turn_answer given) self.new) }
@@ -158,12 +157,33 @@ impl<S: Store + Drop> Debugged<S> {
         ensures err { OnErr result (self.new ≡ self.old) }
         ensures sound { IsSound self.new.region }
     {
+        let (given, _abend_record) = self.turn_with_cause(name)?;
+        Ok(given)
+    }
+
+    /// A turn of a terminal, as `turn`, that reports why it leads to an abend, where it does.
+    ///
+    /// An error comes only where an allocation failed in the region's turn. Then all is as before.
+    #[tactic(auto, unfolding(crate::specs::Steps::AppliesBy, crate::specs::Steps::door_of, crate::specs::Steps::EdfHasAbendRecord, crate::specs::Runs::MayTakeEdf, cx_region::specs::Events::Applies, cx_region::specs::Events::MayTakeMemory))]
+    pub fn turn_with_cause(
+        &mut self,
+        name: Name4,
+    ) -> Result<(TurnAnswer, Option<AbendRecord>), AllocError>
+        ensures applies { let turn = edf_event.Plain (event.Turn name) in
+            IfOk result (λ both. EdfApplies self.old turn (turn_answer both.0) self.new) }
+        ensures abend_record { IfOk result
+            (λ both. EdfHasAbendRecord self.old (edf_event.Plain (event.Turn name)) both.1) }
+        ensures memory { OnErr result (MayTakeEdf self.old (edf_event.Plain (event.Turn name))) }
+        ensures held { holds self.old name ≡ true → IsOk result }
+        ensures err { OnErr result (self.new ≡ self.old) }
+        ensures sound { IsSound self.new.region }
+    {
         if self.holds(name) {
-            return Ok(TurnAnswer::Held);
+            return Ok((TurnAnswer::Held, None));
         }
-        let reply = self.region.turn(name)?;
+        let (reply, abend_record) = self.region.turn_with_cause(name)?;
         table::note(&mut self.sessions, &self.region, name, &reply);
-        Ok(TurnAnswer::Region(reply))
+        Ok((TurnAnswer::Region(reply), abend_record))
     }
 
     /// Begins a session of a terminal that is Off, with room for its ten displays: its task stops from its next turn on.
@@ -204,18 +224,23 @@ impl<S: Store + Drop> Debugged<S> {
         EdfReply::Closed
     }
 
-    /// Does an event of the region that EDF never takes: a definition, or the clock.
-    pub(crate) fn pass(&mut self, event: &Event) -> Result<Answer, AllocError>
+    /// Does an event of the region that EDF never takes: a definition, or the clock. It leads to no abend.
+    pub(crate) fn pass(
+        &mut self,
+        event: &Event,
+    ) -> Result<(Answer, Option<AbendRecord>), AllocError>
         requires { IsAllowed event.now }
-        ensures applies { IfOk result (λ given. Applies self.old.region event.now (reply_in given) self.new.region) }
-        ensures answers { IfOk result (λ given. given ≡ answer.Region (reply_in given)) }
+        ensures applies { IfOk result
+            (λ both. Applies self.old.region event.now (reply_in both.0) self.new.region) }
+        ensures answers { IfOk result (λ both. both.0 ≡ answer.Region (reply_in both.0)) }
+        ensures none { IfOk result (λ both. both.1 ≡ None) }
         ensures sessions { self.new.sessions ≡ self.old.sessions }
         ensures memory { OnErr result (MayTakeMemory self.old.region event.now) }
         ensures err { OnErr result (self.new ≡ self.old) }
         ensures sound { IsSound self.new.region }
     {
         let reply = self.region.apply(event)?;
-        Ok(Answer::Region(reply))
+        Ok((Answer::Region(reply), None))
     }
 
     /// Loads a program and defines it by its name, as the region does.

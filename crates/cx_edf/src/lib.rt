@@ -2,7 +2,6 @@
 #![tactic(auto)]
 
 mod answers;
-mod causing;
 mod debugged;
 pub mod laws;
 mod modes;

@@ -4,13 +4,13 @@ ghost use Rattle.std.specs.List.{AllByRecursion};
 ghost use Rattle.cx_region.specs.Events.{IsAllowed};
 ghost use Rattle.cx_region.specs.Sound.{IsSound};
 ghost use Rattle.cx_edf.specs.Answers.{alter_answer, key_answer, turn_answer};
-ghost use Rattle.cx_edf.specs.Steps.{EdfApplies};
+ghost use Rattle.cx_edf.specs.Steps.{EdfApplies, EdfHasAbendRecord};
 ghost use Rattle.cx_edf.specs.Runs.{EdfRun, EdfRunStopped, IsAllowedEdf, IsDoneEdf, MayTakeEdf};
 ghost use Rattle.cx_edf.specs.declared.answers.EdfEvent.TheVariants as edf_event;
 
 use crate::answers::{AlterAnswer, Answer, EdfEvent, KeyAnswer, TurnAnswer};
 use crate::debugged::Debugged;
-use cx_region::{Event, Reply, RunStop};
+use cx_region::{AbendRecord, Event, Reply, RunStop};
 use cx_storage::Store;
 use std::alloc::AllocError;
 
@@ -25,7 +25,7 @@ fn of_key(given: KeyAnswer) -> Answer
 }
 
 /// The answer of a turn, as an event's.
-pub(crate) fn of_turn(given: TurnAnswer) -> Answer
+fn of_turn(given: TurnAnswer) -> Answer
     ensures { result ≡ turn_answer given }
 {
     match given {
@@ -55,24 +55,46 @@ impl<S: Store + Drop> Debugged<S> {
         ensures done { IsDoneEdf self.old event.now result self.new }
         ensures sound { IsSound self.new.region }
     {
+        let (answer, _abend_record) = self.apply_with_cause(event)?;
+        Ok(answer)
+    }
+
+    /// Does one event, as `apply`, and reports why it leads to an abend, where it is a turn that does. An abend by an
+    /// operator's ALTER or PF12 has no cause.
+    ///
+    /// An error comes only where an allocation failed, no refusal is due, and the event may take memory. Then all is as
+    /// before.
+    #[tactic(auto, unfolding(crate::specs::Steps::EdfHasAbendRecord))]
+    pub fn apply_with_cause(
+        &mut self,
+        event: &EdfEvent,
+    ) -> Result<(Answer, Option<AbendRecord>), AllocError>
+        requires { IsAllowedEdf event.now }
+        ensures applies { IfOk result (λ both. EdfApplies self.old event.now both.0 self.new) }
+        ensures abend_record { IfOk result (λ both. EdfHasAbendRecord self.old event.now both.1) }
+        ensures memory { OnErr result (MayTakeEdf self.old event.now) }
+        ensures err { OnErr result (self.new ≡ self.old) }
+        ensures sound { IsSound self.new.region }
+    {
         match event {
             EdfEvent::On(name) => {
                 let reply = self.edf_on(*name)?;
-                Ok(Answer::Edf(reply))
+                Ok((Answer::Edf(reply), None))
             }
             EdfEvent::Off(name) => {
                 let reply = self.edf_off(*name);
-                Ok(Answer::Edf(reply))
+                Ok((Answer::Edf(reply), None))
             }
             EdfEvent::Plain(plain) => self.plain(plain),
         }
     }
 
     /// Does one event of the region.
-    #[tactic(auto, unfolding(crate::specs::Steps::AppliesBy, crate::specs::Steps::door_of, crate::specs::Runs::MayTakeEdf))]
-    pub(crate) fn plain(&mut self, event: &Event) -> Result<Answer, AllocError>
+    #[tactic(auto, unfolding(crate::specs::Steps::AppliesBy, crate::specs::Steps::door_of, crate::specs::Steps::EdfHasAbendRecord, crate::specs::Runs::MayTakeEdf))]
+    fn plain(&mut self, event: &Event) -> Result<(Answer, Option<AbendRecord>), AllocError>
         requires { IsAllowed event.now }
-        ensures applies { IfOk result (λ given. EdfApplies self.old (edf_event.Plain event.now) given self.new) }
+        ensures applies { IfOk result (λ both. EdfApplies self.old (edf_event.Plain event.now) both.0 self.new) }
+        ensures abend_record { IfOk result (λ both. EdfHasAbendRecord self.old (edf_event.Plain event.now) both.1) }
         ensures memory { OnErr result (MayTakeEdf self.old (edf_event.Plain event.now)) }
         ensures err { OnErr result (self.new ≡ self.old) }
         ensures sound { IsSound self.new.region }
@@ -80,13 +102,13 @@ impl<S: Store + Drop> Debugged<S> {
         match event {
             Event::Key(name, aid, bytes) => {
                 let given = self.key(*name, *aid, bytes.as_slice())?;
-                Ok(of_key(given))
+                Ok((of_key(given), None))
             }
             Event::Turn(name) => {
-                let given = self.turn(*name)?;
-                Ok(of_turn(given))
+                let (given, abend_record) = self.turn_with_cause(*name)?;
+                Ok((of_turn(given), abend_record))
             }
-            Event::Alter(name, change) => Ok(of_alter(self.alter(*name, *change))),
+            Event::Alter(name, change) => Ok((of_alter(self.alter(*name, *change)), None)),
             Event::Program(_, _) => self.pass(event),
             Event::Transaction(_, _) => self.pass(event),
             Event::Terminal(_) => self.pass(event),

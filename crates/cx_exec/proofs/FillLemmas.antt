@@ -4,7 +4,8 @@ use Rattle.std.specs.Int.Bits.{xor_self}
 use Rattle.std.proofs.lemmas.List.{get_or-replicate, length-replicate, take-replicate}
 use Rattle.std.proofs.lemmas.Bool.{le-ltb}
 use Rattle.std.proofs.lemmas.Grind.{same_number_lists}
-use Rattle.cx_storage.specs.Storage.{Storage, span}
+use Rattle.cx_storage.specs.Storage.{Storage, byte_at, span}
+use Rattle.cx_storage.specs.Facts.Spans.{span_at}
 use Rattle.cx_storage.specs.Address.{address_after, distance}
 use Rattle.cx_exec.specs.Numbers.{number_of}
 use Rattle.cx_exec.specs.Sequence.{content, byte_seen, stored_by}
@@ -16,6 +17,13 @@ use Rattle.cx_exec.proofs.BlockLemmas.{outside_is_joined}
 -- the first operand begins after the second's first byte
 pub begins_after : (a1 a2 : ℕ) → a1 < 2 ^ 24 → a2 < 2 ^ 24 → distance a2 a1 ≡ 1 → a1 ≡ address_after a2 1
 begins_after a1 a2 low1 low2 one = omega (arith, low1, low2, one)
+
+-- the first of bytes that are present
+pub first_content : (s : Storage) (a n : ℕ) (bytes : List ℕ) → a < 2 ^ 24 → 0 < n → span s a n ≡ Some bytes → slice_index bytes 0 ≡ content s a
+first_content s a n bytes low some there =
+    let same : address_after a 0 ≡ a = omega (arith, low) in
+    let first : byte_at s a ≡ Some (slice_index bytes 0) = rw same at (span_at s a n bytes 0 low there some) in
+    rw first refl
 
 first_moved : (s : Storage) (a1 a2 b : ℕ) → a2 < 2 ^ 24 → b ≡ content s a2 → take 1 (replicate 256 b) ≡ stored_by (moved_byte s a1 a2) 1
 unfolding stored_by moved_byte byte_seen

@@ -50,6 +50,15 @@ pub first_back : (b : List ℕ) → length b ≡ 8 → big_number 2 (slice_range
 first_back (b0 ∷ b1 ∷ b2 ∷ b3 ∷ b4 ∷ b5 ∷ rest) h = refl
 first_back _ h = absurd (omega (arith, h))
 
+-- the base and the displacement of the first halfword, in the word that ends with it
+pub base_back : (b : List ℕ) → length b ≡ 8 → slice_index b 2 < 256 → slice_index b 3 < 256 → big_number 4 (slice_range b 0 4) / 4096 % 16 ≡ base_at 2 (take 6 b)
+base_back (b0 ∷ b1 ∷ b2 ∷ b3 ∷ b4 ∷ b5 ∷ rest) h p q = omega (arith, p, q)
+base_back _ h p q = absurd (omega (arith, h))
+
+pub displacement_back : (b : List ℕ) → length b ≡ 8 → big_number 4 (slice_range b 0 4) % 4096 ≡ displacement_at 2 (take 6 b)
+displacement_back (b0 ∷ b1 ∷ b2 ∷ b3 ∷ b4 ∷ b5 ∷ rest) h = omega arith
+displacement_back _ h = absurd (omega (arith, h))
+
 pub second_back : (b : List ℕ) → length b ≡ 8 → big_number 2 (slice_range b 4 6) ≡ big_from 4 2 (take 6 b)
 second_back (b0 ∷ b1 ∷ b2 ∷ b3 ∷ b4 ∷ b5 ∷ rest) h = refl
 second_back _ h = absurd (omega (arith, h))

@@ -1,5 +1,5 @@
 -- Runs of steps, one more at their end.
-use Rattle.std.proofs.Common.{◌-◌, false, List, Ok, Err, ◌≢◌, Some, ◌≡◌, ℕ, zero, suc, ◌+◌, ◌≤◌, ◌<◌, refl, sym, ◌∙◌, ap, add-one, subst, arith}
+use Rattle.std.proofs.Common.{◌-◌, false, None, List, Ok, Err, ◌≢◌, Some, ◌≡◌, ℕ, zero, suc, ◌+◌, ◌≤◌, ◌<◌, refl, sym, ◌∙◌, ap, add-one, subst, arith}
 use Rattle.cx_exec.specs.declared.machine.Step.TheVariants.{Done, AtEntry, Interrupt}
 use Rattle.cx_exec.specs.declared.machine.Interruption.{Interruption}
 use Rattle.cx_exec.specs.declared.machine.Halt.{Halt}
@@ -10,9 +10,12 @@ use Rattle.cx_exec.specs.Rows.{Effect}
 use Rattle.cx_exec.specs.Step.{entry, updated_by, is_execute, performed_of, instruction_to_perform, Runs, Steps}
 use Rattle.cx_code.specs.declared.table.Op.{Op}
 use Rattle.cx_code.specs.Table.{length_of}
-use Rattle.cx_code.specs.Spelling.{instruction}
+use Rattle.cx_code.specs.Spelling.{Instruction, instruction}
 use Rattle.cx_code.specs.Reading.{fields_at}
 use Rattle.cx_exec.specs.Advance.{Passes, Advances}
+use Rattle.cx_exec.specs.Parts.{updated_at}
+use Rattle.cx_exec.specs.declared.places.Place.{Place}
+use Rattle.cx_exec.specs.declared.machine.Updated.{Updated}
 
 pub passes_none : (m : Machine) → Passes 0 m m
 unfolding Passes
@@ -120,3 +123,13 @@ pub row_interrupt : (steps left : ℕ) (cause : Interruption) (m now fetched aft
 row_interrupt steps left cause m now fetched after op prefix within some so_far same effect is plain apart =
     run_interrupt steps left after.next cause m fetched after within some (subst (λ (s : Machine). Passes (steps - left) m s) (sym same) so_far) apart
     (row_runs fetched op prefix (Err cause) after is plain effect) refl
+
+-- what a place goes on by
+pub place_from : (place : Place) (n at : ℕ) → place.given ≡ None → place.from ≡ at → updated_at place n ≡ updated_by at n
+place_from place n at none same = rw (none, same) refl
+
+pub place_given : (place : Place) (n : ℕ) (updated : Updated) → place.given ≡ Some updated → updated_at place n ≡ updated
+place_given place n updated some = rw some refl
+
+pub effect_by : (i : Instruction) (one another : Updated) (m : Machine) (outcome : Outcome) (after : Machine) → one ≡ another → Effect i one m outcome after → Effect i another m outcome after
+effect_by i one another m outcome after same effect = subst (λ (u : Updated). Effect i u m outcome after) same effect

@@ -1,15 +1,29 @@
 -- Vocabulary of private functions: what is performed, an operand that is there or not, and rows whose code is kept
 -- together.
-use Rattle.std.specs.Prelude.{◌≡◌, ℕ, List, Option, Some, None, Result, MatchResult, Bool, true, false}
+use Rattle.std.specs.Prelude.{◌≡◌, ◌+◌, ◌^◌, ◌<◌, ◌≤◌, unwrap_or, IfSome, ℕ, List, Option, Some, None, Result, MatchResult, Bool, true, false, ◌||◌, if◌then◌else◌}
+use Rattle.cx_storage.specs.Storage.{Storage}
+use Rattle.cx_storage.specs.Word.{word_at}
 use Rattle.cx_code.specs.declared.table.Op.{Op}
 use Rattle.cx_code.specs.declared.table.Op.TheVariants as op
 use Rattle.cx_code.specs.Table.{length_of}
 use Rattle.cx_code.specs.Spelling.{instruction}
 use Rattle.cx_code.specs.Reading.{fields_at}
 use Rattle.cx_exec.specs.Machine.{Machine}
+use Rattle.cx_exec.specs.Operands.{extended_at}
 use Rattle.cx_exec.specs.Step.{updated_by, performed_of, instruction_to_perform}
+use Rattle.cx_exec.specs.declared.machine.Updated.{Updated}
+use Rattle.cx_exec.specs.declared.places.Place.{Place}
 use Rattle.cx_exec.specs.declared.machine.Interruption.{Interruption}
 use Rattle.cx_exec.specs.declared.machine.Interruption.TheVariants as interruption
+
+-- the instruction and what comes after it are inside storage, and so is what is given
+abbrev pub IsPlace : Place → Type 0
+IsPlace place =
+    (place.from + 8 ≤ 2 ^ 24) × IfSome place.given (λ updated. updated.length_code ≤ 3) × IfSome place.given (λ updated. updated.address < 2 ^ 24)
+
+-- what the program-status word is updated to after an instruction of this many bytes
+abbrev pub updated_at : Place → ℕ → Updated
+updated_at place bytes = unwrap_or place.given (updated_by place.from bytes)
 
 -- it is what is performed at the next address, for EX its target
 abbrev pub IsPerformed : Machine → Op → List ℕ → Type 0
@@ -67,6 +81,22 @@ has_half op.Ch = true
 has_half op.Ah = true
 has_half op.Sh = true
 has_half _ = false
+
+-- L, CL, C, A and S
+abbrev pub takes_word : Op → Bool
+takes_word op.L = true
+takes_word op.Cl = true
+takes_word op.C = true
+takes_word op.A = true
+takes_word op.S = true
+takes_word _ = false
+
+-- the word that is taken as the second operand, extended by its sign where storage has a halfword
+abbrev pub takes_second : Op → Bool
+takes_second op = takes_word op || has_half op
+
+abbrev pub second_at : Op → Storage → ℕ → Option ℕ
+second_at op s a = if has_half op then extended_at s a else word_at s a
 
 -- the other rows of format RX except EX
 abbrev pub has_address : Op → Bool

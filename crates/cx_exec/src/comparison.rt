@@ -57,6 +57,7 @@ fn are_alike(first: &[u8], second: &[u8], at: usize) -> bool
 
 /// A number of first bytes in which two strings of one length are alike: those of equal pieces of 32 bytes, then of
 /// eight.
+#[inline(always)]
 fn alike_front(first: &[u8], second: &[u8]) -> usize
     requires { length first.now ≡ length second.now }
     ensures { (j : ℕ) → j < result → slice_index first.now j ≡ slice_index second.now j }
@@ -72,6 +73,7 @@ fn alike_front(first: &[u8], second: &[u8]) -> usize
 }
 
 /// The condition code of two strings of one length compared as numbers without a sign.
+#[inline(always)]
 fn string_order(first: &[u8], second: &[u8]) -> u8
     requires { length first.now ≡ length second.now }
     ensures value { result ≡ order_code (pos (number_of first.now)) (pos (number_of second.now)) }
@@ -117,10 +119,10 @@ fn clc_copies<S: Store>(
     set_code(cpu, cc, updated)
 }
 
-/// CLC. The operands, of `n` bytes, begin at `a1` and `a2`.
+/// CLC of a length, for which its code is made where that is known.
 #[tactic(auto, using(cx_storage::specs::Facts::Spans::span_length), unfolding(crate::specs::Comparison::ComparesStrings))]
-#[inline(never)]
-pub(crate) fn clc<S: Store>(
+#[inline(always)]
+fn clc_by<S: Store>(
     cpu: &mut Cpu,
     store: &S,
     n: u32,
@@ -142,4 +144,34 @@ pub(crate) fn clc<S: Store>(
         }
     }
     clc_copies(cpu, store, n, a1, a2, updated)
+}
+
+/// CLC. The operands, of `n` bytes, begin at `a1` and `a2`.
+#[inline(never)]
+pub(crate) fn clc<S: Store>(
+    cpu: &mut Cpu,
+    store: &S,
+    n: u32,
+    a1: u32,
+    a2: u32,
+    updated: Updated,
+) -> Result<(), Interruption>
+    requires first { a1 < 2 ^ 24 }
+    requires second { a2 < 2 ^ 24 }
+    requires count { n ≤ 256 }
+    requires address { updated.address < 2 ^ 24 }
+    ensures { let before = machine cpu.old (S.storage store.now) in let after = machine cpu.new (S.storage store.now) in
+        ComparesStrings n a1 a2 updated before result after }
+{
+    match n {
+        1 => clc_by(cpu, store, 1, a1, a2, updated),
+        2 => clc_by(cpu, store, 2, a1, a2, updated),
+        3 => clc_by(cpu, store, 3, a1, a2, updated),
+        4 => clc_by(cpu, store, 4, a1, a2, updated),
+        5 => clc_by(cpu, store, 5, a1, a2, updated),
+        6 => clc_by(cpu, store, 6, a1, a2, updated),
+        7 => clc_by(cpu, store, 7, a1, a2, updated),
+        8 => clc_by(cpu, store, 8, a1, a2, updated),
+        _ => clc_by(cpu, store, n, a1, a2, updated),
+    }
 }

@@ -16,6 +16,7 @@ mod masks;
 mod multiplication;
 mod numbers;
 mod operands;
+mod places;
 mod prefix;
 mod registers;
 mod repeats;
@@ -27,6 +28,7 @@ mod shifts;
 mod stepping;
 mod strings;
 mod translation;
+mod words;
 mod zoned;
 
 pub use machine::{Cpu, ENTRY, Halt, Interruption, Step, Updated};

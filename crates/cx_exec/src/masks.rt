@@ -59,10 +59,10 @@ fn take_bytes(mask: u8, word: u32, buffer: &mut [u8; 4]) -> usize
     count
 }
 
-/// STCM. `r1` and the mask are below 16, and the bytes begin at `a`.
+/// STCM of a mask, for which its code is made where that is known.
 #[tactic(auto, unfolding(crate::specs::Masks::StcmEffect))]
-#[inline(never)]
-pub(crate) fn stcm<S: Store>(
+#[inline(always)]
+fn stcm_by<S: Store>(
     cpu: &mut Cpu,
     store: &mut S,
     r1: u8,
@@ -79,6 +79,42 @@ pub(crate) fn stcm<S: Store>(
     let mut buffer = [0; 4];
     let count = take_bytes(mask, cpu.regs[r1 as usize], &mut buffer);
     put_bytes(cpu, store, a, &buffer[..count], updated)
+}
+
+/// STCM. `r1` and the mask are below 16, and the bytes begin at `a`.
+#[inline(never)]
+pub(crate) fn stcm<S: Store>(
+    cpu: &mut Cpu,
+    store: &mut S,
+    r1: u8,
+    mask: u8,
+    a: u32,
+    updated: Updated,
+) -> Result<(), Interruption>
+    requires first { r1 < 16 }
+    requires operand { a < 2 ^ 24 }
+    requires address { updated.address < 2 ^ 24 }
+    ensures { let before = machine cpu.old (S.storage store.old) in let after = machine cpu.new (S.storage store.new) in
+        StcmEffect r1 mask a updated before result after }
+{
+    match mask {
+        1 => stcm_by(cpu, store, r1, 1, a, updated),
+        2 => stcm_by(cpu, store, r1, 2, a, updated),
+        3 => stcm_by(cpu, store, r1, 3, a, updated),
+        4 => stcm_by(cpu, store, r1, 4, a, updated),
+        5 => stcm_by(cpu, store, r1, 5, a, updated),
+        6 => stcm_by(cpu, store, r1, 6, a, updated),
+        7 => stcm_by(cpu, store, r1, 7, a, updated),
+        8 => stcm_by(cpu, store, r1, 8, a, updated),
+        9 => stcm_by(cpu, store, r1, 9, a, updated),
+        10 => stcm_by(cpu, store, r1, 10, a, updated),
+        11 => stcm_by(cpu, store, r1, 11, a, updated),
+        12 => stcm_by(cpu, store, r1, 12, a, updated),
+        13 => stcm_by(cpu, store, r1, 13, a, updated),
+        14 => stcm_by(cpu, store, r1, 14, a, updated),
+        15 => stcm_by(cpu, store, r1, 15, a, updated),
+        _ => stcm_by(cpu, store, r1, mask, a, updated),
+    }
 }
 
 /// The `k`-th byte (`k` is below 4) that ICM leaves in a register; there are as many bytes as places chosen.
@@ -171,10 +207,10 @@ fn icm_apart<S: Store>(
     insert(cpu, r1, mask, bytes, updated)
 }
 
-/// ICM. `r1` and the mask are below 16, and the bytes begin at `a`.
+/// ICM of a mask, for which its code is made where that is known.
 #[tactic(auto, using(cx_storage::specs::Facts::Spans::span_length), unfolding(crate::specs::Masks::IcmEffect))]
-#[inline(never)]
-pub(crate) fn icm<S: Store>(
+#[inline(always)]
+fn icm_by<S: Store>(
     cpu: &mut Cpu,
     store: &S,
     r1: u8,
@@ -192,4 +228,40 @@ pub(crate) fn icm<S: Store>(
         return icm_apart(cpu, store, r1, mask, a, updated);
     };
     insert(cpu, r1, mask, bytes, updated)
+}
+
+/// ICM. `r1` and the mask are below 16, and the bytes begin at `a`.
+#[inline(never)]
+pub(crate) fn icm<S: Store>(
+    cpu: &mut Cpu,
+    store: &S,
+    r1: u8,
+    mask: u8,
+    a: u32,
+    updated: Updated,
+) -> Result<(), Interruption>
+    requires first { r1 < 16 }
+    requires operand { a < 2 ^ 24 }
+    requires address { updated.address < 2 ^ 24 }
+    ensures { let before = machine cpu.old (S.storage store.now) in let after = machine cpu.new (S.storage store.now) in
+        IcmEffect r1 mask a updated before result after }
+{
+    match mask {
+        1 => icm_by(cpu, store, r1, 1, a, updated),
+        2 => icm_by(cpu, store, r1, 2, a, updated),
+        3 => icm_by(cpu, store, r1, 3, a, updated),
+        4 => icm_by(cpu, store, r1, 4, a, updated),
+        5 => icm_by(cpu, store, r1, 5, a, updated),
+        6 => icm_by(cpu, store, r1, 6, a, updated),
+        7 => icm_by(cpu, store, r1, 7, a, updated),
+        8 => icm_by(cpu, store, r1, 8, a, updated),
+        9 => icm_by(cpu, store, r1, 9, a, updated),
+        10 => icm_by(cpu, store, r1, 10, a, updated),
+        11 => icm_by(cpu, store, r1, 11, a, updated),
+        12 => icm_by(cpu, store, r1, 12, a, updated),
+        13 => icm_by(cpu, store, r1, 13, a, updated),
+        14 => icm_by(cpu, store, r1, 14, a, updated),
+        15 => icm_by(cpu, store, r1, 15, a, updated),
+        _ => icm_by(cpu, store, r1, mask, a, updated),
+    }
 }

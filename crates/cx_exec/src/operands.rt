@@ -1,6 +1,7 @@
 //! Operands in storage and in pairs of registers.
 
-ghost use Rattle.std.specs.Prelude.{◌≡◌, ◌<◌, ◌≤◌, ◌^◌, ◌%◌, ◌==◌, length, true, false, Some, None, IfSome, MatchResult};
+ghost use Rattle.std.specs.Prelude.{◌≡◌, ◌<◌, ◌≤◌, ◌^◌, ◌%◌, ◌==◌, ◌∷◌, [], length, true, false, Some, None, IfSome, MatchResult};
+ghost use Rattle.byteorder.specs.Endian.{big_bytes};
 ghost use Rattle.cx_storage.specs.Storage.{byte_at};
 ghost use Rattle.cx_storage.specs.Word.{halfword_at, word_at};
 ghost use Rattle.cx_exec.specs.declared.machine.Interruption.TheVariants as interruption;
@@ -25,7 +26,7 @@ pub(crate) fn byte_at<S: Store>(store: &S, a: u32) -> Result<u8, Interruption>
 /// The halfword at an address, where its bytes are lent in one piece.
 #[tactic(auto, using(cx_storage::specs::Facts::Spans::span_length), unfolding(cx_storage::specs::Word::halfword_at))]
 #[inline(always)]
-fn lent_halfword<S: Store>(store: &S, a: u32) -> Option<u16>
+pub(crate) fn lent_halfword<S: Store>(store: &S, a: u32) -> Option<u16>
     requires { a < 2 ^ 24 }
     ensures { IfSome result (λ x. halfword_at (S.storage store.now) a ≡ Some x) }
 {
@@ -37,7 +38,7 @@ fn lent_halfword<S: Store>(store: &S, a: u32) -> Option<u16>
 #[tactic(auto, unfolding(crate::specs::Operands::extended_at))]
 #[cold]
 #[inline(never)]
-fn halfword_apart<S: Store>(store: &S, a: u32) -> Result<u32, Interruption>
+pub(crate) fn halfword_apart<S: Store>(store: &S, a: u32) -> Result<u32, Interruption>
     requires { a < 2 ^ 24 }
     ensures { IsThere (extended_at (S.storage store.now) a) result }
 {
@@ -47,23 +48,10 @@ fn halfword_apart<S: Store>(store: &S, a: u32) -> Result<u32, Interruption>
     }
 }
 
-/// The halfword at an address, extended to a word by its sign, or interruption 5.
-#[tactic(auto, unfolding(crate::specs::Operands::extended_at))]
-#[inline(always)]
-pub(crate) fn halfword_at<S: Store>(store: &S, a: u32) -> Result<u32, Interruption>
-    requires { a < 2 ^ 24 }
-    ensures { IsThere (extended_at (S.storage store.now) a) result }
-{
-    match lent_halfword(store, a) {
-        Some(halfword) => Ok(extended(halfword)),
-        None => halfword_apart(store, a),
-    }
-}
-
 /// The word at an address, where its bytes are lent in one piece.
 #[tactic(auto, using(cx_storage::specs::Facts::Spans::span_length), unfolding(cx_storage::specs::Word::word_at))]
 #[inline(always)]
-fn lent_word<S: Store>(store: &S, a: u32) -> Option<u32>
+pub(crate) fn lent_word<S: Store>(store: &S, a: u32) -> Option<u32>
     requires { a < 2 ^ 24 }
     ensures { IfSome result (λ x. word_at (S.storage store.now) a ≡ Some x) }
 {
@@ -74,7 +62,7 @@ fn lent_word<S: Store>(store: &S, a: u32) -> Option<u32>
 /// The word at an address, or interruption 5, wherever its bytes lie.
 #[cold]
 #[inline(never)]
-fn word_apart<S: Store>(store: &S, a: u32) -> Result<u32, Interruption>
+pub(crate) fn word_apart<S: Store>(store: &S, a: u32) -> Result<u32, Interruption>
     requires { a < 2 ^ 24 }
     ensures { IsThere (word_at (S.storage store.now) a) result }
 {
@@ -150,4 +138,55 @@ pub(crate) fn put_coded<S: Store>(
     put_bytes(cpu, store, a, bytes, updated)?;
     cpu.cc = cc;
     Ok(())
+}
+
+/// Stores a byte likewise.
+#[inline(always)]
+pub(crate) fn put_byte<S: Store>(
+    cpu: &mut Cpu,
+    store: &mut S,
+    a: u32,
+    byte: u8,
+    updated: Updated,
+) -> Result<(), Interruption>
+    requires operand { a < 2 ^ 24 }
+    requires address { updated.address < 2 ^ 24 }
+    ensures { let before = machine cpu.old (S.storage store.old) in let after = machine cpu.new (S.storage store.new) in
+        Stores a (byte ∷ []) cpu.old.cc updated before result after }
+{
+    put_bytes(cpu, store, a, &[byte], updated)
+}
+
+/// Stores a halfword likewise.
+#[inline(always)]
+pub(crate) fn put_halfword<S: Store>(
+    cpu: &mut Cpu,
+    store: &mut S,
+    a: u32,
+    halfword: u16,
+    updated: Updated,
+) -> Result<(), Interruption>
+    requires operand { a < 2 ^ 24 }
+    requires address { updated.address < 2 ^ 24 }
+    ensures { let before = machine cpu.old (S.storage store.old) in let after = machine cpu.new (S.storage store.new) in
+        Stores a (big_bytes 2 halfword) cpu.old.cc updated before result after }
+{
+    put_bytes(cpu, store, a, &halfword.to_be_bytes(), updated)
+}
+
+/// Stores a word likewise.
+#[inline(always)]
+pub(crate) fn put_word<S: Store>(
+    cpu: &mut Cpu,
+    store: &mut S,
+    a: u32,
+    word: u32,
+    updated: Updated,
+) -> Result<(), Interruption>
+    requires operand { a < 2 ^ 24 }
+    requires address { updated.address < 2 ^ 24 }
+    ensures { let before = machine cpu.old (S.storage store.old) in let after = machine cpu.new (S.storage store.new) in
+        Stores a (big_bytes 4 word) cpu.old.cc updated before result after }
+{
+    put_bytes(cpu, store, a, &word.to_be_bytes(), updated)
 }

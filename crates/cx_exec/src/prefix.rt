@@ -6,7 +6,7 @@ ghost use Rattle.byteorder.specs.Endian.{big_bytes, big_from};
 ghost use Rattle.cx_storage.specs.Storage.{span};
 ghost use Rattle.cx_code.specs.Table.{code_of};
 ghost use Rattle.cx_code.specs.Spelling.{format_with, IsWellFormed};
-ghost use Rattle.cx_code.specs.Reading.{fields_in};
+ghost use Rattle.cx_code.specs.Reading.{base_at, displacement_at, fields_in};
 ghost use Rattle.cx_exec.specs.Step.{joined_second};
 
 use byteorder::{BigEndian, ByteOrder};
@@ -137,6 +137,27 @@ impl Front {
         BigEndian::read_u16(&self.bytes[2..4])
     }
 
+    /// The base that this halfword has.
+    #[tactic(auto, using(crate::proofs::FrontLemmas::base_back))]
+    #[inline(always)]
+    pub(crate) fn first_base(&self) -> u32
+        ensures value { result ≡ base_at 2 self.now }
+        ensures short { result < 16 }
+    {
+        let _bytes = (self.bytes[2], self.bytes[3]);
+        BigEndian::read_u32(&self.bytes[0..4]) >> 12 & 15
+    }
+
+    /// The displacement that it has.
+    #[tactic(auto, using(crate::proofs::FrontLemmas::displacement_back))]
+    #[inline(always)]
+    pub(crate) fn first_displacement(&self) -> u32
+        ensures value { result ≡ displacement_at 2 self.now }
+        ensures short { result < 4096 }
+    {
+        BigEndian::read_u32(&self.bytes[0..4]) & 0x0fff
+    }
+
     /// The halfword after that.
     #[tactic(auto, using(crate::proofs::FrontLemmas::second_back))]
     #[inline(always)]
@@ -155,6 +176,7 @@ pub(crate) fn fetched_front<S: Store>(store: &mut S, at: u32) -> Option<Front>
     ensures bytes { IfSome result (λ prefix. option_map (take 6) (span (S.storage store.new) at 8) ≡ Some prefix) }
     ensures even { OnSome result (at % 2 ≡ 0) }
     ensures high { OnSome result (4096 ≤ at) }
+    ensures no_wrap { OnSome result (at + 8 ≤ 2 ^ 24) }
     ensures same { S.storage store.new ≡ S.storage store.old }
 {
     let bytes = store.fetch(at)?;

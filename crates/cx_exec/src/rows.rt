@@ -1,15 +1,15 @@
 //! The effect of each instruction.
 
-ghost use Rattle.std.specs.Prelude.{◌≡◌, ◌<◌, ◌≤◌, ◌^◌, ◌/◌, ◌%◌, true, slice_index, unwrap_or, IfSome};
+ghost use Rattle.std.specs.Prelude.{◌≡◌, ◌<◌, ◌≤◌, ◌^◌, ◌+◌, ◌/◌, ◌%◌, true, slice_index, unwrap_or, IfSome};
 ghost use Rattle.byteorder.specs.Endian.{big_from};
 ghost use Rattle.cx_code.specs.Table.{length_of};
 ghost use Rattle.cx_code.specs.Spelling.{instruction};
 ghost use Rattle.cx_code.specs.Reading.{left_half, right_half, base_at, displacement_at, fields_at};
 ghost use Rattle.cx_exec.specs.Machine.{machine};
 ghost use Rattle.cx_exec.specs.Machine.{address_part, effective};
-ghost use Rattle.cx_exec.specs.Step.{is_execute, updated_by};
+ghost use Rattle.cx_exec.specs.Step.{is_execute};
 ghost use Rattle.cx_exec.specs.Rows.{Effect};
-ghost use Rattle.cx_exec.specs.Parts.{has_registers, has_word, has_word_result, has_half, has_address, has_immediate};
+ghost use Rattle.cx_exec.specs.Parts.{IsPlace, updated_at, has_registers, has_word, has_word_result, has_half, has_address, has_immediate};
 
 use crate::arithmetic::{complement, difference, put_sum, sum};
 use crate::branches::{branch, branch_address, count, link};
@@ -22,24 +22,29 @@ use crate::machine::{Cpu, Interruption, Updated};
 use crate::masks::{icm, stcm};
 use crate::multiplication::multiply;
 use crate::numbers::sign_code;
-use crate::operands::{byte_at, even, halfword_at, put_bytes, word_at};
+use crate::operands::{byte_at, even, put_byte, put_halfword, put_word, word_at};
+use crate::places::Place;
 use crate::prefix::Front;
 use crate::registers::{load_multiple, store_multiple};
 use crate::results::{load, load_coded, set_code};
 use crate::shifts::{shift_left, shift_pair, shift_right, shifted_left, shifted_right};
 use crate::strings::{mvc, xc};
 use crate::translation::{tr, trt};
+use crate::words::{half_row, word_row};
 use crate::zoned::{pack, unpk};
 use cx_code::Op;
 use cx_storage::{Store, along};
 
-/// What a register gives to an address: register 0 gives zero.
-fn given(regs: &[u32; 16], r: u32) -> u32
+/// An address and what a register gives to it: register 0 gives zero.
+#[inline(always)]
+fn with_part(regs: &[u32; 16], r: u32, a: u32) -> u32
     requires { r < 16 }
-    ensures { result ≡ address_part regs.now r }
+    ensures { result ≡ (a + address_part regs.now r) % 2 ^ 32 }
 {
-    let held = regs[r as usize];
-    if r == 0 { 0 } else { held }
+    if r == 0 {
+        return a;
+    }
+    a.wrapping_add(regs[r as usize])
 }
 
 /// The effective address of base, index and displacement.
@@ -53,26 +58,8 @@ pub(crate) fn effective(regs: &[u32; 16], index: u8, base: u32, displacement: u3
     ensures value { result ≡ effective regs.now index base displacement }
     ensures short { result < 2 ^ 24 }
 {
-    given(regs, base)
-        .wrapping_add(given(regs, u32::from(index)))
-        .wrapping_add(displacement)
-        % 0x100_0000
-}
-
-/// What the program-status word is updated to after an instruction of `length` bytes at the next address, unless it is
-/// given.
-#[inline(always)]
-fn updated_at(cpu: &Cpu, by_execute: Option<Updated>, length: u32) -> Updated
-    requires { length ≤ 6 }
-    ensures { result ≡ unwrap_or by_execute (updated_by cpu.now.next length) }
-{
-    match by_execute {
-        Some(updated) => updated,
-        None => Updated {
-            length_code: (length / 2) as u8,
-            address: along(cpu.next, length),
-        },
-    }
+    let a = with_part(regs, base, displacement);
+    with_part(regs, u32::from(index), a) % 0x100_0000
 }
 
 /// The effective address of an index, and of the base and the displacement that a halfword has.
@@ -98,16 +85,15 @@ pub struct Registers {
 
 /// The operands of format RR.
 #[inline(always)]
-fn registers_of(cpu: &Cpu, prefix: &Front, by_execute: Option<Updated>) -> Registers
-    requires length { IfSome by_execute (λ updated. updated.length_code ≤ 3) }
-    requires address { IfSome by_execute (λ updated. updated.address < 2 ^ 24) }
+fn registers_of(cpu: &Cpu, prefix: &Front, place: Place) -> Registers
+    requires place { IsPlace place }
     ensures r1 { result.r1 ≡ left_half prefix.now }
     ensures r2 { result.r2 ≡ right_half prefix.now }
     ensures low1 { result.r1 < 16 }
     ensures low2 { result.r2 < 16 }
     ensures first { result.first ≡ slice_index cpu.now.regs result.r1 }
     ensures second { result.second ≡ slice_index cpu.now.regs result.r2 }
-    ensures updated { result.updated ≡ unwrap_or by_execute (updated_by cpu.now.next 2) }
+    ensures updated { result.updated ≡ updated_at place 2 }
     ensures length { result.updated.length_code ≤ 3 }
     ensures address { result.updated.address < 2 ^ 24 }
 {
@@ -118,7 +104,7 @@ fn registers_of(cpu: &Cpu, prefix: &Front, by_execute: Option<Updated>) -> Regis
         r2,
         first: cpu.regs[r1 as usize],
         second: cpu.regs[r2 as usize],
-        updated: updated_at(cpu, by_execute, 2),
+        updated: place.updated(2),
     }
 }
 
@@ -136,10 +122,9 @@ pub struct Operands {
 
 /// The operands of formats RX, RS and SI, the address with an index.
 #[inline(always)]
-fn operands_of(cpu: &Cpu, prefix: &Front, index: u8, by_execute: Option<Updated>) -> Operands
+fn operands_of(cpu: &Cpu, prefix: &Front, index: u8, place: Place) -> Operands
     requires index { index < 16 }
-    requires length { IfSome by_execute (λ updated. updated.length_code ≤ 3) }
-    requires address { IfSome by_execute (λ updated. updated.address < 2 ^ 24) }
+    requires place { IsPlace place }
     ensures byte { result.i2 ≡ slice_index prefix.now 1 }
     ensures r1 { result.r1 ≡ left_half prefix.now }
     ensures r3 { result.r3 ≡ right_half prefix.now }
@@ -148,7 +133,7 @@ fn operands_of(cpu: &Cpu, prefix: &Front, index: u8, by_execute: Option<Updated>
     ensures first { result.first ≡ slice_index cpu.now.regs result.r1 }
     ensures operand { result.a ≡ effective cpu.now.regs index (base_at 2 prefix.now) (displacement_at 2 prefix.now) }
     ensures short { result.a < 2 ^ 24 }
-    ensures updated { result.updated ≡ unwrap_or by_execute (updated_by cpu.now.next 4) }
+    ensures updated { result.updated ≡ updated_at place 4 }
     ensures length { result.updated.length_code ≤ 3 }
     ensures address { result.updated.address < 2 ^ 24 }
 {
@@ -159,27 +144,31 @@ fn operands_of(cpu: &Cpu, prefix: &Front, index: u8, by_execute: Option<Updated>
         r1,
         r3,
         first: cpu.regs[r1 as usize],
-        a: address_in(cpu, index, prefix.first_address()),
-        updated: updated_at(cpu, by_execute, 4),
+        a: effective(
+            &cpu.regs,
+            index,
+            prefix.first_base(),
+            prefix.first_displacement(),
+        ),
+        updated: place.updated(4),
     }
 }
 
 /// The operands of format RX.
 #[inline(always)]
-pub(crate) fn indexed_of(cpu: &Cpu, prefix: &Front, by_execute: Option<Updated>) -> Operands
-    requires length { IfSome by_execute (λ updated. updated.length_code ≤ 3) }
-    requires address { IfSome by_execute (λ updated. updated.address < 2 ^ 24) }
+pub(crate) fn indexed_of(cpu: &Cpu, prefix: &Front, place: Place) -> Operands
+    requires place { IsPlace place }
     ensures r1 { result.r1 ≡ left_half prefix.now }
     ensures low1 { result.r1 < 16 }
     ensures first { result.first ≡ slice_index cpu.now.regs result.r1 }
     ensures operand { let bytes = prefix.now in
         result.a ≡ effective cpu.now.regs (right_half bytes) (base_at 2 bytes) (displacement_at 2 bytes) }
     ensures short { result.a < 2 ^ 24 }
-    ensures updated { result.updated ≡ unwrap_or by_execute (updated_by cpu.now.next 4) }
+    ensures updated { result.updated ≡ updated_at place 4 }
     ensures length { result.updated.length_code ≤ 3 }
     ensures address { result.updated.address < 2 ^ 24 }
 {
-    operands_of(cpu, prefix, prefix.second() & 15, by_execute)
+    operands_of(cpu, prefix, prefix.second() & 15, place)
 }
 
 /// The operands of formats SS: the byte that has one length or two, each less one, and two addresses.
@@ -193,15 +182,14 @@ pub struct Strings {
 
 /// The operands of formats SS.
 #[inline(always)]
-fn strings_of(cpu: &Cpu, prefix: &Front, by_execute: Option<Updated>) -> Strings
-    requires length { IfSome by_execute (λ updated. updated.length_code ≤ 3) }
-    requires address { IfSome by_execute (λ updated. updated.address < 2 ^ 24) }
+fn strings_of(cpu: &Cpu, prefix: &Front, place: Place) -> Strings
+    requires place { IsPlace place }
     ensures lengths { result.l ≡ slice_index prefix.now 1 }
     ensures first { result.a1 ≡ effective cpu.now.regs 0 (base_at 2 prefix.now) (displacement_at 2 prefix.now) }
     ensures second { result.a2 ≡ effective cpu.now.regs 0 (base_at 4 prefix.now) (displacement_at 4 prefix.now) }
     ensures short1 { result.a1 < 2 ^ 24 }
     ensures short2 { result.a2 < 2 ^ 24 }
-    ensures updated { result.updated ≡ unwrap_or by_execute (updated_by cpu.now.next 6) }
+    ensures updated { result.updated ≡ updated_at place 6 }
     ensures length { result.updated.length_code ≤ 3 }
     ensures address { result.updated.address < 2 ^ 24 }
 {
@@ -209,7 +197,7 @@ fn strings_of(cpu: &Cpu, prefix: &Front, by_execute: Option<Updated>) -> Strings
         l: prefix.second(),
         a1: address_in(cpu, 0, prefix.first_address()),
         a2: address_in(cpu, 0, prefix.second_address()),
-        updated: updated_at(cpu, by_execute, 6),
+        updated: place.updated(6),
     }
 }
 
@@ -221,38 +209,37 @@ pub(crate) fn strings_effect<S: Store>(
     store: &mut S,
     op: Op,
     prefix: &Front,
-    by_execute: Option<Updated>,
+    place: Place,
 ) -> Result<(), Interruption>
     requires strings { length_of op ≡ 6 }
-    requires length { IfSome by_execute (λ updated. updated.length_code ≤ 3) }
-    requires address { IfSome by_execute (λ updated. updated.address < 2 ^ 24) }
+    requires place { IsPlace place }
     ensures { Effect (instruction op (fields_at op prefix.now))
-        (unwrap_or by_execute (updated_by cpu.old.next (length_of op)))
+        (updated_at place (length_of op))
         (machine cpu.old (S.storage store.old)) result (machine cpu.new (S.storage store.new)) }
 {
     match op {
         Op::Mvc => {
-            let it = strings_of(cpu, prefix, by_execute);
+            let it = strings_of(cpu, prefix, place);
             mvc(cpu, store, u32::from(it.l) + 1, it.a1, it.a2, it.updated)
         }
         Op::Clc => {
-            let it = strings_of(cpu, prefix, by_execute);
+            let it = strings_of(cpu, prefix, place);
             clc(cpu, store, u32::from(it.l) + 1, it.a1, it.a2, it.updated)
         }
         Op::Xc => {
-            let it = strings_of(cpu, prefix, by_execute);
+            let it = strings_of(cpu, prefix, place);
             xc(cpu, store, u32::from(it.l) + 1, it.a1, it.a2, it.updated)
         }
         Op::Tr => {
-            let it = strings_of(cpu, prefix, by_execute);
+            let it = strings_of(cpu, prefix, place);
             tr(cpu, store, u32::from(it.l) + 1, it.a1, it.a2, it.updated)
         }
         Op::Trt => {
-            let it = strings_of(cpu, prefix, by_execute);
+            let it = strings_of(cpu, prefix, place);
             trt(cpu, store, u32::from(it.l) + 1, it.a1, it.a2, it.updated)
         }
         Op::Pack => {
-            let it = strings_of(cpu, prefix, by_execute);
+            let it = strings_of(cpu, prefix, place);
             pack(
                 cpu,
                 store,
@@ -264,7 +251,7 @@ pub(crate) fn strings_effect<S: Store>(
             )
         }
         Op::Unpk => {
-            let it = strings_of(cpu, prefix, by_execute);
+            let it = strings_of(cpu, prefix, place);
             unpk(
                 cpu,
                 store,
@@ -288,74 +275,73 @@ pub(crate) fn register_rows<S: Store>(
     store: &mut S,
     op: Op,
     prefix: &Front,
-    by_execute: Option<Updated>,
+    place: Place,
 ) -> Result<(), Interruption>
     requires rows { has_registers op ≡ true }
-    requires length { IfSome by_execute (λ updated. updated.length_code ≤ 3) }
-    requires address { IfSome by_execute (λ updated. updated.address < 2 ^ 24) }
+    requires place { IsPlace place }
     ensures { Effect (instruction op (fields_at op prefix.now))
-        (unwrap_or by_execute (updated_by cpu.old.next (length_of op)))
+        (updated_at place (length_of op))
         (machine cpu.old (S.storage store.old)) result (machine cpu.new (S.storage store.new)) }
 {
     match op {
         Op::Balr => {
-            let it = registers_of(cpu, prefix, by_execute);
+            let it = registers_of(cpu, prefix, place);
             let to = branch_address(&cpu.regs, it.r2, it.updated);
             link(cpu, it.r1, to, it.updated)
         }
         Op::Bctr => {
-            let it = registers_of(cpu, prefix, by_execute);
+            let it = registers_of(cpu, prefix, place);
             let to = branch_address(&cpu.regs, it.r2, it.updated);
             count(cpu, it.r1, to, it.updated)
         }
         Op::Bcr => {
-            let it = registers_of(cpu, prefix, by_execute);
+            let it = registers_of(cpu, prefix, place);
             let to = branch_address(&cpu.regs, it.r2, it.updated);
             branch(cpu, it.r1, to, it.updated)
         }
         Op::Ltr => {
-            let it = registers_of(cpu, prefix, by_execute);
+            let it = registers_of(cpu, prefix, place);
             load_coded(cpu, it.r1, it.second, sign_code(it.second), it.updated)
         }
         Op::Lcr => {
-            let it = registers_of(cpu, prefix, by_execute);
+            let it = registers_of(cpu, prefix, place);
             put_sum(cpu, it.r1, complement(it.second), it.updated)
         }
         Op::Clr => {
-            let it = registers_of(cpu, prefix, by_execute);
+            let it = registers_of(cpu, prefix, place);
             set_code(cpu, logical_order(it.first, it.second), it.updated)
         }
         Op::Xr => {
-            let it = registers_of(cpu, prefix, by_execute);
+            let it = registers_of(cpu, prefix, place);
             let word = it.first ^ it.second;
             load_coded(cpu, it.r1, word, logical_code(word), it.updated)
         }
         Op::Lr => {
-            let it = registers_of(cpu, prefix, by_execute);
+            let it = registers_of(cpu, prefix, place);
             load(cpu, it.r1, it.second, it.updated)
         }
         Op::Cr => {
-            let it = registers_of(cpu, prefix, by_execute);
+            let it = registers_of(cpu, prefix, place);
             set_code(cpu, signed_order(it.first, it.second), it.updated)
         }
         Op::Ar => {
-            let it = registers_of(cpu, prefix, by_execute);
+            let it = registers_of(cpu, prefix, place);
             put_sum(cpu, it.r1, sum(it.first, it.second), it.updated)
         }
         Op::Sr => {
-            let it = registers_of(cpu, prefix, by_execute);
+            let it = registers_of(cpu, prefix, place);
             put_sum(cpu, it.r1, difference(it.first, it.second), it.updated)
         }
         Op::Mr => {
-            let it = registers_of(cpu, prefix, by_execute);
+            let it = registers_of(cpu, prefix, place);
             multiply(cpu, even(it.r1)?, it.second, it.updated)
         }
         Op::Dr => {
-            let it = registers_of(cpu, prefix, by_execute);
+            let it = registers_of(cpu, prefix, place);
             divide(cpu, even(it.r1)?, it.second, it.updated)
         }
         Op::Srl => {
-            let it = operands_of(cpu, prefix, 0, by_execute);
+            let it = operands_of(cpu, prefix, 0, place);
             load(
                 cpu,
                 it.r1,
@@ -364,7 +350,7 @@ pub(crate) fn register_rows<S: Store>(
             )
         }
         Op::Sll => {
-            let it = operands_of(cpu, prefix, 0, by_execute);
+            let it = operands_of(cpu, prefix, 0, place);
             load(
                 cpu,
                 it.r1,
@@ -373,31 +359,31 @@ pub(crate) fn register_rows<S: Store>(
             )
         }
         Op::Sra => {
-            let it = operands_of(cpu, prefix, 0, by_execute);
+            let it = operands_of(cpu, prefix, 0, place);
             shift_right(cpu, it.r1, (it.a % 64) as u8, it.updated)
         }
         Op::Sla => {
-            let it = operands_of(cpu, prefix, 0, by_execute);
+            let it = operands_of(cpu, prefix, 0, place);
             shift_left(cpu, it.r1, (it.a % 64) as u8, it.updated)
         }
         Op::Srda => {
-            let it = operands_of(cpu, prefix, 0, by_execute);
+            let it = operands_of(cpu, prefix, 0, place);
             shift_pair(cpu, even(it.r1)?, (it.a % 64) as u8, it.updated)
         }
         Op::Stm => {
-            let it = operands_of(cpu, prefix, 0, by_execute);
+            let it = operands_of(cpu, prefix, 0, place);
             store_multiple(cpu, store, it.r1, it.r3, it.a, it.updated)
         }
         Op::Lm => {
-            let it = operands_of(cpu, prefix, 0, by_execute);
+            let it = operands_of(cpu, prefix, 0, place);
             load_multiple(cpu, store, it.r1, it.r3, it.a, it.updated)
         }
         Op::Stcm => {
-            let it = operands_of(cpu, prefix, 0, by_execute);
+            let it = operands_of(cpu, prefix, 0, place);
             stcm(cpu, store, it.r1, it.r3, it.a, it.updated)
         }
         Op::Icm => {
-            let it = operands_of(cpu, prefix, 0, by_execute);
+            let it = operands_of(cpu, prefix, 0, place);
             icm(cpu, store, it.r1, it.r3, it.a, it.updated)
         }
         // Not reached.
@@ -413,30 +399,26 @@ pub(crate) fn word_rows<S: Store>(
     store: &mut S,
     op: Op,
     prefix: &Front,
-    by_execute: Option<Updated>,
+    place: Place,
 ) -> Result<(), Interruption>
     requires rows { has_word op ≡ true }
-    requires length { IfSome by_execute (λ updated. updated.length_code ≤ 3) }
-    requires address { IfSome by_execute (λ updated. updated.address < 2 ^ 24) }
+    requires place { IsPlace place }
     ensures { Effect (instruction op (fields_at op prefix.now))
-        (unwrap_or by_execute (updated_by cpu.old.next (length_of op)))
+        (updated_at place (length_of op))
         (machine cpu.old (S.storage store.old)) result (machine cpu.new (S.storage store.new)) }
 {
     match op {
         Op::L => {
-            let it = indexed_of(cpu, prefix, by_execute);
-            let second = word_at(store, it.a)?;
-            load(cpu, it.r1, second, it.updated)
+            let it = indexed_of(cpu, prefix, place);
+            word_row(cpu, store, Op::L, it.r1, it.a, it.updated)
         }
         Op::Cl => {
-            let it = indexed_of(cpu, prefix, by_execute);
-            let second = word_at(store, it.a)?;
-            set_code(cpu, logical_order(it.first, second), it.updated)
+            let it = indexed_of(cpu, prefix, place);
+            word_row(cpu, store, Op::Cl, it.r1, it.a, it.updated)
         }
         Op::C => {
-            let it = indexed_of(cpu, prefix, by_execute);
-            let second = word_at(store, it.a)?;
-            set_code(cpu, signed_order(it.first, second), it.updated)
+            let it = indexed_of(cpu, prefix, place);
+            word_row(cpu, store, Op::C, it.r1, it.a, it.updated)
         }
         // Not reached.
         _ => Err(Interruption::Operation),
@@ -451,32 +433,29 @@ pub(crate) fn word_result_rows<S: Store>(
     store: &mut S,
     op: Op,
     prefix: &Front,
-    by_execute: Option<Updated>,
+    place: Place,
 ) -> Result<(), Interruption>
     requires rows { has_word_result op ≡ true }
-    requires length { IfSome by_execute (λ updated. updated.length_code ≤ 3) }
-    requires address { IfSome by_execute (λ updated. updated.address < 2 ^ 24) }
+    requires place { IsPlace place }
     ensures { Effect (instruction op (fields_at op prefix.now))
-        (unwrap_or by_execute (updated_by cpu.old.next (length_of op)))
+        (updated_at place (length_of op))
         (machine cpu.old (S.storage store.old)) result (machine cpu.new (S.storage store.new)) }
 {
     match op {
         Op::A => {
-            let it = indexed_of(cpu, prefix, by_execute);
-            let second = word_at(store, it.a)?;
-            put_sum(cpu, it.r1, sum(it.first, second), it.updated)
+            let it = indexed_of(cpu, prefix, place);
+            word_row(cpu, store, Op::A, it.r1, it.a, it.updated)
         }
         Op::S => {
-            let it = indexed_of(cpu, prefix, by_execute);
-            let second = word_at(store, it.a)?;
-            put_sum(cpu, it.r1, difference(it.first, second), it.updated)
+            let it = indexed_of(cpu, prefix, place);
+            word_row(cpu, store, Op::S, it.r1, it.a, it.updated)
         }
         Op::M => {
-            let it = indexed_of(cpu, prefix, by_execute);
+            let it = indexed_of(cpu, prefix, place);
             multiply(cpu, even(it.r1)?, word_at(store, it.a)?, it.updated)
         }
         Op::D => {
-            let it = indexed_of(cpu, prefix, by_execute);
+            let it = indexed_of(cpu, prefix, place);
             divide(cpu, even(it.r1)?, word_at(store, it.a)?, it.updated)
         }
         // Not reached.
@@ -492,35 +471,30 @@ pub(crate) fn half_rows<S: Store>(
     store: &mut S,
     op: Op,
     prefix: &Front,
-    by_execute: Option<Updated>,
+    place: Place,
 ) -> Result<(), Interruption>
     requires rows { has_half op ≡ true }
-    requires length { IfSome by_execute (λ updated. updated.length_code ≤ 3) }
-    requires address { IfSome by_execute (λ updated. updated.address < 2 ^ 24) }
+    requires place { IsPlace place }
     ensures { Effect (instruction op (fields_at op prefix.now))
-        (unwrap_or by_execute (updated_by cpu.old.next (length_of op)))
+        (updated_at place (length_of op))
         (machine cpu.old (S.storage store.old)) result (machine cpu.new (S.storage store.new)) }
 {
     match op {
         Op::Lh => {
-            let it = indexed_of(cpu, prefix, by_execute);
-            let second = halfword_at(store, it.a)?;
-            load(cpu, it.r1, second, it.updated)
+            let it = indexed_of(cpu, prefix, place);
+            half_row(cpu, store, Op::Lh, it.r1, it.a, it.updated)
         }
         Op::Ch => {
-            let it = indexed_of(cpu, prefix, by_execute);
-            let second = halfword_at(store, it.a)?;
-            set_code(cpu, signed_order(it.first, second), it.updated)
+            let it = indexed_of(cpu, prefix, place);
+            half_row(cpu, store, Op::Ch, it.r1, it.a, it.updated)
         }
         Op::Ah => {
-            let it = indexed_of(cpu, prefix, by_execute);
-            let second = halfword_at(store, it.a)?;
-            put_sum(cpu, it.r1, sum(it.first, second), it.updated)
+            let it = indexed_of(cpu, prefix, place);
+            half_row(cpu, store, Op::Ah, it.r1, it.a, it.updated)
         }
         Op::Sh => {
-            let it = indexed_of(cpu, prefix, by_execute);
-            let second = halfword_at(store, it.a)?;
-            put_sum(cpu, it.r1, difference(it.first, second), it.updated)
+            let it = indexed_of(cpu, prefix, place);
+            half_row(cpu, store, Op::Sh, it.r1, it.a, it.updated)
         }
         // Not reached.
         _ => Err(Interruption::Operation),
@@ -535,56 +509,55 @@ pub(crate) fn indexed_rows<S: Store>(
     store: &mut S,
     op: Op,
     prefix: &Front,
-    by_execute: Option<Updated>,
+    place: Place,
 ) -> Result<(), Interruption>
     requires rows { has_address op ≡ true }
-    requires length { IfSome by_execute (λ updated. updated.length_code ≤ 3) }
-    requires address { IfSome by_execute (λ updated. updated.address < 2 ^ 24) }
+    requires place { IsPlace place }
     ensures { Effect (instruction op (fields_at op prefix.now))
-        (unwrap_or by_execute (updated_by cpu.old.next (length_of op)))
+        (updated_at place (length_of op))
         (machine cpu.old (S.storage store.old)) result (machine cpu.new (S.storage store.new)) }
 {
     match op {
         Op::Sth => {
-            let it = indexed_of(cpu, prefix, by_execute);
+            let it = indexed_of(cpu, prefix, place);
             let half = (it.first % 0x1_0000) as u16;
-            put_bytes(cpu, store, it.a, &half.to_be_bytes(), it.updated)
+            put_halfword(cpu, store, it.a, half, it.updated)
         }
         Op::La => {
-            let it = indexed_of(cpu, prefix, by_execute);
+            let it = indexed_of(cpu, prefix, place);
             load(cpu, it.r1, it.a, it.updated)
         }
         Op::Stc => {
-            let it = indexed_of(cpu, prefix, by_execute);
-            put_bytes(cpu, store, it.a, &[(it.first % 0x100) as u8], it.updated)
+            let it = indexed_of(cpu, prefix, place);
+            put_byte(cpu, store, it.a, (it.first % 0x100) as u8, it.updated)
         }
         Op::Bal => {
-            let it = indexed_of(cpu, prefix, by_execute);
+            let it = indexed_of(cpu, prefix, place);
             link(cpu, it.r1, it.a, it.updated)
         }
         Op::Bct => {
-            let it = indexed_of(cpu, prefix, by_execute);
+            let it = indexed_of(cpu, prefix, place);
             count(cpu, it.r1, it.a, it.updated)
         }
         Op::Bc => {
-            let it = indexed_of(cpu, prefix, by_execute);
+            let it = indexed_of(cpu, prefix, place);
             branch(cpu, it.r1, it.a, it.updated)
         }
         Op::St => {
-            let it = indexed_of(cpu, prefix, by_execute);
-            put_bytes(cpu, store, it.a, &it.first.to_be_bytes(), it.updated)
+            let it = indexed_of(cpu, prefix, place);
+            put_word(cpu, store, it.a, it.first, it.updated)
         }
         Op::Cvd => {
-            let it = indexed_of(cpu, prefix, by_execute);
+            let it = indexed_of(cpu, prefix, place);
             cvd(cpu, store, it.r1, it.a, it.updated)
         }
         Op::Ic => {
-            let it = indexed_of(cpu, prefix, by_execute);
+            let it = indexed_of(cpu, prefix, place);
             let byte = byte_at(store, it.a)?;
             load(cpu, it.r1, inserted(it.first, byte), it.updated)
         }
         Op::Cvb => {
-            let it = indexed_of(cpu, prefix, by_execute);
+            let it = indexed_of(cpu, prefix, place);
             cvb(cpu, store, it.r1, it.a, it.updated)
         }
         // Not reached.
@@ -600,37 +573,36 @@ pub(crate) fn immediate_rows<S: Store>(
     store: &mut S,
     op: Op,
     prefix: &Front,
-    by_execute: Option<Updated>,
+    place: Place,
 ) -> Result<(), Interruption>
     requires rows { has_immediate op ≡ true }
-    requires length { IfSome by_execute (λ updated. updated.length_code ≤ 3) }
-    requires address { IfSome by_execute (λ updated. updated.address < 2 ^ 24) }
+    requires place { IsPlace place }
     ensures { Effect (instruction op (fields_at op prefix.now))
-        (unwrap_or by_execute (updated_by cpu.old.next (length_of op)))
+        (updated_at place (length_of op))
         (machine cpu.old (S.storage store.old)) result (machine cpu.new (S.storage store.new)) }
 {
     match op {
         Op::Tm => {
-            let it = operands_of(cpu, prefix, 0, by_execute);
+            let it = operands_of(cpu, prefix, 0, place);
             let byte = byte_at(store, it.a)?;
             set_code(cpu, test_code(it.i2, byte), it.updated)
         }
         Op::Mvi => {
-            let it = operands_of(cpu, prefix, 0, by_execute);
-            put_bytes(cpu, store, it.a, &[it.i2], it.updated)
+            let it = operands_of(cpu, prefix, 0, place);
+            put_byte(cpu, store, it.a, it.i2, it.updated)
         }
         Op::Ni => {
-            let it = operands_of(cpu, prefix, 0, by_execute);
+            let it = operands_of(cpu, prefix, 0, place);
             let byte = byte_at(store, it.a)?;
             put_logical(cpu, store, it.a, byte & it.i2, it.updated)
         }
         Op::Cli => {
-            let it = operands_of(cpu, prefix, 0, by_execute);
+            let it = operands_of(cpu, prefix, 0, place);
             let byte = byte_at(store, it.a)?;
             set_code(cpu, byte_order(byte, it.i2), it.updated)
         }
         Op::Oi => {
-            let it = operands_of(cpu, prefix, 0, by_execute);
+            let it = operands_of(cpu, prefix, 0, place);
             let byte = byte_at(store, it.a)?;
             put_logical(cpu, store, it.a, byte | it.i2, it.updated)
         }
@@ -639,20 +611,19 @@ pub(crate) fn immediate_rows<S: Store>(
     }
 }
 
-/// The effect of the row `op` except EX, whose bytes begin so. It goes on where that is given, else after an
-/// instruction of its length at the next address.
+/// The effect of the row `op` except EX, whose bytes begin so. It goes on by a place.
 #[tactic(auto, unfolding(crate::specs::Rows::Effect, crate::specs::Rows::RxEffect, cx_code::specs::Reading::fields_at, cx_code::specs::Reading::fields_in, cx_code::specs::Table::row_of, cx_code::specs::Table::is_shift))]
+#[inline(always)]
 pub(crate) fn effect<S: Store>(
     cpu: &mut Cpu,
     store: &mut S,
     op: Op,
     prefix: &Front,
-    by_execute: Option<Updated>,
+    place: Place,
 ) -> Result<(), Interruption>
-    requires length { IfSome by_execute (λ updated. updated.length_code ≤ 3) }
-    requires address { IfSome by_execute (λ updated. updated.address < 2 ^ 24) }
+    requires place { IsPlace place }
     ensures { Effect (instruction op (fields_at op prefix.now))
-        (unwrap_or by_execute (updated_by cpu.old.next (length_of op)))
+        (updated_at place (length_of op))
         (machine cpu.old (S.storage store.old)) result (machine cpu.new (S.storage store.new)) }
 {
     match op {
@@ -677,10 +648,10 @@ pub(crate) fn effect<S: Store>(
         | Op::Stm
         | Op::Lm
         | Op::Stcm
-        | Op::Icm => { register_rows(cpu, store, op, prefix, by_execute) }
-        Op::L | Op::Cl | Op::C => { word_rows(cpu, store, op, prefix, by_execute) }
-        Op::A | Op::S | Op::M | Op::D => { word_result_rows(cpu, store, op, prefix, by_execute) }
-        Op::Lh | Op::Ch | Op::Ah | Op::Sh => { half_rows(cpu, store, op, prefix, by_execute) }
+        | Op::Icm => { register_rows(cpu, store, op, prefix, place) }
+        Op::L | Op::Cl | Op::C => { word_rows(cpu, store, op, prefix, place) }
+        Op::A | Op::S | Op::M | Op::D => { word_result_rows(cpu, store, op, prefix, place) }
+        Op::Lh | Op::Ch | Op::Ah | Op::Sh => { half_rows(cpu, store, op, prefix, place) }
         Op::Sth
         | Op::La
         | Op::Stc
@@ -690,14 +661,30 @@ pub(crate) fn effect<S: Store>(
         | Op::St
         | Op::Cvd
         | Op::Ic
-        | Op::Cvb => { indexed_rows(cpu, store, op, prefix, by_execute) }
+        | Op::Cvb => { indexed_rows(cpu, store, op, prefix, place) }
         Op::Tm | Op::Mvi | Op::Ni | Op::Cli | Op::Oi => {
-            immediate_rows(cpu, store, op, prefix, by_execute)
+            immediate_rows(cpu, store, op, prefix, place)
         }
         Op::Mvc | Op::Clc | Op::Xc | Op::Tr | Op::Trt | Op::Pack | Op::Unpk => {
-            strings_effect(cpu, store, op, prefix, by_execute)
+            strings_effect(cpu, store, op, prefix, place)
         }
         // An EX is performed by its target.
         Op::Ex => Err(Interruption::Operation),
     }
+}
+
+/// The same, in code of its own.
+#[inline(never)]
+pub(crate) fn effect_apart<S: Store>(
+    cpu: &mut Cpu,
+    store: &mut S,
+    op: Op,
+    prefix: &Front,
+    place: Place,
+) -> Result<(), Interruption>
+    requires place { IsPlace place }
+    ensures { Effect (instruction op (fields_at op prefix.now)) (updated_at place (length_of op))
+        (machine cpu.old (S.storage store.old)) result (machine cpu.new (S.storage store.new)) }
+{
+    effect(cpu, store, op, prefix, place)
 }

@@ -6,6 +6,7 @@ ghost use Rattle.cx_exec.specs.Advance.{Passes, Advances};
 ghost use Rattle.cx_exec.specs.declared.machine.Halt.TheVariants as halt;
 
 use crate::machine::{Cpu, ENTRY, Halt};
+use crate::places::Place;
 use crate::rows::{
     half_rows, immediate_rows, indexed_rows, register_rows, strings_effect, word_result_rows,
     word_rows,
@@ -38,6 +39,7 @@ fn pass<S: Store>(cpu: &mut Cpu, store: &mut S, steps: u32) -> Option<Halt>
             }
             continue;
         };
+        let place = Place::at(cpu.next);
         match found.op {
             Op::Balr
             | Op::Bctr
@@ -60,11 +62,11 @@ fn pass<S: Store>(cpu: &mut Cpu, store: &mut S, steps: u32) -> Option<Halt>
             | Op::Stm
             | Op::Lm
             | Op::Stcm
-            | Op::Icm => match register_rows(cpu, store, found.op, &found.prefix, None) {
+            | Op::Icm => match register_rows(cpu, store, found.op, &found.prefix, place) {
                 Ok(()) => {}
                 Err(cause) => return Some(Halt::Interrupt(cause, cpu.next)),
             },
-            Op::L | Op::Cl | Op::C => match word_rows(cpu, store, found.op, &found.prefix, None) {
+            Op::L | Op::Cl | Op::C => match word_rows(cpu, store, found.op, &found.prefix, place) {
                 Ok(()) => {}
                 Err(cause) => return Some(Halt::Interrupt(cause, cpu.next)),
             },
@@ -73,7 +75,7 @@ fn pass<S: Store>(cpu: &mut Cpu, store: &mut S, steps: u32) -> Option<Halt>
                 store,
                 found.op,
                 &found.prefix,
-                None,
+                place,
             ) {
                 Ok(()) => {}
                 Err(cause) => return Some(Halt::Interrupt(cause, cpu.next)),
@@ -83,7 +85,7 @@ fn pass<S: Store>(cpu: &mut Cpu, store: &mut S, steps: u32) -> Option<Halt>
                 store,
                 found.op,
                 &found.prefix,
-                None,
+                place,
             ) {
                 Ok(()) => {}
                 Err(cause) => return Some(Halt::Interrupt(cause, cpu.next)),
@@ -97,7 +99,7 @@ fn pass<S: Store>(cpu: &mut Cpu, store: &mut S, steps: u32) -> Option<Halt>
             | Op::St
             | Op::Cvd
             | Op::Ic
-            | Op::Cvb => match indexed_rows(cpu, store, found.op, &found.prefix, None) {
+            | Op::Cvb => match indexed_rows(cpu, store, found.op, &found.prefix, place) {
                 Ok(()) => {}
                 Err(cause) => return Some(Halt::Interrupt(cause, cpu.next)),
             },
@@ -106,13 +108,13 @@ fn pass<S: Store>(cpu: &mut Cpu, store: &mut S, steps: u32) -> Option<Halt>
                 store,
                 found.op,
                 &found.prefix,
-                None,
+                place,
             ) {
                 Ok(()) => {}
                 Err(cause) => return Some(Halt::Interrupt(cause, cpu.next)),
             },
             Op::Mvc | Op::Clc | Op::Xc | Op::Tr | Op::Trt | Op::Pack | Op::Unpk =>
-                match strings_effect(cpu, store, found.op, &found.prefix, None) {
+                match strings_effect(cpu, store, found.op, &found.prefix, place) {
                     Ok(()) => {}
                     Err(cause) => return Some(Halt::Interrupt(cause, cpu.next)),
                 },

@@ -1,6 +1,6 @@
 //! One step.
 
-ghost use Rattle.std.specs.Prelude.{◌≡◌, ◌≢◌, ◌<◌, ◌≤◌, ◌^◌, Ok, IfOk, IfSome, OnSome, MatchResult};
+ghost use Rattle.std.specs.Prelude.{◌≡◌, ◌≢◌, ◌+◌, ◌<◌, ◌≤◌, ◌^◌, Ok, IfOk, IfSome, OnSome, MatchResult};
 ghost use Rattle.cx_storage.specs.Address.{address_after};
 ghost use Rattle.cx_storage.specs.Storage.{Storage};
 ghost use Rattle.cx_code.specs.declared.table.Op.TheVariants as op;
@@ -15,8 +15,9 @@ ghost use Rattle.cx_exec.specs.Step.{entry, changed_copy, target_at, updated_by,
 
 use crate::fetch::code_at;
 use crate::machine::{Cpu, ENTRY, Interruption, Step, Updated};
+use crate::places::Place;
 use crate::prefix::{Front, fetched_front, op_in};
-use crate::rows::{effect, effective, indexed_of};
+use crate::rows::{effect, effect_apart, effective, indexed_of};
 use cx_code::{Fields, Inst, Op};
 use cx_storage::{Store, along};
 
@@ -89,6 +90,7 @@ pub(crate) fn fetch_fast<S: Store>(cpu: &Cpu, store: &mut S) -> Option<Found>
     ensures performed { let m = machine cpu.now (S.storage store.new) in
         IfSome result (λ found. IsPerformed m found.op found.prefix) }
     ensures apart { OnSome result (cpu.now.next ≢ entry) }
+    ensures room { OnSome result (cpu.now.next + 8 ≤ 2 ^ 24) }
     ensures same { S.storage store.new ≡ S.storage store.old }
 {
     cx_code::laws::first_bits();
@@ -144,7 +146,7 @@ fn perform_apart<S: Store>(
         Effect inst.now updated before result after }
 {
     let prefix = Front::with_fields(inst);
-    effect(cpu, store, inst.op(), &prefix, Some(updated))
+    effect_apart(cpu, store, inst.op(), &prefix, Place::after(updated))
 }
 
 /// Performs the target at `a` (below 2^24) of an EX at the next address. `r1` is below 16.
@@ -161,7 +163,7 @@ fn execute<S: Store>(cpu: &mut Cpu, store: &mut S, r1: u8, a: u32) -> Result<(),
         address: along(cpu.next, 4),
     };
     if let Some(found) = target_at_hand(cpu, store, r1, a) {
-        return effect(cpu, store, found.op, &found.prefix, Some(updated));
+        return effect(cpu, store, found.op, &found.prefix, Place::after(updated));
     }
     let target = target_at(cpu, store, r1, a)?;
     perform_apart(cpu, store, &target, updated)
@@ -174,10 +176,11 @@ pub(crate) fn execute_found<S: Store>(
     store: &mut S,
     prefix: &Front,
 ) -> Result<(), Interruption>
-    requires { IsPerformed (machine cpu.old (S.storage store.old)) op.Ex prefix.now }
+    requires performed { IsPerformed (machine cpu.old (S.storage store.old)) op.Ex prefix.now }
+    requires room { cpu.old.next + 8 ≤ 2 ^ 24 }
     ensures { Runs (machine cpu.old (S.storage store.old)) result (machine cpu.new (S.storage store.new)) }
 {
-    let it = indexed_of(cpu, prefix, None);
+    let it = indexed_of(cpu, prefix, Place::at(cpu.next));
     execute(cpu, store, it.r1, it.a)
 }
 
@@ -204,7 +207,7 @@ fn run<S: Store>(cpu: &mut Cpu, store: &mut S) -> Result<(), Interruption>
     if found.op == Op::Ex {
         return execute_found(cpu, store, &found.prefix);
     }
-    effect(cpu, store, found.op, &found.prefix, None)
+    effect_apart(cpu, store, found.op, &found.prefix, Place::at(cpu.next))
 }
 
 /// Performs the instruction at the next address, unless that is the entry.

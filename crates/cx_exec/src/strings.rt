@@ -4,7 +4,7 @@ ghost use Rattle.std.specs.Prelude.{◌≡◌, ◌≢◌, ℕ, ◌<◌, ◌≤�
 ghost use Rattle.cx_storage.specs.Address.{address_after};
 ghost use Rattle.cx_storage.specs.Storage.{span};
 ghost use Rattle.cx_exec.specs.Machine.{machine};
-ghost use Rattle.cx_exec.specs.Sequence.{stored_by};
+ghost use Rattle.cx_exec.specs.Sequence.{content, stored_by};
 ghost use Rattle.cx_exec.specs.Strings.{moved_byte, xored_byte, MvcEffect, XcEffect};
 
 use crate::logic::string_code;
@@ -127,7 +127,7 @@ fn copy_long<S: Store>(
 
 /// MVC of such operands. Those of a few bytes need no large buffer, and for each of the shortest lengths, which are the
 /// most frequent, there is code of its own.
-#[inline(always)]
+#[inline(never)]
 fn copy<S: Store>(
     cpu: &mut Cpu,
     store: &mut S,
@@ -154,7 +154,14 @@ fn copy<S: Store>(
         6 => copy_through(cpu, store, a1, a2, &mut new[..6], updated),
         7 => copy_through(cpu, store, a1, a2, &mut new[..7], updated),
         8 => copy_through(cpu, store, a1, a2, &mut new[..8], updated),
-        0..=16 => copy_through(cpu, store, a1, a2, &mut new[..n as usize], updated),
+        9 => copy_through(cpu, store, a1, a2, &mut new[..9], updated),
+        10 => copy_through(cpu, store, a1, a2, &mut new[..10], updated),
+        11 => copy_through(cpu, store, a1, a2, &mut new[..11], updated),
+        12 => copy_through(cpu, store, a1, a2, &mut new[..12], updated),
+        13 => copy_through(cpu, store, a1, a2, &mut new[..13], updated),
+        14 => copy_through(cpu, store, a1, a2, &mut new[..14], updated),
+        15 => copy_through(cpu, store, a1, a2, &mut new[..15], updated),
+        16 => copy_through(cpu, store, a1, a2, &mut new[..16], updated),
         _ => copy_long(cpu, store, n, a1, a2, updated),
     }
 }
@@ -296,15 +303,45 @@ fn join<S: Store>(
     }
 }
 
-/// A buffer of the second operand's first byte, which MVC stores throughout where the first operand begins after it.
+/// A buffer of a byte, the second operand's first one, which MVC stores throughout where the first operand begins after it.
 #[inline(always)]
-fn byte_throughout<S: Store>(store: &S, n: u32, a1: u32, a2: u32) -> [u8; 256]
+fn byte_throughout<S: Store>(_store: &S, n: u32, a1: u32, a2: u32, byte: u8) -> [u8; 256]
     requires second { a2 < 2 ^ 24 }
     requires count { n ≤ 256 }
     requires begins { a1 ≡ address_after a2 1 }
-    ensures { take n result ≡ stored_by (moved_byte (S.storage store.now) a1 a2) n }
+    requires byte { byte ≡ content (S.storage _store.now) a2 }
+    ensures { take n result ≡ stored_by (moved_byte (S.storage _store.now) a1 a2) n }
 {
-    [content(store, a2); 256]
+    let _place = (n, a1, a2);
+    [byte; 256]
+}
+
+/// MVC of operands of which the first begins at the second byte of the second, whose first byte is stored throughout.
+#[tactic(auto, using(crate::proofs::FillLemmas::begins_after, crate::proofs::FillLemmas::first_content, cx_storage::specs::Facts::Spans::span_length), unfolding(crate::specs::Strings::MvcEffect))]
+#[inline(never)]
+fn spread<S: Store>(
+    cpu: &mut Cpu,
+    store: &mut S,
+    n: u32,
+    a1: u32,
+    a2: u32,
+    updated: Updated,
+) -> Result<(), Interruption>
+    requires first { a1 < 2 ^ 24 }
+    requires second { a2 < 2 ^ 24 }
+    requires some { 0 < n }
+    requires count { n ≤ 256 }
+    requires begins { a1 ≡ address_after a2 1 }
+    requires address { updated.address < 2 ^ 24 }
+    ensures { let before = machine cpu.old (S.storage store.old) in let after = machine cpu.new (S.storage store.new) in
+        MvcEffect n a1 a2 updated before result after }
+{
+    let Some(part) = store.slice(a2, n as usize) else {
+        return fill(cpu, store, n, a1, a2, updated);
+    };
+    let byte = part[0];
+    let new = byte_throughout(store, n, a1, a2, byte);
+    put_bytes(cpu, store, a1, &new[..n as usize], updated)
 }
 
 /// MVC of operands of which the first may begin inside the second.
@@ -327,10 +364,6 @@ fn fill<S: Store>(
 {
     if !is_present(store, a2, n) {
         return Err(Interruption::Addressing);
-    }
-    if distance(a2, a1) == 1 {
-        let new = byte_throughout(store, n, a1, a2);
-        return put_bytes(cpu, store, a1, &new[..n as usize], updated);
     }
     let mut new = [0; 256];
     fill_bytes(store, n, a1, a2, &mut new);
@@ -407,6 +440,9 @@ pub(crate) fn mvc<S: Store>(
 {
     if begins_outside(n, a1, a2) {
         return copy(cpu, store, n, a1, a2, updated);
+    }
+    if n > 0 && distance(a2, a1) == 1 {
+        return spread(cpu, store, n, a1, a2, updated);
     }
     fill(cpu, store, n, a1, a2, updated)
 }

@@ -6,20 +6,18 @@ use Rattle.cx_region_state.specs.declared.replies.TurnReply.{TurnReply}
 use Rattle.cx_region_state.specs.declared.replies.TurnReply.TheVariants as turn
 use Rattle.cx_region_state.specs.State.{TaskState}
 use Rattle.cx_region_task.specs.declared.cause.AbendRecord.{AbendRecord}
-use Rattle.cx_region_task.specs.Causes.{HasAbendRecord}
+use Rattle.cx_region_task.specs.Turn.{HasAbendRecord}
 use Rattle.cx_region_task.specs.Laws.AbendRecords.{Explains, AbendRecordsDecide, AbendRecordsExplain}
-use Rattle.cx_region.specs.Causes.{TurnHasAbendRecord}
 use Rattle.cx_region.specs.Events.{Applies}
 use Rattle.cx_region.specs.State.{RegionState, TerminalState}
 use Rattle.cx_region.specs.Tables.{terminal_of}
-use Rattle.cx_region.specs.Turn.{TaskTakesTurn, TakesTurn, context_of}
+use Rattle.cx_region.specs.Turn.{TaskTakesTurn, TakesTurn, TurnHasAbendRecord, context_of}
 use Rattle.cx_region.specs.declared.replies.Event.TheVariants as event
 use Rattle.cx_region.specs.declared.replies.Reply.{Reply}
 use Rattle.cx_region.specs.declared.replies.Reply.TheVariants as reply
-use Rattle.cx_edf.specs.Causes.{EdfHasAbendRecord}
 use Rattle.cx_edf.specs.Laws.Edf.{EdfEventsDecide}
 use Rattle.cx_edf.specs.State.{EdfState, holds}
-use Rattle.cx_edf.specs.Steps.{AppliesBy, DisplayMaker, DoorAnswers, EdfApplies, Keeps, Passes, door_of}
+use Rattle.cx_edf.specs.Steps.{AppliesBy, DisplayMaker, DoorAnswers, EdfHasAbendRecord, Keeps, Passes, door_of}
 use Rattle.cx_edf.specs.declared.answers.Answer.TheVariants as answer
 use Rattle.cx_edf.specs.declared.answers.EdfEvent.{EdfEvent}
 use Rattle.cx_edf.specs.declared.answers.EdfEvent.TheVariants as edf_event

@@ -1,10 +1,8 @@
 -- What is kept of a terminal's last abend (own).
-use Rattle.std.specs.Prelude.{ℕ, ◌-◌, ◌&&◌, Bool, nat_le, nat_lt, List, Option, Some, None, slice_index}
-use Rattle.std.specs.List.{find}
+use Rattle.std.specs.Prelude.{ℕ, List, Option, Some, None, slice_index}
 use Rattle.std.specs.Option.{option_and_then, option_map}
 use Rattle.cx_base_commands.specs.Abends.{abend_code}
 use Rattle.cx_base_commands.specs.declared.abends.Abend.TheVariants.{Xedf}
-use Rattle.cx_load.specs.declared.program.Loaded.{Loaded}
 use Rattle.cx_storage.specs.Address.{address_in}
 use Rattle.cx_region_state.specs.declared.replies.TurnReply.{TurnReply}
 use Rattle.cx_region_state.specs.declared.replies.TurnReply.TheVariants as turn
@@ -13,21 +11,10 @@ use Rattle.cx_region_task.specs.declared.cause.Cause.TheVariants as cause
 use Rattle.cx_region_task.specs.declared.cause.AbendRecord.{AbendRecord}
 use Rattle.cx_region.specs.State.{RegionState}
 use Rattle.cx_region.specs.Tables.{task_of}
+use Rattle.cx_look_abend.specs.declared.abends.Explanation.{Explanation}
 use Rattle.cx_look_abend.specs.declared.abends.LastAbend.{LastAbend}
-use Rattle.cx_look_abend.specs.declared.abends.Place.{Place}
-
--- ---- places
--- a program is at an address
-unfoldable pub covers : ℕ → Loaded → Bool
-covers a loaded = nat_le loaded.at a && nat_lt (a - loaded.at) loaded.len
-
--- an address, with the program there and how many of its bytes come before it
-abbrev pub place_in : List (List ℕ × Loaded) → ℕ → Place
-place_in programs a =
-    record {
-      address = a;
-      spot = option_map (λ program. (program.0, a - program.1.at)) (find (λ program. covers a program.1) programs);
-    }
+use Rattle.cx_look_symbols.specs.Places.{place_of, spot_before}
+use Rattle.cx_look_symbols.specs.declared.places.Place.{Place}
 
 -- ---- an abend
 -- the code of an abend, where a turn's reply is one
@@ -50,15 +37,24 @@ abbrev pub next_of : RegionState → List ℕ → Option ℕ
 next_of region name = option_map (λ task. task.next) (task_of region name)
 
 abbrev pub exit_place : RegionState → List ℕ → TurnReply → Option Place
-exit_place region name (turn.TookExit code) = option_map (place_in region.programs) (next_of region name)
+exit_place region name (turn.TookExit code) = option_map (place_of region.programs) (next_of region name)
 exit_place region name _ = None
+
+-- why a turn led to an abend, and where its program was; the byte before a place after a command is the last of the command's EXEC
+abbrev pub explanation_of : RegionState → AbendRecord → Explanation
+explanation_of region abend_record =
+    record {
+      abend_record = abend_record;
+      place = place_of region.programs (abend_place abend_record);
+      before = spot_before region.programs (abend_place abend_record);
+    }
 
 -- the abend of a turn of this terminal with that reply and record, in the region after it
 abbrev pub last_with : RegionState → List ℕ → TurnReply → AbendRecord → List ℕ → LastAbend
 last_with region name reply abend_record code =
     record {
       code = code;
-      explanation = Some (record { abend_record = abend_record; place = place_in region.programs (abend_place abend_record) });
+      explanation = Some (explanation_of region abend_record);
       exit = exit_place region name reply;
     }
 

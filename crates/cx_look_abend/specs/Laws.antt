@@ -1,6 +1,5 @@
--- Which turns keep an abend; what is kept is decided; the text of a look at it is lines.
+-- Which turns keep an abend; what is kept is decided.
 use Rattle.std.specs.Prelude.{◌≡◌, ℕ, true, is_some, List}
-use Rattle.std.specs.List.{flat_map}
 use Rattle.cx_region_state.specs.declared.replies.TurnReply.{TurnReply}
 use Rattle.cx_region_state.specs.declared.replies.TurnReply.TheVariants as turn
 use Rattle.cx_region.specs.declared.replies.Event.TheVariants as event
@@ -10,9 +9,7 @@ use Rattle.cx_edf.specs.declared.answers.Answer.{Answer}
 use Rattle.cx_edf.specs.declared.answers.Answer.TheVariants as answer
 use Rattle.cx_edf.specs.declared.answers.EdfEvent.{EdfEvent}
 use Rattle.cx_edf.specs.declared.answers.EdfEvent.TheVariants as edf_event
-use Rattle.cx_look_symbols.specs.Lines.{SourcePlaces}
 use Rattle.cx_look_abend.specs.Noting.{Abends, AppliesWithAbends, with_last}
-use Rattle.cx_look_abend.specs.Texts.{abend_text, line}
 use Rattle.cx_look_abend.specs.declared.abends.LastAbend.{LastAbend}
 
 -- an abend with this code, to which a turn led, is the terminal's last one
@@ -38,11 +35,3 @@ abbrev pub NotedDecide : Type 0
 NotedDecide = (old new later : EdfState) (before after others : Abends) (e : EdfEvent) (given other : Answer)
     → AppliesWithAbends old before e given new after → AppliesWithAbends old before e other later others
     → (given ≡ other) × (new ≡ later) × (after ≡ others)
-
--- the text of a look is lines
-pub record IsOfLines (text : List ℕ) : Type 0 where
-  pub lines : List (List (List ℕ))
-  pub whole : text ≡ flat_map line lines
-
-abbrev pub TextsAreLines : Type 0
-TextsAreLines = (sources : SourcePlaces) (abends : Abends) (name : List ℕ) → IsOfLines (abend_text sources abends name)

@@ -11,10 +11,9 @@ use Rattle.cx_region.specs.declared.changes.Change.{Change}
 use Rattle.cx_region.specs.declared.changes.Change.TheVariants as change
 use Rattle.cx_region.specs.declared.replies.Event.TheVariants as event
 use Rattle.cx_region.specs.declared.replies.Reply.TheVariants as reply
-use Rattle.cx_edf.specs.Causes.{EdfHasAbendRecord}
 use Rattle.cx_edf.specs.Runs.{MayTakeEdf}
 use Rattle.cx_edf.specs.State.{EdfState, ends_by_key}
-use Rattle.cx_edf.specs.Steps.{EdfApplies}
+use Rattle.cx_edf.specs.Steps.{EdfApplies, EdfHasAbendRecord}
 use Rattle.cx_edf.specs.declared.answers.Answer.{Answer}
 use Rattle.cx_edf.specs.declared.answers.Answer.TheVariants as answer
 use Rattle.cx_edf.specs.declared.answers.EdfEvent.{EdfEvent}

@@ -1,5 +1,5 @@
 -- ABEND: a terminal's last abend (own).
-use Rattle.std.specs.Prelude.{ℕ, ◌+◌, List, [], ◌∷◌, ◌++◌, take, codes, get_or, slice_index, Option, Some, None, is_some, unwrap_or, if◌then◌else◌}
+use Rattle.std.specs.Prelude.{ℕ, List, [], ◌∷◌, ◌++◌, take, codes, get_or, slice_index, Option, None, is_some, unwrap_or, if◌then◌else◌}
 use Rattle.std.specs.List.{flat_map, list_all}
 use Rattle.std.specs.Map.{lookup}
 use Rattle.std.specs.Option.{option_and_then, option_map_or}
@@ -12,18 +12,17 @@ use Rattle.cx_exec.specs.declared.machine.Interruption.TheVariants as interrupti
 use Rattle.cx_storage.specs.Address.{address_in}
 use Rattle.cx_region_task.specs.declared.cause.Cause.{Cause}
 use Rattle.cx_region_task.specs.declared.cause.Cause.TheVariants as cause
-use Rattle.cx_region_task.specs.declared.cause.AbendRecord.{AbendRecord}
 use Rattle.cx_ebcdic.specs.Names.{is_name}
 use Rattle.cx_base_text.specs.Digits.{digits}
-use Rattle.cx_base_text.specs.Texts.{shown_text, shown_name, written_line}
-use Rattle.cx_look_symbols.specs.Lines.{SourcePlaces, line_word}
+use Rattle.cx_base_text.specs.Texts.{shown_text, shown_name}
+use Rattle.cx_look_words.specs.Registers.{register_lines}
+use Rattle.cx_look_words.specs.Words.{Lines, look_line}
+use Rattle.cx_look_symbols.specs.Lines.{SourcePlaces}
+use Rattle.cx_look_symbols.specs.Places.{address_word, line_word, place_word}
+use Rattle.cx_look_symbols.specs.declared.places.Place.{Place}
 use Rattle.cx_look_abend.specs.Noting.{Abends}
 use Rattle.cx_look_abend.specs.declared.abends.LastAbend.{LastAbend}
-use Rattle.cx_look_abend.specs.declared.abends.Place.{Place}
 use Rattle.cx_look_abend.specs.declared.abends.Explanation.{Explanation}
-
-abbrev pub line : List (List ℕ) → List ℕ
-line words = written_line (codes ">") words
 
 -- ---- why
 -- an interruption's code and its name
@@ -46,15 +45,6 @@ abbrev pub why_word : Option Explanation → List ℕ
 why_word explanation = option_map_or (λ it. cause_word it.abend_record.cause) explanation (codes "ASKED BY OPERATOR")
 
 -- ---- where
--- an address, and where that is in the program there, with the line of the program's source
-abbrev pub spot_word : SourcePlaces → Option (List ℕ × ℕ) → List ℕ
-spot_word sources None = []
-spot_word sources (Some (program, offset)) =
-    codes " PROGRAM " ++ shown_name program ++ codes " OFFSET " ++ digits 16 6 offset ++ line_word sources program offset
-
-abbrev pub place_word : SourcePlaces → Place → List ℕ
-place_word sources place = digits 16 6 place.address ++ spot_word sources place.spot
-
 -- the bytes of the instruction there, as many as its first one says; hyphens where one of them isn't in storage
 abbrev pub byte_digits : Option ℕ → List ℕ
 byte_digits byte = digits 16 2 (unwrap_or byte 0)
@@ -68,57 +58,50 @@ instruction_word bytes =
 
 -- ---- lines
 -- of an interruption or the limit: the next address, and the instruction there
-abbrev pub next_line : SourcePlaces → AbendRecord → Place → List ℕ
-next_line sources abend_record place = line (codes "NEXT" ∷ place_word sources place ∷ codes "INSTRUCTION" ∷ instruction_word abend_record.bytes ∷ [])
+abbrev pub next_line : SourcePlaces → Explanation → Lines
+next_line sources it = look_line (codes "NEXT" ∷ place_word sources it.place ∷ codes "INSTRUCTION" ∷ instruction_word it.abend_record.bytes ∷ [])
 
--- of a command: its name, the address of its argument list, and where the program would go on after it
+-- of a command: its name, the address of its argument list, and the line of its EXEC, which has the byte before R14's address; and
+-- that address, where the program would go on after it
 abbrev pub command_word : Option Command → List ℕ
 command_word command = option_map_or (λ it. (row_of it).name) command (codes "?")
 
-abbrev pub command_lines : SourcePlaces → AbendRecord → Place → List ℕ
-command_lines sources abend_record place =
-    line (codes "COMMAND" ∷ command_word abend_record.command ∷ codes "LIST" ∷ digits 16 6 (address_in (slice_index abend_record.regs 1)) ∷ [])
-    ++ line (codes "R14" ∷ place_word sources place ∷ [])
+abbrev pub list_word : SourcePlaces → Explanation → List ℕ
+list_word sources it = digits 16 6 (address_in (slice_index it.abend_record.regs 1)) ++ line_word (codes " LINE ") sources it.before
 
-abbrev pub where_lines : SourcePlaces → Cause → AbendRecord → Place → List ℕ
-where_lines sources (cause.Interrupted it) abend_record place = next_line sources abend_record place
-where_lines sources cause.Limit abend_record place = next_line sources abend_record place
-where_lines sources _ abend_record place = command_lines sources abend_record place
+abbrev pub command_lines : SourcePlaces → Explanation → Lines
+command_lines sources it =
+    look_line (codes "COMMAND" ∷ command_word it.abend_record.command ∷ codes "LIST" ∷ list_word sources it ∷ [])
+    ++ look_line (codes "R14" ∷ address_word it.place ∷ [])
 
--- four registers from one on, and the code
-abbrev pub register_line : List ℕ → List ℕ → ℕ → List ℕ
-register_line label regs k =
-    line (label ∷ digits 16 8 (slice_index regs k) ∷ digits 16 8 (slice_index regs (k + 1)) ∷ digits 16 8 (slice_index regs (k + 2))
-    ∷ digits 16 8 (slice_index regs (k + 3)) ∷ [])
+abbrev pub where_lines : SourcePlaces → Cause → Explanation → Lines
+where_lines sources (cause.Interrupted interruption) it = next_line sources it
+where_lines sources cause.Limit it = next_line sources it
+where_lines sources _ it = command_lines sources it
 
-unfoldable pub register_lines : List ℕ → List ℕ
-register_lines regs =
-    register_line (codes "R00") regs 0 ++ register_line (codes "R04") regs 4 ++ register_line (codes "R08") regs 8
-    ++ register_line (codes "R12") regs 12
+abbrev pub code_line : ℕ → Lines
+code_line code = look_line (codes "CC" ∷ digits 10 1 code ∷ [])
 
-abbrev pub code_line : ℕ → List ℕ
-code_line code = line (codes "CC" ∷ digits 10 1 code ∷ [])
-
-unfoldable pub explanation_lines : SourcePlaces → Explanation → List ℕ
-explanation_lines sources explanation =
-    where_lines sources explanation.abend_record.cause explanation.abend_record explanation.place ++ register_lines explanation.abend_record.regs ++ code_line explanation.abend_record.cc
+unfoldable pub explanation_lines : SourcePlaces → Explanation → Lines
+explanation_lines sources it =
+    where_lines sources it.abend_record.cause it ++ register_lines it.abend_record.regs ++ code_line it.abend_record.cc
 
 -- where an exit took it
-abbrev pub exit_line : SourcePlaces → Option Place → List ℕ
-exit_line sources exit = option_map_or (λ place. line (codes "EXIT" ∷ place_word sources place ∷ [])) exit []
+abbrev pub exit_line : SourcePlaces → Option Place → Lines
+exit_line sources exit = option_map_or (λ place. look_line (codes "EXIT" ∷ place_word sources place ∷ [])) exit []
 
 -- ---- the look
-abbrev pub head_line : List ℕ → LastAbend → List ℕ
-head_line name last = line (codes "ABEND" ∷ shown_name name ∷ shown_text last.code ∷ why_word last.explanation ∷ [])
+abbrev pub head_line : List ℕ → LastAbend → Lines
+head_line name last = look_line (codes "ABEND" ∷ shown_name name ∷ shown_text last.code ∷ why_word last.explanation ∷ [])
 
-unfoldable pub last_text : SourcePlaces → List ℕ → LastAbend → List ℕ
+unfoldable pub last_text : SourcePlaces → List ℕ → LastAbend → Lines
 last_text sources name last = head_line name last ++ exit_line sources last.exit ++ option_map_or (explanation_lines sources) last.explanation []
 
-abbrev pub none_line : List ℕ → List ℕ
-none_line name = line (codes "ABEND" ∷ shown_name name ∷ codes "NONE" ∷ [])
+abbrev pub none_line : List ℕ → Lines
+none_line name = look_line (codes "ABEND" ∷ shown_name name ∷ codes "NONE" ∷ [])
 
 abbrev pub last_of : Abends → List ℕ → Option LastAbend
 last_of abends name = option_and_then (λ last. last) (lookup (is_name name) abends)
 
-unfoldable pub abend_text : SourcePlaces → Abends → List ℕ → List ℕ
+unfoldable pub abend_text : SourcePlaces → Abends → List ℕ → Lines
 abend_text sources abends name = option_map_or (last_text sources name) (last_of abends name) (none_line name)

@@ -1,30 +1,24 @@
 //! What is kept of a terminal's last abend.
 ghost use Rattle.std.specs.Prelude.{◌≡◌, ◌≤◌, None, Some};
-ghost use Rattle.std.specs.List.{find};
 ghost use Rattle.indexmap.specs.IndexMap.{insert_entry, spare};
 ghost use Rattle.cx_ebcdic.specs.Names.{is_name};
-ghost use Rattle.cx_look_abend.specs.Abends.{abend_code_in, by_operator, covers, exit_place, last_of_turn, next_of, place_in, abend_place};
+ghost use Rattle.cx_look_abend.specs.Abends.{abend_code_in, abend_place, by_operator, exit_place, explanation_of, last_of_turn, next_of};
 
 use cx_base_commands::Abend;
-use cx_ebcdic::{Name4, Name8};
-use cx_load::Loaded;
+use cx_ebcdic::Name4;
+use cx_look_symbols::{Place, Spot, place_of, spot_before};
 use cx_region::{AbendRecord, Cause, Region, TurnReply};
 use cx_storage::{Store, address_in};
 use indexmap::IndexMap;
 use std::marker::Model;
-
-/// An address, and the program there, with how many of its bytes come before it.
-#[derive(Clone, Copy, Debug, PartialEq, Eq)]
-pub struct Place {
-    pub address: u32,
-    pub spot: Option<(Name8, u32)>,
-}
 
 /// Why a turn led to an abend, and where its program was: at the next address, or after a command, where R14 leads.
 #[derive(Clone, Copy, Debug, PartialEq, Eq)]
 pub struct Explanation {
     pub abend_record: AbendRecord,
     pub place: Place,
+    /// Where the byte before that place is: after a command the last one of the command's EXEC.
+    pub before: Option<Spot>,
 }
 
 /// A terminal's last abend.
@@ -89,42 +83,6 @@ pub(crate) fn put_none(abends: &mut LastAbends, name: Name4)
     }
 }
 
-/// Whether a program is at an address.
-#[tactic(auto, unfolding(crate::specs::Abends::covers))]
-fn covers(loaded: &Loaded, address: u32) -> bool
-    ensures { result ≡ covers address loaded.now }
-{
-    loaded.at <= address && address - loaded.at < loaded.len
-}
-
-/// The program at an address, with its name.
-fn program_at(programs: &IndexMap<Name8, Loaded>, address: u32) -> Option<(Name8, Loaded)>
-    ensures { result ≡ find (λ program. covers address program.1) programs.now.entries }
-{
-    for (name, loaded) in programs.iter() {
-        if covers(loaded, address) {
-            return Some((*name, *loaded));
-        }
-    }
-    None
-}
-
-/// An address, and the program there.
-fn place_in(programs: &IndexMap<Name8, Loaded>, address: u32) -> Place
-    ensures { result ≡ place_in programs.now.entries address }
-{
-    match program_at(programs, address) {
-        Some((program, loaded)) => Place {
-            address,
-            spot: Some((program, address.saturating_sub(loaded.at))),
-        },
-        None => Place {
-            address,
-            spot: None,
-        },
-    }
-}
-
 /// The code of an abend, where a turn's reply is one.
 fn abend_code_in(reply: &TurnReply) -> Option<Name4>
     ensures { result ≡ abend_code_in reply.now }
@@ -161,9 +119,22 @@ fn exit_place<S: Store + Drop>(region: &Region<S>, name: Name4, reply: &TurnRepl
     match reply {
         TurnReply::TookExit(_code) => {
             let next = next_of(region, name)?;
-            Some(place_in(&region.shared().programs, next))
+            Some(place_of(&region.shared().programs, next))
         }
         _ => None,
+    }
+}
+
+/// Why a turn led to an abend, and where its program was, where the region is as it was after the turn.
+fn explanation_of<S: Store + Drop>(region: &Region<S>, abend_record: AbendRecord) -> Explanation
+    ensures { result ≡ explanation_of region.now abend_record }
+{
+    let programs = &region.shared().programs;
+    let address = abend_place(&abend_record);
+    Explanation {
+        abend_record,
+        place: place_of(programs, address),
+        before: spot_before(programs, address),
     }
 }
 
@@ -178,14 +149,11 @@ pub(crate) fn last_of_turn<S: Store + Drop>(
 {
     let abend_record = (*abend_record)?;
     let code = abend_code_in(reply)?;
-    let place = place_in(&region.shared().programs, abend_place(&abend_record));
+    let explanation = Some(explanation_of(region, abend_record));
     let exit = exit_place(region, name, reply);
     Some(LastAbend {
         code,
-        explanation: Some(Explanation {
-            abend_record,
-            place,
-        }),
+        explanation,
         exit,
     })
 }

@@ -1,5 +1,5 @@
 //! Which abends are kept.
-ghost use Rattle.cx_look_abend.specs.Laws.{AbendsAreKept, NotedDecide, TextsAreLines};
+ghost use Rattle.cx_look_abend.specs.Laws.{AbendsAreKept, NotedDecide};
 
 /// Each turn that is answered as an abend is kept as its terminal's last one, with its code and why it came; any other turn leaves
 /// what is kept.
@@ -16,9 +16,3 @@ pub fn noted_events_decide()
     cx_edf::laws::edf_events_decide();
     cx_region_task::laws::abend_records_explain();
 }
-
-/// The text of a terminal's last abend is lines that begin with `> `.
-#[tactic(auto, using(crate::proofs::LineLemmas::texts_are_lines))]
-pub fn texts_are_lines()
-    ensures { TextsAreLines }
-{}

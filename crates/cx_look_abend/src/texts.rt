@@ -1,17 +1,17 @@
 //! The lines of a last abend.
-ghost use Rattle.std.specs.Prelude.{◌≡◌, ◌≤◌, ◌++◌, [], IfOk, OnOk, is_some, take};
+ghost use Rattle.std.specs.Prelude.{◌≡◌, ◌++◌, [], IfOk, OnOk, is_some, take};
 ghost use Rattle.std.specs.Option.{option_map_or};
 ghost use Rattle.std.specs.List.{flat_map, list_all};
-ghost use Rattle.cx_look_symbols.specs.Lines.{line_word};
-ghost use Rattle.cx_look_abend.specs.Texts.{abend_text, byte_digits, bytes_word, cause_word, code_line, command_lines, command_word, exit_line, head_line, instruction_word, interruption_word, last_of, last_text, next_line, none_line, place_word, register_line, register_lines, spot_word, explanation_lines, where_lines, why_word};
+ghost use Rattle.cx_look_abend.specs.Texts.{abend_text, byte_digits, bytes_word, cause_word, code_line, command_lines, command_word, exit_line, explanation_lines, head_line, instruction_word, interruption_word, last_of, last_text, list_word, next_line, none_line, where_lines, why_word};
 
-use crate::abends::{Explanation, LastAbend, LastAbends, Place};
+use crate::abends::{Explanation, LastAbend, LastAbends};
 use cx_base_commands::Command;
-use cx_base_text::{decimal, hexadecimal, shown, shown_name, written_line};
+use cx_base_text::{decimal, hexadecimal, shown, shown_name};
 use cx_code::instruction_length;
-use cx_ebcdic::{Name4, Name8};
+use cx_ebcdic::Name4;
 use cx_exec::Interruption;
-use cx_look_symbols::{SourcePlaces, line_word};
+use cx_look_symbols::{Place, SourcePlaces, address_word, line_word, place_word};
+use cx_look_words::{Report, register_lines};
 use cx_region::{AbendRecord, Cause};
 use cx_storage::address_in;
 use std::alloc::{AllocError, Global};
@@ -55,34 +55,6 @@ fn why_word(alloc: Global, explanation: &Option<Explanation>) -> Result<Vec<u8>,
         Some(explanation) => cause_word(alloc, explanation.abend_record.cause),
         None => b"ASKED BY OPERATOR".to_vec(alloc),
     }
-}
-
-/// A place in a program, with the line of its source.
-fn spot_word(
-    alloc: Global,
-    sources: &SourcePlaces,
-    spot: &Option<(Name8, u32)>,
-) -> Result<Vec<u8>, AllocError>
-    ensures { IfOk result (λ text. text.items ≡ spot_word sources.now.entries spot.now) }
-{
-    let Some((program, offset)) = spot else {
-        return Ok(Vec::new(alloc));
-    };
-    let mut text = b" PROGRAM ".to_vec(alloc)?;
-    text.extend_from_slice(&shown_name(alloc, *program)?)?;
-    text.extend_from_slice(b" OFFSET ")?;
-    text.extend_from_slice(&hexadecimal::<6>(*offset))?;
-    text.extend_from_slice(&line_word(alloc, sources, *program, *offset)?)?;
-    Ok(text)
-}
-
-/// An address, and where that is in the program there.
-fn place_word(alloc: Global, sources: &SourcePlaces, place: &Place) -> Result<Vec<u8>, AllocError>
-    ensures { IfOk result (λ text. text.items ≡ place_word sources.now.entries place.now) }
-{
-    let mut text = hexadecimal::<6>(place.address).to_vec(alloc)?;
-    text.extend_from_slice(&spot_word(alloc, sources, &place.spot)?)?;
-    Ok(text)
 }
 
 /// The first `count` bytes, or all where there are fewer.
@@ -132,22 +104,24 @@ fn instruction_word(alloc: Global, bytes: &[Option<u8>; 6]) -> Result<Vec<u8>, A
     }
 }
 
-/// The line of the next address, with the instruction there.
-fn next_line(
-    alloc: Global,
-    sources: &SourcePlaces,
-    abend_record: &AbendRecord,
-    place: &Place,
-) -> Result<Vec<u8>, AllocError>
-    ensures { IfOk result (λ text. text.items ≡ next_line sources.now.entries abend_record.now place.now) }
+/// The bytes of the instruction at the next address.
+fn next_instruction(alloc: Global, abend_record: &AbendRecord) -> Result<Vec<u8>, AllocError>
+    ensures { IfOk result (λ text. text.items ≡ instruction_word abend_record.now.bytes) }
 {
-    let place = place_word(alloc, sources, place)?;
-    let instruction = instruction_word(alloc, &abend_record.bytes)?;
-    written_line(
-        alloc,
-        b">",
-        &[b"NEXT", &place, b"INSTRUCTION", &instruction],
-    )
+    instruction_word(alloc, &abend_record.bytes)
+}
+
+/// Adds the line of the next address, with the instruction there.
+fn next_line(
+    report: &mut Report,
+    sources: &SourcePlaces,
+    it: &Explanation,
+) -> Result<(), AllocError>
+    ensures { OnOk result (report.new ≡ report.old ++ next_line sources.now.entries it.now) }
+{
+    let place = place_word(report.alloc(), sources, &it.place)?;
+    let instruction = next_instruction(report.alloc(), &it.abend_record)?;
+    report.line(&[b"NEXT", &place, b"INSTRUCTION", &instruction])
 }
 
 /// The name of a command.
@@ -160,151 +134,127 @@ fn command_word(command: &Option<Command>) -> &'static [u8]
     }
 }
 
-/// The lines of a command.
-fn command_lines(
-    alloc: Global,
-    sources: &SourcePlaces,
-    abend_record: &AbendRecord,
-    place: &Place,
-) -> Result<Vec<u8>, AllocError>
-    ensures { IfOk result (λ text. text.items ≡ command_lines sources.now.entries abend_record.now place.now) }
+/// The address of a command's argument list, and the line of its EXEC.
+fn list_word(alloc: Global, sources: &SourcePlaces, it: &Explanation) -> Result<Vec<u8>, AllocError>
+    ensures { IfOk result (λ text. text.items ≡ list_word sources.now.entries it.now) }
 {
-    let command = command_word(&abend_record.command);
-    let list = hexadecimal::<6>(address_in(abend_record.regs[1]));
-    let mut text = written_line(alloc, b">", &[b"COMMAND", command, b"LIST", &list])?;
-    let place = place_word(alloc, sources, place)?;
-    text.extend_from_slice(&written_line(alloc, b">", &[b"R14", &place])?)?;
+    let mut text = hexadecimal::<6>(address_in(it.abend_record.regs[1])).to_vec(alloc)?;
+    text.extend_from_slice(&line_word(alloc, b" LINE ", sources, &it.before)?)?;
     Ok(text)
 }
 
-/// The lines that say where the program was.
-fn where_lines(
-    alloc: Global,
+/// Adds the lines of a command.
+fn command_lines(
+    report: &mut Report,
     sources: &SourcePlaces,
-    abend_record: &AbendRecord,
-    place: &Place,
-) -> Result<Vec<u8>, AllocError>
-    ensures { let cause = abend_record.now.cause in
-        IfOk result (λ text. text.items ≡ where_lines sources.now.entries cause abend_record.now place.now) }
+    it: &Explanation,
+) -> Result<(), AllocError>
+    ensures { OnOk result (report.new ≡ report.old ++ command_lines sources.now.entries it.now) }
 {
-    match abend_record.cause {
-        Cause::Interrupted(_) | Cause::Limit => next_line(alloc, sources, abend_record, place),
-        _ => command_lines(alloc, sources, abend_record, place),
+    let command = command_word(&it.abend_record.command);
+    let list = list_word(report.alloc(), sources, it)?;
+    report.line(&[b"COMMAND", command, b"LIST", &list])?;
+    let place = address_word(report.alloc(), &it.place)?;
+    report.line(&[b"R14", &place])
+}
+
+/// Adds the lines that say where the program was.
+fn where_lines(
+    report: &mut Report,
+    sources: &SourcePlaces,
+    it: &Explanation,
+) -> Result<(), AllocError>
+    ensures { let more = where_lines sources.now.entries it.now.abend_record.cause it.now in
+        OnOk result (report.new ≡ report.old ++ more) }
+{
+    match it.abend_record.cause {
+        Cause::Interrupted(_) | Cause::Limit => next_line(report, sources, it),
+        _ => command_lines(report, sources, it),
     }
 }
 
-/// The line of four registers from one on.
-fn register_line(
-    alloc: Global,
-    label: &[u8],
-    regs: &[u32; 16],
-    k: usize,
-) -> Result<Vec<u8>, AllocError>
-    requires { k ≤ 12 }
-    ensures { IfOk result (λ text. text.items ≡ register_line label.now regs.now k) }
+/// Adds the line of the condition code.
+fn code_line(report: &mut Report, code: u8) -> Result<(), AllocError>
+    ensures { OnOk result (report.new ≡ report.old ++ code_line code) }
 {
-    let first = hexadecimal::<8>(regs[k]);
-    let second = hexadecimal::<8>(regs[k + 1]);
-    let third = hexadecimal::<8>(regs[k + 2]);
-    let fourth = hexadecimal::<8>(regs[k + 3]);
-    written_line(alloc, b">", &[label, &first, &second, &third, &fourth])
+    report.line(&[b"CC", &decimal::<1>(u32::from(code))])
 }
 
-/// The lines of the registers.
-#[tactic(auto, unfolding(crate::specs::Texts::register_lines))]
-fn register_lines(alloc: Global, regs: &[u32; 16]) -> Result<Vec<u8>, AllocError>
-    ensures { IfOk result (λ text. text.items ≡ register_lines regs.now) }
-{
-    let mut text = register_line(alloc, b"R00", regs, 0)?;
-    text.extend_from_slice(&register_line(alloc, b"R04", regs, 4)?)?;
-    text.extend_from_slice(&register_line(alloc, b"R08", regs, 8)?)?;
-    text.extend_from_slice(&register_line(alloc, b"R12", regs, 12)?)?;
-    Ok(text)
-}
-
-/// The line of the condition code.
-fn code_line(alloc: Global, code: u8) -> Result<Vec<u8>, AllocError>
-    ensures { IfOk result (λ text. text.items ≡ code_line code) }
-{
-    written_line(alloc, b">", &[b"CC", &decimal::<1>(u32::from(code))])
-}
-
-/// The lines of what a turn led to.
+/// Adds the lines of what a turn led to.
 #[tactic(auto, unfolding(crate::specs::Texts::explanation_lines))]
 fn explanation_lines(
-    alloc: Global,
+    report: &mut Report,
     sources: &SourcePlaces,
     explanation: &Explanation,
-) -> Result<Vec<u8>, AllocError>
-    ensures { IfOk result (λ text. text.items ≡ explanation_lines sources.now.entries explanation.now) }
+) -> Result<(), AllocError>
+    ensures { OnOk result (report.new ≡ report.old ++ explanation_lines sources.now.entries explanation.now) }
 {
-    let mut text = where_lines(
-        alloc,
-        sources,
-        &explanation.abend_record,
-        &explanation.place,
-    )?;
-    text.extend_from_slice(&register_lines(alloc, &explanation.abend_record.regs)?)?;
-    text.extend_from_slice(&code_line(alloc, explanation.abend_record.cc)?)?;
-    Ok(text)
+    where_lines(report, sources, explanation)?;
+    register_lines(report, &explanation.abend_record.regs)?;
+    code_line(report, explanation.abend_record.cc)
 }
 
-/// The line of an exit.
+/// Adds the line of an exit, where there is one.
 fn exit_line(
-    alloc: Global,
+    report: &mut Report,
     sources: &SourcePlaces,
     exit: &Option<Place>,
-) -> Result<Vec<u8>, AllocError>
-    ensures { IfOk result (λ text. text.items ≡ exit_line sources.now.entries exit.now) }
+) -> Result<(), AllocError>
+    ensures { OnOk result (report.new ≡ report.old ++ exit_line sources.now.entries exit.now) }
 {
     let Some(place) = exit else {
-        return Ok(Vec::new(alloc));
+        return Ok(());
     };
-    let place = place_word(alloc, sources, place)?;
-    written_line(alloc, b">", &[b"EXIT", &place])
+    let place = place_word(report.alloc(), sources, place)?;
+    report.line(&[b"EXIT", &place])
 }
 
-/// The first line.
-fn head_line(alloc: Global, name: Name4, last: &LastAbend) -> Result<Vec<u8>, AllocError>
-    ensures { IfOk result (λ text. text.items ≡ head_line name last.now) }
+/// Adds the first line.
+fn head_line(report: &mut Report, name: Name4, last: &LastAbend) -> Result<(), AllocError>
+    ensures { OnOk result (report.new ≡ report.old ++ head_line name last.now) }
 {
-    let name = shown_name(alloc, name)?;
-    let code = shown(alloc, &last.code.bytes())?;
-    let why = why_word(alloc, &last.explanation)?;
-    written_line(alloc, b">", &[b"ABEND", &name, &code, &why])
+    let name = shown_name(report.alloc(), name)?;
+    let code = shown(report.alloc(), &last.code.bytes())?;
+    let why = why_word(report.alloc(), &last.explanation)?;
+    report.line(&[b"ABEND", &name, &code, &why])
 }
 
 /// Adds the lines of what a turn led to, where it was a turn.
-fn push_explanation(
-    alloc: Global,
-    text: &mut Vec<u8>,
+fn if_explained(
+    report: &mut Report,
     sources: &SourcePlaces,
     explanation: &Option<Explanation>,
 ) -> Result<(), AllocError>
     ensures { let more = option_map_or (explanation_lines sources.now.entries) explanation.now [] in
-        OnOk result (text.new.items ≡ text.old.items ++ more) }
+        OnOk result (report.new ≡ report.old ++ more) }
 {
-    let Some(explanation) = explanation else {
-        return Ok(());
-    };
-    text.extend_from_slice(&explanation_lines(alloc, sources, explanation)?)?;
-    Ok(())
+    match explanation {
+        Some(explanation) => explanation_lines(report, sources, explanation),
+        None => Ok(()),
+    }
 }
 
-/// The lines of an abend.
+/// Adds the lines of an abend.
 #[tactic(auto, unfolding(crate::specs::Texts::last_text))]
 fn last_text(
-    alloc: Global,
+    report: &mut Report,
     sources: &SourcePlaces,
     name: Name4,
     last: &LastAbend,
-) -> Result<Vec<u8>, AllocError>
-    ensures { IfOk result (λ text. text.items ≡ last_text sources.now.entries name last.now) }
+) -> Result<(), AllocError>
+    ensures { OnOk result (report.new ≡ report.old ++ last_text sources.now.entries name last.now) }
 {
-    let mut text = head_line(alloc, name, last)?;
-    text.extend_from_slice(&exit_line(alloc, sources, &last.exit)?)?;
-    push_explanation(alloc, &mut text, sources, &last.explanation)?;
-    Ok(text)
+    head_line(report, name, last)?;
+    exit_line(report, sources, &last.exit)?;
+    if_explained(report, sources, &last.explanation)
+}
+
+/// Adds the line of a terminal without an abend.
+fn none_line(report: &mut Report, name: Name4) -> Result<(), AllocError>
+    ensures { OnOk result (report.new ≡ report.old ++ none_line name) }
+{
+    let name = shown_name(report.alloc(), name)?;
+    report.line(&[b"ABEND", &name, b"NONE"])
 }
 
 /// A terminal's last abend.
@@ -318,21 +268,20 @@ fn last_of(abends: &LastAbends, name: Name4) -> Option<LastAbend>
 /// Looks at a terminal's last abend; NONE where it has had none, or there is no such terminal. A place in a program that a source
 /// defined is shown with the line of the statement whose bytes hold it.
 ///
-/// An error comes only where memory for the text was refused.
+/// An error comes only where memory for the report was refused.
 #[tactic(auto, unfolding(crate::specs::Texts::abend_text))]
 pub fn abend_text(
     alloc: Global,
     sources: &SourcePlaces,
     abends: &LastAbends,
     name: Name4,
-) -> Result<Vec<u8>, AllocError>
-    ensures { IfOk result (λ text. text.items ≡ abend_text sources.now.entries abends.now.entries name) }
+) -> Result<Report, AllocError>
+    ensures { IfOk result (λ report. report ≡ abend_text sources.now.entries abends.now.entries name) }
 {
+    let mut report = Report::new(alloc);
     match last_of(abends, name) {
-        Some(last) => last_text(alloc, sources, name, &last),
-        None => {
-            let name = shown_name(alloc, name)?;
-            written_line(alloc, b">", &[b"ABEND", &name, b"NONE"])
-        }
+        Some(last) => last_text(&mut report, sources, name, &last)?,
+        None => none_line(&mut report, name)?,
     }
+    Ok(report)
 }

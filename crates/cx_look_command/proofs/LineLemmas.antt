@@ -9,26 +9,26 @@ use Rattle.cx_look_command.specs.Commands.{input_line, input_lines, is_input, op
 use Rattle.cx_look_words.specs.Words.{with_blanks}
 
 -- what is written of a list, an item at a time
-pub each_step : {A : Type 0} (f : List A → List ℕ) → ((x : A) (xs : List A) → f (x ∷ xs) ≡ f (x ∷ []) ++ f xs)
+pub each_step : {A B : Type 0} (f : List A → List B) → ((x : A) (xs : List A) → f (x ∷ xs) ≡ f (x ∷ []) ++ f xs)
     → (all : List A) (k : ℕ) (x : A) → slice_get all k ≡ Some x → f (x ∷ []) ++ f (drop (suc k) all) ≡ f (drop k all)
 each_step f splits [] k x e = cc
 each_step f splits (first ∷ rest) zero x e = let same : first ≡ x = cc in rw same (sym (splits x rest))
 each_step f splits (first ∷ rest) (suc k) x e = each_step f splits rest k x e
 
-pub each_goes_on : {A : Type 0} (f : List A → List ℕ) → ((x : A) (xs : List A) → f (x ∷ xs) ≡ f (x ∷ []) ++ f xs)
-    → (all : List A) (k : ℕ) (x : A) (before after initial : List ℕ) → slice_get all k ≡ Some x → after ≡ before ++ f (x ∷ [])
+pub each_goes_on : {A B : Type 0} (f : List A → List B) → ((x : A) (xs : List A) → f (x ∷ xs) ≡ f (x ∷ []) ++ f xs)
+    → (all : List A) (k : ℕ) (x : A) (before after initial : List B) → slice_get all k ≡ Some x → after ≡ before ++ f (x ∷ [])
     → before ++ f (drop k all) ≡ initial ++ f all → after ++ f (drop (k + 1) all) ≡ initial ++ f all
 each_goes_on f splits all k x before after initial e written so_far =
     let one : k + 1 ≡ suc k = omega arith in
     rw (one, written) (append_assoc before (f (x ∷ [])) (f (drop (suc k) all)) ∙ ap (λ t. before ++ t) (each_step f splits all k x e) ∙ so_far)
 
-pub each_ends : {A : Type 0} (f : List A → List ℕ) → f [] ≡ [] → (all : List A) (k : ℕ) → length all ≤ k → f (drop k all) ≡ []
+pub each_ends : {A B : Type 0} (f : List A → List B) → f [] ≡ [] → (all : List A) (k : ℕ) → length all ≤ k → f (drop k all) ≡ []
 each_ends f empty [] zero l = empty
 each_ends f empty [] (suc k) l = empty
 each_ends f empty (first ∷ rest) zero l = absurd (omega arith)
 each_ends f empty (first ∷ rest) (suc k) l = each_ends f empty rest k (omega arith)
 
-pub each_done : {A : Type 0} (f : List A → List ℕ) → f [] ≡ [] → (all : List A) (k : ℕ) (before initial : List ℕ) → length all ≤ k
+pub each_done : {A B : Type 0} (f : List A → List B) → f [] ≡ [] → (all : List A) (k : ℕ) (before initial : List B) → length all ≤ k
     → before ++ f (drop k all) ≡ initial ++ f all → before ≡ initial ++ f all
 each_done f empty all k before initial l so_far = sym (append-nil before) ∙ ap (λ t. before ++ t) (sym (each_ends f empty all k l)) ∙ so_far
 

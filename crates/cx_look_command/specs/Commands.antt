@@ -18,7 +18,7 @@ use Rattle.cx_region_call.specs.Inputs.{bytes_of, halfword_of}
 use Rattle.cx_region_call.specs.Listed.{listed_of}
 use Rattle.cx_region_call.specs.declared.listed.Listed.{Listed}
 use Rattle.cx_base_text.specs.Digits.{digits}
-use Rattle.cx_look_words.specs.Words.{look_line, written_bytes, written_name}
+use Rattle.cx_look_words.specs.Words.{look_line, written_bytes, written_name, Lines}
 
 -- ---- values, with hyphens where the bytes aren't in storage
 abbrev pub name_value : Option (List ℕ) → List ℕ
@@ -78,7 +78,7 @@ abbrev pub resp_words : Call → List (List ℕ)
 resp_words call = option_map_or (λ place. with_value (codes "RESP") (digits 16 6 place) ∷ []) (resp_place call) []
 
 -- the command's line
-unfoldable pub command_line : Storage → Call → List ℕ
+unfoldable pub command_line : Storage → Call → Lines
 command_line s call =
     look_line
     ((row_of call.command).name ∷ option_words s call (row_of call.command).options ++ map condition_word (listed_of call)
@@ -95,7 +95,7 @@ is_data _ = false
 abbrev pub count_read : Storage → Call → CommandOption → ℕ
 count_read s call option = input_len option.kind (has_option call.command call.first) (halfword_of s call Length)
 
-unfoldable pub input_line : Storage → Call → CommandOption → List ℕ
+unfoldable pub input_line : Storage → Call → CommandOption → Lines
 input_line s call option =
     look_line (option_name option.name ∷ bytes_value (bytes_of s call option.name (min 64 (count_read s call option))) ∷ [])
 
@@ -103,9 +103,9 @@ input_line s call option =
 unfoldable pub is_input : Storage → Call → CommandOption → Bool
 is_input s call option = is_data option.kind && nat_lt 0 (count_read s call option)
 
-unfoldable pub input_lines : Storage → Call → List CommandOption → List ℕ
+unfoldable pub input_lines : Storage → Call → List CommandOption → Lines
 input_lines s call options = flat_map (input_line s call) (filter (is_input s call) (arguments_in options call.first))
 
 -- the command, and a line for each of its inputs
-unfoldable pub call_text : Storage → Call → List ℕ
+unfoldable pub call_text : Storage → Call → Lines
 call_text s call = command_line s call ++ input_lines s call (row_of call.command).options

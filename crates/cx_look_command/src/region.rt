@@ -7,7 +7,7 @@ ghost use Rattle.cx_look_command.specs.Looks.{command_text, due_text, command_lo
 use crate::words::call_text;
 use cx_base_text::shown_name;
 use cx_ebcdic::Name4;
-use cx_look_words::look_line;
+use cx_look_words::Report;
 use cx_region::Region;
 use cx_region_call::read_call;
 use cx_region_state::Task;
@@ -15,11 +15,13 @@ use cx_storage::{Store, address_in};
 use std::alloc::{AllocError, Global};
 
 /// The line of a terminal of which one word says all.
-fn noted(alloc: Global, name: Name4, word: &[u8]) -> Result<Vec<u8>, AllocError>
-    ensures { IfOk result (λ text. text.items ≡ command_look_line name word.now) }
+fn noted(alloc: Global, name: Name4, word: &[u8]) -> Result<Report, AllocError>
+    ensures { IfOk result (λ report. report ≡ command_look_line name word.now) }
 {
+    let mut report = Report::new(alloc);
     let name = shown_name(alloc, name)?;
-    look_line(alloc, &[b"COMMAND", name.as_slice(), word])
+    report.line(&[b"COMMAND", name.as_slice(), word])?;
+    Ok(report)
 }
 
 /// The command that a task's argument list gives.
@@ -29,8 +31,8 @@ fn due_text<S: Store>(
     store: &S,
     name: Name4,
     task: &Task,
-) -> Result<Vec<u8>, AllocError>
-    ensures { IfOk result (λ text. text.items ≡ due_text (S.storage store.now) name task.now) }
+) -> Result<Report, AllocError>
+    ensures { IfOk result (λ report. report ≡ due_text (S.storage store.now) name task.now) }
 {
     match read_call(store, address_in(task.cpu.regs[1])) {
         Ok(call) => call_text(alloc, store, &call),
@@ -55,8 +57,8 @@ pub fn command_text<S: Store + Drop>(
     alloc: Global,
     region: &Region<S>,
     name: Name4,
-) -> Result<Vec<u8>, AllocError>
-    ensures { IfOk result (λ text. text.items ≡ command_text region.now name) }
+) -> Result<Report, AllocError>
+    ensures { IfOk result (λ report. report ≡ command_text region.now name) }
 {
     match task_due(region, name) {
         Some(task) => due_text(alloc, &region.shared().store, name, task),

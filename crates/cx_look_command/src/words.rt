@@ -10,7 +10,7 @@ ghost use Rattle.cx_look_words.specs.Words.{with_blanks};
 
 use cx_base_commands::{ArgumentKind, Command, CommandOption, OptionName, has_bit};
 use cx_base_text::hexadecimal;
-use cx_look_words::{look_line, push_word, written_bytes, written_name};
+use cx_look_words::{Report, push_word, written_bytes, written_name};
 use cx_region_call::{Call, Listed, halfword, read_argument};
 use cx_storage::Store;
 use std::alloc::{AllocError, Global};
@@ -198,19 +198,18 @@ fn push_resp(text: &mut Vec<u8>, alloc: Global, call: &Call) -> Result<(), Alloc
     push_word(text, word.as_slice())
 }
 
-/// The command's line.
-#[tactic(auto, unfolding(crate::specs::Commands::command_line), using(cx_look_words::specs::Facts::Spaced::spaced_both, cx_look_words::specs::Facts::Spaced::spaced_first))]
-fn command_line<S: Store>(alloc: Global, store: &S, call: &Call) -> Result<Vec<u8>, AllocError>
-    ensures { IfOk result (λ line. line.items ≡ command_line (S.storage store.now) call.now) }
+/// Adds the command's line.
+#[tactic(auto, unfolding(crate::specs::Commands::command_line), using(cx_look_words::specs::Facts::Spaced::spaced_both))]
+fn command_line<S: Store>(report: &mut Report, store: &S, call: &Call) -> Result<(), AllocError>
+    ensures { OnOk result (report.new ≡ report.old ++ command_line (S.storage store.now) call.now) }
 {
-    let mut text = b">".to_vec(alloc)?;
-    push_word(&mut text, call.command().name().as_bytes())?;
-    push_options(&mut text, alloc, store, call, call.command().options())?;
-    push_conditions(&mut text, alloc, call.listed().as_slice())?;
-    push_nohandle(&mut text, call)?;
-    push_resp(&mut text, alloc, call)?;
-    text.push(b'\n')?;
-    Ok(text)
+    let alloc = report.alloc();
+    let mut line = call.command().name().as_bytes().to_vec(alloc)?;
+    push_options(&mut line, alloc, store, call, call.command().options())?;
+    push_conditions(&mut line, alloc, call.listed().as_slice())?;
+    push_nohandle(&mut line, call)?;
+    push_resp(&mut line, alloc, call)?;
+    report.push(line)
 }
 
 /// Whether an option is data.
@@ -259,52 +258,49 @@ fn input_value<S: Store>(
     written_bytes(alloc, bytes)
 }
 
-/// The line of an input.
+/// Adds the line of an input.
 #[tactic(auto, unfolding(crate::specs::Commands::input_line))]
 fn input_line<S: Store>(
-    alloc: Global,
+    report: &mut Report,
     store: &S,
     call: &Call,
     option: &CommandOption,
-) -> Result<Vec<u8>, AllocError>
-    ensures { IfOk result (λ line. line.items ≡ input_line (S.storage store.now) call.now option.now) }
+) -> Result<(), AllocError>
+    ensures { OnOk result (report.new ≡ report.old ++ input_line (S.storage store.now) call.now option.now) }
 {
-    let value = input_value(alloc, store, call, option)?;
-    look_line(alloc, &[option.name.name().as_bytes(), value.as_slice()])
+    let value = input_value(report.alloc(), store, call, option)?;
+    report.line(&[option.name.name().as_bytes(), value.as_slice()])
 }
 
 /// Adds the line of an option, where it is an input.
 #[tactic(auto, unfolding(crate::specs::Commands::input_lines, cx_base_commands::specs::Arguments::arguments_in))]
-fn push_input<S: Store>(
-    text: &mut Vec<u8>,
-    alloc: Global,
+fn if_input<S: Store>(
+    report: &mut Report,
     store: &S,
     call: &Call,
     option: &CommandOption,
 ) -> Result<(), AllocError>
     ensures { let more = input_lines (S.storage store.now) call.now (option.now ∷ []) in
-        OnOk result (text.new.items ≡ text.old.items ++ more) }
+        OnOk result (report.new ≡ report.old ++ more) }
 {
     if option.is_argument(call.first()) && is_input(store, call, option) {
-        let line = input_line(alloc, store, call, option)?;
-        text.extend_from_slice(line.as_slice())?;
+        input_line(report, store, call, option)?;
     }
     Ok(())
 }
 
 /// Adds the lines of those of some options that are inputs.
-fn push_inputs<S: Store>(
-    text: &mut Vec<u8>,
-    alloc: Global,
+fn input_lines<S: Store>(
+    report: &mut Report,
     store: &S,
     call: &Call,
     options: &[CommandOption],
 ) -> Result<(), AllocError>
     ensures { let lines = input_lines (S.storage store.now) call.now options.now in
-        OnOk result (text.new.items ≡ text.old.items ++ lines) }
+        OnOk result (report.new ≡ report.old ++ lines) }
 {
     for option in options {
-        push_input(text, alloc, store, call, option)?;
+        if_input(report, store, call, option)?;
     }
     Ok(())
 }
@@ -313,10 +309,11 @@ fn push_inputs<S: Store>(
 ///
 /// An error comes only where memory for them was refused.
 #[tactic(auto, unfolding(crate::specs::Commands::call_text))]
-pub fn call_text<S: Store>(alloc: Global, store: &S, call: &Call) -> Result<Vec<u8>, AllocError>
-    ensures { IfOk result (λ text. text.items ≡ call_text (S.storage store.now) call.now) }
+pub fn call_text<S: Store>(alloc: Global, store: &S, call: &Call) -> Result<Report, AllocError>
+    ensures { IfOk result (λ report. report ≡ call_text (S.storage store.now) call.now) }
 {
-    let mut text = command_line(alloc, store, call)?;
-    push_inputs(&mut text, alloc, store, call, call.command().options())?;
-    Ok(text)
+    let mut report = Report::new(alloc);
+    command_line(&mut report, store, call)?;
+    input_lines(&mut report, store, call, call.command().options())?;
+    Ok(report)
 }

@@ -1,18 +1,27 @@
--- The first of all faults is what a source is refused for.
-use Rattle.std.proofs.Common.{◌≡◌, ◌≢◌, ℕ, Bool, false, Option, Some, None, List, [], ◌∷◌, map, slice_get, Result, Ok, Err, refl, sym, ◌∙◌, ap}
-use Rattle.std.specs.Prelude.{option_map}
+-- What a source is refused for is the fault of one of its faulty lines.
+use Rattle.std.proofs.Common.{◌≡◌, ◌≢◌, inl, inr, ℕ, Bool, true, false, cond, Option, Some, None, List, [], ◌∷◌, ◌++◌, append-nil, map, slice_get, Result, Ok, Err, refl, sym, ◌∙◌, ap, subst}
+use Rattle.std.specs.Prelude.{◌&&◌, is_some, fold, option_map}
+use Rattle.std.specs.BTreeMap.{insert_entry, is_at}
 use Rattle.std.specs.List.{cons_option}
+use Rattle.std.specs.Map.{lookup}
 use Rattle.std.specs.Option.{option_map_or}
+use Rattle.std.specs.Ordering.{is_eq, match_ordering, nat_cmp}
 use Rattle.std.specs.Result.{result_err}
-use Rattle.cx_asm.specs.Assembly.{AssemblyParts, assembly_faults, assembly_of, fault_at}
+use Rattle.std.specs.declared.cmp.Ordering.{Ordering}
+use Rattle.std.specs.declared.cmp.Ordering.TheVariants.{Less, Equal, Greater}
+use Rattle.cx_asm.specs.Assembly.{AssemblyParts, assembly_faults, assembly_of, fault_at, first_found, later_faults}
 use Rattle.cx_asm.specs.Facts.AllFaults as assembly
 use Rattle.cx_asm.specs.declared.faults.AsmFault.{AsmFault}
+use Rattle.cx_asm_pass1.specs.AllFaults.{place_faults}
 use Rattle.cx_asm_pass1.specs.declared.place.LineFault.{LineFault}
-use Rattle.cx_source.specs.Faults.{line_faults, source_from, source_in, source_or_faults, unless_faulty}
+use Rattle.cx_source.specs.Facts.Mended.{source_whole}
+use Rattle.cx_source.specs.Faults.{line_faults, source_from, source_in}
 use Rattle.cx_source.specs.Lines.{text_of}
+use Rattle.cx_source.specs.Mended.{source_read}
 use Rattle.cx_source.specs.Statements.{up_to_end}
 use Rattle.cx_source.specs.declared.source.Source.{Source}
 use Rattle.cx_source.specs.declared.source.SourceFault.{SourceFault}
+use Rattle.cx_translate.specs.Facts.Mended.{translation_whole}
 use Rattle.cx_translate.specs.Translation as translation
 use Rattle.cx_translate.specs.declared.faults.TransFault.{TransFault}
 use Rattle.cx_asm_build.specs.Facts.Faults.{prepared_not_memory}
@@ -20,67 +29,168 @@ use Rattle.cx_asm_build.specs.Kinds.{of_assembly, of_source, of_translation}
 use Rattle.cx_asm_build.specs.Prepared as prepared
 use Rattle.cx_asm_build.specs.declared.faults.PrepareFault.{PrepareFault}
 use Rattle.cx_asm_build.specs.declared.faults.PrepareFault.TheVariants.{At, Memory}
+use Rattle.cx_asm_build.specs.declared.faults.SourceKind.{SourceKind}
 use Rattle.cx_asm_build.specs.declared.program.Prepared.{Prepared}
-use Rattle.cx_look_faults.specs.Faults.{by_source, by_translation, faults_of, faulty_line, faulty_lines}
-use Rattle.cx_look_faults.specs.Laws.First.{fault_of}
+use Rattle.cx_look_faults.specs.Faults.{base_lines, by_number, faults_of, faulty, faulty_line, faulty_lines, follows, has_section, is_unaddressed, lines_by_stages, lost_from, of_pass, put_line, without_following}
+use Rattle.cx_look_faults.specs.Laws.First.{Has, IsAmong, fault_of}
 use Rattle.cx_look_faults.specs.declared.faults.FaultyLine.{FaultyLine}
 
+-- ---- by number
+abbrev Table : Type 0
+Table = List (ℕ × SourceKind)
+
+abbrev listed : Table → List FaultyLine
+listed table = map (λ entry. faulty entry.0 entry.1) table
+
+-- a fault stays where a line that the table hasn't is put
+put_new : (order : Ordering) (fault : PrepareFault) (line : ℕ) (kind : SourceKind) (e : ℕ × SourceKind) (es more : Table) → is_eq order ≡ false
+    → (Has fault (listed es) → Has fault (listed more)) → Has fault (listed (e ∷ es))
+    → Has fault (listed (match_ordering order ((line, kind) ∷ e ∷ es) ((e.0, kind) ∷ es) (e ∷ more)))
+put_new Less fault line kind e es more apart h has = inr has
+put_new Equal fault line kind e es more apart h has = absurd (cc)
+put_new Greater fault line kind e es more apart h (inl it) = inl it
+put_new Greater fault line kind e es more apart h (inr it) = inr (h it)
+
+absent : (here : Bool) (kind : SourceKind) (rest : Option SourceKind) → is_some (cond here (Some kind) rest) ≡ false → (here ≡ false) × (is_some rest ≡ false)
+absent true kind rest e = absurd (cc)
+absent false kind rest e = (refl, e)
+
+inserted : (fault : PrepareFault) (line : ℕ) (kind : SourceKind) (table : Table) → is_some (lookup (is_at (nat_cmp line)) table) ≡ false
+    → Has fault (listed table) → Has fault (listed (insert_entry nat_cmp table line kind))
+inserted fault line kind [] e has = absurd has
+inserted fault line kind (e ∷ es) none has =
+    let both = absent (is_eq (nat_cmp line e.0)) e.1 (lookup (is_at (nat_cmp line)) es) none in
+    put_new (nat_cmp line e.0) fault line kind e es (insert_entry nat_cmp es line kind) both.0 (inserted fault line kind es both.1) has
+
+unless_there : (there : Bool) (fault : PrepareFault) (old new : Table) → (there ≡ false → Has fault (listed old) → Has fault (listed new)) → Has fault (listed old)
+    → Has fault (listed (cond there old new))
+unless_there true fault old new h has = has
+unless_there false fault old new h has = h refl has
+
+put_stays : (fault : PrepareFault) (table : Table) (one : FaultyLine) → Has fault (listed table) → Has fault (listed (put_line table one))
+unfolding put_line
+put_stays fault table one has =
+    unless_there (is_some (lookup (is_at (nat_cmp one.line)) table)) fault table (insert_entry nat_cmp table one.line one.kind) (inserted fault one.line one.kind table) has
+
+all_stays : (fault : PrepareFault) (table : Table) (more : List FaultyLine) → Has fault (listed table) → Has fault (listed (fold put_line table more))
+all_stays fault table [] has = has
+all_stays fault table (one ∷ more) has = all_stays fault (put_line table one) more (put_stays fault table one has)
+
+-- the first fault is there, and without one there is none
+abbrev first_of : List FaultyLine → Option PrepareFault
+first_of faults = option_map fault_of (slice_get faults 0)
+
+first_there : (faults : List FaultyLine) → IsAmong (first_of faults) (by_number faults)
+unfolding put_line
+first_there [] = refl
+first_there (one ∷ more) = all_stays (fault_of one) ((one.line, one.kind) ∷ []) more (inl refl)
+
+-- ---- the first fault of the stages
 abbrev Tells : Result Prepared PrepareFault → List FaultyLine → Type 0
-Tells due faulty = result_err due ≡ option_map fault_of (slice_get faulty 0)
+Tells due faulty = result_err due ≡ first_of faulty
 
 -- a fault other than Memory is of a line
-first_line : (fault : PrepareFault) (rest : List FaultyLine) → fault ≢ Memory → Some fault ≡ option_map fault_of (slice_get (cons_option (faulty_line fault) rest) 0)
-first_line (At line kind) rest h = refl
-first_line Memory rest h = absurd (h refl)
+first_line : (fault : PrepareFault) (rest more : List FaultyLine) → fault ≢ Memory → Some fault ≡ first_of (cons_option (faulty_line fault) rest ++ more)
+first_line (At line kind) rest more h = refl
+first_line Memory rest more h = absurd (h refl)
 
 no_memory : (fault : PrepareFault) (due : Result Prepared PrepareFault) → due ≡ Err fault → due ≢ Err Memory → fault ≢ Memory
 no_memory fault due e h = λ m. h (e ∙ ap (λ f. Err f) m)
 
--- ---- the assembly
-by_assembly : (listing disassembly : Bool) (due : Result AssemblyParts AsmFault) (faults : List LineFault)
-    → result_err due ≡ option_map fault_at (slice_get faults 0) → prepared.by_assembly listing disassembly due ≢ Err Memory
-    → Tells (prepared.by_assembly listing disassembly due) (faulty_lines (λ fault. of_assembly (fault_at fault)) faults)
-by_assembly listing disassembly (Ok made) [] e h = refl
-by_assembly listing disassembly (Ok made) (f ∷ more) e h = absurd (cc)
-by_assembly listing disassembly (Err fault) [] e h = absurd (cc)
-by_assembly listing disassembly (Err fault) (f ∷ more) e h =
+-- the second pass: its first fault follows from nothing
+not_following : (fault : FaultyLine) → follows None fault ≡ false
+unfolding follows
+not_following fault = go (is_unaddressed fault.kind)
+  where
+    go : (b : Bool) → (b && false) ≡ false
+    go true = refl
+    go false = refl
+
+kept_first : (has : Bool) (lines : List ℕ) (faults : List FaultyLine) → first_of (without_following has lines None faults) ≡ first_of faults
+kept_first has lines [] = refl
+kept_first has lines (one ∷ more) =
+    ap (λ b. first_of ((cond b [] (one ∷ [])) ++ without_following has lines (lost_from has lines None one) more)) (not_following one)
+
+later_reported : (listing disassembly : Bool) (made : Source) (due : Result AssemblyParts AsmFault) (later : List LineFault)
+    → result_err due ≡ option_map fault_at (slice_get later 0) → prepared.by_assembly listing disassembly due ≢ Err Memory
+    → Tells (prepared.by_assembly listing disassembly due) (without_following (has_section made.items) (base_lines made.items) None (faulty_lines of_pass later))
+later_reported listing disassembly made (Ok parts) [] e h = refl
+later_reported listing disassembly made (Ok parts) (f ∷ more) e h = absurd (cc)
+later_reported listing disassembly made (Err fault) [] e h = absurd (cc)
+later_reported listing disassembly made (Err fault) (f ∷ more) e h =
     let same : fault ≡ fault_at f = cc in
     ap (λ x. Some (of_assembly x)) same
-    ∙ first_line (of_assembly (fault_at f)) _ (no_memory (of_assembly (fault_at f)) (Err (of_assembly fault)) (ap (λ x. Err (of_assembly x)) same) h)
+    ∙ first_line (of_pass f) (faulty_lines of_pass more) [] (no_memory (of_pass f) (Err (of_assembly fault)) (ap (λ x. Err (of_assembly x)) same) h)
+    ∙ ap first_of (append-nil (faulty_lines of_pass (f ∷ more)))
+    ∙ sym (kept_first (has_section made.items) (base_lines made.items) (faulty_lines of_pass (f ∷ more)))
 
--- ---- the translation
-translated : (listing disassembly : Bool) (source : Source) (first : Option TransFault) (faults : List TransFault) → slice_get faults 0 ≡ first
-    → prepared.by_translation listing disassembly (option_map_or (λ fault. Err fault) first (Ok source)) ≢ Err Memory
-    → Tells (prepared.by_translation listing disassembly (option_map_or (λ fault. Err fault) first (Ok source))) (by_translation (unless_faulty faults source))
-translated listing disassembly source None [] e h = by_assembly listing disassembly (assembly_of source) (assembly_faults source) (assembly.first_is_reported source) h
-translated listing disassembly source (Some first) [] e h = absurd (cc)
-translated listing disassembly source None (f ∷ more) e h = absurd (cc)
-translated listing disassembly source (Some first) (f ∷ more) e h =
-    let same : f ≡ first = cc in
-    ap (λ x. Some (of_translation x)) (sym same)
-    ∙ first_line (of_translation f) _ (no_memory (of_translation f) (Err (of_translation first)) (ap (λ x. Err (of_translation x)) (sym same)) h)
+-- ---- all stages, by what each finds
+abbrev stages : List SourceFault → List TransFault → Source → List FaultyLine
+stages unread untranslated made =
+    let earlier = faulty_lines of_source unread ++ (faulty_lines of_translation untranslated ++ faulty_lines of_pass (place_faults made)) in
+    earlier ++ without_following (has_section made.items) (base_lines made.items) (fold (lost_from (has_section made.items) (base_lines made.items)) None earlier) (faulty_lines of_pass (later_faults made))
 
-by_translation_reported : (listing disassembly : Bool) (source : Source) → prepared.by_translation listing disassembly (translation.translation_of source) ≢ Err Memory
-    → Tells (prepared.by_translation listing disassembly (translation.translation_of source)) (by_translation (translation.translation_or_faults source))
-unfolding translation.translation_of translation.translation_or_faults
-by_translation_reported listing disassembly source h =
-    translated listing disassembly (translation.made_source source) (slice_get (translation.statement_faults source.items) 0)
-    (translation.statement_faults source.items) refl h
+first_lines : (fault : PrepareFault) (rest more last : List FaultyLine) → fault ≢ Memory → Some fault ≡ first_of ((cons_option (faulty_line fault) rest ++ more) ++ last)
+first_lines (At line kind) rest more last h = refl
+first_lines Memory rest more last h = absurd (h refl)
 
--- ---- the lines
-read : (listing disassembly : Bool) (source : Source) (first : Option SourceFault) (faults : List SourceFault) → slice_get faults 0 ≡ first
-    → prepared.by_source listing disassembly (option_map_or Err first (Ok source)) ≢ Err Memory
-    → Tells (prepared.by_source listing disassembly (option_map_or Err first (Ok source))) (by_source (unless_faulty faults source))
-read listing disassembly source None [] e h = by_translation_reported listing disassembly source h
-read listing disassembly source (Some first) [] e h = absurd (cc)
-read listing disassembly source None (f ∷ more) e h = absurd (cc)
-read listing disassembly source (Some first) (f ∷ more) e h =
-    let same : f ≡ first = cc in
-    ap (λ x. Some (of_source x)) (sym same)
-    ∙ first_line (of_source f) _ (no_memory (of_source f) (Err (of_source first)) (ap (λ x. Err (of_source x)) (sym same)) h)
+-- the assembly
+passes_reported : (listing disassembly : Bool) (made : Source) (due : Result AssemblyParts AsmFault) (first : List LineFault) (more : List FaultyLine)
+    → result_err due ≡ option_map fault_at (slice_get (first_found first (later_faults made)) 0) → prepared.by_assembly listing disassembly due ≢ Err Memory
+    → (first ≡ [] → more ≡ without_following (has_section made.items) (base_lines made.items) None (faulty_lines of_pass (later_faults made)))
+    → Tells (prepared.by_assembly listing disassembly due) (faulty_lines of_pass first ++ more)
+passes_reported listing disassembly made due [] more e h is =
+    subst (Tells (prepared.by_assembly listing disassembly due)) (sym (is refl)) (later_reported listing disassembly made due (later_faults made) e h)
+passes_reported listing disassembly made (Ok parts) (f ∷ first) more e h is = absurd (cc)
+passes_reported listing disassembly made (Err fault) (f ∷ first) more e h is =
+    let same : fault ≡ fault_at f = cc in
+    ap (λ x. Some (of_assembly x)) same
+    ∙ first_line (of_pass f) (faulty_lines of_pass first) more (no_memory (of_pass f) (Err (of_assembly fault)) (ap (λ x. Err (of_assembly x)) same) h)
 
-pub first_is_reported : (listing disassembly : Bool) (all : List (List ℕ)) → result_err (prepared.prepared_of listing disassembly all) ≡ option_map fault_of (slice_get (faults_of all) 0)
-unfolding prepared.prepared_of source_in faults_of source_or_faults
-first_is_reported listing disassembly all =
-    read listing disassembly (source_from (up_to_end false (map text_of all))) (slice_get (line_faults false 1 all) 0) (line_faults false 1 all)
-    refl (prepared_not_memory listing disassembly all)
+assembled_reported : (listing disassembly : Bool) (made : Source) → prepared.by_assembly listing disassembly (assembly_of made) ≢ Err Memory
+    → Tells (prepared.by_assembly listing disassembly (assembly_of made)) (stages [] [] made)
+unfolding assembly_faults
+assembled_reported listing disassembly made h =
+    passes_reported listing disassembly made (assembly_of made) (place_faults made) _ (assembly.first_is_reported made) h
+    (λ none. ap (λ first. without_following (has_section made.items) (base_lines made.items)
+    (fold (lost_from (has_section made.items) (base_lines made.items)) None (faulty_lines of_pass first)) (faulty_lines of_pass (later_faults made))) none)
+
+-- the translation
+translated_reported : (listing disassembly : Bool) (whole made : Source) (faults : List TransFault) → (faults ≡ [] → made ≡ whole)
+    → prepared.by_translation listing disassembly (option_map_or (λ fault. Err fault) (slice_get faults 0) (Ok whole)) ≢ Err Memory
+    → Tells (prepared.by_translation listing disassembly (option_map_or (λ fault. Err fault) (slice_get faults 0) (Ok whole))) (stages [] faults made)
+translated_reported listing disassembly whole made [] is h =
+    subst (λ (due : Source). Tells (prepared.by_assembly listing disassembly (assembly_of due)) (stages [] [] made)) (is refl)
+    (assembled_reported listing disassembly made (subst (λ (due : Source). prepared.by_assembly listing disassembly (assembly_of due) ≢ Err Memory) (sym (is refl)) h))
+translated_reported listing disassembly whole made (f ∷ faults) is h =
+    first_lines (of_translation f) _ _ _ (no_memory (of_translation f) (Err (of_translation f)) refl h)
+
+by_translation_reported : (listing disassembly : Bool) (read : Source) → prepared.by_translation listing disassembly (translation.translation_of read) ≢ Err Memory
+    → Tells (prepared.by_translation listing disassembly (translation.translation_of read)) (stages [] (translation.statement_faults read.items) (translation.mended_source read))
+unfolding translation.translation_of
+by_translation_reported listing disassembly read h =
+    translated_reported listing disassembly (translation.made_source read) (translation.mended_source read) (translation.statement_faults read.items) (translation_whole read) h
+
+-- the lines
+read_reported : (listing disassembly : Bool) (whole read : Source) (faults : List SourceFault) → (faults ≡ [] → read ≡ whole)
+    → prepared.by_source listing disassembly (option_map_or Err (slice_get faults 0) (Ok whole)) ≢ Err Memory
+    → Tells (prepared.by_source listing disassembly (option_map_or Err (slice_get faults 0) (Ok whole)))
+    (stages faults (translation.statement_faults read.items) (translation.mended_source read))
+read_reported listing disassembly whole read [] is h =
+    subst (λ (due : Source). Tells (prepared.by_translation listing disassembly (translation.translation_of due)) (stages [] (translation.statement_faults read.items) (translation.mended_source read)))
+    (is refl)
+    (by_translation_reported listing disassembly read
+    (subst (λ (due : Source). prepared.by_translation listing disassembly (translation.translation_of due) ≢ Err Memory) (sym (is refl)) h))
+read_reported listing disassembly whole read (f ∷ faults) is h =
+    first_lines (of_source f) _ _ _ (no_memory (of_source f) (Err (of_source f)) refl h)
+
+stages_reported : (listing disassembly : Bool) (all : List (List ℕ)) → Tells (prepared.prepared_of listing disassembly all) (lines_by_stages all)
+unfolding prepared.prepared_of source_in
+stages_reported listing disassembly all =
+    read_reported listing disassembly (source_from (up_to_end false (map text_of all))) (source_read all) (line_faults false 1 all) (source_whole all)
+    (prepared_not_memory listing disassembly all)
+
+pub is_among : (listing disassembly : Bool) (all : List (List ℕ)) → IsAmong (result_err (prepared.prepared_of listing disassembly all)) (faults_of all)
+unfolding faults_of
+is_among listing disassembly all =
+    subst (λ (fault : Option PrepareFault). IsAmong fault (by_number (lines_by_stages all))) (sym (stages_reported listing disassembly all)) (first_there (lines_by_stages all))

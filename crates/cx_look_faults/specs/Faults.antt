@@ -1,34 +1,100 @@
--- The faulty lines of a source: those of the first stage that finds any, of its lines, its translation and its assembly (own).
-use Rattle.std.specs.Prelude.{ℕ, Option, Some, None, Result, Ok, Err, List}
-use Rattle.std.specs.List.{filter_map}
-use Rattle.cx_asm.specs.Assembly.{assembly_faults, fault_at}
-use Rattle.cx_source.specs.Faults.{source_or_faults}
+-- The faulty lines of a source: of its lines, its EXEC statements and its assembly, each stage on what the one before
+-- gives in spite of its faults (own).
+use Rattle.std.specs.Prelude.{ℕ, Bool, true, false, ◌&&◌, ◌||◌, not, ◌==◌, min, nat_lt, if◌then◌else◌, Option, Some, None, List, [], ◌∷◌, ◌++◌, codes, filter, fold, is_some, map}
+use Rattle.std.specs.BTreeMap.{insert_entry, is_at}
+use Rattle.std.specs.List.{filter_map, list_any}
+use Rattle.std.specs.Map.{lookup}
+use Rattle.std.specs.Option.{option_map_or}
+use Rattle.std.specs.Ordering.{nat_cmp}
+use Rattle.cx_asm.specs.Assembly.{fault_at, later_faults}
+use Rattle.cx_asm_pass1.specs.AllFaults.{place_faults}
+use Rattle.cx_asm_pass1.specs.declared.place.LineFault.{LineFault}
+use Rattle.cx_source.specs.Faults.{line_faults}
+use Rattle.cx_source.specs.Mended.{source_read}
+use Rattle.cx_source.specs.declared.source.Item.{Item}
 use Rattle.cx_source.specs.declared.source.Source.{Source}
-use Rattle.cx_source.specs.declared.source.SourceFault.{SourceFault}
-use Rattle.cx_translate.specs.Translation.{translation_or_faults}
-use Rattle.cx_translate.specs.declared.faults.TransFault.{TransFault}
+use Rattle.cx_translate.specs.Sections.{begins_section, has_operation}
+use Rattle.cx_translate.specs.Translation.{mended_source, statement_faults}
 use Rattle.cx_asm_build.specs.Kinds.{of_assembly, of_source, of_translation}
 use Rattle.cx_asm_build.specs.declared.faults.PrepareFault.{PrepareFault}
 use Rattle.cx_asm_build.specs.declared.faults.PrepareFault.TheVariants.{At, Memory}
+use Rattle.cx_asm_build.specs.declared.faults.SourceKind.{SourceKind}
+use Rattle.cx_asm_build.specs.declared.faults.SourceKind.TheVariants.{NoAddressability}
 use Rattle.cx_look_faults.specs.declared.faults.FaultyLine.{FaultyLine}
+
+abbrev pub faulty : ℕ → SourceKind → FaultyLine
+faulty line kind = record { line = line; kind = kind }
 
 -- the line that a fault is of; Memory is of none
 abbrev pub faulty_line : PrepareFault → Option FaultyLine
-faulty_line (At line kind) = Some (record { line = line; kind = kind })
+faulty_line (At line kind) = Some (faulty line kind)
 faulty_line Memory = None
 
 abbrev pub faulty_lines : {F : Type 0} → (F → PrepareFault) → List F → List FaultyLine
 faulty_lines reported faults = filter_map (λ fault. faulty_line (reported fault)) faults
 
--- One stage after the other, each on what the one before gave: the translation, the source.
-abbrev pub by_translation : Result Source (List TransFault) → List FaultyLine
-by_translation (Err faults) = faulty_lines of_translation faults
-by_translation (Ok translated) = faulty_lines (λ fault. of_assembly (fault_at fault)) (assembly_faults translated)
+abbrev pub of_pass : LineFault → PrepareFault
+of_pass fault = of_assembly (fault_at fault)
 
-abbrev pub by_source : Result Source (List SourceFault) → List FaultyLine
-by_source (Err faults) = faulty_lines of_source faults
-by_source (Ok source) = by_translation (translation_or_faults source)
+-- ---- what bases depend on
+-- a USING begins on a line, or a section
+unfoldable pub sets_bases : Item → Bool
+sets_bases item = has_operation (codes "USING") item.stmt || has_operation (codes "DSECT") item.stmt || begins_section item
 
--- the faulty lines of the source that lines make, in their order, each with its lowest fault
+abbrev pub base_lines : List Item → List ℕ
+base_lines items = map (λ item. item.line) (filter sets_bases items)
+
+-- a control section begins
+abbrev pub has_section : List Item → Bool
+has_section items = list_any begins_section items
+
+-- Bases are lost by a fault of such a line; where no control section begins, of any line.
+abbrev pub loses_bases : Bool → List ℕ → FaultyLine → Bool
+loses_bases has lines fault = not has || list_any (λ line. line == fault.line) lines
+
+-- the first line by whose fault bases are lost, after one more fault
+unfoldable pub lost_from : Bool → List ℕ → Option ℕ → FaultyLine → Option ℕ
+lost_from has lines from fault = if loses_bases has lines fault then Some (option_map_or (min fault.line) from fault.line) else from
+
+-- After that line NoAddressability isn't reported.
+abbrev pub is_unaddressed : SourceKind → Bool
+is_unaddressed NoAddressability = true
+is_unaddressed kind = false
+
+unfoldable pub follows : Option ℕ → FaultyLine → Bool
+follows from fault = is_unaddressed fault.kind && option_map_or (λ lost. nat_lt lost fault.line) from false
+
+abbrev pub without_following : Bool → List ℕ → Option ℕ → List FaultyLine → List FaultyLine
+without_following has lines from [] = []
+without_following has lines from (fault ∷ more) =
+    (if follows from fault then [] else fault ∷ []) ++ without_following has lines (lost_from has lines from fault) more
+
+-- ---- the stages
+-- those of its lines, of its EXEC statements and of the first pass over what they are made into
+abbrev pub earlier_lines : List (List ℕ) → Source → Source → List FaultyLine
+earlier_lines all read made =
+    faulty_lines of_source (line_faults false 1 all)
+    ++ (faulty_lines of_translation (statement_faults read.items) ++ faulty_lines of_pass (place_faults made))
+
+-- those of the second pass, too
+abbrev pub stage_lines : List (List ℕ) → Source → Source → List FaultyLine
+stage_lines all read made =
+    let earlier = earlier_lines all read made in
+    let has = has_section made.items in let lines = base_lines made.items in
+    earlier ++ without_following has lines (fold (lost_from has lines) None earlier) (faulty_lines of_pass (later_faults made))
+
+abbrev pub lines_by_stages : List (List ℕ) → List FaultyLine
+lines_by_stages all = stage_lines all (source_read all) (mended_source (source_read all))
+
+-- ---- by number
+-- A line has its place by its number, and keeps the fault that it has.
+unfoldable pub put_line : List (ℕ × SourceKind) → FaultyLine → List (ℕ × SourceKind)
+put_line sorted fault =
+    if is_some (lookup (is_at (nat_cmp fault.line)) sorted) then sorted else insert_entry nat_cmp sorted fault.line fault.kind
+
+abbrev pub by_number : List FaultyLine → List FaultyLine
+by_number faults = map (λ entry. faulty entry.0 entry.1) (fold put_line [] faults)
+
+-- the faulty lines of the source that lines make, ascending, each with the lowest fault of the first stage that finds one
 unfoldable pub faults_of : List (List ℕ) → List FaultyLine
-faults_of all = by_source (source_or_faults all)
+faults_of all = by_number (lines_by_stages all)

@@ -1,25 +1,36 @@
 //! The faulty lines of a source.
 
-ghost use Rattle.std.specs.Prelude.{◌≡◌, ◌++◌, IfOk, OnOk};
+ghost use Rattle.std.specs.Prelude.{◌≡◌, ◌++◌, IfOk, OnOk, fold, map, None};
 ghost use Rattle.std.specs.Option.{option_to_list};
-ghost use Rattle.cx_asm.specs.Assembly.{assembly_faults, fault_at};
-ghost use Rattle.cx_asm_build.specs.Kinds.{of_assembly, of_source, of_translation};
-ghost use Rattle.cx_translate.specs.Translation.{translation_or_faults};
-ghost use Rattle.cx_look_faults.specs.Faults.{by_translation, faults_of, faulty_line, faulty_lines};
+ghost use Rattle.cx_asm_build.specs.Kinds.{of_source, of_translation};
+ghost use Rattle.cx_look_faults.specs.Faults.{
+  by_number,
+  faults_of,
+  faulty,
+  faulty_line,
+  faulty_lines,
+  follows,
+  lost_from,
+  of_pass,
+  put_line,
+  without_following,
+};
 
-use cx_asm::{assembly_faults, fault_at};
+use crate::bases::BaseLines;
+use cx_asm::{fault_at, pass_faults};
 use cx_asm_build::{PrepareFault, SourceKind};
 use cx_asm_pass1::LineFault;
-use cx_source::{Source, SourceFault, Text, source_or_faults};
-use cx_translate::{TransFault, translate_or_faults};
+use cx_source::{SourceFault, Text, source_with_faults};
+use cx_translate::{TransFault, translate_with_faults};
 use std::alloc::{AllocError, Global};
+use std::collections::BTreeMap;
 
 /// A line that is faulty, and what is wrong with it.
 #[derive(Clone, Copy, Debug, PartialEq, Eq)]
 pub struct FaultyLine {
     /// The line's number in the source, counted from 1; of NoEnd it is the one after the last.
     pub line: usize,
-    /// Its lowest fault.
+    /// Its fault.
     pub kind: SourceKind,
 }
 
@@ -33,66 +44,143 @@ fn push_line(lines: &mut Vec<FaultyLine>, fault: PrepareFault) -> Result<(), All
     Ok(())
 }
 
-/// The faulty lines of a source that can't be read.
-fn unread_lines(alloc: Global, faults: &[SourceFault]) -> Result<Vec<FaultyLine>, AllocError>
-    ensures { IfOk result (λ lines. lines.items ≡ faulty_lines of_source faults.now) }
+/// Puts the lines at the end of others that can't be read.
+fn push_unread(lines: &mut Vec<FaultyLine>, faults: &[SourceFault]) -> Result<(), AllocError>
+    ensures { OnOk result (lines.new.items ≡ lines.old.items ++ faulty_lines of_source faults.now) }
+{
+    for fault in faults {
+        push_line(lines, PrepareFault::from(*fault))?;
+    }
+    Ok(())
+}
+
+/// Puts the lines at the end of others on which EXEC statements at fault begin.
+fn push_untranslated(lines: &mut Vec<FaultyLine>, faults: &[TransFault]) -> Result<(), AllocError>
+    ensures { OnOk result (lines.new.items ≡ lines.old.items ++ faulty_lines of_translation faults.now) }
+{
+    for fault in faults {
+        push_line(lines, PrepareFault::from(*fault))?;
+    }
+    Ok(())
+}
+
+/// Puts the lines at the end of others that a pass of the assembler finds at fault.
+fn push_unassembled(lines: &mut Vec<FaultyLine>, faults: &[LineFault]) -> Result<(), AllocError>
+    ensures { OnOk result (lines.new.items ≡ lines.old.items ++ faulty_lines of_pass faults.now) }
+{
+    for fault in faults {
+        push_line(lines, PrepareFault::from(fault_at(*fault)))?;
+    }
+    Ok(())
+}
+
+/// Whether a fault is NoAddressability after the line from which bases are lost.
+#[tactic(auto, unfolding(crate::specs::Faults::follows))]
+fn follows(from: Option<usize>, fault: FaultyLine) -> bool
+    ensures { result ≡ follows from fault }
+{
+    match (fault.kind, from) {
+        (SourceKind::NoAddressability, Some(lost)) => lost < fault.line,
+        _ => false,
+    }
+}
+
+/// The first of some lines by whose fault bases are lost.
+fn first_lost(bases: &BaseLines, lines: &[FaultyLine]) -> Option<usize>
+    ensures { result ≡ fold (lost_from bases.now.has_section bases.now.lines.items) None lines.now }
+{
+    let mut from = None;
+    for fault in lines {
+        from = bases.lost_from(from, *fault);
+    }
+    from
+}
+
+/// Puts lines at the end of others, without those whose fault follows from lost bases.
+fn push_others(
+    lines: &mut Vec<FaultyLine>,
+    bases: &BaseLines,
+    first: Option<usize>,
+    later: &[FaultyLine],
+) -> Result<(), AllocError>
+    ensures { let rest = without_following bases.now.has_section bases.now.lines.items first later.now in
+        OnOk result (lines.new.items ≡ lines.old.items ++ rest) }
+{
+    let mut from = first;
+    for fault in later {
+        if !follows(from, *fault) {
+            lines.push(*fault)?;
+        }
+        from = bases.lost_from(from, *fault);
+    }
+    Ok(())
+}
+
+/// The lines of a table.
+fn listed(
+    alloc: Global,
+    sorted: &BTreeMap<usize, SourceKind>,
+) -> Result<Vec<FaultyLine>, AllocError>
+    ensures { IfOk result (λ lines. lines.items ≡ map (λ entry. faulty entry.0 entry.1) sorted.now.entries) }
 {
     let mut lines = Vec::new(alloc);
-    for fault in faults {
-        push_line(&mut lines, PrepareFault::from(*fault))?;
+    for (line, kind) in sorted.iter() {
+        lines.push(FaultyLine {
+            line: *line,
+            kind: *kind,
+        })?;
     }
     Ok(lines)
 }
 
-/// The faulty lines of a source that can't be translated.
-fn untranslated_lines(alloc: Global, faults: &[TransFault]) -> Result<Vec<FaultyLine>, AllocError>
-    ensures { IfOk result (λ lines. lines.items ≡ faulty_lines of_translation faults.now) }
+/// Puts a line in its place by its number; one that is there keeps its fault.
+#[tactic(auto, unfolding(crate::specs::Faults::put_line))]
+fn put_line(sorted: &mut BTreeMap<usize, SourceKind>, fault: FaultyLine) -> Result<(), AllocError>
+    ensures { OnOk result (sorted.new.entries ≡ put_line sorted.old.entries fault) }
 {
-    let mut lines = Vec::new(alloc);
-    for fault in faults {
-        push_line(&mut lines, PrepareFault::from(*fault))?;
+    if !sorted.contains_key(&fault.line) {
+        sorted.insert(fault.line, fault.kind)?;
     }
-    Ok(lines)
+    Ok(())
 }
 
-/// The faulty lines of a source that can't be assembled.
-fn unassembled_lines(alloc: Global, faults: &[LineFault]) -> Result<Vec<FaultyLine>, AllocError>
-    ensures { IfOk result (λ lines. lines.items ≡ faulty_lines (λ fault. of_assembly (fault_at fault)) faults.now) }
+/// The lines in the order of their numbers, each with its first fault.
+fn by_number(alloc: Global, lines: &[FaultyLine]) -> Result<Vec<FaultyLine>, AllocError>
+    ensures { IfOk result (λ sorted. sorted.items ≡ by_number lines.now) }
 {
-    let mut lines = Vec::new(alloc);
-    for fault in faults {
-        push_line(&mut lines, PrepareFault::from(fault_at(*fault)))?;
+    let mut sorted = BTreeMap::new(alloc);
+    for fault in lines {
+        put_line(&mut sorted, *fault)?;
     }
-    Ok(lines)
+    listed(alloc, &sorted)
 }
 
-/// The faulty lines of a source whose lines have no fault.
-fn lines_of(alloc: Global, source: Source) -> Result<Vec<FaultyLine>, AllocError>
-    ensures { IfOk result (λ lines. lines.items ≡ by_translation (translation_or_faults source)) }
-{
-    let translated = match translate_or_faults(alloc, &source)? {
-        Ok(translated) => translated,
-        Err(faults) => return untranslated_lines(alloc, faults.as_slice()),
-    };
-    drop(source);
-    let faults = assembly_faults(alloc, &translated)?;
-    unassembled_lines(alloc, faults.as_slice())
-}
-
-/// The faulty lines of the source that lines make, given without their ends: of each the number and its lowest fault, in the
-/// order of the lines. A source that can be prepared has none.
+/// The faulty lines of the source that lines make, given without their ends: of each the number and one fault, in the
+/// order of the numbers. A source that can be prepared has none.
 ///
-/// They are those of the first of these stages that finds any: of the lines themselves, of the EXEC statements, of the
-/// assembler's first pass, of its second pass, and of the size of the text (TooLarge, at END's line alone). A stage goes on
-/// after a fault: the next line continues a statement where a faulty line's column 72 says so, and a faulty statement of the
-/// first pass defines and takes what is known of it in spite of its fault. The first of the lines is the one that
-/// `cx_asm_build::prepare` refuses the source for. An error comes only where an allocation failed.
+/// Four stages find them: of the lines themselves, of the EXEC statements, of the assembler's first pass, and of its
+/// second pass with the size of the text (TooLarge, at END's line alone, where the second pass finds nothing else). Each
+/// goes on after a fault, and the next one takes what it gives in spite of its faults: a line that continues a statement
+/// wrongly begins anew, DS 0H stands for an EXEC statement at fault, a faulty statement of the first pass defines and
+/// takes what is known of it in spite of its fault. Of a line that several stages find at fault the first one's fault
+/// comes, and of that stage the lowest. After a line with a USING or the beginning of a section that is at fault, and
+/// after any faulty line where no control section begins, NoAddressability isn't reported. The fault that
+/// `cx_asm_build::prepare` refuses the source for is one of them. An error comes only where an allocation failed.
 #[tactic(auto, unfolding(crate::specs::Faults::faults_of))]
 pub fn faults_of(alloc: Global, lines: &[Text]) -> Result<Vec<FaultyLine>, AllocError>
     ensures { IfOk result (λ all. all.items ≡ faults_of lines.now) }
 {
-    match source_or_faults(alloc, lines)? {
-        Ok(source) => lines_of(alloc, source),
-        Err(faults) => unread_lines(alloc, faults.as_slice()),
-    }
+    let (read, unread) = source_with_faults(alloc, lines)?;
+    let (made, untranslated) = translate_with_faults(alloc, &read)?;
+    let (first, second) = pass_faults(alloc, &made)?;
+    let mut all = Vec::new(alloc);
+    push_unread(&mut all, unread.as_slice())?;
+    push_untranslated(&mut all, untranslated.as_slice())?;
+    push_unassembled(&mut all, first.as_slice())?;
+    let mut later = Vec::new(alloc);
+    push_unassembled(&mut later, second.as_slice())?;
+    let bases = BaseLines::of(alloc, made.items.as_slice())?;
+    let from = first_lost(&bases, all.as_slice());
+    push_others(&mut all, &bases, from, later.as_slice())?;
+    by_number(alloc, all.as_slice())
 }

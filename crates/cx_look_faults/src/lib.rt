@@ -1,6 +1,7 @@
-//! Which lines of a source are faulty: all of those that the first stage with a fault finds.
+//! Which lines of a source are faulty: those that any stage finds, each on what the one before gives in spite of its faults.
 #![tactic(auto)]
 
+mod bases;
 mod faults;
 pub mod laws;
 

@@ -2,6 +2,7 @@
 use Rattle.std.proofs.Common.{◌≡◌, ℕ, zero, suc, ◌+◌, ◌≤◌, List, [], ◌∷◌, ◌++◌, length, drop, slice_get, refl, subst, sym, ap, ◌∙◌, arith, append_assoc, append-nil}
 use Rattle.cx_program.specs.declared.level.Level.{Level}
 use Rattle.cx_region_state.specs.State.{SharedState}
+use Rattle.cx_look_words.specs.Words.{Lines}
 use Rattle.cx_look_symbols.specs.Lines.{SourcePlaces}
 use Rattle.cx_look_levels.specs.Parts.Levels.{level_at}
 use Rattle.cx_look_levels.specs.Levels.{levels_text}
@@ -14,7 +15,7 @@ level_step sources shared [] (suc k) n = refl
 level_step sources shared (level ∷ levels) zero n = refl
 level_step sources shared (level ∷ levels) (suc k) n = level_step sources shared levels k n
 
-pub levels_go_on : (sources : SourcePlaces) (shared : SharedState) (levels : List Level) (k : ℕ) (before after whole : List ℕ) → after ≡ before ++ level_at sources shared (k + 1) (slice_get levels k)
+pub levels_go_on : (sources : SourcePlaces) (shared : SharedState) (levels : List Level) (k : ℕ) (before after whole : Lines) → after ≡ before ++ level_at sources shared (k + 1) (slice_get levels k)
     → before ++ levels_text sources shared (k + 1) (drop k levels) ≡ whole → after ++ levels_text sources shared (k + 1 + 1) (drop (k + 1) levels) ≡ whole
 levels_go_on sources shared levels k before after whole written so_far =
     let next : suc k ≡ k + 1 = omega arith in
@@ -29,6 +30,6 @@ levels_end sources shared [] (suc k) n l = refl
 levels_end sources shared (level ∷ levels) zero n l = absurd (omega arith)
 levels_end sources shared (level ∷ levels) (suc k) n l = levels_end sources shared levels k n (omega arith)
 
-pub levels_done : (sources : SourcePlaces) (shared : SharedState) (levels : List Level) (k : ℕ) (before whole : List ℕ) → length levels ≤ k
+pub levels_done : (sources : SourcePlaces) (shared : SharedState) (levels : List Level) (k : ℕ) (before whole : Lines) → length levels ≤ k
     → before ++ levels_text sources shared (k + 1) (drop k levels) ≡ whole → before ≡ whole
 levels_done sources shared levels k before whole l so_far = sym (append-nil before) ∙ ap (λ t. before ++ t) (sym (levels_end sources shared levels k (k + 1) l)) ∙ so_far

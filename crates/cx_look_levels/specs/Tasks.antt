@@ -1,5 +1,5 @@
 -- TASK: what is kept of a task (own).
-use Rattle.std.specs.Prelude.{ℕ, ◌+◌, List, [], ◌∷◌, ◌++◌, slice_index, codes, Result, Ok, Err, if◌then◌else◌}
+use Rattle.std.specs.Prelude.{ℕ, List, [], ◌∷◌, ◌++◌, codes, Result, Ok, Err, if◌then◌else◌}
 use Rattle.std.specs.Option.{option_map_or}
 use Rattle.cx_base_commands.specs.Commands.{row_of}
 use Rattle.cx_storage.specs.Storage.{Storage}
@@ -12,9 +12,10 @@ use Rattle.cx_region.specs.State.{RegionState, shared_of}
 use Rattle.cx_region.specs.Tables.{task_of}
 use Rattle.cx_base_text.specs.Digits.{digits}
 use Rattle.cx_base_text.specs.Texts.{shown_name}
-use Rattle.cx_look_words.specs.Words.{look_line}
+use Rattle.cx_look_words.specs.Registers.{register_lines}
+use Rattle.cx_look_words.specs.Words.{look_line, Lines}
 use Rattle.cx_look_symbols.specs.Lines.{SourcePlaces}
-use Rattle.cx_look_levels.specs.Places.{place_with_line}
+use Rattle.cx_look_symbols.specs.Places.{place_of, place_word}
 use Rattle.cx_look_levels.specs.Levels.{levels_text}
 
 -- ---- the task: its transaction, its number, what it is doing
@@ -26,35 +27,26 @@ called_name (Err fault) = codes "?"
 unfoldable pub due_word : Storage → TaskState → List ℕ
 due_word s task = if task.due then codes "DUE " ++ called_name (call_of s (list_of task)) else codes "RUNNING"
 
-unfoldable pub task_words : List ℕ → TaskState → List ℕ → List ℕ
+unfoldable pub task_words : List ℕ → TaskState → List ℕ → Lines
 task_words name task due =
     look_line (codes "TASK" ∷ shown_name name ∷ codes "TRAN" ∷ shown_name task.tran ∷ codes "NUMBER" ∷ digits 10 7 task.number ∷ due ∷ [])
 
-abbrev pub task_line : SharedState → List ℕ → TaskState → List ℕ
+abbrev pub task_line : SharedState → List ℕ → TaskState → Lines
 task_line shared name task = task_words name task (due_word shared.storage task)
 
 -- ---- its condition code, and where it goes on
-unfoldable pub state_line : SourcePlaces → SharedState → TaskState → List ℕ
+unfoldable pub state_line : SourcePlaces → SharedState → TaskState → Lines
 state_line sources shared task =
-    look_line (codes "CC" ∷ digits 10 1 task.cc ∷ codes "NEXT" ∷ digits 16 6 task.next ∷ place_with_line sources shared.programs task.next ∷ [])
+    look_line (codes "CC" ∷ digits 10 1 task.cc ∷ codes "NEXT" ∷ place_word sources (place_of shared.programs task.next) ∷ [])
 
--- ---- its registers, four to a line
-unfoldable pub register_line : List ℕ → ℕ → List ℕ
-register_line regs k =
-    look_line ((codes "R" ++ digits 10 2 k) ∷ digits 16 8 (slice_index regs k) ∷ digits 16 8 (slice_index regs (k + 1)) ∷ digits 16 8 (slice_index regs (k + 2))
-    ∷ digits 16 8 (slice_index regs (k + 3)) ∷ [])
-
-unfoldable pub register_lines : List ℕ → List ℕ
-register_lines regs = register_line regs 0 ++ register_line regs 4 ++ register_line regs 8 ++ register_line regs 12
-
--- ---- all, with its levels from the highest, which is number 1
-abbrev pub text_of : SourcePlaces → SharedState → List ℕ → TaskState → List ℕ
+-- ---- all, with its registers, and its levels from the highest, which is number 1
+abbrev pub text_of : SourcePlaces → SharedState → List ℕ → TaskState → Lines
 text_of sources shared name task =
     task_line shared name task ++ register_lines task.regs ++ state_line sources shared task
     ++ levels_text sources shared 1 (all_levels task.levels)
 
-abbrev pub none_line : List ℕ → List ℕ
+abbrev pub none_line : List ℕ → Lines
 none_line name = look_line (codes "TASK" ∷ shown_name name ∷ codes "NONE" ∷ [])
 
-unfoldable pub task_text : SourcePlaces → RegionState → List ℕ → List ℕ
+unfoldable pub task_text : SourcePlaces → RegionState → List ℕ → Lines
 task_text sources region name = option_map_or (text_of sources (shared_of region) name) (task_of region name) (none_line name)

@@ -2,7 +2,6 @@
 #![tactic(auto)]
 
 mod levels;
-mod places;
 mod tasks;
 
 pub use tasks::task_text;

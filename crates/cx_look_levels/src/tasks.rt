@@ -1,15 +1,14 @@
 //! TASK.
-ghost use Rattle.std.specs.Prelude.{◌≡◌, ◌++◌, ◌+◌, ◌≤◌, IfOk, OnOk, codes};
+ghost use Rattle.std.specs.Prelude.{◌≡◌, ◌++◌, IfOk, OnOk};
 ghost use Rattle.std.specs.Option.{option_copied};
 ghost use Rattle.cx_region.specs.Tables.{task_of};
-ghost use Rattle.cx_look_levels.specs.Tasks.{due_word, none_line, register_line, register_lines, state_line, task_line, task_text, task_words, text_of};
+ghost use Rattle.cx_look_levels.specs.Tasks.{due_word, none_line, state_line, task_line, task_text, task_words, text_of};
 
-use crate::levels::push_levels;
-use crate::places::place_with_line;
-use cx_base_text::{decimal, hexadecimal, shown_name};
+use crate::levels::levels_text;
+use cx_base_text::{decimal, shown_name};
 use cx_ebcdic::Name4;
-use cx_look_symbols::SourcePlaces;
-use cx_look_words::look_line;
+use cx_look_symbols::{SourcePlaces, place_of, place_word};
+use cx_look_words::{Report, register_lines};
 use cx_region::Region;
 use cx_region_call::read_call;
 use cx_region_state::{Shared, Task};
@@ -32,110 +31,68 @@ fn due_word<S: Store>(alloc: Global, store: &S, task: &Task) -> Result<Vec<u8>, 
     Ok(word)
 }
 
-/// The task's line, with the word that says what it is doing.
+/// Adds the task's line, with the word that says what it is doing.
 #[tactic(auto, unfolding(crate::specs::Tasks::task_words))]
-fn task_words(alloc: Global, name: Name4, task: &Task, due: &[u8]) -> Result<Vec<u8>, AllocError>
-    ensures { IfOk result (λ line. line.items ≡ task_words name task.now due.now) }
+fn task_words(report: &mut Report, name: Name4, task: &Task, due: &[u8]) -> Result<(), AllocError>
+    ensures { OnOk result (report.new ≡ report.old ++ task_words name task.now due.now) }
 {
-    let name = shown_name(alloc, name)?;
-    let tran = shown_name(alloc, task.tran)?;
+    let name = shown_name(report.alloc(), name)?;
+    let tran = shown_name(report.alloc(), task.tran)?;
     let number = decimal::<7>(task.number);
-    look_line(
-        alloc,
-        &[b"TASK", &name, b"TRAN", &tran, b"NUMBER", &number, due],
-    )
+    report.line(&[b"TASK", &name, b"TRAN", &tran, b"NUMBER", &number, due])
 }
 
-/// The task's line.
+/// Adds the task's line.
 fn task_line<S: Store + Drop>(
-    alloc: Global,
+    report: &mut Report,
     shared: &Shared<S>,
     name: Name4,
     task: &Task,
-) -> Result<Vec<u8>, AllocError>
-    ensures { IfOk result (λ line. line.items ≡ task_line shared.now name task.now) }
+) -> Result<(), AllocError>
+    ensures { OnOk result (report.new ≡ report.old ++ task_line shared.now name task.now) }
 {
-    let due = due_word(alloc, &shared.store, task)?;
-    task_words(alloc, name, task, &due)
+    let due = due_word(report.alloc(), &shared.store, task)?;
+    task_words(report, name, task, &due)
 }
 
-/// The line of a task's condition code and next address.
+/// Adds the line of a task's condition code and next address.
 #[tactic(auto, unfolding(crate::specs::Tasks::state_line))]
 fn state_line<S: Store + Drop>(
-    alloc: Global,
+    report: &mut Report,
     sources: &SourcePlaces,
     shared: &Shared<S>,
     task: &Task,
-) -> Result<Vec<u8>, AllocError>
-    ensures { IfOk result (λ line. line.items ≡ state_line sources.now.entries shared.now task.now) }
+) -> Result<(), AllocError>
+    ensures { OnOk result (report.new ≡ report.old ++ state_line sources.now.entries shared.now task.now) }
 {
     let cc = decimal::<1>(u32::from(task.cpu.cc));
-    let next = hexadecimal::<6>(task.cpu.next);
-    let place = place_with_line(alloc, sources, &shared.programs, task.cpu.next)?;
-    look_line(alloc, &[b"CC", &cc, b"NEXT", &next, &place])
+    let place = place_of(&shared.programs, task.cpu.next);
+    let place = place_word(report.alloc(), sources, &place)?;
+    report.line(&[b"CC", &cc, b"NEXT", &place])
 }
 
-/// Adds the line of four registers from one on.
-#[tactic(auto, unfolding(crate::specs::Tasks::register_line))]
-fn push_registers(
-    alloc: Global,
-    text: &mut Vec<u8>,
-    regs: &[u32; 16],
-    k: usize,
-) -> Result<(), AllocError>
-    requires { k ≤ 12 }
-    ensures { OnOk result (text.new.items ≡ text.old.items ++ register_line regs.now k) }
-{
-    let [tens, ones] = decimal::<2>(k as u32);
-    let line = look_line(
-        alloc,
-        &[
-            &[b'R', tens, ones],
-            &hexadecimal::<8>(regs[k]),
-            &hexadecimal::<8>(regs[k + 1]),
-            &hexadecimal::<8>(regs[k + 2]),
-            &hexadecimal::<8>(regs[k + 3]),
-        ],
-    )?;
-    text.extend_from_slice(&line)?;
-    Ok(())
-}
-
-/// Adds the lines of all registers.
-#[tactic(auto, unfolding(crate::specs::Tasks::register_lines))]
-fn push_all_registers(alloc: Global, text: &mut Vec<u8>, regs: &[u32; 16]) -> Result<(), AllocError>
-    ensures { OnOk result (text.new.items ≡ text.old.items ++ register_lines regs.now) }
-{
-    push_registers(alloc, text, regs, 0)?;
-    push_registers(alloc, text, regs, 4)?;
-    push_registers(alloc, text, regs, 8)?;
-    push_registers(alloc, text, regs, 12)?;
-    Ok(())
-}
-
-/// The lines of a task.
+/// Adds the lines of a task.
 fn text_of<S: Store + Drop>(
-    alloc: Global,
+    report: &mut Report,
     sources: &SourcePlaces,
     shared: &Shared<S>,
     name: Name4,
     task: &Task,
-) -> Result<Vec<u8>, AllocError>
-    ensures { IfOk result (λ text. text.items ≡ text_of sources.now.entries shared.now name task.now) }
+) -> Result<(), AllocError>
+    ensures { OnOk result (report.new ≡ report.old ++ text_of sources.now.entries shared.now name task.now) }
 {
-    let mut text = task_line(alloc, shared, name, task)?;
-    push_all_registers(alloc, &mut text, &task.cpu.regs)?;
-    text.extend_from_slice(&state_line(alloc, sources, shared, task)?)?;
-    push_levels(alloc, &mut text, sources, shared, &task.levels)?;
-    Ok(text)
+    task_line(report, shared, name, task)?;
+    register_lines(report, &task.cpu.regs)?;
+    state_line(report, sources, shared, task)?;
+    levels_text(report, sources, shared, &task.levels)
 }
 
-/// The line of a terminal without a task.
-fn none_line(alloc: Global, name: Name4) -> Result<Vec<u8>, AllocError>
-    ensures { IfOk result (λ line. line.items ≡ none_line name) }
+/// Adds the line of a terminal without a task.
+fn none_line(report: &mut Report, name: Name4) -> Result<(), AllocError>
+    ensures { OnOk result (report.new ≡ report.old ++ none_line name) }
 {
-    let name = shown_name(alloc, name)?;
-    look_line(alloc, &[b"TASK", &name, b"NONE"])
+    let name = shown_name(report.alloc(), name)?;
+    report.line(&[b"TASK", &name, b"NONE"])
 }
 
 /// The task of a terminal.
@@ -150,18 +107,20 @@ fn task_of<S: Store + Drop>(region: &Region<S>, name: Name4) -> Option<&Task>
 /// level, the highest first; NONE where there is no task, or no such terminal. A place in a program that a source
 /// defined is shown with the line of the statement whose bytes hold it.
 ///
-/// An error comes only where memory for the text was refused.
+/// An error comes only where memory for the report was refused.
 #[tactic(auto, unfolding(crate::specs::Tasks::task_text))]
 pub fn task_text<S: Store + Drop>(
     alloc: Global,
     sources: &SourcePlaces,
     region: &Region<S>,
     name: Name4,
-) -> Result<Vec<u8>, AllocError>
-    ensures { IfOk result (λ text. text.items ≡ task_text sources.now.entries region.now name) }
+) -> Result<Report, AllocError>
+    ensures { IfOk result (λ report. report ≡ task_text sources.now.entries region.now name) }
 {
+    let mut report = Report::new(alloc);
     match task_of(region, name) {
-        Some(task) => text_of(alloc, sources, region.shared(), name, task),
-        None => none_line(alloc, name),
+        Some(task) => text_of(&mut report, sources, region.shared(), name, task)?,
+        None => none_line(&mut report, name)?,
     }
+    Ok(report)
 }

@@ -1,10 +1,5 @@
 mod TurnLemmas
 mod LawLemmas
-mod TableMarks
-mod CommandMarks
-mod AbendMarks
-mod TaskMarks
-mod FaultMarks
 mod MarkLemmas
 mod PlainLemmas
 mod SameLemmas

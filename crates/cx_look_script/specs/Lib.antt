@@ -22,13 +22,13 @@ pub use Rattle.cx_look_tables.specs.Programs
 pub use Rattle.cx_look_storage.specs.Uses
 pub use Rattle.cx_look_storage.specs.Areas
 pub use Rattle.cx_look_storage.specs.Bytes
-pub use Rattle.cx_look_storage.specs.Places
 pub use Rattle.cx_look_levels.specs.Levels
 pub use Rattle.cx_look_levels.specs.Tasks as TasksLookedAt
 pub use Rattle.cx_look_command.specs.Commands
 pub use Rattle.cx_look_command.specs.Looks as LooksAtCommands
 pub use Rattle.cx_look_symbols.specs.Symbols
 pub use Rattle.cx_look_symbols.specs.Texts as SymbolTexts
+pub use Rattle.cx_look_symbols.specs.Places
 pub use Rattle.cx_look_tasks.specs.Activities
 pub use Rattle.cx_look_tasks.specs.Tasks
 pub use Rattle.cx_look_abend.specs.Abends as LastAbends

@@ -8,6 +8,7 @@ use Rattle.cx_script_actions.specs.declared.actions.Action.{Action}
 use Rattle.cx_script_actions.specs.declared.actions.Action.TheVariants as edf_action
 use Rattle.cx_look.specs.declared.look.Look.{Look}
 use Rattle.cx_look.specs.declared.look.Look.TheVariants as look
+use Rattle.cx_look_words.specs.Words.{Lines, marked}
 use Rattle.cx_look_tables.specs.Queues.{item_text, queue_text, queues_text}
 use Rattle.cx_look_tables.specs.Programs.{programs_text}
 use Rattle.cx_look_command.specs.Looks.{command_text}
@@ -25,26 +26,32 @@ use Rattle.cx_look_script.specs.Faults.{faults_text}
 use Rattle.cx_look_script.specs.declared.action.LookAction.{LookAction}
 use Rattle.cx_look_script.specs.declared.action.LookAction.TheVariants as action
 
--- What is written for a look at a state.
-unfoldable pub IsLookText : Look → LookState → List ℕ → Type 0
-IsLookText look.Queues state text = text ≡ queues_text state.edf.region.queues
-IsLookText (look.Queue name) state text = text ≡ queue_text state.edf.region.queues name
-IsLookText (look.Item name n) state text = text ≡ item_text state.edf.region.queues name n
-IsLookText look.Programs state text = text ≡ programs_text state.edf.region.programs state.edf.region.transactions
-IsLookText look.Tasks state text = TasksText state.edf.region text
-IsLookText look.Resources state text = ResourcesText state.edf.region text
-IsLookText (look.Command name) state text = text ≡ command_text state.edf.region name
-IsLookText (look.Task name) state text = text ≡ task_text state.sources.places state.edf.region name
-IsLookText look.Areas state text = text ≡ areas_text state.edf.region
-IsLookText (look.AreasOf name) state text = text ≡ task_areas_text state.edf.region name
-IsLookText (look.Storage at n) state text = text ≡ storage_text state.edf.region at n
-IsLookText (look.Abend name) state text = text ≡ abend_text state.sources.places state.abends name
-IsLookText (look.Faults source) state text = text ≡ faults_text source
-IsLookText (look.Symbol program name) state text =
-    text ≡ symbol_text (program_of state.edf.region program) (source_lines state.sources program) name
-IsLookText (look.Symbols program) state text =
-    text ≡ symbols_text (program_of state.edf.region program) program (source_lines state.sources program)
-IsLookText (look.Xref program) state text = text ≡ xref_text program (source_lines state.sources program)
+-- What a look has to say of a state.
+unfoldable pub AreLookLines : Look → LookState → Lines → Type 0
+AreLookLines look.Queues state lines = lines ≡ queues_text state.edf.region.queues
+AreLookLines (look.Queue name) state lines = lines ≡ queue_text state.edf.region.queues name
+AreLookLines (look.Item name n) state lines = lines ≡ item_text state.edf.region.queues name n
+AreLookLines look.Programs state lines = lines ≡ programs_text state.edf.region.programs state.edf.region.transactions
+AreLookLines look.Tasks state lines = TasksText state.edf.region lines
+AreLookLines look.Resources state lines = ResourcesText state.edf.region lines
+AreLookLines (look.Command name) state lines = lines ≡ command_text state.edf.region name
+AreLookLines (look.Task name) state lines = lines ≡ task_text state.sources.places state.edf.region name
+AreLookLines look.Areas state lines = lines ≡ areas_text state.edf.region
+AreLookLines (look.AreasOf name) state lines = lines ≡ task_areas_text state.edf.region name
+AreLookLines (look.Storage at n) state lines = lines ≡ storage_text state.edf.region at n
+AreLookLines (look.Abend name) state lines = lines ≡ abend_text state.sources.places state.abends name
+AreLookLines (look.Faults source) state lines = lines ≡ faults_text source
+AreLookLines (look.Symbol program name) state lines =
+    lines ≡ symbol_text (program_of state.edf.region program) (source_lines state.sources program) name
+AreLookLines (look.Symbols program) state lines =
+    lines ≡ symbols_text (program_of state.edf.region program) program (source_lines state.sources program)
+AreLookLines (look.Xref program) state lines = lines ≡ xref_text program (source_lines state.sources program)
+
+-- and how it is written
+pub record IsLookText (look : Look) (state : LookState) (text : List ℕ) : Type 0 where
+  pub lines : Lines
+  pub are : AreLookLines look state lines
+  pub is : text ≡ marked lines
 
 -- an action of `cicsedf`: an event as its answer says, and the abend that it led to is kept; any other leaves what is
 -- kept

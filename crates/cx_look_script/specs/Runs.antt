@@ -10,7 +10,7 @@ use Rattle.cx_edf.specs.declared.answers.EdfEvent.{EdfEvent}
 use Rattle.cx_edf.specs.declared.answers.EdfEvent.TheVariants as edf_event
 use Rattle.cx_edf.specs.State.{EdfState, stopped_at}
 use Rattle.cx_script_actions.specs.Texts.{answer_text}
-use Rattle.cx_look_words.specs.Words.{look_line}
+use Rattle.cx_look_words.specs.Words.{look_line, marked}
 use Rattle.cx_look_abend.specs.Noting.{AppliesWithAbends}
 use Rattle.cx_look_script.specs.State.{LookState}
 
@@ -33,7 +33,7 @@ turn_of name = edf_event.Plain (event.Turn name)
 
 -- the line of a RUN that its number of turns ended
 abbrev pub still_running : List ℕ → List ℕ
-still_running name = look_line (codes "RUN" ∷ shown_name name ∷ codes "STILL" ∷ codes "RUNNING" ∷ [])
+still_running name = marked (look_line (codes "RUN" ∷ shown_name name ∷ codes "STILL" ∷ codes "RUNNING" ∷ []))
 
 -- an event at a region that is looked at: its answer, the region after it, and the last abends that are kept
 pub record AppliesAtLooks (old : LookState) (e : EdfEvent) (given : Answer) (new : LookState) : Type 0 where

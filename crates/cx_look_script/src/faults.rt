@@ -2,31 +2,22 @@
 ghost use Rattle.std.specs.Prelude.{◌≡◌, ◌+◌, ◌++◌, IfOk, OnOk};
 ghost use Rattle.std.specs.List.{filter, flat_map};
 ghost use Rattle.cx_look_faults.specs.Faults.{faults_of};
-ghost use Rattle.cx_look_script.specs.Faults.{fault_line, fault_lines, faults_text, is_in_line, is_kept, text_at};
+ghost use Rattle.cx_look_script.specs.Faults.{fault_line, fault_lines, faults_text, is_kept, text_at};
 
 use cx_base_text::shown_name;
 use cx_look::SourceLines;
 use cx_look_faults::{FaultyLine, faults_of};
-use cx_look_words::{decimal, look_line};
+use cx_look_words::{Report, decimal};
 use cx_source::Text;
 use std::alloc::{AllocError, Global};
-
-/// A text without its LFs.
-fn in_one_line(alloc: Global, line: &[u8]) -> Result<Vec<u8>, AllocError>
-    ensures { IfOk result (λ text. text.items ≡ filter is_in_line line.now) }
-{
-    let mut text = line.to_vec(alloc)?;
-    text.retain(|c| *c != b'\n');
-    Ok(text)
-}
 
 /// A source's line by its number, counted from 1; after the last comes the block's end.
 fn text_at(alloc: Global, lines: &[Text], number: usize) -> Result<Vec<u8>, AllocError>
     ensures { IfOk result (λ text. text.items ≡ text_at lines.now number) }
 {
     match lines.get(number.saturating_sub(1)) {
-        Some(line) => in_one_line(alloc, line.as_slice()),
-        None => in_one_line(alloc, b"/*"),
+        Some(line) => line.as_slice().to_vec(alloc),
+        None => b"/*".to_vec(alloc),
     }
 }
 
@@ -37,26 +28,29 @@ fn number_in_script(first: usize, line: usize) -> Result<usize, AllocError>
     first.checked_add(line).ok_or(AllocError)
 }
 
-/// The line of a look that reports a faulty line.
-fn fault_line(alloc: Global, source: &SourceLines, fault: FaultyLine) -> Result<Vec<u8>, AllocError>
-    ensures { IfOk result (λ text. text.items ≡ fault_line source.now fault) }
+/// Adds the line that reports a faulty line.
+fn fault_line(
+    report: &mut Report,
+    source: &SourceLines,
+    fault: FaultyLine,
+) -> Result<(), AllocError>
+    ensures { OnOk result (report.new ≡ report.old ++ fault_line source.now fault) }
 {
-    let number = decimal(alloc, number_in_script(source.first, fault.line)?)?;
-    let text = text_at(alloc, source.lines.as_slice(), fault.line)?;
-    look_line(alloc, &[&number, fault.kind.name().as_bytes(), &text])
+    let number = decimal(report.alloc(), number_in_script(source.first, fault.line)?)?;
+    let text = text_at(report.alloc(), source.lines.as_slice(), fault.line)?;
+    report.line(&[&number, fault.kind.name().as_bytes(), &text])
 }
 
 /// Adds a line for each of some faulty lines.
-fn push_lines(
-    alloc: Global,
-    text: &mut Vec<u8>,
+fn lines_of_faults(
+    report: &mut Report,
     source: &SourceLines,
     faults: &[FaultyLine],
 ) -> Result<(), AllocError>
-    ensures { OnOk result (text.new.items ≡ text.old.items ++ flat_map (fault_line source.now) faults.now) }
+    ensures { OnOk result (report.new ≡ report.old ++ flat_map (fault_line source.now) faults.now) }
 {
     for fault in faults {
-        text.extend_from_slice(&fault_line(alloc, source, *fault)?)?;
+        fault_line(report, source, *fault)?;
     }
     Ok(())
 }
@@ -66,16 +60,17 @@ fn fault_lines(
     alloc: Global,
     source: &SourceLines,
     faults: &[FaultyLine],
-) -> Result<Vec<u8>, AllocError>
-    ensures { IfOk result (λ text. text.items ≡ fault_lines source.now faults.now) }
+) -> Result<Report, AllocError>
+    ensures { IfOk result (λ report. report ≡ fault_lines source.now faults.now) }
 {
+    let mut report = Report::new(alloc);
     if faults.is_empty() {
         let name = shown_name(alloc, source.name)?;
-        return look_line(alloc, &[b"FAULTS", &name, b"NONE"]);
+        report.line(&[b"FAULTS", &name, b"NONE"])?;
+        return Ok(report);
     }
-    let mut text = Vec::new(alloc);
-    push_lines(alloc, &mut text, source, faults)?;
-    Ok(text)
+    lines_of_faults(&mut report, source, faults)?;
+    Ok(report)
 }
 
 /// The faulty lines of a source, of whose lines the first 10,001 are kept.
@@ -87,10 +82,10 @@ fn kept_faults(alloc: Global, source: &SourceLines) -> Result<Vec<FaultyLine>, A
     Ok(faults)
 }
 
-/// What is written for the lines of a source.
+/// What the look has to say of the lines of a source.
 #[tactic(auto, unfolding(crate::specs::Faults::faults_text))]
-pub(crate) fn faults_text(alloc: Global, source: &SourceLines) -> Result<Vec<u8>, AllocError>
-    ensures { IfOk result (λ text. text.items ≡ faults_text source.now) }
+pub(crate) fn faults_text(alloc: Global, source: &SourceLines) -> Result<Report, AllocError>
+    ensures { IfOk result (λ report. report ≡ faults_text source.now) }
 {
     let faults = kept_faults(alloc, source)?;
     fault_lines(alloc, source, &faults)

@@ -11,7 +11,7 @@ pub fn looks_change_nothing()
     ensures { LooksChangeNothing }
 {}
 
-/// The text of a look is lines that begin with `> `; no word of them has an LF.
+/// The text of a look is lines that begin with `> `, each with one LF, at its end.
 pub fn looks_are_marked()
     ensures { LooksAreMarked }
 {}

@@ -1,6 +1,6 @@
 //! What is written for a look.
 ghost use Rattle.std.specs.Prelude.{IfOk};
-ghost use Rattle.cx_look_script.specs.Looking.{IsLookText};
+ghost use Rattle.cx_look_script.specs.Looking.{AreLookLines, IsLookText};
 
 use crate::faults::faults_text;
 use crate::performer::Looking;
@@ -12,18 +12,19 @@ use cx_look_storage::{areas_text, storage_text, task_areas_text};
 use cx_look_symbols::{symbol_text, symbols_text};
 use cx_look_tables::{item_text, programs_text, queue_text, queues_text};
 use cx_look_tasks::{resources_text, tasks_text};
+use cx_look_words::Report;
 use cx_look_xref::xref_text;
 use cx_storage::Store;
 use std::alloc::{AllocError, Global};
 
-/// What is written for a look.
-#[tactic(auto, unfolding(crate::specs::Looking::IsLookText))]
-pub(crate) fn look_text<S: Store + Drop>(
+/// What a look has to say.
+#[tactic(auto, unfolding(crate::specs::Looking::AreLookLines))]
+fn look_lines<S: Store + Drop>(
     alloc: Global,
     looking: &Looking<S>,
     look: Look,
-) -> Result<Vec<u8>, AllocError>
-    ensures { IfOk result (λ text. IsLookText look looking.now text.items) }
+) -> Result<Report, AllocError>
+    ensures { IfOk result (λ report. AreLookLines look looking.now report) }
 {
     let region = looking.state.region();
     match look {
@@ -50,4 +51,16 @@ pub(crate) fn look_text<S: Store + Drop>(
         }
         Look::Xref(program) => xref_text(alloc, program, looking.sources.lines_of(program)),
     }
+}
+
+/// What is written for a look.
+pub(crate) fn look_text<S: Store + Drop>(
+    alloc: Global,
+    looking: &Looking<S>,
+    look: Look,
+) -> Result<Vec<u8>, AllocError>
+    ensures { IfOk result (λ text. IsLookText look looking.now text.items) }
+{
+    let report = look_lines(alloc, looking, look)?;
+    report.marked()
 }

@@ -7,7 +7,7 @@ use crate::performer::Looking;
 use cx_base_text::shown_name;
 use cx_ebcdic::Name4;
 use cx_edf::{Answer, Debugged, EdfEvent};
-use cx_look_words::look_line;
+use cx_look_words::Report;
 use cx_region::{Event, Reply, TurnReply};
 use cx_script_actions::answer_text;
 use cx_storage::Store;
@@ -56,8 +56,10 @@ fn run_turn<S: Store + Drop>(
 fn still_running(alloc: Global, name: Name4) -> Result<Vec<u8>, AllocError>
     ensures { IfOk result (λ text. text.items ≡ still_running name) }
 {
+    let mut report = Report::new(alloc);
     let name = shown_name(alloc, name)?;
-    look_line(alloc, &[b"RUN", &name, b"STILL", b"RUNNING"])
+    report.line(&[b"RUN", &name, b"STILL", b"RUNNING"])?;
+    report.marked()
 }
 
 /// Does at most `n` turns of a terminal, until one is not to be followed by another; gives what is written for them.

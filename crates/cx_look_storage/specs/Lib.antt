@@ -2,7 +2,5 @@
 pub mod Uses
 pub mod Areas
 pub mod Bytes
-pub mod Places
 pub mod Laws
 pub mod Parts
-pub mod Facts

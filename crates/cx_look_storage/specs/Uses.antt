@@ -16,7 +16,7 @@ use Rattle.cx_program.specs.Levels.{Levels, all_levels}
 use Rattle.cx_region_state.specs.State.{TaskState}
 use Rattle.cx_region.specs.State.{RegionState, TerminalState}
 use Rattle.cx_look_words.specs.Terminals.{terminal_at}
-use Rattle.cx_look_words.specs.Words.{look_line}
+use Rattle.cx_look_words.specs.Words.{look_line, Lines}
 
 -- ---- whose
 -- the region's, or that of a terminal's task
@@ -68,7 +68,7 @@ unfoldable pub area_use : RegionState → Area → List ℕ
 area_use region area = use_of area.owner.kind region.programs (option_and_then (λ t. t.1.task) (owner_of region area)) area.start
 
 -- ---- the line of an area
-unfoldable pub area_line : RegionState → Area → List ℕ
+unfoldable pub area_line : RegionState → Area → Lines
 area_line region area =
     look_line (codes "AREA" ∷ digits 16 6 area.start ∷ codes "LENGTH" ∷ digits 16 6 area.len ∷ area_use region area
     ∷ codes "OWNER" ∷ area_owner region area ∷ [])
@@ -82,7 +82,7 @@ is_met address n area = covers area address || nat_lt (distance address area.sta
 abbrev pub offset_of : ℕ → Area → ℕ
 offset_of address area = if covers area address then address - area.start else 0
 
-unfoldable pub met_line : RegionState → ℕ → Area → List ℕ
+unfoldable pub met_line : RegionState → ℕ → Area → Lines
 met_line region address area =
     look_line (codes "AREA" ∷ digits 16 6 area.start ∷ codes "LENGTH" ∷ digits 16 6 area.len
     ∷ codes "OFFSET" ∷ digits 16 6 (offset_of address area) ∷ area_use region area ∷ codes "OWNER" ∷ area_owner region area ∷ [])

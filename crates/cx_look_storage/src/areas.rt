@@ -9,7 +9,7 @@ ghost use Rattle.cx_look_storage.specs.Uses.{area_line};
 use crate::uses::area_line;
 use cx_base_text::shown_name;
 use cx_ebcdic::Name4;
-use cx_look_words::look_line;
+use cx_look_words::Report;
 use cx_region::Region;
 use cx_storage::laws::store_is_sound;
 use cx_storage::{Area, Store};
@@ -57,16 +57,15 @@ fn task_areas<S: Store + Drop>(
 }
 
 /// Adds a line for each of some areas.
-fn push_lines<S: Store + Drop>(
-    alloc: Global,
-    text: &mut Vec<u8>,
+fn area_lines<S: Store + Drop>(
+    report: &mut Report,
     region: &Region<S>,
     areas: &[Area],
 ) -> Result<(), AllocError>
-    ensures { OnOk result (text.new.items ≡ text.old.items ++ flat_map (area_line region.now) areas.now) }
+    ensures { OnOk result (report.new ≡ report.old ++ flat_map (area_line region.now) areas.now) }
 {
     for area in areas {
-        text.extend_from_slice(&area_line(alloc, region, *area)?)?;
+        area_line(report, region, *area)?;
     }
     Ok(())
 }
@@ -77,23 +76,24 @@ fn lines_or<S: Store + Drop>(
     none: &[&[u8]],
     region: &Region<S>,
     areas: &[Area],
-) -> Result<Vec<u8>, AllocError>
-    ensures { IfOk result (λ text. text.items ≡ lines_or (map (λ word. word.now) none.now) region.now areas.now) }
+) -> Result<Report, AllocError>
+    ensures { IfOk result (λ report. report ≡ lines_or (map (λ word. word.now) none.now) region.now areas.now) }
 {
+    let mut report = Report::new(alloc);
     if areas.is_empty() {
-        return look_line(alloc, none);
+        report.line(none)?;
+        return Ok(report);
     }
-    let mut text = Vec::new(alloc);
-    push_lines(alloc, &mut text, region, areas)?;
-    Ok(text)
+    area_lines(&mut report, region, areas)?;
+    Ok(report)
 }
 
 /// Looks at all areas: a line each, the one at the lowest address first; NONE where there is none.
 ///
-/// An error comes only where memory for the text was refused.
+/// An error comes only where memory for the report was refused.
 #[tactic(auto, unfolding(crate::specs::Areas::areas_text))]
-pub fn areas_text<S: Store + Drop>(alloc: Global, region: &Region<S>) -> Result<Vec<u8>, AllocError>
-    ensures { IfOk result (λ text. text.items ≡ areas_text region.now) }
+pub fn areas_text<S: Store + Drop>(alloc: Global, region: &Region<S>) -> Result<Report, AllocError>
+    ensures { IfOk result (λ report. report ≡ areas_text region.now) }
 {
     let areas = all_areas(alloc, &region.shared().store)?;
     lines_or(alloc, &[b"AREAS", b"NONE"], region, &areas)
@@ -102,14 +102,14 @@ pub fn areas_text<S: Store + Drop>(alloc: Global, region: &Region<S>) -> Result<
 /// Looks at the areas that the task of a terminal owns: a line each, the one at the lowest address first; NONE where
 /// there is none, no task, or no such terminal.
 ///
-/// An error comes only where memory for the text was refused.
+/// An error comes only where memory for the report was refused.
 #[tactic(auto, unfolding(crate::specs::Areas::task_areas_text))]
 pub fn task_areas_text<S: Store + Drop>(
     alloc: Global,
     region: &Region<S>,
     name: Name4,
-) -> Result<Vec<u8>, AllocError>
-    ensures { IfOk result (λ text. text.items ≡ task_areas_text region.now name) }
+) -> Result<Report, AllocError>
+    ensures { IfOk result (λ report. report ≡ task_areas_text region.now name) }
 {
     let areas = task_areas(alloc, region, name)?;
     let name = shown_name(alloc, name)?;

@@ -10,7 +10,7 @@ use crate::areas::all_areas;
 use crate::uses::{is_met, met_line};
 use cx_base_text::{hexadecimal, in_columns};
 use cx_edf_display::{character_group, hex_group};
-use cx_look_words::look_line;
+use cx_look_words::Report;
 use cx_region::Region;
 use cx_storage::{Area, Store, along};
 use std::alloc::{AllocError, Global};
@@ -18,15 +18,15 @@ use std::alloc::{AllocError, Global};
 /// The bytes of a row.
 const ROW: u32 = 16;
 
-/// The line of a row of `count` bytes, of which it shows the first sixteen.
+/// Adds the line of a row of `count` bytes, of which it shows the first sixteen.
 #[tactic(auto, unfolding(crate::specs::Bytes::row_line))]
 fn row_line<S: Store + Drop>(
-    alloc: Global,
+    report: &mut Report,
     region: &Region<S>,
     at: u32,
     count: u32,
-) -> Result<Vec<u8>, AllocError>
-    ensures { IfOk result (λ line. line.items ≡ row_line region.now.storage at count) }
+) -> Result<(), AllocError>
+    ensures { OnOk result (report.new ≡ report.old ++ row_line region.now.storage at count) }
 {
     let place = hexadecimal::<6>(at);
     let a = hex_group(region, at, count, 0);
@@ -38,39 +38,36 @@ fn row_line<S: Store + Drop>(
     let g = character_group(region, at, count, 8);
     let h = character_group(region, at, count, 12);
     let characters = in_columns::<16>(&[&e, &f, &g, &h]);
-    look_line(alloc, &[&place, b"", &a, &b, &c, &d, b"", &characters])
+    report.line(&[&place, b"", &a, &b, &c, &d, b"", &characters])
 }
 
 /// Adds the rows of `n` bytes from an address on.
-fn push_rows<S: Store + Drop>(
-    alloc: Global,
-    text: &mut Vec<u8>,
+fn rows_text<S: Store + Drop>(
+    report: &mut Report,
     region: &Region<S>,
     address: u32,
     n: u32,
 ) -> Result<(), AllocError>
-    ensures { OnOk result (text.new.items ≡ text.old.items ++ rows_text region.now.storage address n) }
+    ensures { OnOk result (report.new ≡ report.old ++ rows_text region.now.storage address n) }
 {
     let rows = ((u64::from(n) + 15) / 16) as u32;
     for k in 0..rows {
-        let line = row_line(alloc, region, along(address, ROW * k), n - ROW * k)?;
-        text.extend_from_slice(&line)?;
+        row_line(report, region, along(address, ROW * k), n - ROW * k)?;
     }
     Ok(())
 }
 
 /// Adds a line for each of some areas that have bytes from an address on.
-fn push_met<S: Store + Drop>(
-    alloc: Global,
-    text: &mut Vec<u8>,
+fn met_lines<S: Store + Drop>(
+    report: &mut Report,
     region: &Region<S>,
     address: u32,
     areas: &[Area],
 ) -> Result<(), AllocError>
-    ensures { OnOk result (text.new.items ≡ text.old.items ++ flat_map (met_line region.now address) areas.now) }
+    ensures { OnOk result (report.new ≡ report.old ++ flat_map (met_line region.now address) areas.now) }
 {
     for area in areas {
-        text.extend_from_slice(&met_line(alloc, region, address, *area)?)?;
+        met_line(report, region, address, *area)?;
     }
     Ok(())
 }
@@ -93,19 +90,19 @@ fn met_areas<S: Store>(
 /// and a line for each area that has one of them, the one at the lowest address first. After X'FFFFFF' they go on at
 /// address 0.
 ///
-/// An error comes only where memory for the text was refused.
+/// An error comes only where memory for the report was refused.
 #[tactic(auto, unfolding(crate::specs::Bytes::storage_text))]
 pub fn storage_text<S: Store + Drop>(
     alloc: Global,
     region: &Region<S>,
     address: u32,
     n: u32,
-) -> Result<Vec<u8>, AllocError>
-    ensures { IfOk result (λ text. text.items ≡ storage_text region.now address n) }
+) -> Result<Report, AllocError>
+    ensures { IfOk result (λ report. report ≡ storage_text region.now address n) }
 {
-    let mut text = Vec::new(alloc);
-    push_rows(alloc, &mut text, region, address, n)?;
+    let mut report = Report::new(alloc);
+    rows_text(&mut report, region, address, n)?;
     let areas = met_areas(alloc, &region.shared().store, address, n)?;
-    push_met(alloc, &mut text, region, address, &areas)?;
-    Ok(text)
+    met_lines(&mut report, region, address, &areas)?;
+    Ok(report)
 }

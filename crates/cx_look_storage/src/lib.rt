@@ -4,10 +4,8 @@
 mod areas;
 mod bytes;
 pub mod laws;
-mod places;
 mod uses;
 
 pub use areas::{areas_text, task_areas_text};
 pub use bytes::storage_text;
-pub use places::{place_word, program_with};
 pub use uses::area_line;

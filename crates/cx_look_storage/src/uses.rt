@@ -1,5 +1,5 @@
 //! What an area is, by the region's tables, and whose it is.
-ghost use Rattle.std.specs.Prelude.{◌≡◌, IfOk};
+ghost use Rattle.std.specs.Prelude.{◌≡◌, ◌++◌, IfOk, OnOk};
 ghost use Rattle.std.specs.Option.{option_copied, option_map};
 ghost use Rattle.cx_storage.specs.Storage.{covers};
 ghost use Rattle.cx_look_storage.specs.Uses.{area_line, area_owner, area_use, fixed_use, is_met, met_line, offset_of, program_at, stg_at, stg_use, task_use, use_of};
@@ -7,7 +7,7 @@ ghost use Rattle.cx_look_storage.specs.Uses.{area_line, area_owner, area_use, fi
 use cx_base_text::{hexadecimal, shown_name};
 use cx_ebcdic::{Name4, Name8};
 use cx_load::Loaded;
-use cx_look_words::{look_line, terminal_at};
+use cx_look_words::{Report, terminal_at};
 use cx_program::LevelStack;
 use cx_region::{Region, Task, Terminal};
 use cx_storage::{Area, Kind, Store, along};
@@ -158,47 +158,41 @@ fn area_owner<S: Store + Drop>(
     shown_name(alloc, name)
 }
 
-/// The line of an area: where it starts, its length, what it is, and whose.
+/// Adds the line of an area: where it starts, its length, what it is, and whose.
 ///
 /// An error comes only where memory for it was refused.
 #[tactic(auto, unfolding(crate::specs::Uses::area_line))]
 pub fn area_line<S: Store + Drop>(
-    alloc: Global,
+    report: &mut Report,
     region: &Region<S>,
     area: Area,
-) -> Result<Vec<u8>, AllocError>
-    ensures { IfOk result (λ text. text.items ≡ area_line region.now area) }
+) -> Result<(), AllocError>
+    ensures { OnOk result (report.new ≡ report.old ++ area_line region.now area) }
 {
     let start = hexadecimal::<6>(area.start);
     let len = hexadecimal::<6>(area.len);
-    let what = area_use(alloc, region, area)?;
-    let owner = area_owner(alloc, region, area)?;
-    look_line(
-        alloc,
-        &[b"AREA", &start, b"LENGTH", &len, &what, b"OWNER", &owner],
-    )
+    let what = area_use(report.alloc(), region, area)?;
+    let owner = area_owner(report.alloc(), region, area)?;
+    report.line(&[b"AREA", &start, b"LENGTH", &len, &what, b"OWNER", &owner])
 }
 
-/// The line of an area that has bytes from an address on: as an area's line, with the offset of the first of them in
+/// Adds the line of an area that has bytes from an address on: as an area's line, with the offset of the first of them in
 /// it.
 #[tactic(auto, unfolding(crate::specs::Uses::met_line))]
 pub(crate) fn met_line<S: Store + Drop>(
-    alloc: Global,
+    report: &mut Report,
     region: &Region<S>,
     address: u32,
     area: Area,
-) -> Result<Vec<u8>, AllocError>
-    ensures { IfOk result (λ text. text.items ≡ met_line region.now address area) }
+) -> Result<(), AllocError>
+    ensures { OnOk result (report.new ≡ report.old ++ met_line region.now address area) }
 {
     let start = hexadecimal::<6>(area.start);
     let len = hexadecimal::<6>(area.len);
     let offset = hexadecimal::<6>(offset_of(address, area));
-    let what = area_use(alloc, region, area)?;
-    let owner = area_owner(alloc, region, area)?;
-    look_line(
-        alloc,
-        &[
-            b"AREA", &start, b"LENGTH", &len, b"OFFSET", &offset, &what, b"OWNER", &owner,
-        ],
-    )
+    let what = area_use(report.alloc(), region, area)?;
+    let owner = area_owner(report.alloc(), region, area)?;
+    report.line(&[
+        b"AREA", &start, b"LENGTH", &len, b"OFFSET", &offset, &what, b"OWNER", &owner,
+    ])
 }

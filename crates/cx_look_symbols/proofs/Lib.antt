@@ -2,3 +2,4 @@ pub mod RowLemmas
 pub mod StatementLemmas
 pub mod LineLemmas
 pub mod ReadingLemmas
+pub mod SpotLemmas

@@ -1,5 +1,5 @@
 -- The table of values and the lines give the symbols that the statements define.
-use Rattle.std.proofs.Common.{◌≡◌, ℕ, Bool, true, false, cond, Option, Some, None, Result, Ok, Err, List, [], ◌∷◌, ◌++◌, map, refl, sym, ◌∙◌, ap, append_assoc}
+use Rattle.std.proofs.Common.{◌≡◌, ℕ, Bool, true, false, cond, Option, Some, None, Result, Ok, Err, List, [], ◌∷◌, ◌++◌, map, refl, sym, subst, ◌∙◌, ap, append_assoc}
 use Rattle.std.specs.Prelude.{pos, ◌||◌, ◌&&◌, ◌==◌, not, length, reverse, codes, if◌then◌else◌, is_some, option_map, unwrap_or}
 use Rattle.std.specs.List.{AllByRecursion, IsDistinct, cons_option}
 use Rattle.std.specs.Map.{keys_of, lookup}
@@ -21,10 +21,10 @@ use Rattle.cx_asm_expressions.specs.declared.faults.FaultKind.{FaultKind}
 use Rattle.cx_asm_expressions.specs.declared.faults.FaultKind.TheVariants.{DuplicateSymbol, ValueOutOfRange}
 use Rattle.cx_asm_expressions.specs.declared.values.Value.{Value}
 use Rattle.cx_asm_pass1.specs.Facts.Definitions.{defined_once_after, first_value}
-use Rattle.cx_asm_pass1.specs.Facts.Faults.{none_before, sound_statement}
+use Rattle.cx_asm_pass1.specs.Facts.Faults.{control_named, none_before, sound_statement}
 use Rattle.cx_asm_pass1.specs.Facts.StatementExtents.{lower_none}
 use Rattle.cx_asm_pass1.specs.Given.{aid_rows, definitions, is_any_known, is_in_range, value_in_range, location_counter, symbol_entry, register_rows, resumes, row_symbols, value_given}
-use Rattle.cx_asm_pass1.specs.PassState.{PassState, next_state, after_line, control_after, definitions_in, duplicate_in, fault_in, first_fault_after, given_in, state_after, extent_in, line_fault, literal_fault, name_fault, name_in, operation_fault, own_fault, parts_in, role_in, section_fault}
+use Rattle.cx_asm_pass1.specs.PassState.{PassState, next_state, after_line, named_control, definitions_in, duplicate_in, fault_in, first_fault_after, given_in, state_after, extent_in, line_fault, literal_fault, name_fault, name_in, operation_fault, own_fault, parts_in, role_in, section_fault}
 use Rattle.cx_asm_pass1.specs.Laws.Definitions.{definitions_at, definitions_after}
 use Rattle.cx_asm_pass1.specs.Locations.{IsPlaced, last_pool_extent, final_state}
 use Rattle.cx_asm_pass1.specs.declared.place.ControlSection.{ControlSection}
@@ -179,18 +179,18 @@ Gives Equate value = is_some value ≡ true
 Gives (Storage is_ds) value = is_some value ≡ true
 Gives Pool value = is_some value ≡ true
 
-limited_gives : (given : Result Value FaultKind) → result_err (value_in_range given) ≡ None → is_some (unwrap_or (result_ok (value_in_range given)) None) ≡ true
+limited_gives : (given : Result Value FaultKind) → result_err (value_in_range given) ≡ None → is_some (unwrap_or (result_ok (value_in_range given)) (Some (absolute (pos 0)))) ≡ true
 limited_gives (Err fault) e = cc
 limited_gives (Ok value) e = go (is_in_range value.number) e
   where
     go : (b : Bool) → result_err (if b then Ok (Some value) else Err ValueOutOfRange) ≡ None
-        → is_some (unwrap_or (result_ok (if b then Ok (Some value) else Err ValueOutOfRange)) None) ≡ true
+        → is_some (unwrap_or (result_ok (if b then Ok (Some value) else Err ValueOutOfRange)) (Some (absolute (pos 0)))) ≡ true
     go true e = refl
     go false e = cc
 
 gives_value : (role : Role) (name : Option (List ℕ)) (find : List ℕ → Option Value) (section : Option (List ℕ)) (operand : List ℕ) (stmt : Stmt) (state : PassState)
     → result_err (value_given role name find section operand (extent_in stmt state)) ≡ None
-    → Gives role (unwrap_or (result_ok (value_given role name find section operand (extent_in stmt state))) None)
+    → Gives role (unwrap_or (result_ok (value_given role name find section operand (extent_in stmt state))) (Some (absolute (pos 0))))
 unfolding Gives
 gives_value Unknown name find section operand stmt state e = refl
 gives_value Nothing name find section operand stmt state e = refl
@@ -229,7 +229,7 @@ value_sound line stmt state e =
     (section_fault (role_in stmt) (name_in stmt) state.section state.control) (extent_in stmt state).fault (result_err (given_in stmt state))
     (duplicate_in stmt state) own.0
 
-value_gives : (line : ℕ) (stmt : Stmt) (state : PassState) → (next_state line stmt state).fault ≡ None → Gives (role_in stmt) (unwrap_or (result_ok (given_in stmt state)) None)
+value_gives : (line : ℕ) (stmt : Stmt) (state : PassState) → (next_state line stmt state).fault ≡ None → Gives (role_in stmt) (unwrap_or (result_ok (given_in stmt state)) (Some (absolute (pos 0))))
 value_gives line stmt state e =
     gives_value (role_in stmt) (name_in stmt) state.symbols state.section stmt.operand stmt state (value_sound line stmt state e)
 
@@ -278,7 +278,7 @@ begun_known (Some name) find (Some value) n given e =
 
 control_step : (role : Role) (name control : Option (List ℕ)) (find : List ℕ → Option Value) (operand : List ℕ) (value : Option Value) → Gives role value
     → KnowsControl control find
-    → KnowsControl (control_after role name control) (λ n. option_or (find n) (find_in (definitions role name control find operand value) n))
+    → KnowsControl (named_control role name control) (λ n. option_or (find n) (find_in (definitions role name control find operand value) n))
 unfolding Gives KnowsControl
 control_step Control name None find operand value given h = λ n e. begun_known name find value n given e
 control_step Control name (Some section) find operand value given h = λ n e. or_one (find n) _ (h n e)
@@ -297,7 +297,8 @@ control_line : (line : ℕ) (stmt : Option Stmt) (state : PassState) → (after_
 unfolding next_state
 control_line line None state e h = h e
 control_line line (Some stmt) state e h =
-    control_step (role_in stmt) (name_in stmt) state.control state.symbols stmt.operand _ (value_gives line stmt state e) (h (none_before line stmt state e))
+    subst (λ control. KnowsControl control (next_state line stmt state).symbols) (sym (control_named line stmt state e))
+    (control_step (role_in stmt) (name_in stmt) state.control state.symbols stmt.operand _ (value_gives line stmt state e) (h (none_before line stmt state e)))
 
 knows_control : (items : List Item) → (state_after items).fault ≡ None → KnowsControl (state_after items).control (state_after items).symbols
 unfolding KnowsControl
@@ -370,7 +371,7 @@ line_put find line (Some stmt) before e apart found =
     let state = state_after before in
     role_put find line (rows_after before) state.symbols (λ name. has_known name before) (role_in stmt) (name_in stmt) state.control stmt.operand _
     (knows_control before (none_before line stmt state e)) (value_gives line stmt state e)
-    (no_duplicate (is_any_known state.symbols (definitions_in stmt state None)) (sound_statement line stmt state e).definitions) apart found
+    (no_duplicate (is_any_known state.symbols (definitions_in stmt state)) (sound_statement line stmt state e).definitions) apart found
 
 before_line : (line : ℕ) (stmt : Option Stmt) (state : PassState) → (after_line line stmt state).fault ≡ None → state.fault ≡ None
 before_line line None state e = e

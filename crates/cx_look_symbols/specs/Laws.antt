@@ -1,23 +1,17 @@
--- What is written are lines of looks, and what is beside a statement in the listing.
-use Rattle.std.specs.Prelude.{◌≡◌, ◌≤◌, ℕ, ◌-◌, Option, List, [], length, take, drop}
+-- What is beside a statement in the listing; which line a command has.
+use Rattle.std.specs.Prelude.{◌≡◌, ◌≤◌, ◌<◌, ℕ, ◌+◌, ◌-◌, Option, Some, List, [], Contains, length, option_and_then, take, drop}
+use Rattle.std.specs.Map.{lookup}
 use Rattle.std.specs.Option.{option_map_or}
 use Rattle.cx_load.specs.declared.program.Loaded.{Loaded}
 use Rattle.cx_asm_expressions.specs.Digits.{bound}
+use Rattle.cx_asm_expressions.specs.Names.{is_same}
 use Rattle.cx_asm_pass2.specs.Statements.{PlacedStatement}
 use Rattle.cx_asm_pass2.specs.Whole.{Whole}
 use Rattle.cx_asm.specs.Listing.{object_of}
-use Rattle.cx_look_words.specs.Marked.{IsOfLooks}
+use Rattle.cx_look_symbols.specs.Lines.{SourcePlaces, line_in}
+use Rattle.cx_look_symbols.specs.Places.{spot_before}
 use Rattle.cx_look_symbols.specs.Statements.{place_of}
-use Rattle.cx_look_symbols.specs.Texts.{symbol_text, symbols_text}
 use Rattle.cx_look_symbols.specs.declared.statements.StatementPlace.{StatementPlace}
-
-abbrev pub IsSymbolMarked : Type 0
-IsSymbolMarked = (program : Option Loaded) (lines : List (List ℕ)) (name : List ℕ)
-    → IsOfLooks (symbol_text program lines name)
-
-abbrev pub AreSymbolsMarked : Type 0
-AreSymbolsMarked = (program : Option Loaded) (name : List ℕ) (lines : List (List ℕ))
-    → IsOfLooks (symbols_text program name lines)
 
 -- the bytes of a section's text at a place; none without one
 abbrev pub bytes_at : List ℕ → Option StatementPlace → List ℕ
@@ -27,3 +21,23 @@ bytes_at text place = option_map_or (λ it. take (it.end - it.start) (drop it.st
 abbrev pub ListedThere : Type 0
 ListedThere = (whole : Whole) (text : List ℕ) (s : PlacedStatement) → length text ≤ bound
     → object_of whole text s ≡ bytes_at text (place_of whole.control s)
+
+-- The byte before an address is in a program that a source defined, and is one of the bytes of a statement on this line.
+pub record IsBeforeInSource (sources : SourcePlaces) (programs : List (List ℕ × Loaded)) (address line : ℕ) : Type 0 where
+  pub program : List ℕ × Loaded
+  pub among : Contains programs program
+  pub starts : program.1.at < address
+  pub ends : address ≤ program.1.at + program.1.len
+  pub statements : List StatementPlace
+  pub of_source : lookup (is_same program.0) sources ≡ Some statements
+  pub statement : StatementPlace
+  pub of_statements : Contains statements statement
+  pub first : program.1.at + statement.start < address
+  pub last : address ≤ program.1.at + statement.end
+  pub is : statement.line ≡ line
+
+-- a command has a line only where the byte before the address to which it leads back is so
+abbrev pub LinesAreInSources : Type 0
+LinesAreInSources = (sources : SourcePlaces) (programs : List (List ℕ × Loaded)) (address line : ℕ)
+    → option_and_then (λ it. line_in sources it.program it.offset) (spot_before programs address) ≡ Some line
+    → IsBeforeInSource sources programs address line

@@ -4,8 +4,8 @@ pub mod Names
 pub mod Texts
 pub mod Statements
 pub mod Lines
+pub mod Places
 -- Statements of laws.
 pub mod Laws
 pub mod Parts
-pub mod Facts
 pub use Rattle.cx_look_words.specs.Words

@@ -1,9 +1,7 @@
 -- The line of the statement whose bytes hold an offset in a program (own).
-use Rattle.std.specs.Prelude.{ℕ, Bool, nat_le, nat_lt, ◌&&◌, Option, option_and_then, option_map, List, [], ◌++◌, codes}
+use Rattle.std.specs.Prelude.{ℕ, Bool, nat_le, nat_lt, ◌&&◌, Option, option_and_then, option_map, List}
 use Rattle.std.specs.List.{find}
 use Rattle.std.specs.Map.{lookup}
-use Rattle.std.specs.Option.{option_map_or}
-use Rattle.cx_base_text.specs.Digits.{digits}
 use Rattle.cx_asm_expressions.specs.Names.{is_same}
 use Rattle.cx_look_symbols.specs.declared.statements.StatementPlace.{StatementPlace}
 
@@ -18,10 +16,6 @@ line_at places offset = option_map (λ place. place.line) (find (holds offset) p
 abbrev pub SourcePlaces : Type 0
 SourcePlaces = List (List ℕ × List StatementPlace)
 
+-- the line of an offset in a program; none where no source defined the program, or no statement holds the offset
 abbrev pub line_in : SourcePlaces → List ℕ → ℕ → Option ℕ
 line_in sources program offset = option_and_then (λ places. line_at places offset) (lookup (is_same program) sources)
-
--- the line's number in five digits, as it is in the listing; nothing where no source defined the program, or no
--- statement holds the offset
-unfoldable pub line_word : SourcePlaces → List ℕ → ℕ → List ℕ
-line_word sources program offset = option_map_or (λ line. codes " LINE " ++ digits 10 5 line) (line_in sources program offset) []

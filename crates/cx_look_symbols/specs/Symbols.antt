@@ -20,7 +20,7 @@ symbol_of line value = record { value = value; line = line }
 -- the symbols that a line's statement defines
 abbrev pub rows_on : ℕ → Option Stmt → PassState → Rows
 rows_on line None state = []
-rows_on line (Some stmt) state = map (λ symbol. (symbol.0, symbol_of line symbol.1)) (definitions_in stmt state None)
+rows_on line (Some stmt) state = map (λ symbol. (symbol.0, symbol_of line symbol.1)) (definitions_in stmt state)
 
 -- those of lines in the source's order; the lines the latest first
 abbrev pub rows_after : List Item → Rows

@@ -13,7 +13,7 @@ use Rattle.cx_asm_expressions.specs.Names.{is_same}
 use Rattle.cx_asm_expressions.specs.declared.values.Value.{Value}
 use Rattle.cx_asm_pass1.specs.Given.{is_in_range}
 use Rattle.cx_asm_pass1.specs.PassState.{is_control}
-use Rattle.cx_look_words.specs.Words.{look_line, or_none, written_name}
+use Rattle.cx_look_words.specs.Words.{look_line, or_none, written_name, Lines}
 use Rattle.cx_look_symbols.specs.Symbols.{SourceSymbols, Rows, named_in}
 use Rattle.cx_look_symbols.specs.declared.rows.Symbol.{Symbol}
 
@@ -43,22 +43,22 @@ at_words None = []
 at_words (Some address) = codes "AT" ∷ digits 16 6 address ∷ []
 
 -- a symbol: its value, its section, its length attribute, the line that defines it, and its address
-abbrev pub symbol_line : Option (List ℕ) → Option Loaded → List ℕ × Symbol → List ℕ
+abbrev pub symbol_line : Option (List ℕ) → Option Loaded → List ℕ × Symbol → Lines
 symbol_line control program (name, symbol) =
     look_line (codes "SYMBOL" ∷ written_name name ∷ codes "VALUE" ∷ value_word symbol.value.number ∷ section_word symbol.value.section
     ∷ codes "LENGTH" ∷ decimal symbol.value.length ∷ codes "LINE" ∷ decimal symbol.line
     ∷ at_words (option_and_then (address_in control symbol.value) program))
 
 -- ---- one symbol
-abbrev pub symbol_found : Option (List ℕ) → Option Loaded → List ℕ → Option Symbol → List ℕ
+abbrev pub symbol_found : Option (List ℕ) → Option Loaded → List ℕ → Option Symbol → Lines
 symbol_found control program name None = look_line (codes "SYMBOL" ∷ written_name name ∷ codes "NONE" ∷ [])
 symbol_found control program name (Some symbol) = symbol_line control program (name, symbol)
 
-abbrev pub symbol_among : Option Loaded → List ℕ → Option SourceSymbols → List ℕ
+abbrev pub symbol_among : Option Loaded → List ℕ → Option SourceSymbols → Lines
 symbol_among program name None = symbol_found None program name None
 symbol_among program name (Some named) = symbol_found named.control program name (lookup (is_same name) named.rows)
 
-unfoldable pub symbol_text : Option Loaded → List (List ℕ) → List ℕ → List ℕ
+unfoldable pub symbol_text : Option Loaded → List (List ℕ) → List ℕ → Lines
 symbol_text program lines name = symbol_among program name (named_in lines)
 
 -- ---- all symbols
@@ -66,9 +66,9 @@ symbol_text program lines name = symbol_among program name (named_in lines)
 abbrev pub in_order : Rows → Rows
 in_order rows = fold (λ sorted row. insert_entry (slice_cmp nat_cmp) sorted row.0 row.1) [] rows
 
-abbrev pub symbols_among : Option Loaded → Option SourceSymbols → List ℕ
+abbrev pub symbols_among : Option Loaded → Option SourceSymbols → Lines
 symbols_among program None = []
 symbols_among program (Some named) = flat_map (symbol_line named.control program) (in_order named.rows)
 
-unfoldable pub symbols_text : Option Loaded → List ℕ → List (List ℕ) → List ℕ
+unfoldable pub symbols_text : Option Loaded → List ℕ → List (List ℕ) → Lines
 symbols_text program name lines = or_none (codes "SYMBOLS " ++ written_name name) (symbols_among program (named_in lines))

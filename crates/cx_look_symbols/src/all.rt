@@ -9,6 +9,7 @@ use crate::symbols::names_in;
 use crate::texts::symbol_line;
 use cx_ebcdic::Name8;
 use cx_load::Loaded;
+use cx_look_words::Report;
 use cx_source::Text;
 use indexmap::IndexMap;
 use std::alloc::{AllocError, Global};
@@ -31,18 +32,17 @@ pub fn in_order(
 }
 
 /// Adds the lines of symbols.
-fn push_symbols(
-    alloc: Global,
-    text: &mut Vec<u8>,
-    control: Option<Name8>,
-    program: Option<Loaded>,
+fn symbol_lines(
+    report: &mut Report,
+    control: &Option<Name8>,
+    program: &Option<Loaded>,
     symbols: &BTreeMap<Name8, Symbol>,
 ) -> Result<(), AllocError>
-    ensures { let more = flat_map (symbol_line control program) symbols.now.entries in
-        OnOk result (text.new.items ≡ text.old.items ++ more) }
+    ensures { let more = flat_map (symbol_line control.now program.now) symbols.now.entries in
+        OnOk result (report.new ≡ report.old ++ more) }
 {
     for (name, symbol) in symbols.iter() {
-        text.extend_from_slice(&symbol_line(alloc, control, program, *name, symbol)?)?;
+        symbol_line(report, control, program, *name, symbol)?;
     }
     Ok(())
 }
@@ -52,14 +52,14 @@ pub(crate) fn symbols_among(
     alloc: Global,
     program: Option<Loaded>,
     lines: &[Text],
-) -> Result<Vec<u8>, AllocError>
-    ensures { IfOk result (λ text. text.items ≡ symbols_among program (named_in lines.now)) }
+) -> Result<Report, AllocError>
+    ensures { IfOk result (λ report. report ≡ symbols_among program (named_in lines.now)) }
 {
-    let mut text = Vec::new(alloc);
+    let mut report = Report::new(alloc);
     let Some(names) = names_in(alloc, lines)? else {
-        return Ok(text);
+        return Ok(report);
     };
     let symbols = in_order(alloc, &names.symbols)?;
-    push_symbols(alloc, &mut text, names.control, program, &symbols)?;
-    Ok(text)
+    symbol_lines(&mut report, &names.control, &program, &symbols)?;
+    Ok(report)
 }

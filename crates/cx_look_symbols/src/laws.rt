@@ -1,16 +1,14 @@
 //! What follows from the definitions.
-ghost use Rattle.cx_look_symbols.specs.Laws.{AreSymbolsMarked, IsSymbolMarked, ListedThere};
-
-/// What is written of one symbol and of all symbols are lines of looks: each begins with `> `, and has no LF except
-/// that at its end.
-#[tactic(auto, using(crate::specs::Facts::Marked::symbol_marked, crate::specs::Facts::Marked::symbols_marked))]
-pub fn symbols_are_marked()
-    ensures one { IsSymbolMarked }
-    ensures all { AreSymbolsMarked }
-{}
+ghost use Rattle.cx_look_symbols.specs.Laws.{LinesAreInSources, ListedThere};
 
 /// The bytes that the listing has beside a statement are those of the section's text at its place; none where it has no place.
 #[tactic(auto, using(crate::proofs::StatementLemmas::listed_there))]
 pub fn listed_bytes_stand_there()
     ensures { ListedThere }
+{}
+
+/// A command has a line only where the byte before the address to which it leads back is in a program that a source defined, and is
+/// one of the bytes of a statement on that line.
+pub fn lines_are_in_sources()
+    ensures { LinesAreInSources }
 {}

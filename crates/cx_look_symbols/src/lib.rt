@@ -1,10 +1,11 @@
-//! Looks at the names of a program's source, and the lines of its statements.
+//! Looks at the names of a program's source; the lines of its statements; addresses as programs and offsets.
 #![tactic(auto)]
 
 mod all;
 pub mod laws;
 mod lines;
 mod looks;
+mod places;
 mod reading;
 mod rows;
 mod statements;
@@ -12,8 +13,9 @@ mod symbols;
 mod texts;
 
 pub use all::in_order;
-pub use lines::{SourcePlaces, line_word};
+pub use lines::SourcePlaces;
 pub use looks::{symbol_text, symbols_text};
+pub use places::{Place, Spot, address_word, line_word, place_of, place_word, spot_before};
 pub use reading::translated_in;
 pub use rows::Symbol;
 pub use statements::{StatementPlace, statement_places};

@@ -1,14 +1,13 @@
 //! The line of the statement whose bytes hold an offset.
-ghost use Rattle.std.specs.Prelude.{◌≡◌, IfOk};
+ghost use Rattle.std.specs.Prelude.{◌≡◌};
 ghost use Rattle.cx_base_text.specs.Digits.{digits};
-ghost use Rattle.cx_look_symbols.specs.Lines.{holds, line_at, line_in, line_word};
+ghost use Rattle.cx_look_symbols.specs.Lines.{holds, line_at, line_in};
 
 use crate::statements::StatementPlace;
 use cx_base_lists::List;
 use cx_base_text::decimal;
 use cx_ebcdic::Name8;
 use indexmap::IndexMap;
-use std::alloc::{AllocError, Global};
 
 /// Where the bytes of statements are, by the programs that a source defined.
 pub type SourcePlaces = IndexMap<Name8, List<StatementPlace>>;
@@ -28,8 +27,8 @@ fn line_at(places: &[StatementPlace], offset: u32) -> Option<usize>
     Some(place.line)
 }
 
-/// The line of an offset in a program.
-fn line_in(sources: &SourcePlaces, program: Name8, offset: u32) -> Option<usize>
+/// The line of an offset in a program; None where no source defined the program, or no statement's bytes hold the offset.
+pub(crate) fn line_in(sources: &SourcePlaces, program: Name8, offset: u32) -> Option<usize>
     ensures { result ≡ line_in sources.now.entries program offset }
 {
     let places = sources.get(&program)?;
@@ -38,29 +37,8 @@ fn line_in(sources: &SourcePlaces, program: Name8, offset: u32) -> Option<usize>
 
 /// A line's number in five decimal digits.
 #[tactic(auto, using(crate::proofs::LineLemmas::last_five))]
-fn five_digits(line: usize) -> [u8; 5]
+pub(crate) fn five_digits(line: usize) -> [u8; 5]
     ensures { result ≡ digits 10 5 line }
 {
     decimal::<5>((line % 100_000) as u32)
-}
-
-/// ` LINE ` and the number, in five decimal digits, of the line of the statement whose bytes hold an offset in a program; nothing
-/// where no source defined the program, or no statement's bytes hold the offset.
-///
-/// An error comes only where memory for the text was refused.
-#[tactic(auto, unfolding(crate::specs::Lines::line_word))]
-pub fn line_word(
-    alloc: Global,
-    sources: &SourcePlaces,
-    program: Name8,
-    offset: u32,
-) -> Result<Vec<u8>, AllocError>
-    ensures { IfOk result (λ text. text.items ≡ line_word sources.now.entries program offset) }
-{
-    let Some(line) = line_in(sources, program, offset) else {
-        return Ok(Vec::new(alloc));
-    };
-    let mut text = b" LINE ".to_vec(alloc)?;
-    text.extend_from_slice(&five_digits(line))?;
-    Ok(text)
 }

@@ -1,5 +1,5 @@
 //! Looks at the names of a program's source.
-ghost use Rattle.std.specs.Prelude.{◌≡◌, ◌++◌, IfOk, None, Some, codes};
+ghost use Rattle.std.specs.Prelude.{◌≡◌, ◌++◌, IfOk, OnOk, None, Some, codes};
 ghost use Rattle.cx_region.specs.Tables.{program_of};
 ghost use Rattle.cx_look_symbols.specs.Texts.{symbol_among, symbol_found, symbol_text, symbols_text};
 ghost use Rattle.cx_look_words.specs.Words.{written_name};
@@ -10,7 +10,7 @@ use crate::symbols::{Names, names_in};
 use crate::texts::symbol_line;
 use cx_ebcdic::Name8;
 use cx_load::Loaded;
-use cx_look_words::{look_line, or_none, written_name};
+use cx_look_words::{Report, written_name};
 use cx_region::Region;
 use cx_source::Text;
 use cx_storage::Store;
@@ -23,34 +23,35 @@ fn program_of<S: Store + Drop>(region: &Region<S>, name: Name8) -> Option<Loaded
     region.shared().programs.get(&name).copied()
 }
 
-/// The line of a name that is no symbol.
-fn absent_symbol(alloc: Global, name: Name8) -> Result<Vec<u8>, AllocError>
-    ensures { IfOk result (λ text. text.items ≡ symbol_found None None name None) }
+/// Adds the line of a name that is no symbol.
+fn absent_symbol(report: &mut Report, name: Name8) -> Result<(), AllocError>
+    ensures { OnOk result (report.new ≡ report.old ++ symbol_found None None name None) }
 {
-    let name = written_name(alloc, &name.bytes())?;
-    look_line(alloc, &[b"SYMBOL", &name, b"NONE"])
+    let name = written_name(report.alloc(), &name.bytes())?;
+    report.line(&[b"SYMBOL", &name, b"NONE"])
 }
 
-/// The line of a symbol among the names of a source.
+/// Adds the line of a symbol among the names of a source.
 fn symbol_among(
-    alloc: Global,
+    report: &mut Report,
     program: Option<Loaded>,
     name: Name8,
     names: &Names,
-) -> Result<Vec<u8>, AllocError>
-    ensures { IfOk result (λ text. text.items ≡ symbol_among program name (Some (symbols_named names.now))) }
+) -> Result<(), AllocError>
+    ensures { let line = symbol_among program name (Some (symbols_named names.now)) in
+        OnOk result (report.new ≡ report.old ++ line) }
 {
     let Some(symbol) = names.symbols.get(&name) else {
-        return absent_symbol(alloc, name);
+        return absent_symbol(report, name);
     };
-    symbol_line(alloc, names.control, program, name, symbol)
+    symbol_line(report, &names.control, &program, name, symbol)
 }
 
 /// Looks at a symbol of a program, whose source has these lines: a line with its value, its section, its length attribute, the
 /// number of the line that defines it, from 1, and where it is in the program; NONE where there is no such symbol, or
 /// the lines are no source without a fault.
 ///
-/// An error comes only where memory for the text was refused.
+/// An error comes only where memory for the report was refused.
 #[tactic(auto, unfolding(crate::specs::Texts::symbol_text))]
 pub fn symbol_text<S: Store + Drop>(
     alloc: Global,
@@ -58,13 +59,16 @@ pub fn symbol_text<S: Store + Drop>(
     program: Name8,
     lines: &[Text],
     name: Name8,
-) -> Result<Vec<u8>, AllocError>
-    ensures { IfOk result (λ text. text.items ≡ symbol_text (program_of region.now program) lines.now name) }
+) -> Result<Report, AllocError>
+    ensures { IfOk result (λ report. report ≡ symbol_text (program_of region.now program) lines.now name) }
 {
+    let mut report = Report::new(alloc);
     let Some(names) = names_in(alloc, lines)? else {
-        return absent_symbol(alloc, name);
+        absent_symbol(&mut report, name)?;
+        return Ok(report);
     };
-    symbol_among(alloc, program_of(region, program), name, &names)
+    symbol_among(&mut report, program_of(region, program), name, &names)?;
+    Ok(report)
 }
 
 /// The words that a look at all symbols begins with.
@@ -80,17 +84,17 @@ fn symbols_word(alloc: Global, program: Name8) -> Result<Vec<u8>, AllocError>
 /// Looks at all symbols of a program, whose source has these lines: a line each, as `symbol_text` has it, in the order of their
 /// names, letters before digits; NONE where there is no symbol, or the lines are no source without a fault.
 ///
-/// An error comes only where memory for the text was refused.
+/// An error comes only where memory for the report was refused.
 #[tactic(auto, unfolding(crate::specs::Texts::symbols_text))]
 pub fn symbols_text<S: Store + Drop>(
     alloc: Global,
     region: &Region<S>,
     program: Name8,
     lines: &[Text],
-) -> Result<Vec<u8>, AllocError>
-    ensures { IfOk result (λ text. text.items ≡ symbols_text (program_of region.now program) program lines.now) }
+) -> Result<Report, AllocError>
+    ensures { IfOk result (λ report. report ≡ symbols_text (program_of region.now program) program lines.now) }
 {
-    let text = symbols_among(alloc, program_of(region, program), lines)?;
+    let report = symbols_among(alloc, program_of(region, program), lines)?;
     let word = symbols_word(alloc, program)?;
-    or_none(alloc, &word, text)
+    report.or_none(&word)
 }

@@ -1,5 +1,5 @@
 //! What is written of symbols.
-ghost use Rattle.std.specs.Prelude.{◌≡◌, ◌++◌, IfOk, option_and_then};
+ghost use Rattle.std.specs.Prelude.{◌≡◌, ◌++◌, IfOk, OnOk, option_and_then};
 ghost use Rattle.std.specs.Fmt.{decimal};
 ghost use Rattle.cx_asm_pass1.specs.PassState.{is_control};
 ghost use Rattle.cx_look_symbols.specs.Texts.{address_in, section_word, symbol_line, value_word};
@@ -9,7 +9,7 @@ use cx_asm_expressions::Value;
 use cx_base_text::hexadecimal;
 use cx_ebcdic::Name8;
 use cx_load::Loaded;
-use cx_look_words::{decimal, look_line, written_name};
+use cx_look_words::{Report, decimal, written_name};
 use std::alloc::{AllocError, Global};
 
 /// A value in hexadecimal digits.
@@ -76,36 +76,32 @@ fn address_of(control: Option<Name8>, program: Option<Loaded>, value: &Value) ->
     address_in(control, value, &loaded)
 }
 
-/// The line of a symbol.
+/// Adds the line of a symbol.
 pub(crate) fn symbol_line(
-    alloc: Global,
-    control: Option<Name8>,
-    program: Option<Loaded>,
+    report: &mut Report,
+    control: &Option<Name8>,
+    program: &Option<Loaded>,
     name: Name8,
     symbol: &Symbol,
-) -> Result<Vec<u8>, AllocError>
-    ensures { IfOk result (λ text. text.items ≡ symbol_line control program (name, symbol.now)) }
+) -> Result<(), AllocError>
+    ensures { let line = symbol_line control.now program.now (name, symbol.now) in
+        OnOk result (report.new ≡ report.old ++ line) }
 {
-    let address = address_of(control, program, &symbol.value);
+    let alloc = report.alloc();
+    let address = address_of(*control, *program, &symbol.value);
     let name = written_name(alloc, &name.bytes())?;
     let value = value_word(alloc, symbol.value.number)?;
     let section = section_word(alloc, symbol.value.section)?;
     let length = length_word(alloc, symbol.value.length)?;
     let line = decimal(alloc, symbol.line)?;
     let Some(address) = address else {
-        return look_line(
-            alloc,
-            &[
-                b"SYMBOL", &name, b"VALUE", &value, &section, b"LENGTH", &length, b"LINE", &line,
-            ],
-        );
+        return report.line(&[
+            b"SYMBOL", &name, b"VALUE", &value, &section, b"LENGTH", &length, b"LINE", &line,
+        ]);
     };
     let address = hexadecimal::<6>(address);
-    look_line(
-        alloc,
-        &[
-            b"SYMBOL", &name, b"VALUE", &value, &section, b"LENGTH", &length, b"LINE", &line,
-            b"AT", &address,
-        ],
-    )
+    report.line(&[
+        b"SYMBOL", &name, b"VALUE", &value, &section, b"LENGTH", &length, b"LINE", &line, b"AT",
+        &address,
+    ])
 }

@@ -9,6 +9,7 @@ use Rattle.cx_base_lists.specs.Facts.Tables.{found_meets}
 use Rattle.cx_ebcdic.specs.Names.{is_name}
 use Rattle.cx_service.specs.Queues.{Queue, Queues, item_numbered, queue_of, is_item_length, IsSoundQueue, AreSoundQueues}
 use Rattle.cx_look_tables.specs.Queues.{item_line, items_text}
+use Rattle.cx_look_words.specs.Words.{Lines}
 
 item_there : (n i : ℕ) (items : List (List ℕ)) → i < length items → unwrap_or (option_map (item_line n) (slice_get items i)) [] ++ items_text (n + 1) (drop (suc i) items) ≡ items_text n (drop i items)
 item_there n i [] h = absurd (omega (arith, h))
@@ -22,7 +23,7 @@ pub next_item : (queue : Queue) (i : ℕ) → i < length queue.items → unwrap_
 next_item queue i h = rw (numbered_next queue i) (rw add-one (item_there (suc i) i queue.items h))
 
 -- a text with the line of one more item, and the lines that are left
-pub one_more : (queue : Queue) (i : ℕ) (before after all : List ℕ) → i < length queue.items → after ≡ before ++ unwrap_or (option_map (item_line (i + 1)) (item_numbered (i + 1) queue)) [] → before ++ items_text (i + 1) (drop i queue.items) ≡ all → after ++ items_text (i + 1 + 1) (drop (i + 1) queue.items) ≡ all
+pub one_more : (queue : Queue) (i : ℕ) (before after all : Lines) → i < length queue.items → after ≡ before ++ unwrap_or (option_map (item_line (i + 1)) (item_numbered (i + 1) queue)) [] → before ++ items_text (i + 1) (drop i queue.items) ≡ all → after ++ items_text (i + 1 + 1) (drop (i + 1) queue.items) ≡ all
 one_more queue i before after all h added left =
     ap (λ text. text ++ items_text (i + 1 + 1) (drop (i + 1) queue.items)) added
     ∙ append_assoc before _ _

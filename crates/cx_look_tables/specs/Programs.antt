@@ -6,7 +6,7 @@ use Rattle.cx_ebcdic.specs.Names.{is_name}
 use Rattle.cx_base_text.specs.Digits.{digits}
 use Rattle.cx_base_text.specs.Texts.{shown_name}
 use Rattle.cx_load.specs.declared.program.Loaded.{Loaded}
-use Rattle.cx_look_words.specs.Words.{look_line, none_line}
+use Rattle.cx_look_words.specs.Words.{look_line, none_line, Lines}
 
 -- a transaction after a blank, where it begins with the program
 abbrev pub transaction_word : List ℕ → List ℕ × List ℕ → List ℕ
@@ -17,11 +17,11 @@ abbrev pub transactions_of : List (List ℕ × List ℕ) → List ℕ → List �
 transactions_of transactions program = codes "TRANSACTIONS" ++ flat_map (transaction_word program) transactions
 
 -- a program: its place, its length, its entry's address, the length of its working storage, its transactions
-abbrev pub program_line : List (List ℕ × List ℕ) → List ℕ × Loaded → List ℕ
+abbrev pub program_line : List (List ℕ × List ℕ) → List ℕ × Loaded → Lines
 program_line transactions (name, loaded) =
     look_line (codes "PROGRAM" ∷ shown_name name ∷ codes "AT" ∷ digits 16 6 loaded.at ∷ codes "LENGTH" ∷ digits 16 6 loaded.len
     ∷ codes "ENTRY" ∷ digits 16 6 loaded.entry ∷ codes "STORAGE" ∷ digits 16 6 loaded.stg_len ∷ transactions_of transactions name ∷ [])
 
-unfoldable pub programs_text : List (List ℕ × Loaded) → List (List ℕ × List ℕ) → List ℕ
+unfoldable pub programs_text : List (List ℕ × Loaded) → List (List ℕ × List ℕ) → Lines
 programs_text [] transactions = none_line (codes "PROGRAMS")
 programs_text (program ∷ programs) transactions = flat_map (program_line transactions) (program ∷ programs)

@@ -6,7 +6,7 @@ ghost use Rattle.cx_look_tables.specs.Programs.{transaction_word, program_line, 
 use cx_base_text::{hexadecimal, shown_name};
 use cx_ebcdic::{Name4, Name8};
 use cx_load::Loaded;
-use cx_look_words::look_line;
+use cx_look_words::Report;
 use indexmap::IndexMap;
 use std::alloc::{AllocError, Global};
 
@@ -43,68 +43,64 @@ fn transactions_of(
     Ok(text)
 }
 
-/// The line of a program.
+/// Adds the line of a program.
 fn program_line(
-    alloc: Global,
+    report: &mut Report,
     transactions: &IndexMap<Name4, Name8>,
     name: Name8,
     loaded: &Loaded,
-) -> Result<Vec<u8>, AllocError>
-    ensures { IfOk result (λ text. text.items ≡ program_line transactions.now.entries (name, loaded.now)) }
+) -> Result<(), AllocError>
+    ensures { let line = program_line transactions.now.entries (name, loaded.now) in
+        OnOk result (report.new ≡ report.old ++ line) }
 {
-    let transactions = transactions_of(alloc, transactions, name)?;
-    let name = shown_name(alloc, name)?;
+    let transactions = transactions_of(report.alloc(), transactions, name)?;
+    let name = shown_name(report.alloc(), name)?;
     let at = hexadecimal::<6>(loaded.at);
     let len = hexadecimal::<6>(loaded.len);
     let entry = hexadecimal::<6>(loaded.entry);
     let stg_len = hexadecimal::<6>(loaded.stg_len);
-    look_line(
-        alloc,
-        &[
-            b"PROGRAM",
-            &name,
-            b"AT",
-            &at,
-            b"LENGTH",
-            &len,
-            b"ENTRY",
-            &entry,
-            b"STORAGE",
-            &stg_len,
-            &transactions,
-        ],
-    )
+    report.line(&[
+        b"PROGRAM",
+        &name,
+        b"AT",
+        &at,
+        b"LENGTH",
+        &len,
+        b"ENTRY",
+        &entry,
+        b"STORAGE",
+        &stg_len,
+        &transactions,
+    ])
 }
 
 /// Adds the lines of programs.
-fn push_programs(
-    alloc: Global,
-    text: &mut Vec<u8>,
+fn program_lines(
+    report: &mut Report,
     programs: &IndexMap<Name8, Loaded>,
     transactions: &IndexMap<Name4, Name8>,
 ) -> Result<(), AllocError>
     ensures { let more = flat_map (program_line transactions.now.entries) programs.now.entries in
-        OnOk result (text.new.items ≡ text.old.items ++ more) }
+        OnOk result (report.new ≡ report.old ++ more) }
 {
     for (name, loaded) in programs.iter() {
-        text.extend_from_slice(&program_line(alloc, transactions, *name, loaded)?)?;
+        program_line(report, transactions, *name, loaded)?;
     }
     Ok(())
 }
 
-/// The line of each program; NONE where there is none.
+/// Adds the line of each program; NONE where there is none.
 #[tactic(auto, unfolding(crate::specs::Programs::programs_text))]
 pub(crate) fn programs_text(
-    alloc: Global,
+    report: &mut Report,
     programs: &IndexMap<Name8, Loaded>,
     transactions: &IndexMap<Name4, Name8>,
-) -> Result<Vec<u8>, AllocError>
-    ensures { IfOk result (λ text. text.items ≡ programs_text programs.now.entries transactions.now.entries) }
+) -> Result<(), AllocError>
+    ensures { let more = programs_text programs.now.entries transactions.now.entries in
+        OnOk result (report.new ≡ report.old ++ more) }
 {
     if programs.is_empty() {
-        return look_line(alloc, &[b"PROGRAMS", b"NONE"]);
+        return report.line(&[b"PROGRAMS", b"NONE"]);
     }
-    let mut text = Vec::new(alloc);
-    push_programs(alloc, &mut text, programs, transactions)?;
-    Ok(text)
+    program_lines(report, programs, transactions)
 }

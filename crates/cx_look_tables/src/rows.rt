@@ -4,7 +4,7 @@ ghost use Rattle.cx_base_text.specs.Digits.{hex_digits};
 ghost use Rattle.cx_look_tables.specs.Queues.{hex_column, row_line, row_of, rows_text};
 
 use cx_base_text::{hexadecimal, in_columns, shown};
-use cx_look_words::{in_apostrophes, look_line, spelled};
+use cx_look_words::{Report, in_apostrophes, spelled};
 use std::alloc::{AllocError, Global};
 
 /// The bytes of a row.
@@ -46,38 +46,35 @@ fn hex_column(alloc: Global, row: &[u8]) -> Result<[u8; 35], AllocError>
     Ok(in_columns(&[&a, b" ", &b, b" ", &c, b" ", &d]))
 }
 
-/// The line of a row at an offset.
-fn row_line(alloc: Global, offset: u32, row: &[u8]) -> Result<Vec<u8>, AllocError>
-    ensures { IfOk result (λ text. text.items ≡ row_line offset row.now) }
+/// Adds the line of a row at an offset.
+fn row_line(report: &mut Report, offset: u32, row: &[u8]) -> Result<(), AllocError>
+    ensures { OnOk result (report.new ≡ report.old ++ row_line offset row.now) }
 {
     let place = hexadecimal::<4>(offset);
-    let digits = hex_column(alloc, row)?;
-    let characters = shown(alloc, row)?;
-    let characters = in_apostrophes(alloc, &characters)?;
-    look_line(alloc, &[&place, &digits, &characters])
+    let digits = hex_column(report.alloc(), row)?;
+    let characters = shown(report.alloc(), row)?;
+    let characters = in_apostrophes(report.alloc(), &characters)?;
+    report.line(&[&place, &digits, &characters])
 }
 
-/// The line of a row, counted from 0.
-fn row_of(alloc: Global, k: u32, bytes: &[u8]) -> Result<Vec<u8>, AllocError>
+/// Adds the line of a row, counted from 0.
+fn row_of(report: &mut Report, k: u32, bytes: &[u8]) -> Result<(), AllocError>
     requires { 16 * k < 2 ^ 32 }
-    ensures { IfOk result (λ text. text.items ≡ row_of k bytes.now) }
+    ensures { OnOk result (report.new ≡ report.old ++ row_of k bytes.now) }
 {
     let offset = ROW * k;
-    row_line(
-        alloc,
-        offset,
-        first_bytes(after(bytes, offset as usize), ROW as usize),
-    )
+    let row = first_bytes(after(bytes, offset as usize), ROW as usize);
+    row_line(report, offset, row)
 }
 
 /// Adds the rows of bytes.
-pub(crate) fn push_rows(alloc: Global, text: &mut Vec<u8>, bytes: &[u8]) -> Result<(), AllocError>
+pub(crate) fn rows_text(report: &mut Report, bytes: &[u8]) -> Result<(), AllocError>
     requires { length bytes.now ≤ 32767 }
-    ensures { OnOk result (text.new.items ≡ text.old.items ++ rows_text bytes.now) }
+    ensures { OnOk result (report.new ≡ report.old ++ rows_text bytes.now) }
 {
     let rows = (bytes.len() as u32 + 15) / ROW;
     for k in 0..rows {
-        text.extend_from_slice(&row_of(alloc, k, bytes)?)?;
+        row_of(report, k, bytes)?;
     }
     Ok(())
 }

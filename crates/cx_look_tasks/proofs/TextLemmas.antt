@@ -2,45 +2,46 @@
 use Rattle.std.proofs.Common.{◌≡◌, ℕ, zero, suc, ◌+◌, ◌<◌, ◌≤◌, List, [], ◌∷◌, ◌++◌, length, take, drop, slice_get, Some, refl, sym, ap, ◌∙◌, arith, append_assoc, append-nil}
 use Rattle.std.specs.List.{flat_map}
 use Rattle.cx_region.specs.State.{RegionState, TerminalState}
+use Rattle.cx_look_words.specs.Words.{Lines}
 use Rattle.cx_look_tasks.specs.Activities.{AreActivities, IsActivity}
 use Rattle.cx_look_tasks.specs.Parts.Words.{of_one}
 use Rattle.cx_look_tasks.specs.Tasks.{of_each}
 use Rattle.cx_look_tasks.specs.declared.activities.Activity.{Activity}
 
 -- ---- what is written of a list, an item at a time
-flat_step : {A : Type 0} (f : A → List ℕ) (xs : List A) (k : ℕ) → of_one f (slice_get xs k) ++ flat_map f (drop (suc k) xs) ≡ flat_map f (drop k xs)
+flat_step : {A : Type 0} (f : A → Lines) (xs : List A) (k : ℕ) → of_one f (slice_get xs k) ++ flat_map f (drop (suc k) xs) ≡ flat_map f (drop k xs)
 flat_step f [] zero = refl
 flat_step f [] (suc k) = refl
 flat_step f (x ∷ xs) zero = refl
 flat_step f (x ∷ xs) (suc k) = flat_step f xs k
 
-flat_end : {A : Type 0} (f : A → List ℕ) (xs : List A) (k : ℕ) → length xs ≤ k → flat_map f (drop k xs) ≡ []
+flat_end : {A : Type 0} (f : A → Lines) (xs : List A) (k : ℕ) → length xs ≤ k → flat_map f (drop k xs) ≡ []
 flat_end f [] zero l = refl
 flat_end f [] (suc k) l = refl
 flat_end f (x ∷ xs) zero l = absurd (omega arith)
 flat_end f (x ∷ xs) (suc k) l = flat_end f xs k (omega arith)
 
 -- what was written before, what is written of an item, and what is left
-goes_on : (k : ℕ) (before after one whole : List ℕ) (rest : ℕ → List ℕ) → after ≡ before ++ one → one ++ rest (suc k) ≡ rest k
+goes_on : (k : ℕ) (before after one whole : Lines) (rest : ℕ → Lines) → after ≡ before ++ one → one ++ rest (suc k) ≡ rest k
     → before ++ rest k ≡ whole → after ++ rest (k + 1) ≡ whole
 goes_on k before after one whole rest written step so_far =
     let next : k + 1 ≡ suc k = omega arith in
     rw (next, written) (append_assoc before one (rest (suc k)) ∙ ap (λ t. before ++ t) step ∙ so_far)
 
-done : (before whole rest : List ℕ) → rest ≡ [] → before ++ rest ≡ whole → before ≡ whole
+done : (before whole rest : Lines) → rest ≡ [] → before ++ rest ≡ whole → before ≡ whole
 done before whole rest empty so_far = sym (append-nil before) ∙ ap (λ t. before ++ t) (sym empty) ∙ so_far
 
-pub flat_goes_on : {A : Type 0} (f : A → List ℕ) (xs : List A) (k : ℕ) (before after : List ℕ) → after ≡ before ++ of_one f (slice_get xs k)
+pub flat_goes_on : {A : Type 0} (f : A → Lines) (xs : List A) (k : ℕ) (before after : Lines) → after ≡ before ++ of_one f (slice_get xs k)
     → before ++ flat_map f (drop k xs) ≡ flat_map f xs → after ++ flat_map f (drop (k + 1) xs) ≡ flat_map f xs
 flat_goes_on f xs k before after written so_far =
     goes_on k before after (of_one f (slice_get xs k)) (flat_map f xs) (λ k. flat_map f (drop k xs)) written (flat_step f xs k) so_far
 
-pub flat_done : {A : Type 0} (f : A → List ℕ) (xs : List A) (k : ℕ) (before : List ℕ) → length xs ≤ k
+pub flat_done : {A : Type 0} (f : A → Lines) (xs : List A) (k : ℕ) (before : Lines) → length xs ≤ k
     → before ++ flat_map f (drop k xs) ≡ flat_map f xs → before ≡ flat_map f xs
 flat_done f xs k before l so_far = done before (flat_map f xs) (flat_map f (drop k xs)) (flat_end f xs k l) so_far
 
 -- ---- of terminals and what their tasks are doing
-each_step : (f : List ℕ × TerminalState → Activity → List ℕ) (entries : List (List ℕ × TerminalState)) (activities : List Activity) (k : ℕ) (activity : Activity)
+each_step : (f : List ℕ × TerminalState → Activity → Lines) (entries : List (List ℕ × TerminalState)) (activities : List Activity) (k : ℕ) (activity : Activity)
     → slice_get activities k ≡ Some activity
     → of_one (λ entry. f entry activity) (slice_get entries k) ++ of_each f (drop (suc k) entries) (drop (suc k) activities) ≡ of_each f (drop k entries) (drop k activities)
 unfolding of_each
@@ -50,7 +51,7 @@ each_step f (entry ∷ entries) [] k activity e = cc
 each_step f (entry ∷ entries) (first ∷ activities) zero activity e = let same : first ≡ activity = cc in rw same refl
 each_step f (entry ∷ entries) (first ∷ activities) (suc k) activity e = each_step f entries activities k activity e
 
-no_activities : (f : List ℕ × TerminalState → Activity → List ℕ) (entries : List (List ℕ × TerminalState)) → of_each f entries [] ≡ []
+no_activities : (f : List ℕ × TerminalState → Activity → Lines) (entries : List (List ℕ × TerminalState)) → of_each f entries [] ≡ []
 unfolding of_each
 no_activities f [] = refl
 no_activities f (entry ∷ entries) = refl
@@ -61,14 +62,14 @@ all_dropped [] (suc k) l = refl
 all_dropped (first ∷ activities) zero l = absurd (omega arith)
 all_dropped (first ∷ activities) (suc k) l = all_dropped activities k (omega arith)
 
-pub each_goes_on : (f : List ℕ × TerminalState → Activity → List ℕ) (entries : List (List ℕ × TerminalState)) (activities : List Activity) (k : ℕ) (activity : Activity)
-    (before after whole : List ℕ) → slice_get activities k ≡ Some activity → after ≡ before ++ of_one (λ entry. f entry activity) (slice_get entries k)
+pub each_goes_on : (f : List ℕ × TerminalState → Activity → Lines) (entries : List (List ℕ × TerminalState)) (activities : List Activity) (k : ℕ) (activity : Activity)
+    (before after whole : Lines) → slice_get activities k ≡ Some activity → after ≡ before ++ of_one (λ entry. f entry activity) (slice_get entries k)
     → before ++ of_each f (drop k entries) (drop k activities) ≡ whole → after ++ of_each f (drop (k + 1) entries) (drop (k + 1) activities) ≡ whole
 each_goes_on f entries activities k activity before after whole e written so_far =
     goes_on k before after (of_one (λ entry. f entry activity) (slice_get entries k)) whole (λ k. of_each f (drop k entries) (drop k activities)) written
     (each_step f entries activities k activity e) so_far
 
-pub each_done : (f : List ℕ × TerminalState → Activity → List ℕ) (entries : List (List ℕ × TerminalState)) (activities : List Activity) (k : ℕ) (before whole : List ℕ)
+pub each_done : (f : List ℕ × TerminalState → Activity → Lines) (entries : List (List ℕ × TerminalState)) (activities : List Activity) (k : ℕ) (before whole : Lines)
     → length activities ≤ k → before ++ of_each f (drop k entries) (drop k activities) ≡ whole → before ≡ whole
 each_done f entries activities k before whole l so_far =
     done before whole (of_each f (drop k entries) (drop k activities)) (rw (all_dropped activities k l) (no_activities f (drop k entries))) so_far

@@ -1,17 +1,14 @@
 -- Who is reported as waiting, and that each text is one.
-use Rattle.std.specs.Prelude.{◌≡◌, ℕ, Bool, true, false, List, Some}
+use Rattle.std.specs.Prelude.{◌≡◌, ℕ, List, Some}
 use Rattle.cx_region_state.specs.declared.replies.TurnReply.{TurnReply}
-use Rattle.cx_region_state.specs.declared.replies.TurnReply.TheVariants as turn
+use Rattle.cx_region_task.specs.Laws.Decisions.{is_wait_reply}
 use Rattle.cx_region.specs.State.{RegionState, TerminalState}
 use Rattle.cx_region.specs.Tables.{terminal_of}
 use Rattle.cx_region.specs.Turn.{TakesTurn}
+use Rattle.cx_look_words.specs.Words.{Lines}
 use Rattle.cx_look_tasks.specs.Activities.{IsActivity, is_waiting}
 use Rattle.cx_look_tasks.specs.Tasks.{ResourcesText, TasksText}
 use Rattle.cx_look_tasks.specs.declared.activities.Activity.{Activity}
-
-abbrev pub is_wait_reply : TurnReply → Bool
-is_wait_reply turn.Waiting = true
-is_wait_reply _ = false
 
 -- a terminal is reported as waiting exactly where its next turn would be answered Waiting
 abbrev pub WaitsAreReported : Type 0
@@ -27,9 +24,9 @@ ActivitiesDecide = (region : RegionState) (terminal : TerminalState) (one other 
 
 -- so are the texts of TASKS and of RESOURCES, each as a whole
 abbrev pub TasksTextsDecide : Type 0
-TasksTextsDecide = (region : RegionState) (one other : List ℕ)
+TasksTextsDecide = (region : RegionState) (one other : Lines)
     → TasksText region one → TasksText region other → one ≡ other
 
 abbrev pub ResourcesTextsDecide : Type 0
-ResourcesTextsDecide = (region : RegionState) (one other : List ℕ)
+ResourcesTextsDecide = (region : RegionState) (one other : Lines)
     → ResourcesText region one → ResourcesText region other → one ≡ other

@@ -13,12 +13,12 @@ use Rattle.cx_region.specs.State.{RegionState, TerminalState}
 use Rattle.cx_base_text.specs.Digits.{digits}
 use Rattle.cx_base_text.specs.Texts.{shown_name}
 use Rattle.cx_look_words.specs.Terminals.{terminal_at}
-use Rattle.cx_look_words.specs.Words.{look_line, or_none, written_bytes, written_name}
+use Rattle.cx_look_words.specs.Words.{look_line, or_none, written_bytes, written_name, Lines}
 use Rattle.cx_look_tasks.specs.Activities.{AreActivities}
 use Rattle.cx_look_tasks.specs.declared.activities.Activity.{Activity}
 use Rattle.cx_look_tasks.specs.declared.activities.Activity.TheVariants.{Due, NoTask, Running, Waiting}
-use Rattle.cx_look_tasks.specs.declared.activities.Wait.{Wait}
-use Rattle.cx_look_tasks.specs.declared.activities.Wait.TheVariants as wait
+use Rattle.cx_region_task.specs.declared.decision.Wait.{Wait}
+use Rattle.cx_region_task.specs.declared.decision.Wait.TheVariants as wait
 
 -- ---- names; hyphens where there is none
 -- the terminal whose task is an owner
@@ -64,19 +64,19 @@ task_words None = []
 task_words (Some task) =
     shown_name task.tran ∷ codes "TASK" ∷ digits 10 7 task.number ∷ codes "LEVEL" ∷ digits 10 2 (length task.levels.callers + 1) ∷ []
 
-unfoldable pub task_line : RegionState → List ℕ × TerminalState → Activity → List ℕ
+unfoldable pub task_line : RegionState → List ℕ × TerminalState → Activity → Lines
 task_line region entry activity =
     look_line (shown_name entry.0 ∷ task_words entry.1.task ++ activity_words region activity)
 
 -- what is written of each terminal and of what its task is doing, in the order of their definition
-unfoldable pub of_each : (List ℕ × TerminalState → Activity → List ℕ) → List (List ℕ × TerminalState) → List Activity → List ℕ
-of_each text (entry ∷ entries) (activity ∷ activities) = text entry activity ++ of_each text entries activities
-of_each text _ _ = []
+unfoldable pub of_each : (List ℕ × TerminalState → Activity → Lines) → List (List ℕ × TerminalState) → List Activity → Lines
+of_each lines (entry ∷ entries) (activity ∷ activities) = lines entry activity ++ of_each lines entries activities
+of_each lines _ _ = []
 
-pub record TasksText (region : RegionState) (text : List ℕ) : Type 0 where
+pub record TasksText (region : RegionState) (lines : Lines) : Type 0 where
   pub activities : List Activity
   pub are : AreActivities region region.terminals activities
-  pub is : text ≡ or_none (codes "TASKS") (of_each (task_line region) region.terminals activities)
+  pub is : lines ≡ or_none (codes "TASKS") (of_each (task_line region) region.terminals activities)
 
 -- ---- RESOURCES
 -- the task waits for the resource
@@ -84,23 +84,23 @@ abbrev pub waits_for : ResourceName → Activity → Bool
 waits_for name (Waiting (wait.Resource (Some waited))) = is_resource waited name
 waits_for name _ = false
 
-abbrev pub hold_line : RegionState → ResourceName → Hold → List ℕ
+abbrev pub hold_line : RegionState → ResourceName → Hold → Lines
 hold_line region name hold =
     look_line
     (codes "RESOURCE" ∷ resource_value name ∷ codes "OWNER" ∷ owner_name region hold.owner ∷ codes "COUNT" ∷ digits 10 5 hold.count ∷ [])
 
-abbrev pub waiter_line : ResourceName → List ℕ → List ℕ
+abbrev pub waiter_line : ResourceName → List ℕ → Lines
 waiter_line name terminal = look_line (codes "RESOURCE" ∷ resource_value name ∷ codes "WAITER" ∷ shown_name terminal ∷ [])
 
 -- the line of a terminal whose task waits for the resource
-unfoldable pub waiter_text : ResourceName → List ℕ × TerminalState → Activity → List ℕ
+unfoldable pub waiter_text : ResourceName → List ℕ × TerminalState → Activity → Lines
 waiter_text name entry activity = if waits_for name activity then waiter_line name entry.0 else []
 
 -- a resource, and who waits for it
-unfoldable pub resource_lines : RegionState → List Activity → ResourceName × Hold → List ℕ
+unfoldable pub resource_lines : RegionState → List Activity → ResourceName × Hold → Lines
 resource_lines region activities entry = hold_line region entry.0 entry.1 ++ of_each (waiter_text entry.0) region.terminals activities
 
-pub record ResourcesText (region : RegionState) (text : List ℕ) : Type 0 where
+pub record ResourcesText (region : RegionState) (lines : Lines) : Type 0 where
   pub activities : List Activity
   pub are : AreActivities region region.terminals activities
-  pub is : text ≡ or_none (codes "RESOURCES") (flat_map (resource_lines region activities) region.resources)
+  pub is : lines ≡ or_none (codes "RESOURCES") (flat_map (resource_lines region activities) region.resources)

@@ -1,21 +1,7 @@
 //! What a task is doing.
 
 use cx_base_commands::Command;
-use cx_ebcdic::Name8;
-use cx_service::ResourceName;
-
-/// What a task waits for.
-#[derive(Clone, Copy, Debug)]
-pub enum Wait {
-    /// Input of its terminal.
-    Input,
-    /// A resource of that name, which another task owns.
-    Resource(Option<ResourceName>),
-    /// Room in the queue of that name.
-    Room(Option<Name8>),
-    /// Storage.
-    Storage,
-}
+pub use cx_region_task::Wait;
 
 /// What the task of a terminal is doing.
 #[derive(Clone, Copy, Debug)]

@@ -5,14 +5,14 @@ ghost use Rattle.cx_look_tasks.specs.Laws.{ActivitiesDecide, ResourcesTextsDecid
 pub fn waits_are_reported()
     ensures { WaitsAreReported }
 {
-    cx_region_commands::laws::a_call_is_judged_once();
+    cx_region_task::laws::decisions_decide();
 }
 
 /// What a terminal's task is doing is determined.
 pub fn activities_decide()
     ensures { ActivitiesDecide }
 {
-    cx_region_commands::laws::a_call_is_judged_once();
+    cx_region_task::laws::decisions_decide();
 }
 
 /// Each region has one text of its tasks, and one of its resources.

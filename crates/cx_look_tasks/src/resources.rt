@@ -10,7 +10,7 @@ use crate::activities::{Activity, Wait};
 use crate::tasks::{activities_in, owner_name, resource_value};
 use cx_base_text::{decimal, shown_name};
 use cx_ebcdic::Name4;
-use cx_look_words::{look_line, or_none};
+use cx_look_words::Report;
 use cx_region::Region;
 use cx_service::{Hold, ResourceName};
 use cx_storage::Store;
@@ -27,60 +27,53 @@ fn waits_for(name: &ResourceName, activity: &Activity) -> bool
     }
 }
 
-/// The line of a resource, with its owner and count.
+/// Adds the line of a resource, with its owner and count.
 fn hold_line<S: Store + Drop>(
-    alloc: Global,
+    report: &mut Report,
     region: &Region<S>,
     name: &ResourceName,
     hold: Hold,
-) -> Result<Vec<u8>, AllocError>
-    ensures { IfOk result (λ line. line.items ≡ hold_line region.now name.now hold) }
+) -> Result<(), AllocError>
+    ensures { OnOk result (report.new ≡ report.old ++ hold_line region.now name.now hold) }
 {
-    let resource = resource_value(alloc, name)?;
-    let owner = owner_name(alloc, region, hold.owner)?;
+    let resource = resource_value(report.alloc(), name)?;
+    let owner = owner_name(report.alloc(), region, hold.owner)?;
     let count = decimal::<5>(u32::from(hold.count));
-    look_line(
-        alloc,
-        &[
-            b"RESOURCE",
-            resource.as_slice(),
-            b"OWNER",
-            owner.as_slice(),
-            b"COUNT",
-            &count,
-        ],
-    )
+    report.line(&[
+        b"RESOURCE",
+        resource.as_slice(),
+        b"OWNER",
+        owner.as_slice(),
+        b"COUNT",
+        &count,
+    ])
 }
 
-/// The line of a terminal whose task waits for a resource.
-fn waiter_line(alloc: Global, name: &ResourceName, terminal: Name4) -> Result<Vec<u8>, AllocError>
-    ensures { IfOk result (λ line. line.items ≡ waiter_line name.now terminal) }
+/// Adds the line of a terminal whose task waits for a resource.
+fn waiter_line(report: &mut Report, name: &ResourceName, terminal: Name4) -> Result<(), AllocError>
+    ensures { OnOk result (report.new ≡ report.old ++ waiter_line name.now terminal) }
 {
-    let resource = resource_value(alloc, name)?;
-    let terminal = shown_name(alloc, terminal)?;
-    look_line(
-        alloc,
-        &[
-            b"RESOURCE",
-            resource.as_slice(),
-            b"WAITER",
-            terminal.as_slice(),
-        ],
-    )
+    let resource = resource_value(report.alloc(), name)?;
+    let terminal = shown_name(report.alloc(), terminal)?;
+    report.line(&[
+        b"RESOURCE",
+        resource.as_slice(),
+        b"WAITER",
+        terminal.as_slice(),
+    ])
 }
 
 /// Adds the line of the terminal at an index, where its task waits for the resource.
 #[tactic(auto, unfolding(crate::specs::Tasks::waiter_text))]
-fn push_waiter<S: Store + Drop>(
-    text: &mut Vec<u8>,
-    alloc: Global,
+fn waiter_at<S: Store + Drop>(
+    report: &mut Report,
     region: &Region<S>,
     name: &ResourceName,
     index: usize,
     activity: &Activity,
 ) -> Result<(), AllocError>
     ensures { let due = slice_get region.now.terminals index in
-        OnOk result (text.new.items ≡ text.old.items ++ of_one (λ entry. waiter_text name.now entry activity.now) due) }
+        OnOk result (report.new ≡ report.old ++ of_one (λ entry. waiter_text name.now entry activity.now) due) }
 {
     let Some((terminal, _state)) = region.terminals().get_index(index) else {
         return Ok(());
@@ -88,24 +81,21 @@ fn push_waiter<S: Store + Drop>(
     if !waits_for(name, activity) {
         return Ok(());
     }
-    let line = waiter_line(alloc, name, *terminal)?;
-    text.extend_from_slice(line.as_slice())?;
-    Ok(())
+    waiter_line(report, name, *terminal)
 }
 
 /// Adds a line for each terminal whose task waits for a resource.
-fn push_waiters<S: Store + Drop>(
-    text: &mut Vec<u8>,
-    alloc: Global,
+fn waiter_lines<S: Store + Drop>(
+    report: &mut Report,
     region: &Region<S>,
     name: &ResourceName,
     activities: &[Activity],
 ) -> Result<(), AllocError>
     ensures { let more = of_each (waiter_text name.now) region.now.terminals activities.now in
-        OnOk result (text.new.items ≡ text.old.items ++ more) }
+        OnOk result (report.new ≡ report.old ++ more) }
 {
     for (i, activity) in activities.iter().enumerate() {
-        push_waiter(text, alloc, region, name, i, activity)?;
+        waiter_at(report, region, name, i, activity)?;
     }
     Ok(())
 }
@@ -119,39 +109,34 @@ fn holds<S: Store + Drop>(region: &Region<S>) -> &IndexMap<ResourceName, Hold>
 
 /// Adds the lines of a resource.
 #[tactic(auto, unfolding(crate::specs::Tasks::resource_lines))]
-fn push_hold<S: Store + Drop>(
-    text: &mut Vec<u8>,
-    alloc: Global,
+fn lines_of_hold<S: Store + Drop>(
+    report: &mut Report,
     region: &Region<S>,
     activities: &[Activity],
     name: &ResourceName,
     hold: Hold,
 ) -> Result<(), AllocError>
     ensures { let more = resource_lines region.now activities.now (name.now, hold) in
-        OnOk result (text.new.items ≡ text.old.items ++ more) }
+        OnOk result (report.new ≡ report.old ++ more) }
 {
-    let line = hold_line(alloc, region, name, hold)?;
-    text.extend_from_slice(line.as_slice())?;
-    push_waiters(text, alloc, region, name, activities)?;
-    Ok(())
+    hold_line(report, region, name, hold)?;
+    waiter_lines(report, region, name, activities)
 }
 
 /// Adds the lines of the resource at an index, where there is one.
-fn push_resource<S: Store + Drop>(
-    text: &mut Vec<u8>,
-    alloc: Global,
+fn resource_at<S: Store + Drop>(
+    report: &mut Report,
     region: &Region<S>,
     activities: &[Activity],
     index: usize,
 ) -> Result<(), AllocError>
     ensures { let more = of_one (resource_lines region.now activities.now) (slice_get region.now.resources index) in
-        OnOk result (text.new.items ≡ text.old.items ++ more) }
+        OnOk result (report.new ≡ report.old ++ more) }
 {
     let Some((name, hold)) = holds(region).get_index(index) else {
         return Ok(());
     };
-    push_hold(text, alloc, region, activities, name, *hold)?;
-    Ok(())
+    lines_of_hold(report, region, activities, name, *hold)
 }
 
 /// The lines of all resources.
@@ -159,15 +144,15 @@ fn resource_lines<S: Store + Drop>(
     alloc: Global,
     region: &Region<S>,
     activities: &[Activity],
-) -> Result<Vec<u8>, AllocError>
+) -> Result<Report, AllocError>
     ensures { let lines = flat_map (resource_lines region.now activities.now) region.now.resources in
-        IfOk result (λ text. text.items ≡ lines) }
+        IfOk result (λ report. report ≡ lines) }
 {
-    let mut text = Vec::new(alloc);
+    let mut report = Report::new(alloc);
     for i in 0..holds(region).len() {
-        push_resource(&mut text, alloc, region, activities, i)?;
+        resource_at(&mut report, region, activities, i)?;
     }
-    Ok(text)
+    Ok(report)
 }
 
 /// A line for each resource that is owned, with its owner and count, and one for each terminal whose task waits for it.
@@ -176,11 +161,11 @@ fn resource_lines<S: Store + Drop>(
 pub fn resources_text<S: Store + Drop>(
     alloc: Global,
     region: &Region<S>,
-) -> Result<Vec<u8>, AllocError>
+) -> Result<Report, AllocError>
     requires { IsSound region.now }
-    ensures { IfOk result (λ text. ResourcesText region.now text.items) }
+    ensures { IfOk result (λ report. ResourcesText region.now report) }
 {
     let activities = activities_in(alloc, region)?;
-    let text = resource_lines(alloc, region, activities.as_slice())?;
-    or_none(alloc, b"RESOURCES", text)
+    let report = resource_lines(alloc, region, activities.as_slice())?;
+    report.or_none(b"RESOURCES")
 }

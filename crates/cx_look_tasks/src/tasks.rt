@@ -14,7 +14,7 @@ use crate::judging::activity;
 use cx_base_commands::Command;
 use cx_base_text::{decimal, hexadecimal, shown_name};
 use cx_ebcdic::{Name4, Name8};
-use cx_look_words::{or_none, push_words, terminal_at, written_bytes, written_name};
+use cx_look_words::{Report, push_words, terminal_at, written_bytes, written_name};
 use cx_region::{Region, Terminal};
 use cx_region_state::Task;
 use cx_service::{Hold, ResourceName};
@@ -185,43 +185,39 @@ fn push_task(text: &mut Vec<u8>, alloc: Global, task: Option<&Task>) -> Result<(
     )
 }
 
-/// The line of a terminal.
-#[tactic(auto, unfolding(crate::specs::Tasks::task_line), using(cx_look_words::specs::Facts::Spaced::spaced_both, cx_look_words::specs::Facts::Spaced::spaced_first))]
+/// Adds the line of a terminal.
+#[tactic(auto, unfolding(crate::specs::Tasks::task_line), using(cx_look_words::specs::Facts::Spaced::spaced_both))]
 fn task_line<S: Store + Drop>(
-    alloc: Global,
+    report: &mut Report,
     region: &Region<S>,
     name: Name4,
     terminal: &Terminal,
     activity: &Activity,
-) -> Result<Vec<u8>, AllocError>
-    ensures { IfOk result (λ line. line.items ≡ task_line region.now (name, terminal.now) activity.now) }
+) -> Result<(), AllocError>
+    ensures { let line = task_line region.now (name, terminal.now) activity.now in
+        OnOk result (report.new ≡ report.old ++ line) }
 {
-    let mut text = b">".to_vec(alloc)?;
-    let name = shown_name(alloc, name)?;
-    push_words(&mut text, &[name.as_slice()])?;
-    push_task(&mut text, alloc, terminal.task())?;
-    push_activity(&mut text, alloc, region, activity)?;
-    text.push(b'\n')?;
-    Ok(text)
+    let alloc = report.alloc();
+    let mut line = shown_name(alloc, name)?;
+    push_task(&mut line, alloc, terminal.task())?;
+    push_activity(&mut line, alloc, region, activity)?;
+    report.push(line)
 }
 
 /// Adds the line of the terminal at an index, where there is one.
-fn push_line<S: Store + Drop>(
-    text: &mut Vec<u8>,
-    alloc: Global,
+fn line_at<S: Store + Drop>(
+    report: &mut Report,
     region: &Region<S>,
     index: usize,
     activity: &Activity,
 ) -> Result<(), AllocError>
     ensures { let due = slice_get region.now.terminals index in
-        OnOk result (text.new.items ≡ text.old.items ++ of_one (λ entry. task_line region.now entry activity.now) due) }
+        OnOk result (report.new ≡ report.old ++ of_one (λ entry. task_line region.now entry activity.now) due) }
 {
     let Some((name, terminal)) = region.terminals().get_index(index) else {
         return Ok(());
     };
-    let line = task_line(alloc, region, *name, terminal, activity)?;
-    text.extend_from_slice(line.as_slice())?;
-    Ok(())
+    task_line(report, region, *name, terminal, activity)
 }
 
 /// The lines of all terminals.
@@ -229,14 +225,14 @@ fn task_lines<S: Store + Drop>(
     alloc: Global,
     region: &Region<S>,
     activities: &[Activity],
-) -> Result<Vec<u8>, AllocError>
-    ensures { IfOk result (λ text. text.items ≡ of_each (task_line region.now) region.now.terminals activities.now) }
+) -> Result<Report, AllocError>
+    ensures { IfOk result (λ report. report ≡ of_each (task_line region.now) region.now.terminals activities.now) }
 {
-    let mut text = Vec::new(alloc);
+    let mut report = Report::new(alloc);
     for (i, activity) in activities.iter().enumerate() {
-        push_line(&mut text, alloc, region, i, activity)?;
+        line_at(&mut report, region, i, activity)?;
     }
-    Ok(text)
+    Ok(report)
 }
 
 /// What the task of the terminal at an index is doing.
@@ -272,11 +268,11 @@ pub fn activities_in<S: Store + Drop>(
 /// A line for each terminal: its task, and what that is doing.
 ///
 /// An error comes only where memory for it was refused.
-pub fn tasks_text<S: Store + Drop>(alloc: Global, region: &Region<S>) -> Result<Vec<u8>, AllocError>
+pub fn tasks_text<S: Store + Drop>(alloc: Global, region: &Region<S>) -> Result<Report, AllocError>
     requires { IsSound region.now }
-    ensures { IfOk result (λ text. TasksText region.now text.items) }
+    ensures { IfOk result (λ report. TasksText region.now report) }
 {
     let activities = activities_in(alloc, region)?;
-    let text = task_lines(alloc, region, activities.as_slice())?;
-    or_none(alloc, b"TASKS", text)
+    let report = task_lines(alloc, region, activities.as_slice())?;
+    report.or_none(b"TASKS")
 }

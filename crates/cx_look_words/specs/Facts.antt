@@ -1,4 +1,3 @@
 -- Lemmas that other crates cite.
 pub mod Spaced
-pub mod Words
 pub mod Marked

@@ -1,6 +1,6 @@
 -- What the lines of looks are made of (own).
 use Rattle.std.specs.Prelude.{ℕ, Bool, false, ◌&&◌, ◌==◌, not, List, [], ◌∷◌, ◌++◌, length, codes, if◌then◌else◌}
-use Rattle.std.specs.List.{flat_map, list_all}
+use Rattle.std.specs.List.{filter, flat_map, list_all}
 use Rattle.std.specs.Option.{option_map_or}
 use Rattle.std.specs.Str.{byte}
 use Rattle.cx_ebcdic.specs.Characters.{code_of, shown_as}
@@ -8,20 +8,39 @@ use Rattle.cx_base_text.specs.Digits.{hex_digits}
 use Rattle.cx_base_text.specs.Texts.{shown_text, trim}
 
 -- ---- lines
+-- what a look has to say, a line after the other
+abbrev pub Lines : Type 0
+Lines = List (List ℕ)
+
 -- words, each after a blank
 abbrev pub with_blanks : List (List ℕ) → List ℕ
 with_blanks words = flat_map (λ word. byte " " ∷ word) words
 
--- a line of a look: its words after `>`, and LF
-abbrev pub look_line : List (List ℕ) → List ℕ
-look_line words = codes ">" ++ with_blanks words ++ codes "\n"
+-- words, a blank between one and the next
+abbrev pub line_of : List (List ℕ) → List ℕ
+line_of [] = []
+line_of (first ∷ words) = first ++ with_blanks words
+
+-- one line
+abbrev pub look_line : List (List ℕ) → Lines
+look_line words = line_of words ∷ []
 
 -- the line of a look that finds nothing
-abbrev pub none_line : List ℕ → List ℕ
+abbrev pub none_line : List ℕ → Lines
 none_line word = look_line (word ∷ codes "NONE" ∷ [])
 
-abbrev pub or_none : List ℕ → List ℕ → List ℕ
-or_none word text = if length text == 0 then none_line word else text
+abbrev pub or_none : List ℕ → Lines → Lines
+or_none word lines = if length lines == 0 then none_line word else lines
+
+-- as it is written: `> `, the line, from which each LF is left out, and LF
+abbrev pub is_in_line : ℕ → Bool
+is_in_line c = not (c == byte "\n")
+
+abbrev pub marked_line : List ℕ → List ℕ
+marked_line line = codes "> " ++ filter is_in_line line ++ codes "\n"
+
+unfoldable pub marked : Lines → List ℕ
+marked lines = flat_map marked_line lines
 
 -- ---- bytes and names
 -- a byte that is the code of a character: one that isn't is shown by the code of one that is

@@ -1,8 +1,8 @@
-//! Lines of looks, and their words.
+//! Words of lines.
 ghost use Rattle.std.specs.Prelude.{◌≡◌, ◌∷◌, ◌++◌, IfOk, OnOk, map};
 ghost use Rattle.std.specs.Fmt.{decimal};
 ghost use Rattle.std.specs.Str.{byte};
-ghost use Rattle.cx_look_words.specs.Words.{look_line, or_none, with_blanks};
+ghost use Rattle.cx_look_words.specs.Words.{with_blanks};
 
 use std::alloc::{AllocError, Global};
 
@@ -27,30 +27,6 @@ pub fn push_words(text: &mut Vec<u8>, words: &[&[u8]]) -> Result<(), AllocError>
         push_word(text, word)?;
     }
     Ok(())
-}
-
-/// A line of a look: `>`, the words, each after a blank, and LF.
-///
-/// An error comes only where memory for it was refused.
-pub fn look_line(alloc: Global, words: &[&[u8]]) -> Result<Vec<u8>, AllocError>
-    ensures { IfOk result (λ text. text.items ≡ look_line (map (λ word. word.now) words.now)) }
-{
-    let mut text = b">".to_vec(alloc)?;
-    push_words(&mut text, words)?;
-    text.push(b'\n')?;
-    Ok(text)
-}
-
-/// A text, or the line that says that a look found nothing.
-///
-/// An error comes only where memory for it was refused.
-pub fn or_none(alloc: Global, word: &[u8], text: Vec<u8>) -> Result<Vec<u8>, AllocError>
-    ensures { IfOk result (λ all. all.items ≡ or_none word.now text.items) }
-{
-    if text.is_empty() {
-        return look_line(alloc, &[word, b"NONE"]);
-    }
-    Ok(text)
 }
 
 /// A number in decimal digits, without zeros in front.

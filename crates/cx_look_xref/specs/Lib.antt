@@ -4,5 +4,4 @@ pub mod Literals
 pub mod Usings
 pub mod Texts
 pub mod Parts
-pub mod Facts
 pub use Rattle.cx_look_symbols.specs.Texts as SymbolTexts

@@ -1,9 +1,8 @@
 -- What a look writes of the cross-reference of a source (own).
-use Rattle.std.specs.Prelude.{ℕ, ◌+◌, ◌%◌, ◌^◌, ◌==◌, not, if◌then◌else◌, Option, Some, None, List, [], ◌∷◌, ◌++◌, codes, length, map, slice_get, unwrap_or}
+use Rattle.std.specs.Prelude.{ℕ, ◌+◌, ◌%◌, ◌^◌, ◌==◌, if◌then◌else◌, Option, Some, None, List, [], ◌∷◌, ◌++◌, codes, length, map, slice_get, unwrap_or}
 use Rattle.std.specs.Fmt.{decimal}
-use Rattle.std.specs.List.{filter, flat_map}
+use Rattle.std.specs.List.{flat_map}
 use Rattle.std.specs.Result.{result_ok}
-use Rattle.std.specs.Str.{byte}
 use Rattle.cx_base_text.specs.Digits.{digits, hex_digits}
 use Rattle.cx_source.specs.declared.source.Source.{Source}
 use Rattle.cx_asm_pools.specs.Pools.{PlacedLiterals}
@@ -12,7 +11,7 @@ use Rattle.cx_asm_pass1.specs.PassState.{parts_in}
 use Rattle.cx_asm_pass2.specs.Statements.{PlacedStatement, operation_of, statements_of}
 use Rattle.cx_asm_pass2.specs.Whole.{Whole, whole_of}
 use Rattle.cx_asm.specs.Assembly.{AssemblyParts, assembly_of, last_line}
-use Rattle.cx_look_words.specs.Words.{look_line, or_none, with_blanks, written_name}
+use Rattle.cx_look_words.specs.Words.{look_line, or_none, with_blanks, written_name, Lines}
 use Rattle.cx_look_symbols.specs.Symbols.{SourceSymbols, named_of, translated_in}
 use Rattle.cx_look_symbols.specs.Texts.{in_order}
 use Rattle.cx_look_symbols.specs.declared.rows.Symbol.{Symbol}
@@ -29,62 +28,58 @@ used_word lines = codes "USED" ++ with_blanks (line_words lines)
 
 -- ---- symbols
 -- a symbol: the line that defines it, and those that use it
-abbrev pub name_line : (List ℕ → List ℕ) → List ℕ × Symbol → List ℕ
+abbrev pub name_line : (List ℕ → List ℕ) → List ℕ × Symbol → Lines
 name_line used (name, symbol) =
     look_line (codes "XREF" ∷ written_name name ∷ codes "LINE" ∷ decimal symbol.line ∷ used_word (used name) ∷ [])
 
 -- ---- literals
--- a text without LFs, of which a source has none
-abbrev pub one_line : List ℕ → List ℕ
-one_line text = filter (λ c. not (c == byte "\n")) text
-
 -- bytes in hexadecimal digits; hyphens where there are none
 abbrev pub bytes_word : List ℕ → List ℕ
 bytes_word bytes = if length bytes == 0 then codes "--" else hex_digits bytes
 
 -- a literal in the pool of a number: its offset in the control section, its text, its bytes there, and the lines that use it
-abbrev pub literal_line : List ℕ → (ℕ → List ℕ → List ℕ) → ℕ → List ℕ × Literal → List ℕ
+abbrev pub literal_line : List ℕ → (ℕ → List ℕ → List ℕ) → ℕ → List ℕ × Literal → Lines
 literal_line section used pool (text, literal) =
-    look_line (codes "XREF" ∷ codes "LITERAL" ∷ digits 16 6 (literal.offset % 2 ^ 24) ∷ (codes "=" ++ one_line text)
+    look_line (codes "XREF" ∷ codes "LITERAL" ∷ digits 16 6 (literal.offset % 2 ^ 24) ∷ (codes "=" ++ text)
     ∷ bytes_word (literal_bytes section text literal) ∷ used_word (used pool text) ∷ [])
 
 -- those of all pools from the one of a number on
-abbrev pub literals_from : List ℕ → (ℕ → List ℕ → List ℕ) → ℕ → List PlacedLiterals → List ℕ
+abbrev pub literals_from : List ℕ → (ℕ → List ℕ → List ℕ) → ℕ → List PlacedLiterals → Lines
 literals_from section used number [] = []
 literals_from section used number (pool ∷ pools) = flat_map (literal_line section used number) pool ++ literals_from section used (number + 1) pools
 
 -- ---- base registers
 -- A register that a USING names: the first line and the last of its use, and the place as the USING writes it. `after` are the statements
 -- after the USING.
-abbrev pub using_line : Whole → ℕ → PlacedStatement → List PlacedStatement → ℕ → List ℕ
+abbrev pub using_line : Whole → ℕ → PlacedStatement → List PlacedStatement → ℕ → Lines
 using_line whole last s after register =
     look_line (codes "XREF" ∷ codes "USING" ∷ decimal register ∷ codes "FROM" ∷ decimal s.line
-    ∷ codes "TO" ∷ decimal (use_end whole last register after) ∷ one_line (unwrap_or (slice_get (parts_in s.stmt) 0) []) ∷ [])
+    ∷ codes "TO" ∷ decimal (use_end whole last register after) ∷ unwrap_or (slice_get (parts_in s.stmt) 0) [] ∷ [])
 
-abbrev pub usings_from : Whole → ℕ → List PlacedStatement → List ℕ
+abbrev pub usings_from : Whole → ℕ → List PlacedStatement → Lines
 usings_from whole last [] = []
 usings_from whole last (s ∷ after) = flat_map (using_line whole last s after) (base_registers whole s (operation_of s)) ++ usings_from whole last after
 
 -- ---- all
 -- A source with these names, whose control section has this text: its symbols in the order of their names, its literals, and its base
 -- registers.
-abbrev pub xref_made : Source → List ℕ → SourceSymbols → List ℕ
+abbrev pub xref_made : Source → List ℕ → SourceSymbols → Lines
 xref_made source section named =
     flat_map (name_line (lines_using (references_of source))) (in_order named.rows)
     ++ literals_from section (lines_with (statements_of source)) 0 (whole_of source).pools
     ++ usings_from (whole_of source) (last_line source) (statements_of source)
 
-abbrev pub xref_named : Source → List ℕ → Option SourceSymbols → List ℕ
+abbrev pub xref_named : Source → List ℕ → Option SourceSymbols → Lines
 xref_named source section None = []
 xref_named source section (Some named) = xref_made source section named
 
-abbrev pub xref_assembled : Source → Option AssemblyParts → List ℕ
+abbrev pub xref_assembled : Source → Option AssemblyParts → Lines
 xref_assembled source None = []
 xref_assembled source (Some made) = xref_named source made.section.image.text (named_of source)
 
-abbrev pub xref_among : Option Source → List ℕ
+abbrev pub xref_among : Option Source → Lines
 xref_among None = []
 xref_among (Some source) = xref_assembled source (result_ok (assembly_of source))
 
-unfoldable pub xref_text : List ℕ → List (List ℕ) → List ℕ
+unfoldable pub xref_text : List ℕ → List (List ℕ) → Lines
 xref_text program lines = or_none (codes "XREF " ++ written_name program) (xref_among (translated_in lines))

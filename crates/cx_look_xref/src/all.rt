@@ -6,14 +6,15 @@ ghost use Rattle.std.specs.Result.{result_ok};
 ghost use Rattle.cx_asm.specs.Assembly.{assembly_of, last_line};
 ghost use Rattle.cx_look_xref.specs.Texts.{xref_among, xref_assembled, xref_named};
 
-use crate::literals::push_literals;
+use crate::literals::literal_lines;
 use crate::references::references_of;
-use crate::symbols::push_symbols;
-use crate::usings::push_usings;
+use crate::symbols::symbol_lines;
+use crate::usings::using_lines;
 use cx_asm::{AsmFault, assemble};
 use cx_asm_pass1::{Places, place_all};
 use cx_asm_pass2::{placed_lines, stated};
 use cx_look_symbols::{in_order, names_of_places, translated_in};
+use cx_look_words::Report;
 use cx_source::{Source, Text};
 use std::alloc::{AllocError, Global};
 
@@ -34,62 +35,56 @@ fn xref_placed(
     source: &Source,
     section: &[u8],
     places: &Places<'_>,
-) -> Result<Vec<u8>, AllocError>
+) -> Result<Report, AllocError>
     requires fault { (final_state source.now).fault ≡ None }
     requires placed { IsPlaced (final_state source.now) places.now }
-    ensures { IfOk result (λ text. text.items ≡ xref_named source.now section.now (named_of source.now)) }
+    ensures { IfOk result (λ report. report ≡ xref_named source.now section.now (named_of source.now)) }
 {
     let names = names_of_places(alloc, source, places)?;
     let symbols = in_order(alloc, &names.symbols)?;
     let references = references_of(alloc, source)?;
     let placed = placed_lines(alloc, source, places.statements.as_slice())?;
     let statements = stated(alloc, placed.as_slice())?;
-    let mut text = Vec::new(alloc);
-    push_symbols(alloc, &mut text, references.as_slice(), &symbols)?;
-    push_literals(
-        alloc,
-        &mut text,
-        section,
-        statements.as_slice(),
-        places.pools.as_slice(),
-    )?;
-    push_usings(
-        alloc,
-        &mut text,
+    let mut report = Report::new(alloc);
+    symbol_lines(&mut report, references.as_slice(), &symbols)?;
+    let pools = places.pools.as_slice();
+    literal_lines(&mut report, section, statements.as_slice(), pools)?;
+    using_lines(
+        &mut report,
         places,
         last_line(source),
         statements.as_slice(),
     )?;
-    Ok(text)
+    Ok(report)
 }
 
 /// The lines of a source, whose control section has this text.
-fn xref_with(alloc: Global, source: &Source, section: &[u8]) -> Result<Vec<u8>, AllocError>
-    ensures { IfOk result (λ text. text.items ≡ xref_named source.now section.now (named_of source.now)) }
+fn xref_with(alloc: Global, source: &Source, section: &[u8]) -> Result<Report, AllocError>
+    ensures { IfOk result (λ report. report ≡ xref_named source.now section.now (named_of source.now)) }
 {
     match place_all(alloc, source)? {
         Ok(places) => xref_placed(alloc, source, section, &places),
-        Err(_) => Ok(Vec::new(alloc)),
+        Err(_) => Ok(Report::new(alloc)),
     }
 }
 
 /// The lines of a source.
-fn xref_of(alloc: Global, source: &Source) -> Result<Vec<u8>, AllocError>
-    ensures { IfOk result (λ text. text.items ≡ xref_assembled source.now (result_ok (assembly_of source.now))) }
+fn xref_of(alloc: Global, source: &Source) -> Result<Report, AllocError>
+    ensures { IfOk result (λ report. report ≡ xref_assembled source.now (result_ok (assembly_of source.now))) }
 {
     match assemble(alloc, source) {
         Ok(assembly) => xref_with(alloc, source, assembly.image().text.as_slice()),
         Err(AsmFault::Memory) => Err(AllocError),
-        Err(_) => Ok(Vec::new(alloc)),
+        Err(_) => Ok(Report::new(alloc)),
     }
 }
 
 /// The lines of the source that lines make.
-pub(crate) fn xref_among(alloc: Global, lines: &[Text]) -> Result<Vec<u8>, AllocError>
-    ensures { IfOk result (λ text. text.items ≡ xref_among (translated_in lines.now)) }
+pub(crate) fn xref_among(alloc: Global, lines: &[Text]) -> Result<Report, AllocError>
+    ensures { IfOk result (λ report. report ≡ xref_among (translated_in lines.now)) }
 {
     let Some(source) = translated_in(alloc, lines)? else {
-        return Ok(Vec::new(alloc));
+        return Ok(Report::new(alloc));
     };
     xref_of(alloc, &source)
 }

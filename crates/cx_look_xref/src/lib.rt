@@ -2,7 +2,6 @@
 #![tactic(auto)]
 
 mod all;
-pub mod laws;
 mod lines;
 mod literals;
 mod looks;
@@ -13,7 +12,7 @@ mod uses;
 mod usings;
 
 pub use lines::used_word;
-pub use literals::push_literals;
+pub use literals::literal_lines;
 pub use looks::xref_text;
 pub use references::{Reference, references_of};
-pub use usings::push_usings;
+pub use usings::using_lines;

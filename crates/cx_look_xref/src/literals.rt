@@ -6,7 +6,7 @@ ghost use Rattle.std.specs.Str.{bytes_eq};
 ghost use Rattle.cx_asm_pools.specs.Pools.{literal_size, literal_text};
 ghost use Rattle.cx_look_xref.specs.Literals.{lines_with, literal_bytes, uses_literal};
 ghost use Rattle.cx_look_xref.specs.Parts.Uses.{lines_of_literal, uses_part, with_line};
-ghost use Rattle.cx_look_xref.specs.Texts.{bytes_word, literal_line, literals_from, one_line};
+ghost use Rattle.cx_look_xref.specs.Texts.{bytes_word, literal_line, literals_from};
 
 use crate::lines::used_word;
 use crate::uses::{lines_for, put};
@@ -15,7 +15,7 @@ use cx_asm_pass1::Role;
 use cx_asm_pass2::Statement;
 use cx_asm_pools::{Literal, Pool, literal_text};
 use cx_base_text::hexadecimal;
-use cx_look_words::{look_line, spelled};
+use cx_look_words::{Report, spelled};
 use cx_source::{Delimiter, cut};
 use indexmap::IndexMap;
 use std::alloc::{AllocError, Global};
@@ -141,53 +141,39 @@ fn bytes_word(alloc: Global, bytes: &[u8]) -> Result<Vec<u8>, AllocError>
     spelled(alloc, bytes)
 }
 
-/// A text without its LFs.
-pub(crate) fn one_line(alloc: Global, text: &[u8]) -> Result<Vec<u8>, AllocError>
-    ensures { IfOk result (λ line. line.items ≡ one_line text.now) }
-{
-    let mut line = Vec::new(alloc);
-    for c in text {
-        if *c != b'\n' {
-            line.push(*c)?;
-        }
-    }
-    Ok(line)
-}
-
 /// A literal as it is written.
 fn literal_word(alloc: Global, text: &[u8]) -> Result<Vec<u8>, AllocError>
-    ensures { IfOk result (λ word. word.items ≡ codes "=" ++ one_line text.now) }
+    ensures { IfOk result (λ word. word.items ≡ codes "=" ++ text.now) }
 {
-    let line = one_line(alloc, text)?;
     let mut word = b"=".to_vec(alloc)?;
-    word.extend_from_slice(&line)?;
+    word.extend_from_slice(text)?;
     Ok(word)
 }
 
-/// The line of a literal in the pool of a number.
+/// Adds the line of a literal in the pool of a number.
 fn literal_line(
-    alloc: Global,
+    report: &mut Report,
     section: &[u8],
     used: &IndexMap<PoolText<'_>, BTreeSet<usize>>,
     pool: usize,
     text: &[u8],
     literal: Literal,
-) -> Result<Vec<u8>, AllocError>
-    ensures { IfOk result (λ line. line.items
-        ≡ literal_line section.now (lines_of_literal used.now.entries) pool (text.now, literal)) }
+) -> Result<(), AllocError>
+    ensures { let line = literal_line section.now (lines_of_literal used.now.entries) pool (text.now, literal) in
+        OnOk result (report.new ≡ report.old ++ line) }
 {
+    let alloc = report.alloc();
     let lines = lines_for(alloc, used, &PoolText { pool, text })?;
     let used = used_word(alloc, lines.as_slice())?;
     let bytes = bytes_word(alloc, literal_bytes(section, text, literal))?;
     let word = literal_word(alloc, text)?;
     let offset = hexadecimal::<6>((literal.offset % 0x100_0000) as u32);
-    look_line(alloc, &[b"XREF", b"LITERAL", &offset, &word, &bytes, &used])
+    report.line(&[b"XREF", b"LITERAL", &offset, &word, &bytes, &used])
 }
 
 /// Adds the line of a literal of the pool of a number, if the pool has that many.
-fn push_literal(
-    alloc: Global,
-    lines: &mut Vec<u8>,
+fn literal_at(
+    report: &mut Report,
     section: &[u8],
     used: &IndexMap<PoolText<'_>, BTreeSet<usize>>,
     number: usize,
@@ -195,47 +181,44 @@ fn push_literal(
     index: usize,
 ) -> Result<(), AllocError>
     ensures { let line = literal_line section.now (lines_of_literal used.now.entries) number in
-        OnOk result (lines.new.items ≡ lines.old.items ++ option_map_or line (slice_get pool.now index) []) }
+        OnOk result (report.new ≡ report.old ++ option_map_or line (slice_get pool.now index) []) }
 {
     let Some((text, literal)) = pool.literal(index) else {
         return Ok(());
     };
-    lines.extend_from_slice(&literal_line(alloc, section, used, number, text, literal)?)?;
-    Ok(())
+    literal_line(report, section, used, number, text, literal)
 }
 
 /// Adds the lines of the literals of the pool of a number.
 #[tactic(auto, using(crate::proofs::PoolLemmas::one_more))]
-fn push_pool(
-    alloc: Global,
-    lines: &mut Vec<u8>,
+fn pool_lines(
+    report: &mut Report,
     section: &[u8],
     used: &IndexMap<PoolText<'_>, BTreeSet<usize>>,
     number: usize,
     pool: &Pool<'_>,
 ) -> Result<(), AllocError>
-    ensures { OnOk result (lines.new.items
-        ≡ lines.old.items ++ flat_map (literal_line section.now (lines_of_literal used.now.entries) number) pool.now) }
+    ensures { let line = literal_line section.now (lines_of_literal used.now.entries) number in
+        OnOk result (report.new ≡ report.old ++ flat_map line pool.now) }
 {
     for index in 0..pool.len() {
-        push_literal(alloc, lines, section, used, number, pool, index)?;
+        literal_at(report, section, used, number, pool, index)?;
     }
     Ok(())
 }
 
 /// Adds the lines of the literals of pools.
-fn push_pools(
-    alloc: Global,
-    lines: &mut Vec<u8>,
+fn literals_by(
+    report: &mut Report,
     section: &[u8],
     used: &IndexMap<PoolText<'_>, BTreeSet<usize>>,
     pools: &[Pool<'_>],
 ) -> Result<(), AllocError>
-    ensures { OnOk result (lines.new.items
-        ≡ lines.old.items ++ literals_from section.now (lines_of_literal used.now.entries) 0 pools.now) }
+    ensures { let more = literals_from section.now (lines_of_literal used.now.entries) 0 pools.now in
+        OnOk result (report.new ≡ report.old ++ more) }
 {
     for (number, pool) in pools.iter().enumerate() {
-        push_pool(alloc, lines, section, used, number, pool)?;
+        pool_lines(report, section, used, number, pool)?;
     }
     Ok(())
 }
@@ -244,17 +227,15 @@ fn push_pools(
 /// `section`, the literal, its bytes, and the lines of the statements that use it.
 ///
 /// An error comes only where memory for them was refused; then some of them may be there.
-pub fn push_literals(
-    alloc: Global,
-    lines: &mut Vec<u8>,
+pub fn literal_lines(
+    report: &mut Report,
     section: &[u8],
     statements: &[Statement<'_>],
     pools: &[Pool<'_>],
 ) -> Result<(), AllocError>
-    ensures { OnOk result (lines.new.items
-        ≡ lines.old.items ++ literals_from section.now (lines_with statements.now) 0 pools.now) }
+    ensures { let more = literals_from section.now (lines_with statements.now) 0 pools.now in
+        OnOk result (report.new ≡ report.old ++ more) }
 {
-    let used = lines_by_literal(alloc, statements)?;
-    push_pools(alloc, lines, section, &used, pools)?;
-    Ok(())
+    let used = lines_by_literal(report.alloc(), statements)?;
+    literals_by(report, section, &used, pools)
 }

@@ -5,7 +5,7 @@ ghost use Rattle.cx_look_xref.specs.Texts.{xref_text};
 
 use crate::all::xref_among;
 use cx_ebcdic::Name8;
-use cx_look_words::{or_none, written_name};
+use cx_look_words::{Report, written_name};
 use cx_source::Text;
 use std::alloc::{AllocError, Global};
 
@@ -23,12 +23,12 @@ fn xref_word(alloc: Global, program: Name8) -> Result<Vec<u8>, AllocError>
 /// letters before digits, with the number of the line that defines it, from 1, and the numbers of the lines whose statements use it,
 /// ascending, those made of an EXEC statement with that one's; NONE where the lines are no source without a fault.
 ///
-/// An error comes only where memory for the text was refused.
+/// An error comes only where memory for the report was refused.
 #[tactic(auto, unfolding(crate::specs::Texts::xref_text))]
-pub fn xref_text(alloc: Global, program: Name8, lines: &[Text]) -> Result<Vec<u8>, AllocError>
-    ensures { IfOk result (λ text. text.items ≡ xref_text program lines.now) }
+pub fn xref_text(alloc: Global, program: Name8, lines: &[Text]) -> Result<Report, AllocError>
+    ensures { IfOk result (λ report. report ≡ xref_text program lines.now) }
 {
-    let text = xref_among(alloc, lines)?;
+    let report = xref_among(alloc, lines)?;
     let word = xref_word(alloc, program)?;
-    or_none(alloc, &word, text)
+    report.or_none(&word)
 }

@@ -8,14 +8,13 @@ ghost use Rattle.cx_asm_pass1.specs.PassState.{parts_in};
 ghost use Rattle.cx_asm_pass2.specs.Statements.{operation_of};
 ghost use Rattle.cx_asm_pass2.specs.Whole.{directive_context, whole_by};
 ghost use Rattle.cx_look_xref.specs.Usings.{base_registers, ends_use, registers_named, use_end};
-ghost use Rattle.cx_look_xref.specs.Texts.{one_line, using_line, usings_from};
+ghost use Rattle.cx_look_xref.specs.Texts.{using_line, usings_from};
 
-use crate::literals::one_line;
 use cx_asm_expressions::{TermFault, Value, value_of};
 use cx_asm_operations::{Directive, Operation};
 use cx_asm_pass1::Places;
 use cx_asm_pass2::{Statement, counter_of};
-use cx_look_words::{decimal, look_line};
+use cx_look_words::{Report, decimal};
 use cx_source::{Delimiter, cut};
 use std::alloc::{AllocError, Global};
 
@@ -170,8 +169,7 @@ fn use_end(
 
 /// The first operand of a statement.
 fn first_operand(alloc: Global, statement: &Statement<'_>) -> Result<Vec<u8>, AllocError>
-    ensures { IfOk result (λ text. text.items
-        ≡ one_line (unwrap_or (slice_get (parts_in statement.now.stmt) 0) [])) }
+    ensures { IfOk result (λ text. text.items ≡ unwrap_or (slice_get (parts_in statement.now.stmt) 0) []) }
 {
     let parts = cut(
         alloc,
@@ -179,51 +177,48 @@ fn first_operand(alloc: Global, statement: &Statement<'_>) -> Result<Vec<u8>, Al
         Delimiter::TopComma,
     )?;
     match parts.as_slice().first() {
-        Some(part) => one_line(alloc, part),
+        Some(part) => part.to_vec(alloc),
         None => Ok(Vec::new(alloc)),
     }
 }
 
-/// The line of a base register that a USING names, by the statements after it.
+/// Adds the line of a base register that a USING names, by the statements after it.
 fn using_line(
-    alloc: Global,
+    report: &mut Report,
     places: &Places<'_>,
     last: usize,
     statement: &Statement<'_>,
     after: &[Statement<'_>],
     register: usize,
-) -> Result<Vec<u8>, AllocError>
-    ensures { IfOk result (λ line. line.items
-        ≡ using_line (whole_by places.now) last statement.now after.now register) }
+) -> Result<(), AllocError>
+    ensures { let line = using_line (whole_by places.now) last statement.now after.now register in
+        OnOk result (report.new ≡ report.old ++ line) }
 {
+    let alloc = report.alloc();
     let end = use_end(alloc, places, last, register, after)?;
     let place = first_operand(alloc, statement)?;
     let register = decimal(alloc, register)?;
     let from = decimal(alloc, statement.line())?;
     let to = decimal(alloc, end)?;
-    look_line(
-        alloc,
-        &[
-            b"XREF", b"USING", &register, b"FROM", &from, b"TO", &to, &place,
-        ],
-    )
+    report.line(&[
+        b"XREF", b"USING", &register, b"FROM", &from, b"TO", &to, &place,
+    ])
 }
 
 /// Adds the lines of base registers that a USING names, by the statements after it.
-fn push_registers(
-    alloc: Global,
-    lines: &mut Vec<u8>,
+fn register_lines(
+    report: &mut Report,
     places: &Places<'_>,
     last: usize,
     statement: &Statement<'_>,
     after: &[Statement<'_>],
     registers: &[usize],
 ) -> Result<(), AllocError>
-    ensures { OnOk result (lines.new.items ≡ lines.old.items
-        ++ flat_map (using_line (whole_by places.now) last statement.now after.now) registers.now) }
+    ensures { let line = using_line (whole_by places.now) last statement.now after.now in
+        OnOk result (report.new ≡ report.old ++ flat_map line registers.now) }
 {
     for register in registers {
-        lines.extend_from_slice(&using_line(alloc, places, last, statement, after, *register)?)?;
+        using_line(report, places, last, statement, after, *register)?;
     }
     Ok(())
 }
@@ -232,28 +227,19 @@ fn push_registers(
 /// of its use, `last` where no statement ends it, and the place as the USING writes it.
 ///
 /// An error comes only where memory for them was refused; then some of them may be there.
-pub fn push_usings(
-    alloc: Global,
-    lines: &mut Vec<u8>,
+pub fn using_lines(
+    report: &mut Report,
     places: &Places<'_>,
     last: usize,
     statements: &[Statement<'_>],
 ) -> Result<(), AllocError>
     ensures { let more = usings_from (whole_by places.now) last statements.now in
-        OnOk result (lines.new.items ≡ lines.old.items ++ more) }
+        OnOk result (report.new ≡ report.old ++ more) }
 {
     for (i, statement) in statements.iter().enumerate() {
         let (_, after) = statements.split_at(i + 1);
-        let registers = base_registers(alloc, places, statement)?;
-        push_registers(
-            alloc,
-            lines,
-            places,
-            last,
-            statement,
-            after,
-            registers.as_slice(),
-        )?;
+        let registers = base_registers(report.alloc(), places, statement)?;
+        register_lines(report, places, last, statement, after, registers.as_slice())?;
     }
     Ok(())
 }

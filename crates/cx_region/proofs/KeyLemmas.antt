@@ -5,12 +5,11 @@ use Rattle.std.specs.Option.{option_map_or}
 use Rattle.std.specs.Map.{lookup, set_value}
 use Rattle.cx_storage.specs.Storage.{Storage, IsSound as IsSoundStorage}
 use Rattle.cx_load.specs.declared.program.Loaded.{Loaded}
-use Rattle.cx_base_commands.specs.Eib.{eib_len}
 use Rattle.cx_region_call.specs.Eib.{Content, fields_at_attach}
 use Rattle.cx_ebcdic.specs.declared.aids.Aid.{Aid}
 use Rattle.cx_ebcdic.specs.Aids.{key_of}
 use Rattle.cx_region_state.specs.declared.verdict.NewLevel.{NewLevel}
-use Rattle.cx_region_state.specs.Areas.{IsTaskPlace, system_owner}
+use Rattle.cx_region_state.specs.Areas.{system_owner}
 use Rattle.cx_region_state.specs.State.{Input, SharedState, TaskState}
 use Rattle.cx_region.specs.declared.asking.Asked.TheVariants.{Answer}
 use Rattle.cx_region.specs.declared.asking.Start.{Start}
@@ -23,7 +22,7 @@ use Rattle.cx_region.specs.Attach.{ArePlaced, AttachesTask, Attaches, Gives, Has
 use Rattle.cx_region.specs.declared.asking.Places.{Places}
 use Rattle.cx_region.specs.Parts.Asking.{KeyTakesMemory, asked, asked_at, input_asked, level_of, start_asked, start_of, task_of_start}
 use Rattle.cx_region.specs.declared.attach.StartFault.{StartFault}
-use Rattle.cx_region.specs.Parts.Placing.{AreFaultsOf, IsReady}
+use Rattle.cx_region.specs.Parts.Placing.{AreFaultsOf, HasNoPlacesFor, IsReady}
 use Rattle.cx_region.specs.Sound.{IsSound}
 use Rattle.cx_region.specs.Facts.SoundAttach.{Giving, Starting, of_found, of_none, of_some, sound_attached, sound_given}
 
@@ -87,13 +86,16 @@ keyed_start r new name input start starting reply h =
     (transaction_of r start.tran) start.program starting.defined
     (of_some _ (λ loaded. Attaches r name starting.terminal input start.tran start.program loaded reply new) (program_of r start.program) start.loaded starting.program h))))
 
-pub start_grows : (r : RegionState) (name bytes : List ℕ) (start : Start) → Starting r name bytes start → (IsTaskPlace r.storage eib_len None → ⊥) → KeyTakesMemory r name bytes
+pub start_grows : (r : RegionState) (name bytes : List ℕ) (start : Start) → Starting r name bytes start → (HasNoPlacesFor r.storage start → ⊥) → KeyTakesMemory r name bytes
 unfolding KeyTakesMemory
 start_grows r name bytes start starting h =
+    let due : HasNoPlaces r.storage (system_owner starting.terminal.slot) (length (commarea_kept starting.terminal.following)) start.loaded.stg_len → ⊥ =
+    λ none. h (rw (starting.slot, starting.calen) none) in
     rw starting.there
     (of_none _ (λ task. starting.terminal.input ≡ None) starting.terminal.task starting.idle
-    (subst (λ (tran : List ℕ). IsSomeAnd (option_and_then (program_of r) (transaction_of r tran)) (λ loaded. IsTaskPlace r.storage eib_len None → ⊥)) starting.tran
-    (rw (starting.defined, starting.program) h)))
+    (subst (λ (tran : List ℕ). IsSomeAnd (option_and_then (program_of r) (transaction_of r tran))
+    (λ loaded. HasNoPlaces r.storage (system_owner starting.terminal.slot) (length (commarea_kept starting.terminal.following)) loaded.stg_len → ⊥)) starting.tran
+    (rw (starting.defined, starting.program) due)))
 
 pub no_places : (r : RegionState) (name bytes : List ℕ) (start : Start) (starting : Starting r name bytes start) → HasNoPlaces r.storage (system_owner start.slot) start.calen start.loaded.stg_len
     → HasNoPlaces r.storage (system_owner starting.terminal.slot) (length (commarea_kept starting.terminal.following)) start.loaded.stg_len

@@ -1,4 +1,5 @@
 pub mod FreshLemmas
+pub mod BesideLemmas
 pub mod PlacingLemmas
 pub mod TurnLemmas
 pub mod KeyLemmas

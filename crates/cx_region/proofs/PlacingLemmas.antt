@@ -1,6 +1,6 @@
 -- Placing a task's areas one after another.
-use Rattle.std.proofs.Common.{◌≡◌, ℕ, false, Option, Some, None, refl, sym, ◌∙◌, ap, subst}
-use Rattle.std.specs.Prelude.{◌==◌}
+use Rattle.std.proofs.Common.{◌≡◌, ◌<◌, ◌+◌, ◌^◌, ℕ, false, Option, Some, None, is_some, refl, sym, ◌∙◌, ap, subst, arith}
+use Rattle.std.specs.Prelude.{◌==◌, MatchBool}
 use Rattle.std.proofs.lemmas.Option.{none-some, same_Some}
 use Rattle.std.proofs.lemmas.Bool.{true≢false, eq-eqb}
 use Rattle.cx_storage.specs.declared.areas.Owner.{Owner}
@@ -9,12 +9,13 @@ use Rattle.cx_storage.specs.Facts.Places.{place_decides}
 use Rattle.cx_region.specs.declared.asking.Start.{Start}
 use Rattle.cx_region.specs.declared.attach.StartFault.{StartFault}
 use Rattle.cx_region.specs.declared.attach.StartFault.TheVariants.{Memory, NoStorage}
-use Rattle.cx_region.specs.Parts.Placing.{AreFaultsOf, IsCopyFault, IsPlaceFault, IsSlotFree}
+use Rattle.cx_region.specs.Parts.Placing.{IsCopyFault, IsPlaceFault, IsSlotFree, MayBeFaultsOf}
 use Rattle.cx_base_commands.specs.Eib.{eib_len}
 use Rattle.cx_region_state.specs.Areas.{IsTaskPlace, first_of_tasks, last_of_tasks, system_owner}
-use Rattle.cx_region.specs.Attach.{ArePlaced, HasNoPlaces, IsCopyPlace, with_eib_area, with_kept_area, with_task_areas}
+use Rattle.cx_region.specs.Attach.{HasNoPlaces, IsCopyPlace, with_eib_area, with_kept_area, with_task_areas}
 use Rattle.cx_region.specs.declared.asking.Places.{Places}
 use Rattle.cx_region_state.specs.Facts.Areas.{freed_put, kept_all}
+use Rattle.cx_region.proofs.BesideLemmas.{place_from, place_to}
 
 -- no area is put in where there is no place
 pub no_area : (s : Storage) (len : ℕ) (owner : Owner) → with_area s None len owner ≡ s
@@ -74,19 +75,19 @@ freed_one s slot len (Some a) = freed_put (is_of_other_slot slot) s a len (syste
 
 -- ---- an error on the way
 pub copy_fault : (s t : Storage) (start : Start) (eib : ℕ) (fault : StartFault) → IsTaskPlace s eib_len (Some eib) → t ≡ with_eib_area s (system_owner start.slot) eib
-    → IsCopyFault t start.calen fault → AreFaultsOf s start fault
+    → IsCopyFault t start.calen fault → MayBeFaultsOf s start fault
 copy_fault s t start eib NoStorage at is none =
     none_for_copy s (system_owner start.slot) start.calen start.loaded.stg_len eib at none.0 (subst (λ (u : Storage). IsTaskPlace u start.calen None) is none.1)
-copy_fault s t start eib (Memory refused) at is none = λ nowhere. not_both s eib_len eib nowhere at
+copy_fault s t start eib (Memory refused) at is none = tt
 
 pub stg_fault : (s t u : Storage) (start : Start) (eib : ℕ) (copy : Option ℕ) (fault : StartFault) → IsTaskPlace s eib_len (Some eib) → t ≡ with_eib_area s (system_owner start.slot) eib
-    → IsCopyPlace t start.calen copy → u ≡ with_area t copy start.calen (system_owner start.slot) → IsPlaceFault u start.loaded.stg_len fault → AreFaultsOf s start fault
+    → IsCopyPlace t start.calen copy → u ≡ with_area t copy start.calen (system_owner start.slot) → IsPlaceFault u start.loaded.stg_len fault → MayBeFaultsOf s start fault
 stg_fault s t u start eib copy NoStorage at is copied is_next none =
     let owner = system_owner start.slot in
     let there : IsCopyPlace (with_eib_area s owner eib) start.calen copy = subst (λ (v : Storage). IsCopyPlace v start.calen copy) is copied in
     let next : u ≡ with_kept_area s owner start.calen eib copy = is_next ∙ ap (λ (v : Storage). with_area v copy start.calen owner) is in
     none_for_stg s owner start.calen start.loaded.stg_len eib copy at there (subst (λ (v : Storage). IsTaskPlace v start.loaded.stg_len None) next none)
-stg_fault s t u start eib copy (Memory refused) at is copied is_next none = λ nowhere. not_both s eib_len eib nowhere at
+stg_fault s t u start eib copy (Memory refused) at is copied is_next none = tt
 
 pub freed_two : (s t : Storage) (slot len : ℕ) (place : Option ℕ) → t ≡ with_area s place len (system_owner slot)
     → with_areas_kept (is_of_other_slot slot) t ≡ with_areas_kept (is_of_other_slot slot) s
@@ -106,5 +107,26 @@ given_back_areas s t u slot len stg_len places free is_given is =
     ∙ freed_one s slot eib_len (Some places.eib) in
     given_back s t u slot free same is
 
-pub eib_placed : (s : Storage) (owner : Owner) (len stg_len : ℕ) (places : Places) → ArePlaced s owner len stg_len places → IsTaskPlace s eib_len None → ⊥
-eib_placed s owner len stg_len places placed none = not_both s eib_len places.eib none placed.eib
+-- places for all of the areas
+places_there : (s : Storage) (owner : Owner) (len stg_len eib stg : ℕ) (copy : Option ℕ) → IsTaskPlace s eib_len (Some eib) → IsCopyPlace (with_eib_area s owner eib) len copy
+    → IsTaskPlace (with_kept_area s owner len eib copy) stg_len (Some stg) → HasNoPlaces s owner len stg_len → ⊥
+places_there s owner len stg_len eib stg copy at copied placed nowhere =
+    nowhere.none (record { eib = eib; commarea = copy; stg = stg }) (record { eib = at; commarea = copied; stg = placed })
+
+-- with places for the areas before it, the place of DFHEISTG decides; and without a COMMAREA
+pub stg_decides : (s : Storage) (owner : Owner) (len stg_len eib : ℕ) (copy stg : Option ℕ) → IsTaskPlace s eib_len (Some eib) → IsCopyPlace (with_eib_area s owner eib) len copy
+    → IsTaskPlace (with_kept_area s owner len eib copy) stg_len stg → MatchBool (is_some stg) (HasNoPlaces s owner len stg_len → ⊥) (HasNoPlaces s owner len stg_len)
+stg_decides s owner len stg_len eib copy None at copied placed = none_for_stg s owner len stg_len eib copy at copied placed
+stg_decides s owner len stg_len eib copy (Some stg) at copied placed = places_there s owner len stg_len eib stg copy at copied placed
+
+pub stg_decides_alone : (s : Storage) (owner : Owner) (len stg_len eib : ℕ) (stg : Option ℕ) → IsTaskPlace s eib_len (Some eib) → len ≡ 0
+    → IsTaskPlace (with_eib_area s owner eib) stg_len stg → MatchBool (is_some stg) (HasNoPlaces s owner len stg_len → ⊥) (HasNoPlaces s owner len stg_len)
+stg_decides_alone s owner len stg_len eib stg at nothing placed =
+    stg_decides s owner len stg_len eib None stg at nothing (subst (λ (t : Storage). IsTaskPlace t stg_len stg) (sym (no_area (with_eib_area s owner eib) len owner)) placed)
+
+-- where an area is placed
+pub placed_high : (s : Storage) (len a : ℕ) → IsTaskPlace s len (Some a) → 0 < a
+placed_high s len a p = omega (arith, place_from s first_of_tasks last_of_tasks len a p)
+
+pub placed_below : (s : Storage) (len a : ℕ) → IsTaskPlace s len (Some a) → a + len < 2 ^ 32
+placed_below s len a p = omega (arith, place_to s first_of_tasks last_of_tasks len a p)

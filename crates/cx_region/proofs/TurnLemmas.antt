@@ -1,4 +1,4 @@
--- A turn by the parts that change, and what it keeps. What is answered is a reply, or a reply with more beside it.
+-- A turn by the parts that change, and what it keeps.
 use Rattle.std.proofs.Common.{◌≡◌, ℕ, Option, Some, None, List, refl, sym, ◌∙◌, ap, subst}
 use Rattle.std.specs.Prelude.{if◌then◌else◌, IfOk, OnErr, MatchOption, Result, Ok, Err}
 use Rattle.std.specs.Map.{lookup, set_value}
@@ -11,12 +11,11 @@ use Rattle.cx_region_state.specs.declared.replies.TurnReply.TheVariants as turn
 use Rattle.cx_region_state.specs.Replies.{is_over}
 use Rattle.cx_region_state.specs.State.{SharedState, TerminalEntryState, TaskState, context}
 use Rattle.cx_region_task.specs.Laws.HalfTurns.{HalfTurnsKeep}
-use Rattle.cx_region_task.specs.Turn.{HalfTurn}
+use Rattle.cx_region_task.specs.Turn.{HalfTurnWith}
 use Rattle.cx_region_task.specs.declared.cause.AbendRecord.{AbendRecord}
 use Rattle.cx_region.specs.State.{RegionState, TerminalState, shared_of, terminal_with}
 use Rattle.cx_ebcdic.specs.Names.{is_name}
-use Rattle.cx_region.specs.Causes.{TurnHasAbendRecord}
-use Rattle.cx_region.specs.Turn.{TaskTakesTurn, TakesTurn}
+use Rattle.cx_region.specs.Turn.{TaskTakesTurn, TakesTurn, TurnHasAbendRecord}
 use Rattle.cx_region.specs.declared.replies.Event.TheVariants as event
 use Rattle.cx_region.specs.Events.{MayTakeMemory}
 use Rattle.cx_region.specs.Parts.Turning.{TakesMemoryAt, PartIdle, PartTurned, Terminals, HasAbendRecordAt, TurnedAt}
@@ -55,44 +54,53 @@ turned_whole r name t left reply shared later puts turned = rw puts.0 (by_task t
         record { reached = done.reached; half_turn = done.half_turn; after = rw (done.shared_is, puts.1, done.terminal_is) refl }
 
 -- ---- the terminal itself
-pub turned_on : (shared after : SharedState) (t : TerminalState) (terminal_entry left : TerminalEntryState) (task final : TaskState) (kept : Option TaskState) (reply : TurnReply)
-    → terminal_with terminal_entry (Some task) ≡ t → HalfTurn (context shared terminal_entry task) reply (context after left final) → kept ≡ (if is_over reply then None else Some final)
+pub turned_on : (shared after : SharedState) (t : TerminalState) (terminal_entry left : TerminalEntryState) (task final : TaskState) (kept : Option TaskState) (reply : TurnReply) (abend_record : Option AbendRecord)
+    → terminal_with terminal_entry (Some task) ≡ t → HalfTurnWith (context shared terminal_entry task) reply abend_record (context after left final) → kept ≡ (if is_over reply then None else Some final)
     → TurnedAt shared t reply after (terminal_with left kept)
 unfolding TurnedAt
-turned_on shared after t terminal_entry left task final kept reply e turned is =
+turned_on shared after t terminal_entry left task final kept reply abend_record e turned is =
     subst (λ (k : TerminalState). TurnedAt shared k reply after (terminal_with left kept)) e
-    (record { reached = context after left final; half_turn = turned; shared_is = refl; terminal_is = ap (terminal_with left) is })
+    (record { reached = context after left final; half_turn = record { abend_record = abend_record; turns = turned }; shared_is = refl; terminal_is = ap (terminal_with left) is })
 
--- ---- either way of a turn
-pub sound_turn : {A E : Type 0} (reply_in : A → TurnReply) (law : HalfTurnsKeep) (r : RegionState) (name : List ℕ) (t left : TerminalState) (result : Result A E) (shared : SharedState) (later : Terminals)
+pub recorded_on : (shared after : SharedState) (t : TerminalState) (terminal_entry left : TerminalEntryState) (task final : TaskState) (reply : TurnReply) (abend_record : Option AbendRecord)
+    → terminal_with terminal_entry (Some task) ≡ t → HalfTurnWith (context shared terminal_entry task) reply abend_record (context after left final) → HasAbendRecordAt shared t abend_record
+unfolding HasAbendRecordAt
+recorded_on shared after t terminal_entry left task final reply abend_record e turned =
+    subst (λ (k : TerminalState). HasAbendRecordAt shared k abend_record) e (record { reply = reply; after = context after left final; turns = turned })
+
+-- ---- the whole region
+abbrev Answered : Type 0 → Type 0
+Answered E = Result (TurnReply × Option AbendRecord) E
+
+pub sound_turn : {E : Type 0} (law : HalfTurnsKeep) (r : RegionState) (name : List ℕ) (t left : TerminalState) (result : Answered E) (shared : SharedState) (later : Terminals)
     → Puts r name t left later → IsSound r
-    → IfOk result (λ a. TurnedAt (shared_of r) t (reply_in a) shared left) → OnErr result ((shared ≡ shared_of r) × (left ≡ t))
+    → IfOk result (λ a. TurnedAt (shared_of r) t a.0 shared left) → OnErr result ((shared ≡ shared_of r) × (left ≡ t))
     → IsSoundStorage shared.storage → AreSoundQueues shared.queues → AreSoundResources shared.resources → IsSound (with_parts r shared later)
-sound_turn reply_in law r name t left (Ok a) shared later puts ok turned err storage queues resources =
-    sound_turned law r (with_parts r shared later) name (reply_in a) ok (turned_whole r name t left (reply_in a) shared later puts turned) storage queues resources
-sound_turn reply_in law r name t left (Err e) shared later puts ok turned err storage queues resources =
+sound_turn law r name t left (Ok a) shared later puts ok turned err storage queues resources =
+    sound_turned law r (with_parts r shared later) name a.0 ok (turned_whole r name t left a.0 shared later puts turned) storage queues resources
+sound_turn law r name t left (Err e) shared later puts ok turned err storage queues resources =
     subst IsSound (sym (put_same r name t left shared later puts err.0 err.1)) ok
 
-pub turned_seen : {A E : Type 0} (reply_in : A → TurnReply) (r v : RegionState) (name : List ℕ) (t left : TerminalState) (result : Result A E) (shared : SharedState) (later : Terminals)
+pub turned_seen : {E : Type 0} (r v : RegionState) (name : List ℕ) (t left : TerminalState) (result : Answered E) (shared : SharedState) (later : Terminals)
     → Puts r name t left later → r ≡ v
-    → IfOk result (λ a. TurnedAt (shared_of r) t (reply_in a) shared left) → IfOk result (λ a. TakesTurn v name (reply_in a) (with_parts r shared later))
-turned_seen reply_in r v name t left (Ok a) shared later puts e turned =
-    subst (λ (k : RegionState). TakesTurn k name (reply_in a) (with_parts r shared later)) e (turned_whole r name t left (reply_in a) shared later puts turned)
-turned_seen reply_in r v name t left (Err refused) shared later puts e turned = tt
+    → IfOk result (λ a. TurnedAt (shared_of r) t a.0 shared left) → IfOk result (λ a. TakesTurn v name a.0 (with_parts r shared later))
+turned_seen r v name t left (Ok a) shared later puts e turned =
+    subst (λ (k : RegionState). TakesTurn k name a.0 (with_parts r shared later)) e (turned_whole r name t left a.0 shared later puts turned)
+turned_seen r v name t left (Err refused) shared later puts e turned = tt
 
-pub abend_record_seen : {E : Type 0} (r v : RegionState) (name : List ℕ) (t : TerminalState) (result : Result (TurnReply × Option AbendRecord) E) → lookup (is_name name) r.terminals ≡ Some t → r ≡ v
+pub abend_record_seen : {E : Type 0} (r v : RegionState) (name : List ℕ) (t : TerminalState) (result : Answered E) → lookup (is_name name) r.terminals ≡ Some t → r ≡ v
     → IfOk result (λ both. HasAbendRecordAt (shared_of r) t both.1) → IfOk result (λ both. TurnHasAbendRecord v name both.1)
 unfolding TurnHasAbendRecord HasAbendRecordAt
 abend_record_seen r v name t (Ok both) there e abend_record = rw (← e) (rw there abend_record)
 abend_record_seen r v name t (Err refused) there e abend_record = tt
 
-pub memory_seen : {A E : Type 0} (r v : RegionState) (name : List ℕ) (t : TerminalState) (result : Result A E) → lookup (is_name name) r.terminals ≡ Some t → r ≡ v
+pub memory_seen : {E : Type 0} (r v : RegionState) (name : List ℕ) (t : TerminalState) (result : Answered E) → lookup (is_name name) r.terminals ≡ Some t → r ≡ v
     → OnErr result (TakesMemoryAt (shared_of r) t) → OnErr result (MayTakeMemory v (event.Turn name))
 unfolding MayTakeMemory TakesMemoryAt
 memory_seen r v name t (Ok a) there e grows = tt
 memory_seen r v name t (Err refused) there e grows = rw (← e) (rw there grows)
 
-pub same_seen : {A E : Type 0} (r v : RegionState) (name : List ℕ) (t left : TerminalState) (result : Result A E) (shared : SharedState) (later : Terminals)
+pub same_seen : {E : Type 0} (r v : RegionState) (name : List ℕ) (t left : TerminalState) (result : Answered E) (shared : SharedState) (later : Terminals)
     → Puts r name t left later → r ≡ v → OnErr result ((shared ≡ shared_of r) × (left ≡ t)) → OnErr result (with_parts r shared later ≡ v)
 same_seen r v name t left (Ok a) shared later puts e h = tt
 same_seen r v name t left (Err refused) shared later puts e h = put_same r name t left shared later puts h.0 h.1 ∙ e

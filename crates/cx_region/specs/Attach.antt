@@ -73,6 +73,11 @@ pub record ArePlaced (storage : Storage) (owner : Owner) (len stg_len : ℕ) (ar
 pub record HasNoPlaces (storage : Storage) (owner : Owner) (len stg_len : ℕ) : Type 0 where
   pub none : (areas : Places) → ArePlaced storage owner len stg_len areas → ⊥
 
+-- of a terminal's task of a program
+abbrev pub HasNoTaskPlaces : RegionState → TerminalState → Loaded → Type 0
+HasNoTaskPlaces region terminal loaded =
+    HasNoPlaces region.storage (system_owner terminal.slot) (length (commarea_kept terminal.following)) loaded.stg_len
+
 -- ---- the task
 -- the level with which a task begins: its program, where that is, the copy of its COMMAREA, and its DFHEISTG
 abbrev pub first_level : List ℕ → Loaded → ℕ → Places → NewLevel
@@ -138,8 +143,7 @@ pub record AttachesTask (old : RegionState) (name : List ℕ) (terminal : Termin
 -- a task is attached where there are places for its areas; else the answer is NoStorage, and all is as before
 abbrev pub Attaches : RegionState → List ℕ → TerminalState → Input → List ℕ → List ℕ → Loaded → KeyReply → RegionState → Type 0
 Attaches old name terminal input tran program loaded key.Attached new = AttachesTask old name terminal input tran program loaded new
-Attaches old name terminal input tran program loaded key.NoStorage new =
-    HasNoPlaces old.storage (system_owner terminal.slot) (length (commarea_kept terminal.following)) loaded.stg_len × (new ≡ old)
+Attaches old name terminal input tran program loaded key.NoStorage new = HasNoTaskPlaces old terminal loaded × (new ≡ old)
 Attaches old name terminal input tran program loaded _ new = ⊥
 
 -- the answer, with which all is as before

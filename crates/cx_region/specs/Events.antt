@@ -5,14 +5,12 @@ use Rattle.cx_region.specs.declared.replies.Event.{Event}
 use Rattle.cx_region.specs.declared.replies.Event.TheVariants as event
 use Rattle.cx_region.specs.declared.replies.Reply.{Reply}
 use Rattle.cx_region.specs.declared.replies.Reply.TheVariants as reply
-use Rattle.cx_base_commands.specs.Eib.{eib_len}
 use Rattle.cx_load.specs.Program.{IsProgramPlace}
-use Rattle.cx_region_state.specs.Areas.{IsTaskPlace}
 use Rattle.cx_region_task.specs.Turn.{TakesMemory}
 use Rattle.cx_region.specs.State.{RegionState}
 use Rattle.cx_region.specs.Tables.{program_of, terminal_of, transaction_of}
 use Rattle.cx_region.specs.Defining.{DefinesProgram, DefinesTransaction, DefinesTerminal, program_fault, transaction_fault, terminal_fault}
-use Rattle.cx_region.specs.Attach.{TakesKey, input_from, transaction_named}
+use Rattle.cx_region.specs.Attach.{HasNoTaskPlaces, TakesKey, input_from, transaction_named}
 use Rattle.cx_region.specs.Turn.{TakesTurn, context_of}
 use Rattle.cx_region.specs.Alter.{Alters, IsAllowedChange}
 
@@ -34,8 +32,8 @@ Run old (event ∷ events) (reply ∷ replies) new = (between : RegionState) × 
 Run old _ _ new = ⊥
 
 -- An event may take memory: a definition only where no refusal meets it, and a program only where storage has a place for it;
--- a key where it holds an input and none is held, or starts a task, whose transaction's program is defined and whose EIB has a
--- place; a turn where the terminal's task may take some; a clock and an alteration never.
+-- a key where it holds an input and none is held, or starts a task, whose transaction's program is defined and whose areas have
+-- places; a turn where the terminal's task may take some; a clock and an alteration never.
 unfoldable pub MayTakeMemory : RegionState → Event → Type 0
 MayTakeMemory region (event.Program name image) = (program_fault region name ≡ None) × (IsProgramPlace region.storage (length image.text) None → ⊥)
 MayTakeMemory region (event.Transaction tran program) = transaction_fault region tran program ≡ None
@@ -44,7 +42,7 @@ MayTakeMemory region (event.Key name aid bytes) =
     IsSomeAnd (terminal_of region name) (λ terminal.
     let tran = transaction_named terminal.following (input_from aid bytes).bytes in
     MatchOption terminal.task
-    (IsSomeAnd (option_and_then (program_of region) (transaction_of region tran)) (λ loaded. IsTaskPlace region.storage eib_len None → ⊥))
+    (IsSomeAnd (option_and_then (program_of region) (transaction_of region tran)) (λ loaded. HasNoTaskPlaces region terminal loaded → ⊥))
     (λ task. terminal.input ≡ None))
 MayTakeMemory region (event.Turn name) =
     IsSomeAnd (terminal_of region name) (λ terminal. IsSomeAnd terminal.task (λ task. TakesMemory (context_of region terminal task)))

@@ -4,7 +4,6 @@ pub mod Tables
 pub mod Defining
 pub mod Attach
 pub mod Turn
-pub mod Causes
 pub mod Alter
 pub mod Events
 pub mod Replies

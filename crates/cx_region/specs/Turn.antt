@@ -4,7 +4,8 @@ use Rattle.cx_region_state.specs.declared.replies.TurnReply.{TurnReply}
 use Rattle.cx_region_state.specs.declared.replies.TurnReply.TheVariants as turn
 use Rattle.cx_region_state.specs.Replies.{is_over}
 use Rattle.cx_region_state.specs.State.{TaskContext, TaskState, context}
-use Rattle.cx_region_task.specs.Turn.{HalfTurn}
+use Rattle.cx_region_task.specs.declared.cause.AbendRecord.{AbendRecord}
+use Rattle.cx_region_task.specs.Turn.{HalfTurn, HasAbendRecord}
 use Rattle.cx_region.specs.State.{RegionState, TerminalState, shared_of, terminal_entry_of, terminal_with}
 use Rattle.cx_region.specs.Tables.{terminal_of, with_terminal}
 
@@ -38,3 +39,9 @@ unfoldable pub TakesTurn : RegionState → List ℕ → TurnReply → RegionStat
 TakesTurn old name reply new =
     MatchOption (terminal_of old name) ((reply ≡ turn.NoSuchTerminal) × (new ≡ old)) (λ terminal.
     MatchOption terminal.task ((reply ≡ turn.Idle) × (new ≡ old)) (λ task. TaskTakesTurn old name terminal task reply new))
+
+-- the record of an abend to which it leads: that of its task's half-turn; without a task, or a terminal, there is none
+unfoldable pub TurnHasAbendRecord : RegionState → List ℕ → Option AbendRecord → Type 0
+TurnHasAbendRecord old name abend_record =
+    MatchOption (terminal_of old name) (abend_record ≡ None)
+    (λ terminal. MatchOption terminal.task (abend_record ≡ None) (λ task. HasAbendRecord (context_of old terminal task) abend_record))

@@ -1,17 +1,19 @@
 //! A key of a terminal: a task is attached, or the input is held for the one that is there.
-ghost use Rattle.std.specs.Prelude.{◌≡◌, ◌≢◌, ◌<◌, ◌≤◌, ◌+◌, ◌^◌, ◌==◌, ⊤, false, if◌then◌else◌, [], None, Some, length, unwrap_or, IfOk, IfErr, OnOk, OnErr, IfSome, position, MatchOption};
+ghost use Rattle.std.specs.Prelude.{◌≡◌, ◌≢◌, ◌<◌, ◌≤◌, ◌+◌, ◌^◌, ◌==◌, ⊤, false, if◌then◌else◌, [], None, Some, length, unwrap_or, IfOk, IfErr, OnOk, OnErr, IfSome, position, MatchBool, MatchOption};
 ghost use Rattle.std.specs.List.{AllByRecursion};
 ghost use Rattle.std.specs.Option.{option_copied, option_map};
 ghost use Rattle.std.specs.Map.{lookup, set_value};
 ghost use Rattle.cx_ebcdic.specs.Names.{is_name, pad};
 ghost use Rattle.cx_storage.specs.Storage.{IsSound as IsSoundStorage, is_of_other_slot, with_area, with_areas_kept};
+ghost use Rattle.cx_storage.specs.Place.{IsLeastPlace};
+ghost use Rattle.cx_base_commands.specs.Eib.{eib_len};
 ghost use Rattle.cx_region_call.specs.Eib.{fields_at_attach};
 ghost use Rattle.cx_region_state.specs.Areas.{IsSoundProgram, IsTaskPlace, system_owner};
 ghost use Rattle.cx_region_state.specs.State.{TaskState};
 ghost use Rattle.cx_region.specs.Tables.{program_of, terminal_of, transaction_of};
 ghost use Rattle.cx_region.specs.Attach.{ArePlaced, IsCopyPlace, TakesKey, commarea_kept, eib_at_attach, with_areas_filled, first_word, fresh_task, input_from, next_number, sends_data, transaction_named, with_copy, with_task, with_task_areas};
 ghost use Rattle.cx_region.specs.Parts.Asking.{KeyTakesMemory, asked, asked_at, input_asked, level_of, start_asked, start_of, task_of_start};
-ghost use Rattle.cx_region.specs.Parts.Placing.{AreFaultsOf, ArePlacesBelow, IsCopyFault, IsPlaceFault, IsReady, IsSlotFree, input_of};
+ghost use Rattle.cx_region.specs.Parts.Placing.{AreFaultsOf, ArePlacesBelow, HasNoPlacesFor, IsCopyFault, IsPlaceFault, IsReady, IsSlotFree, MayBeFaultsOf, input_of};
 ghost use Rattle.cx_region.specs.Events.{MayTakeMemory};
 ghost use Rattle.cx_region.specs.declared.replies.Event.TheVariants as event;
 ghost use Rattle.cx_region.specs.Sound.{IsSound};
@@ -164,7 +166,7 @@ fn get_task_areas<S: Store>(store: &mut S, start: &Start) -> Result<Places, Star
         let made = with_task_areas (S.storage store.old) owner start.now.calen start.now.loaded.stg_len in
         IfOk result (λ places. S.storage store.new ≡ made places) }
     ensures addresses { IfOk result ArePlacesBelow }
-    ensures fault { IfErr result (AreFaultsOf (S.storage store.old) start.now) }
+    ensures fault { IfErr result (MayBeFaultsOf (S.storage store.old) start.now) }
     ensures others { OnErr result (with_areas_kept (is_of_other_slot start.now.slot) (S.storage store.new)
         ≡ with_areas_kept (is_of_other_slot start.now.slot) (S.storage store.old)) }
 {
@@ -194,7 +196,7 @@ fn place_task<S: Store>(store: &mut S, start: &Start) -> Result<Places, StartFau
         let made = with_task_areas (S.storage store.old) owner start.now.calen start.now.loaded.stg_len in
         IfOk result (λ places. S.storage store.new ≡ made places) }
     ensures addresses { IfOk result ArePlacesBelow }
-    ensures fault { IfErr result (AreFaultsOf (S.storage store.old) start.now) }
+    ensures fault { IfErr result (MayBeFaultsOf (S.storage store.old) start.now) }
     ensures err { OnErr result (S.storage store.new ≡ S.storage store.old) }
 {
     match get_task_areas(store, start) {
@@ -294,7 +296,132 @@ fn make_ready(
 }
 
 /// Makes the areas of a task, the task and its input; or nothing.
-#[tactic(auto, using(crate::proofs::PlacingLemmas::given_back_areas, crate::proofs::PlacingLemmas::eib_placed))]
+#[tactic(auto, using(crate::proofs::PlacingLemmas::given_back_areas))]
+fn try_prepare<S: Store>(
+    alloc: Global,
+    store: &mut S,
+    start: &Start,
+    number: u32,
+    aid: Aid,
+    bytes: &[u8],
+) -> Result<Ready, StartFault>
+    requires program { IsSoundProgram start.now.loaded }
+    requires free { IsSlotFree (S.storage store.old) start.now.slot }
+    requires few { length bytes.now ≤ 1920 }
+    ensures ready { let before = S.storage store.old in let after = S.storage store.new in
+        let input = input_of aid bytes.now in
+        IfOk result (λ it. IsReady before start.now number input it.places it.level it.task it.input after) }
+    ensures fault { IfErr result (MayBeFaultsOf (S.storage store.old) start.now) }
+    ensures err { OnErr result (S.storage store.new ≡ S.storage store.old) }
+{
+    let places = match place_task(store, start) {
+        Ok(places) => places,
+        Err(fault) => return Err(fault),
+    };
+    match make_ready(alloc, start, number, places, aid, bytes) {
+        Ok(ready) => Ok(ready),
+        Err(refused) => {
+            store.free_slot(start.slot);
+            Err(StartFault::Memory(refused))
+        }
+    }
+}
+
+/// The least place in a range, beside an area that isn't made.
+#[tactic(auto, using(crate::proofs::BesideLemmas::beside_low, crate::proofs::BesideLemmas::beside_high))]
+fn place_beside<S: Store>(
+    store: &S,
+    first: u32,
+    last: u32,
+    len: u32,
+    area: StorageSpan,
+) -> Option<u32>
+    requires last { last < 2 ^ 24 }
+    requires len { 0 < len }
+    requires start { 0 < area.place }
+    requires end { area.place + area.len < 2 ^ 32 }
+    ensures { (owner : _)
+        → IsLeastPlace (with_area (S.storage store.now) (Some area.place) area.len owner) first last len result }
+{
+    match store.place(first, last.min(area.place - 1), len) {
+        Some(place) => Some(place),
+        None => store.place(first.max(area.place + u32::from(area.len)), last, len),
+    }
+}
+
+/// The least place for a task's area, beside two areas that aren't made.
+#[tactic(auto, using(crate::proofs::BesideLemmas::beside_low, crate::proofs::BesideLemmas::beside_high))]
+fn place_beside_both<S: Store>(
+    store: &S,
+    len: u32,
+    area: StorageSpan,
+    other: StorageSpan,
+) -> Option<u32>
+    requires len { 0 < len }
+    requires start { 0 < area.place }
+    requires end { area.place + area.len < 2 ^ 32 }
+    requires other_start { 0 < other.place }
+    requires other_end { other.place + other.len < 2 ^ 32 }
+    ensures { (owner : _) → let made = with_area (S.storage store.now) (Some area.place) area.len owner in
+        IsTaskPlace (with_area made (Some other.place) other.len owner) len result }
+{
+    match place_beside(
+        store,
+        FIRST_OF_TASKS,
+        LAST_OF_TASKS.min(other.place - 1),
+        len,
+        area,
+    ) {
+        Some(place) => Some(place),
+        None => {
+            let first = FIRST_OF_TASKS.max(other.place + u32::from(other.len));
+            place_beside(store, first, LAST_OF_TASKS, len, area)
+        }
+    }
+}
+
+/// Whether there are places for the areas of a task whose EIB has this one, where none of them is made.
+#[tactic(auto, using(crate::proofs::PlacingLemmas::stg_decides, crate::proofs::PlacingLemmas::stg_decides_alone, crate::proofs::PlacingLemmas::none_for_copy, crate::proofs::PlacingLemmas::placed_high, crate::proofs::PlacingLemmas::placed_below))]
+fn has_places_beside<S: Store>(store: &S, start: &Start, eib: u32) -> bool
+    requires stg { 0 < start.now.loaded.stg_len }
+    requires eib { IsTaskPlace (S.storage store.now) eib_len (Some eib) }
+    ensures { let nowhere = HasNoPlacesFor (S.storage store.now) start.now in
+        MatchBool result (nowhere → ⊥) nowhere }
+{
+    let area = StorageSpan {
+        place: eib,
+        len: EIB_LEN as u16,
+    };
+    let stg_len = start.loaded.stg_len;
+    let len = start.calen;
+    if len == 0 {
+        return place_beside(store, FIRST_OF_TASKS, LAST_OF_TASKS, stg_len, area).is_some();
+    }
+    match place_beside(store, FIRST_OF_TASKS, LAST_OF_TASKS, u32::from(len), area) {
+        Some(place) => place_beside_both(
+            store,
+            stg_len,
+            area,
+            StorageSpan { place, len },
+        ).is_some(),
+        None => false,
+    }
+}
+
+/// Whether there are places for the areas of a task. It takes no memory.
+#[tactic(auto, using(crate::proofs::PlacingLemmas::none_for_eib))]
+fn has_places<S: Store>(store: &S, start: &Start) -> bool
+    requires { 0 < start.now.loaded.stg_len }
+    ensures { let nowhere = HasNoPlacesFor (S.storage store.now) start.now in
+        MatchBool result (nowhere → ⊥) nowhere }
+{
+    match store.place(FIRST_OF_TASKS, LAST_OF_TASKS, EIB_LEN) {
+        Some(eib) => has_places_beside(store, start, eib),
+        None => false,
+    }
+}
+
+/// Makes the areas of a task, the task and its input; or nothing. Where an allocation failed there were places for the areas.
 fn prepare_in<S: Store>(
     alloc: Global,
     store: &mut S,
@@ -312,16 +439,12 @@ fn prepare_in<S: Store>(
     ensures fault { IfErr result (AreFaultsOf (S.storage store.old) start.now) }
     ensures err { OnErr result (S.storage store.new ≡ S.storage store.old) }
 {
-    let places = match place_task(store, start) {
-        Ok(places) => places,
-        Err(fault) => return Err(fault),
-    };
-    match make_ready(alloc, start, number, places, aid, bytes) {
+    match try_prepare(alloc, store, start, number, aid, bytes) {
         Ok(ready) => Ok(ready),
-        Err(refused) => {
-            store.free_slot(start.slot);
+        Err(StartFault::Memory(refused)) if has_places(store, start) => {
             Err(StartFault::Memory(refused))
         }
+        Err(_) => Err(StartFault::NoStorage),
     }
 }
 
@@ -577,8 +700,8 @@ impl<S: Store + Drop> Region<S> {
     /// a task the input is held for it: Given; or AlreadyHeldInput. NoSuchTerminal where there is no such terminal. All
     /// answers but Attached and Given leave all as before.
     ///
-    /// An error comes only where an allocation failed; then no answer that names or held input give is due, the EIB of
-    /// a task to be attached has a place, and all is as before.
+    /// An error comes only where an allocation failed; then no answer that names or held input give is due, the areas of
+    /// a task to be attached have their places, and all is as before.
     #[tactic(auto, using(crate::proofs::KeyLemmas::keyed_answer, crate::proofs::EventLemmas::key_memory), unfolding(crate::specs::Attach::input_from))]
     pub fn key(&mut self, name: Name4, aid: Aid, bytes: &[u8]) -> Result<KeyReply, AllocError>
         requires { length bytes.now ≤ 1920 }

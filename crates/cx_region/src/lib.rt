@@ -4,7 +4,6 @@
 mod alter;
 mod asking;
 mod attach;
-mod causing;
 mod changes;
 mod defining;
 mod events;

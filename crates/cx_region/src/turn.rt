@@ -5,8 +5,8 @@ ghost use Rattle.cx_storage.specs.Storage.{IsSound as IsSoundStorage};
 ghost use Rattle.cx_service.specs.Queues.{AreSoundQueues};
 ghost use Rattle.cx_service.specs.Resources.{AreSoundResources};
 ghost use Rattle.cx_region_commands.specs.Common.{AreSoundPrograms};
-ghost use Rattle.cx_region.specs.Parts.Turning.{TakesMemoryAt, TurnedAt};
-ghost use Rattle.cx_region.specs.Turn.{TakesTurn};
+ghost use Rattle.cx_region.specs.Parts.Turning.{HasAbendRecordAt, TakesMemoryAt, TurnedAt};
+ghost use Rattle.cx_region.specs.Turn.{TakesTurn, TurnHasAbendRecord};
 ghost use Rattle.cx_region.specs.Events.{MayTakeMemory};
 ghost use Rattle.cx_region.specs.declared.replies.Event.TheVariants as event;
 ghost use Rattle.cx_region.specs.Sound.{IsSound};
@@ -14,8 +14,8 @@ ghost use Rattle.cx_region.specs.Sound.{IsSound};
 use crate::state::{Region, Terminal};
 use cx_ebcdic::{Name4, Name8};
 use cx_region_state::{Shared, Task, TurnReply};
-use cx_region_task::half_turn;
 use cx_region_task::laws::half_turns_keep;
+use cx_region_task::{AbendRecord, half_turn};
 use cx_service::ResourceName;
 use cx_storage::Store;
 use cx_storage::laws::store_is_sound;
@@ -31,29 +31,30 @@ pub(crate) fn drop_if(over: bool, held: &mut Option<Task>)
 }
 
 /// Drops a task that is over, by its answer.
-pub(crate) fn drop_over(reply: &TurnReply, held: &mut Option<Task>)
+fn drop_over(reply: &TurnReply, held: &mut Option<Task>)
     ensures { held.new ≡ (if is_over reply.now then None else held.old) }
 {
     drop_if(reply.is_over(), held);
 }
 
 /// A half-turn of a terminal's task, where it has one. A task that is over is dropped.
-#[tactic(auto, unfolding(crate::specs::Parts::Turning::TurnedAt, crate::specs::Parts::Turning::TakesMemoryAt))]
+#[tactic(auto, unfolding(crate::specs::Parts::Turning::TurnedAt, crate::specs::Parts::Turning::TakesMemoryAt, crate::specs::Parts::Turning::HasAbendRecordAt))]
 fn turn_terminal<S: Store + Drop>(
     shared: &mut Shared<S>,
     terminal: &mut Terminal,
-) -> Result<TurnReply, AllocError>
+) -> Result<(TurnReply, Option<AbendRecord>), AllocError>
     requires { AreSoundPrograms shared.old.programs }
-    ensures turned { IfOk result (λ reply. TurnedAt shared.old terminal.old reply shared.new terminal.new) }
+    ensures turned { IfOk result (λ both. TurnedAt shared.old terminal.old both.0 shared.new terminal.new) }
+    ensures abend_record { IfOk result (λ both. HasAbendRecordAt shared.old terminal.old both.1) }
     ensures memory { OnErr result (TakesMemoryAt shared.old terminal.old) }
     ensures err { OnErr result ((shared.new ≡ shared.old) × (terminal.new ≡ terminal.old)) }
 {
     let Some(task) = &mut terminal.task else {
-        return Ok(TurnReply::Idle);
+        return Ok((TurnReply::Idle, None));
     };
-    let reply = half_turn(shared, &mut terminal.terminal_entry, task)?;
+    let (reply, abend_record) = half_turn(shared, &mut terminal.terminal_entry, task)?;
     drop_over(&reply, &mut terminal.task);
-    Ok(reply)
+    Ok((reply, abend_record))
 }
 
 /// Storage, queues and resources are sound.
@@ -73,19 +74,37 @@ impl<S: Store + Drop> Region<S> {
     ///
     /// An error comes only where an allocation failed, and only where the change that the command makes takes memory
     /// and no refusal, wait or abend applies. Then all is as before.
-    #[tactic(auto, unfolding(crate::specs::Turn::TakesTurn))]
     pub fn turn(&mut self, name: Name4) -> Result<TurnReply, AllocError>
         ensures turned { IfOk result (λ reply. TakesTurn self.old name reply self.new) }
         ensures memory { OnErr result (MayTakeMemory self.old (event.Turn name)) }
         ensures err { OnErr result (self.new ≡ self.old) }
         ensures sound { IsSound self.new }
     {
+        let (reply, _abend_record) = self.turn_with_cause(name)?;
+        Ok(reply)
+    }
+
+    /// A turn of a terminal, as `turn`, that reports why it leads to an abend, where it does.
+    ///
+    /// An error comes only where an allocation failed, and only where the change that the command makes takes memory
+    /// and no refusal, wait or abend applies. Then all is as before.
+    #[tactic(auto, unfolding(crate::specs::Turn::TakesTurn, crate::specs::Turn::TurnHasAbendRecord))]
+    pub fn turn_with_cause(
+        &mut self,
+        name: Name4,
+    ) -> Result<(TurnReply, Option<AbendRecord>), AllocError>
+        ensures turned { IfOk result (λ both. TakesTurn self.old name both.0 self.new) }
+        ensures abend_record { IfOk result (λ both. TurnHasAbendRecord self.old name both.1) }
+        ensures memory { OnErr result (MayTakeMemory self.old (event.Turn name)) }
+        ensures err { OnErr result (self.new ≡ self.old) }
+        ensures sound { IsSound self.new }
+    {
         half_turns_keep();
         let Some(terminal) = self.terminals.get_mut(&name) else {
-            return Ok(TurnReply::NoSuchTerminal);
+            return Ok((TurnReply::NoSuchTerminal, None));
         };
-        let reply = turn_terminal(&mut self.shared, terminal);
+        let both = turn_terminal(&mut self.shared, terminal);
         services_are_sound(&self.shared);
-        reply
+        both
     }
 }

@@ -32,7 +32,8 @@ use Rattle.cx_region_state.specs.State.{TaskContext}
 use Rattle.cx_region_task.specs.declared.continuation.Continuation.{Continuation}
 use Rattle.cx_region_task.specs.declared.continuation.Continuation.TheVariants as continuation
 use Rattle.cx_region_task.specs.Abends.{Abends, AbendsAt}
-use Rattle.cx_region_task.specs.Answers.{continuation_at}
+use Rattle.cx_region_task.specs.Decisions.{continuation_at}
+use Rattle.cx_region_task.specs.Facts.Met.{IsMet}
 use Rattle.cx_region_task.specs.Changes.{report_of}
 use Rattle.cx_region_task.specs.Continuations.{Goes, continuation_by, enter_level, replace_level, return_to_caller, returned_to}
 use Rattle.cx_region_task.specs.Laws.HalfTurns.{HalfTurnsKeep}
@@ -41,7 +42,7 @@ use Rattle.cx_region_laws.specs.Laws.Bytes.{is_among}
 use Rattle.cx_region_laws.specs.Laws.Exits.{TakesExit, is_no_stg_of}
 use Rattle.cx_region_laws.specs.Laws.Reports.{CalenIsTheLevels, ExitsFindReports, HasReported, IsSoundContext, LeavesReport, changes_level, field_at}
 use Rattle.cx_region_laws.proofs.EibLemmas.{IsEibThere, calen_apart, calen_areas, field_here}
-use Rattle.cx_region_laws.proofs.MetLemmas.{IsMet, exits_met, function_reported, is_of_levels, levels_normal}
+use Rattle.cx_region_laws.proofs.MetLemmas.{exits_met, function_reported, is_of_levels, levels_normal}
 use Rattle.cx_region_laws.proofs.ReportLemmas.{StoresReport, all_in_storage, answered_on, commits_answered, commits_callers, commits_eib, eib_area, eib_low, eib_there, has_reported, in_storage, low_places}
 use Rattle.cx_region_laws.proofs.ReturnLemmas.{returns_have_callers}
 use Rattle.cx_region_laws.proofs.StandLemmas.{calen_elsewhere}

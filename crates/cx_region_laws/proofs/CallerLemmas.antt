@@ -1,6 +1,6 @@
 -- What half-turns leave of the levels above the current one.
 use Rattle.std.proofs.Common.{◌≡◌, ℕ, zero, suc, Bool, true, false, Option, Some, None, List, [], ◌∷◌, drop, length, ◌≤◌, refl, sym, ◌∙◌, ap, subst, arith, inl, inr, ◌-◌}
-use Rattle.std.specs.Prelude.{Result, Ok, Err, MatchBool, MatchResult, if◌then◌else◌}
+use Rattle.std.specs.Prelude.{MatchBool, if◌then◌else◌}
 use Rattle.cx_base_commands.specs.Abends.{abend_code}
 use Rattle.cx_base_commands.specs.declared.abends.Abend.TheVariants as abend
 use Rattle.cx_base_commands.specs.declared.conditions.Condition.{Condition}
@@ -11,26 +11,25 @@ use Rattle.cx_program.specs.declared.choice.Choice.TheVariants as choice
 use Rattle.cx_program.specs.declared.level.Level.{Level}
 use Rattle.cx_program.specs.Levels.{Levels}
 use Rattle.cx_storage.specs.Storage.{Storage}
-use Rattle.cx_region_call.specs.declared.call.CallFault.{CallFault}
 use Rattle.cx_region_call.specs.declared.outputs.Output.{Output}
-use Rattle.cx_region_call.specs.Call.{Call, call_of}
-use Rattle.cx_region_call.specs.Inputs.{are_inputs_there}
+use Rattle.cx_region_call.specs.Call.{Call}
 use Rattle.cx_region_state.specs.declared.replies.TurnReply.{TurnReply}
 use Rattle.cx_region_state.specs.declared.verdict.TaskChange.{TaskChange}
 use Rattle.cx_region_state.specs.declared.verdict.TaskChange.TheVariants.{Nothing, Makes, Ends, Gets, Enters, Replaces, LevelEnds, TaskEnds, AbendsWith}
 use Rattle.cx_region_state.specs.declared.verdict.NewLevel.{NewLevel}
-use Rattle.cx_region_state.specs.declared.verdict.Verdict.{Verdict}
-use Rattle.cx_region_state.specs.declared.verdict.Verdict.TheVariants.{Refuses, Waits, Meets}
+use Rattle.cx_region_state.specs.declared.verdict.Verdict.TheVariants.{Waits, Meets}
 use Rattle.cx_region_state.specs.State.{TaskContext}
 use Rattle.cx_region_state.specs.Areas.{entry_level}
 use Rattle.cx_region_task.specs.declared.continuation.Continuation.{Continuation}
 use Rattle.cx_region_task.specs.declared.continuation.Continuation.TheVariants as continuation
 use Rattle.cx_region_task.specs.Abends.{Abends, AbendsAt, exit_task, unwound, without_stg}
-use Rattle.cx_region_task.specs.Answers.{Answers, Does, LeavesAll, MeetsWith, has_room, continuation_at}
+use Rattle.cx_region_task.specs.Decisions.{continuation_at}
 use Rattle.cx_region_task.specs.Changes.{AppliesBefore, Commits, apply_after, write_outputs, write_report}
-use Rattle.cx_region_task.specs.Performing.{PerformsCall, PerformsCommand, Performs, fault_abend, list_of}
-use Rattle.cx_region_task.specs.Turn.{HalfTurn, EndsRun, RunsOn}
-use Rattle.cx_region_task.specs.Continuations.{Goes, choice_for, enter_level, is_normal, is_wait, replace_level, return_to_caller, returned_to, continuation_by, continuation_chosen, continuation_of}
+use Rattle.cx_region_task.specs.Performing.{LeavesAll}
+use Rattle.cx_region_task.specs.Facts.Met.{IsMet, by_decision}
+use Rattle.cx_region_task.specs.declared.cause.AbendRecord.{AbendRecord}
+use Rattle.cx_region_task.specs.Turn.{EndsRun, HalfTurnWith, PerformsCommand, RunsOn}
+use Rattle.cx_region_task.specs.Continuations.{Goes, choice_for, enter_level, is_normal, replace_level, return_to_caller, returned_to, continuation_by, continuation_chosen, continuation_of}
 use Rattle.cx_region_laws.specs.Laws.Levels.{HalfTurnsLeaveCallers, IsBack, LeavesCallers}
 use Rattle.cx_region_laws.proofs.CommandLemmas.{finished_task}
 use Rattle.cx_region_laws.proofs.AppliedLemmas.{SameTask, applied_task, task_at, task_on}
@@ -146,38 +145,21 @@ waits_leave : (before after : TaskContext) (reply : TurnReply) → LeavesAll bef
 unfolding LeavesCallers
 waits_leave before after reply it = rw (it.waiting, it.same) refl
 
-answers_leave : (verdict : Verdict) (call : Call) (before after : TaskContext) (reply : TurnReply) → IsWell verdict → Answers verdict call before reply after → LeavesCallers reply before.task after.task
-unfolding Answers MeetsWith
-answers_leave (Refuses code) call before after reply well it = abends_leave (abend_code code) false before before after reply refl it
-answers_leave Waits call before after reply well it = waits_leave before after reply it
-answers_leave (Meets condition outputs change) call before after reply well it = by_room (has_room call outputs change before) it
-  where
-    by_wait : (b : Bool) → MatchBool b (LeavesAll before reply after) (Does call condition outputs change before reply after) → LeavesCallers reply before.task after.task
-    by_wait true leaves = waits_leave before after reply leaves
-    by_wait false does =
-        goes_leave (continuation_at call condition change before) condition before does.committed after reply (kept_on_way call condition outputs change before does.committed well does.commits) does.goes
+met_leaves : (before after : TaskContext) (reply : TurnReply) → IsMet reply before after → LeavesCallers reply before.task after.task
+met_leaves before after reply met =
+    let well = judged_well met.call before (Meets met.condition met.outputs met.change) met.judged in
+    goes_leave (continuation_at met.call met.condition met.change before) met.condition before met.committed after reply
+    (kept_on_way met.call met.condition met.outputs met.change before met.committed well met.commits) met.goes
 
-    by_room : (b : Bool) → MatchBool b (MatchBool (is_wait (continuation_at call condition change before)) (LeavesAll before reply after) (Does call condition outputs change before reply after))
-        (Abends (abend_code abend.Xarg) false before reply after) → LeavesCallers reply before.task after.task
-    by_room true met = by_wait (is_wait (continuation_at call condition change before)) met
-    by_room false abends = abends_leave (abend_code abend.Xarg) false before before after reply refl abends
-
-commanded_leaves : (before after : TaskContext) (reply : TurnReply) → PerformsCommand before reply after → LeavesCallers reply before.task after.task
-unfolding PerformsCommand PerformsCall
-commanded_leaves before after reply commanded = by_call (call_of before.shared.storage (list_of before.task)) commanded
-  where
-    by_inputs : (call : Call) (b : Bool) → MatchBool b (Performs call before reply after) (Abends (abend_code abend.Xarg) false before reply after) → LeavesCallers reply before.task after.task
-    by_inputs call true it = answers_leave it.verdict call before after reply (judged_well call before it.verdict it.judged) it.answers
-    by_inputs call false abends = abends_leave (abend_code abend.Xarg) false before before after reply refl abends
-
-    by_call : (r : Result Call CallFault) → MatchResult r (λ call. PerformsCall call before reply after) (λ fault. Abends (abend_code (fault_abend fault)) false before reply after) → LeavesCallers reply before.task after.task
-    by_call (Ok call) called = by_inputs call (are_inputs_there before.shared.storage call) called
-    by_call (Err fault) abends = abends_leave (abend_code (fault_abend fault)) false before before after reply refl abends
+commanded_leaves : (before after : TaskContext) (reply : TurnReply) (abend_record : Option AbendRecord) → PerformsCommand before reply abend_record after → LeavesCallers reply before.task after.task
+commanded_leaves before after reply abend_record it =
+    by_decision before after reply abend_record it (λ refusal abends. abends_leave (abend_code refusal) false before before after reply refl abends)
+    (λ leaves. waits_leave before after reply leaves) (λ met. met_leaves before after reply met)
 
 -- ---- instructions
-runs_leave : (before after : TaskContext) (reply : TurnReply) → RunsOn before reply after → LeavesCallers reply before.task after.task
+runs_leave : (before after : TaskContext) (reply : TurnReply) (abend_record : Option AbendRecord) → RunsOn before reply abend_record after → LeavesCallers reply before.task after.task
 unfolding EndsRun LeavesCallers
-runs_leave before after reply it = by_halt it.how it.ends
+runs_leave before after reply abend_record it = by_halt it.how it.ends
   where
     same : it.between.task.levels ≡ before.task.levels
     same = ap (λ (r : TaskContext). r.task.levels) it.rest
@@ -188,9 +170,9 @@ runs_leave before after reply it = by_halt it.how it.ends
     by_halt halt.Limit abends = abends_leave (abend_code abend.Aica) false before it.between after reply same abends
 
 pub half_turns_leave_callers : HalfTurnsLeaveCallers
-unfolding HalfTurn
-half_turns_leave_callers before after reply half = by_due before.task.due half
+unfolding HalfTurnWith
+half_turns_leave_callers before after reply half = by_due before.task.due half.turns
   where
-    by_due : (b : Bool) → MatchBool b (PerformsCommand before reply after) (RunsOn before reply after) → LeavesCallers reply before.task after.task
-    by_due true commanded = commanded_leaves before after reply commanded
-    by_due false runs = runs_leave before after reply runs
+    by_due : (b : Bool) → MatchBool b (PerformsCommand before reply half.abend_record after) (RunsOn before reply half.abend_record after) → LeavesCallers reply before.task after.task
+    by_due true commanded = commanded_leaves before after reply half.abend_record commanded
+    by_due false runs = runs_leave before after reply half.abend_record runs

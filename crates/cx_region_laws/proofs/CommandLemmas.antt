@@ -1,21 +1,18 @@
 -- What a command leaves of the areas of others.
 use Rattle.std.proofs.Common.{◌≡◌, ℕ, suc, ◌+◌, ◌^◌, ◌<◌, Bool, true, false, Option, Some, None, List, [], ◌∷◌, length, slice_get, refl, sym, ◌∙◌, ap, subst, arith, inl, inr}
-use Rattle.std.specs.Prelude.{◌||◌, ◌⊎◌, Result, Ok, Err, MatchBool, MatchResult}
+use Rattle.std.specs.Prelude.{◌||◌, ◌⊎◌, MatchBool}
 use Rattle.std.specs.Option.{option_map}
 use Rattle.std.specs.List.{list_any}
 use Rattle.std.proofs.lemmas.Bool.{cases_Bool}
 use Rattle.cx_base_commands.specs.Abends.{abend_code}
-use Rattle.cx_base_commands.specs.declared.abends.Abend.TheVariants as abend
 use Rattle.cx_base_commands.specs.declared.conditions.Condition.{Condition}
 use Rattle.cx_base_commands.specs.Eib.{eib_len}
 use Rattle.cx_storage.specs.Address.{address_in}
 use Rattle.cx_storage.specs.Storage.{Storage, area_from, areas_of, byte_at, IsSound as IsSoundStorage}
 use Rattle.cx_service.specs.Queues.{AreSoundQueues}
-use Rattle.cx_region_call.specs.declared.call.CallFault.{CallFault}
 use Rattle.cx_region_call.specs.Answer.{resource_of}
 use Rattle.cx_region_call.specs.declared.outputs.Output.{Output}
-use Rattle.cx_region_call.specs.Call.{Call, call_of, resp_place}
-use Rattle.cx_region_call.specs.Inputs.{are_inputs_there}
+use Rattle.cx_region_call.specs.Call.{Call, resp_place}
 use Rattle.cx_region_call.specs.Laws.Calls.{CallIsRead, IsCallAt, list_word}
 use Rattle.cx_region_commands.specs.Common.{AreSoundPrograms}
 use Rattle.cx_region_commands.specs.Facts.Fits.{judged_fits}
@@ -26,19 +23,19 @@ use Rattle.cx_region_state.specs.declared.verdict.Ended.{Ended}
 use Rattle.cx_region_state.specs.declared.verdict.Ended.TheVariants.{TakesInput, ReadOf, QueueGone, Dequeues, Frees}
 use Rattle.cx_region_state.specs.declared.verdict.Fill.{Fill}
 use Rattle.cx_region_state.specs.declared.verdict.Fill.TheVariants.{Byte, Item}
-use Rattle.cx_region_state.specs.declared.verdict.Verdict.{Verdict}
-use Rattle.cx_region_state.specs.declared.verdict.Verdict.TheVariants.{Refuses, Waits, Meets}
+use Rattle.cx_region_state.specs.declared.verdict.Verdict.TheVariants.{Meets}
 use Rattle.cx_region_state.specs.Areas.{got_owner}
 use Rattle.cx_region_state.specs.State.{TaskContext}
-use Rattle.cx_region_state.specs.Parts.Fits.{Fits, FitsChange, FitsEnded}
+use Rattle.cx_region_state.specs.Parts.Fits.{FitsChange, FitsEnded}
 use Rattle.cx_region_state.specs.Verdicts.{handed_over}
 use Rattle.cx_region_task.specs.Abends.{Abends}
-use Rattle.cx_region_task.specs.Answers.{Answers, Does, LeavesAll, MeetsWith, has_room, continuation_at}
+use Rattle.cx_region_task.specs.Decisions.{continuation_at}
 use Rattle.cx_region_task.specs.Changes.{AppliesBefore, Commits, apply_after, write_outputs, read_for, report_of, write_report}
-use Rattle.cx_region_task.specs.Performing.{PerformsCall, PerformsCommand, Performs, fault_abend, list_of}
+use Rattle.cx_region_task.specs.Performing.{LeavesAll, list_of}
+use Rattle.cx_region_task.specs.Facts.Met.{IsMet, by_decision}
+use Rattle.cx_region_task.specs.declared.cause.AbendRecord.{AbendRecord}
 use Rattle.cx_region_task.specs.Sound.{IsSoundTask}
-use Rattle.cx_region_task.specs.Turn.{HalfTurn, RunsOn}
-use Rattle.cx_region_task.specs.Continuations.{is_wait}
+use Rattle.cx_region_task.specs.Turn.{HalfTurnWith, PerformsCommand, RunsOn}
 use Rattle.cx_region_laws.specs.Laws.Bytes.{CommandsLeaveOthers, DueWrites, is_among, is_in_output, others_storage, writes_to}
 use Rattle.cx_region_laws.proofs.OthersLemmas.{Left, elsewhere_same, left_on, left_same, own_free}
 use Rattle.cx_region_laws.proofs.ClearLemmas.{clear_of, clear_same, own_elsewhere}
@@ -195,36 +192,19 @@ abends_reported x code before after reply clear it = none_reported x before afte
 waits_reported : (x : ℕ) (before after : TaskContext) (reply : TurnReply) → LeavesAll before reply after → Written x before after
 waits_reported x before after reply it = none_reported x before after (ap (λ (r : TaskContext). others_storage before.terminal_entry.slot r.shared.storage) it.same)
 
-does_reported : (x : ℕ) (call : Call) (condition : Condition) (outputs : List Output) (change : TaskChange) (before after : TaskContext) (reply : TurnReply) → IsSoundStorage before.shared.storage → AreLow call.places
-    → IsClear before.terminal_entry.slot before → FitsChange change before → (writes_to x call (Meets condition outputs change) before ≡ true → DueWrites x before)
-    → Does call condition outputs change before reply after → Written x before after
-does_reported x call condition outputs change before after reply ok low clear fits due it =
+met_reported : (x : ℕ) (before after : TaskContext) (reply : TurnReply) → (met : IsMet reply before after) → IsSoundStorage before.shared.storage → AreLow met.call.places
+    → IsClear before.terminal_entry.slot before → FitsChange met.change before → (writes_to x met.call (Meets met.condition met.outputs met.change) before ≡ true → DueWrites x before)
+    → Written x before after
+met_reported x before after reply met ok low clear fits due =
     let slot = before.terminal_entry.slot in
-    let writes = writes_to x call (Meets condition outputs change) before in
-    let committed = settled_leaves x call condition outputs change before it.committed ok low clear fits it.commits in
-    let last = goes_others (continuation_at call condition change before) slot condition it.committed after reply committed.task.slot committed.clear it.goes in
+    let writes = writes_to x met.call (Meets met.condition met.outputs met.change) before in
+    let committed = settled_leaves x met.call met.condition met.outputs met.change before met.committed ok low clear fits met.commits in
+    let last = goes_others (continuation_at met.call met.condition met.change before) slot met.condition met.committed after reply committed.task.slot committed.clear met.goes in
     record {
       writes = writes;
-      left = left_on slot x writes before.shared.storage it.committed.shared.storage after.shared.storage committed.left (left_same slot x writes it.committed.shared.storage after.shared.storage last);
+      left = left_on slot x writes before.shared.storage met.committed.shared.storage after.shared.storage committed.left (left_same slot x writes met.committed.shared.storage after.shared.storage last);
       due = due;
     }
-
-answers_reported : (verdict : Verdict) (x : ℕ) (call : Call) (before after : TaskContext) (reply : TurnReply) → IsSoundStorage before.shared.storage → AreLow call.places
-    → IsClear before.terminal_entry.slot before → Fits verdict before → (writes_to x call verdict before ≡ true → DueWrites x before)
-    → Answers verdict call before reply after → Written x before after
-unfolding Answers MeetsWith
-answers_reported (Refuses code) x call before after reply ok low clear fits due it = abends_reported x (abend_code code) before after reply clear it
-answers_reported Waits x call before after reply ok low clear fits due it = waits_reported x before after reply it
-answers_reported (Meets condition outputs change) x call before after reply ok low clear fits due it = by_room (has_room call outputs change before) it
-  where
-    by_wait : (b : Bool) → MatchBool b (LeavesAll before reply after) (Does call condition outputs change before reply after) → Written x before after
-    by_wait true leaves = waits_reported x before after reply leaves
-    by_wait false does = does_reported x call condition outputs change before after reply ok low clear fits.1 due does
-
-    by_room : (b : Bool) → MatchBool b (MatchBool (is_wait (continuation_at call condition change before)) (LeavesAll before reply after) (Does call condition outputs change before reply after))
-        (Abends (abend_code abend.Xarg) false before reply after) → Written x before after
-    by_room true met = by_wait (is_wait (continuation_at call condition change before)) met
-    by_room false abends = abends_reported x (abend_code abend.Xarg) before after reply clear abends
 
 -- ---- a call's addresses
 low_from : (word : ℕ → Option ℕ) (places : List ℕ) → ((k : ℕ) → k < length places → option_map address_in (word k) ≡ slice_get places k) → AreLow places
@@ -239,29 +219,21 @@ pub call_low : (s : Storage) (list : ℕ) (call : Call) → IsCallAt s list call
 call_low s list call it = low_from (λ k. list_word s list (k + 1)) call.places (λ k less. it.places k less)
 
 -- ---- a command's half-turn
-commanded_written : CallIsRead → (x : ℕ) (before after : TaskContext) (reply : TurnReply) → IsSoundStorage before.shared.storage → AreSoundPrograms before.shared.programs → AreSoundQueues before.shared.queues
-    → IsSoundTask before.shared.storage before.terminal_entry.slot before.task → PerformsCommand before reply after → Written x before after
-unfolding PerformsCommand PerformsCall
-commanded_written law x before after reply ok programs queues own commanded = by_call (call_of before.shared.storage (list_of before.task)) refl commanded
+commanded_written : CallIsRead → (x : ℕ) (before after : TaskContext) (reply : TurnReply) (abend_record : Option AbendRecord) → IsSoundStorage before.shared.storage → AreSoundPrograms before.shared.programs → AreSoundQueues before.shared.queues
+    → IsSoundTask before.shared.storage before.terminal_entry.slot before.task → PerformsCommand before reply abend_record after → Written x before after
+commanded_written law x before after reply abend_record ok programs queues own it =
+    by_decision before after reply abend_record it (λ refusal abends. abends_reported x (abend_code refusal) before after reply clear abends)
+    (λ leaves. waits_reported x before after reply leaves) met_written
   where
     clear : IsClear before.terminal_entry.slot before
     clear = clear_of before.shared.storage before.terminal_entry.slot before.task ok own
 
-    performs : (call : Call) → call_of before.shared.storage (list_of before.task) ≡ Ok call → are_inputs_there before.shared.storage call ≡ true → Performs call before reply after → Written x before after
-    performs call reads there it =
-        let low = call_low before.shared.storage (list_of before.task) call ((law before.shared.storage (list_of before.task) call ok (omega arith)).0 reads) in
-        answers_reported it.verdict x call before after reply ok low clear (judged_fits call before it.verdict queues low programs there it.judged)
-        (λ yes. record { call = call; reads = reads; verdict = it.verdict; judged = it.judged; writes = yes }) it.answers
-
-    by_inputs : (call : Call) → call_of before.shared.storage (list_of before.task) ≡ Ok call → (b : Bool) → are_inputs_there before.shared.storage call ≡ b
-        → MatchBool b (Performs call before reply after) (Abends (abend_code abend.Xarg) false before reply after) → Written x before after
-    by_inputs call reads true e it = performs call reads e it
-    by_inputs call reads false e abends = abends_reported x (abend_code abend.Xarg) before after reply clear abends
-
-    by_call : (r : Result Call CallFault) → call_of before.shared.storage (list_of before.task) ≡ r
-        → MatchResult r (λ call. PerformsCall call before reply after) (λ fault. Abends (abend_code (fault_abend fault)) false before reply after) → Written x before after
-    by_call (Ok call) e called = by_inputs call e (are_inputs_there before.shared.storage call) refl called
-    by_call (Err fault) e abends = abends_reported x (abend_code (fault_abend fault)) before after reply clear abends
+    met_written : IsMet reply before after → Written x before after
+    met_written met =
+        let verdict = Meets met.condition met.outputs met.change in
+        let low = call_low before.shared.storage (list_of before.task) met.call ((law before.shared.storage (list_of before.task) met.call ok (omega arith)).0 met.reads) in
+        let fits = judged_fits met.call before verdict queues low programs met.inputs met.judged in
+        met_reported x before after reply met ok low clear fits.1 (λ yes. record { call = met.call; reads = met.reads; verdict = verdict; judged = met.judged; writes = yes })
 
 written_bytes : (x : ℕ) (before after : TaskContext) → (written : Written x before after)
     → (byte_at (others_storage before.terminal_entry.slot after.shared.storage) x ≡ byte_at (others_storage before.terminal_entry.slot before.shared.storage) x) ⊎ DueWrites x before
@@ -271,16 +243,16 @@ written_bytes x before after written = elim (cases_Bool written.writes) [
 ]
 
 pub commands_leave_others : CallIsRead → CommandsLeaveOthers
-unfolding HalfTurn
+unfolding HalfTurnWith
 commands_leave_others law before after reply ok programs queues own due half =
-    let commanded : PerformsCommand before reply after = by_due before.task.due due half in
-    let written = λ (x : ℕ). commanded_written law x before after reply ok programs queues own commanded in
+    let commanded : PerformsCommand before reply half.abend_record after = by_due before.task.due due half.turns in
+    let written = λ (x : ℕ). commanded_written law x before after reply half.abend_record ok programs queues own commanded in
     record {
       areas = (written 0).left.areas;
       present = λ x. (written x).left.present;
       bytes = λ x. written_bytes x before after (written x);
     }
   where
-    by_due : (b : Bool) → b ≡ true → MatchBool b (PerformsCommand before reply after) (RunsOn before reply after) → PerformsCommand before reply after
+    by_due : (b : Bool) → b ≡ true → MatchBool b (PerformsCommand before reply half.abend_record after) (RunsOn before reply half.abend_record after) → PerformsCommand before reply half.abend_record after
     by_due true e it = it
     by_due false e it = cc

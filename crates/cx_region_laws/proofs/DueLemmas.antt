@@ -1,26 +1,24 @@
 -- Where a command is due the current level keeps registers and code.
 use Rattle.std.proofs.Common.{◌≡◌, ◌<◌, Bool, true, false, List, [], ◌∷◌, length, Option, Some, None, refl, sym, ◌∙◌, ap, subst, arith}
-use Rattle.std.specs.Prelude.{Result, Ok, Err, MatchBool, MatchResult, ℕ}
+use Rattle.std.specs.Prelude.{MatchBool, ℕ}
 use Rattle.cx_base_commands.specs.Abends.{abend_code}
 use Rattle.cx_base_commands.specs.declared.abends.Abend.TheVariants as abend
 use Rattle.cx_base_commands.specs.declared.conditions.Condition.{Condition}
 use Rattle.cx_exec.specs.declared.machine.Halt.{Halt}
 use Rattle.cx_exec.specs.declared.machine.Halt.TheVariants as halt
 use Rattle.cx_program.specs.declared.level.Level.{Level}
-use Rattle.cx_region_call.specs.declared.call.CallFault.{CallFault}
-use Rattle.cx_region_call.specs.Call.{Call, call_of}
-use Rattle.cx_region_call.specs.Inputs.{are_inputs_there}
 use Rattle.cx_region_state.specs.declared.replies.TurnReply.{TurnReply}
-use Rattle.cx_region_state.specs.declared.verdict.Verdict.{Verdict}
-use Rattle.cx_region_state.specs.declared.verdict.Verdict.TheVariants.{Meets, Refuses, Waits}
+use Rattle.cx_region_state.specs.declared.verdict.Verdict.TheVariants.{Waits}
 use Rattle.cx_region_state.specs.Replies.{is_over}
 use Rattle.cx_region_state.specs.State.{TaskContext}
 use Rattle.cx_region_task.specs.declared.continuation.Continuation.{Continuation}
 use Rattle.cx_region_task.specs.declared.continuation.Continuation.TheVariants as continuation
 use Rattle.cx_region_task.specs.Abends.{Abends, AbendsAt, exit_task}
-use Rattle.cx_region_task.specs.Answers.{Answers, Does, LeavesAll, MeetsWith, has_room, continuation_at}
-use Rattle.cx_region_task.specs.Performing.{PerformsCall as IsCalled, PerformsCommand, Performs, fault_abend, list_of}
-use Rattle.cx_region_task.specs.Turn.{HalfTurn, EndsRun, RunsOn}
+use Rattle.cx_region_task.specs.Decisions.{continuation_at}
+use Rattle.cx_region_task.specs.Performing.{LeavesAll}
+use Rattle.cx_region_task.specs.Facts.Met.{IsMet, by_decision}
+use Rattle.cx_region_task.specs.declared.cause.AbendRecord.{AbendRecord}
+use Rattle.cx_region_task.specs.Turn.{HalfTurn, HalfTurnWith, PerformsCommand, EndsRun, RunsOn}
 use Rattle.cx_region_task.specs.Continuations.{Goes, enter_level, is_wait, replace_level, return_to_caller, returned_to}
 use Rattle.cx_region_laws.specs.Laws.Levels.{DueIsKept, Keeps}
 use Rattle.cx_region_laws.proofs.CallerLemmas.{settles_task}
@@ -66,40 +64,19 @@ waits_due : (before after : TaskContext) (reply : TurnReply) → LeavesAll befor
 waits_due before after reply it keeps over due =
     subst (λ (r : TaskContext). Keeps r.task) (sym it.same) (keeps (sym (ap (λ (r : TaskContext). r.task.due) it.same) ∙ due))
 
-answers_due : (verdict : Verdict) (call : Call) (before after : TaskContext) (reply : TurnReply) → HalfTurn before reply after → Answers verdict call before reply after → Asked before reply after
-unfolding Answers MeetsWith
-answers_due (Refuses code) call before after reply half it = abends_due (abend_code code) false before before after reply it
-answers_due Waits call before after reply half it = waits_due before after reply it
-answers_due (Meets condition outputs change) call before after reply half it = by_room (has_room call outputs change before) it
-  where
-    gone : Continuation
-    gone = continuation_at call condition change before
+met_due : (before after : TaskContext) (reply : TurnReply) → HalfTurn before reply after → IsMet reply before after → Asked before reply after
+met_due before after reply half met =
+    goes_due (continuation_at met.call met.condition met.change before) met.condition before met.committed after reply met.moves
+    (settles_task met.call met.condition met.outputs met.change before met.committed met.commits).callers half met.goes
 
-    by_wait : (b : Bool) → is_wait gone ≡ b → MatchBool b (LeavesAll before reply after) (Does call condition outputs change before reply after) → Asked before reply after
-    by_wait true wait leaves = waits_due before after reply leaves
-    by_wait false wait does =
-        goes_due gone condition before does.committed after reply wait (settles_task call condition outputs change before does.committed does.commits).callers half does.goes
+commanded_due : (before after : TaskContext) (reply : TurnReply) (abend_record : Option AbendRecord) → HalfTurn before reply after → PerformsCommand before reply abend_record after → Asked before reply after
+commanded_due before after reply abend_record half it =
+    by_decision before after reply abend_record it (λ refusal abends. abends_due (abend_code refusal) false before before after reply abends)
+    (λ leaves. waits_due before after reply leaves) (λ met. met_due before after reply half met)
 
-    by_room : (b : Bool) → MatchBool b (MatchBool (is_wait gone) (LeavesAll before reply after) (Does call condition outputs change before reply after))
-        (Abends (abend_code abend.Xarg) false before reply after) → Asked before reply after
-    by_room true met = by_wait (is_wait gone) refl met
-    by_room false abends = abends_due (abend_code abend.Xarg) false before before after reply abends
-
-commanded_due : (before after : TaskContext) (reply : TurnReply) → HalfTurn before reply after → PerformsCommand before reply after → Asked before reply after
-unfolding PerformsCommand IsCalled
-commanded_due before after reply half commanded = by_call (call_of before.shared.storage (list_of before.task)) commanded
-  where
-    by_inputs : (call : Call) (b : Bool) → MatchBool b (Performs call before reply after) (Abends (abend_code abend.Xarg) false before reply after) → Asked before reply after
-    by_inputs call true it = answers_due it.verdict call before after reply half it.answers
-    by_inputs call false abends = abends_due (abend_code abend.Xarg) false before before after reply abends
-
-    by_call : (r : Result Call CallFault) → MatchResult r (λ call. IsCalled call before reply after) (λ fault. Abends (abend_code (fault_abend fault)) false before reply after) → Asked before reply after
-    by_call (Ok call) called = by_inputs call (are_inputs_there before.shared.storage call) called
-    by_call (Err fault) abends = abends_due (abend_code (fault_abend fault)) false before before after reply abends
-
-runs_due : (before after : TaskContext) (reply : TurnReply) → RunsOn before reply after → Asked before reply after
+runs_due : (before after : TaskContext) (reply : TurnReply) (abend_record : Option AbendRecord) → RunsOn before reply abend_record after → Asked before reply after
 unfolding EndsRun
-runs_due before after reply it = by_halt it.how it.ends
+runs_due before after reply abend_record it = by_halt it.how it.ends
   where
     by_halt : (how : Halt) → EndsRun how it.between reply after → Asked before reply after
     by_halt halt.AtEntry ends = λ keeps over due. rw (ends.1) (record { regs = refl; cc = refl })
@@ -107,9 +84,9 @@ runs_due before after reply it = by_halt it.how it.ends
     by_halt halt.Limit abends = abends_due (abend_code abend.Aica) false before it.between after reply abends
 
 pub due_is_kept : DueIsKept
-unfolding HalfTurn
-due_is_kept before after reply keeps half over due = by_due before.task.due half half keeps over due
+unfolding HalfTurnWith
+due_is_kept before after reply keeps half over due = by_due before.task.due half.turns keeps over due
   where
-    by_due : (b : Bool) → HalfTurn before reply after → MatchBool b (PerformsCommand before reply after) (RunsOn before reply after) → Asked before reply after
-    by_due true whole commanded = commanded_due before after reply whole commanded
-    by_due false whole runs = runs_due before after reply runs
+    by_due : (b : Bool) → MatchBool b (PerformsCommand before reply half.abend_record after) (RunsOn before reply half.abend_record after) → Asked before reply after
+    by_due true commanded = commanded_due before after reply half.abend_record half commanded
+    by_due false runs = runs_due before after reply half.abend_record runs

@@ -1,6 +1,6 @@
 -- The command that was due, of a half-turn that isn't answered by a wait: it was refused, or has met a condition.
 use Rattle.std.proofs.Common.{◌≡◌, ℕ, Bool, true, false, Option, Some, None, List, [], ◌∷◌, refl, sym, ◌∙◌, ap, subst, arith, inl, inr}
-use Rattle.std.specs.Prelude.{◌⊎◌, Result, Ok, Err, MatchBool, MatchResult, if◌then◌else◌}
+use Rattle.std.specs.Prelude.{◌⊎◌, MatchBool, if◌then◌else◌}
 use Rattle.std.proofs.lemmas.Bool.{cases_Bool, true≢false}
 use Rattle.std.proofs.lemmas.Option.{same_Some}
 use Rattle.cx_base_commands.specs.Abends.{abend_code}
@@ -17,10 +17,8 @@ use Rattle.cx_program.specs.declared.choice.Choice.TheVariants as choice
 use Rattle.cx_program.specs.declared.level.Level.{Level}
 use Rattle.cx_storage.specs.Address.{address_in}
 use Rattle.cx_storage.specs.Storage.{starts_elsewhere}
-use Rattle.cx_region_call.specs.declared.call.CallFault.{CallFault}
 use Rattle.cx_region_call.specs.declared.outputs.Output.{Output}
-use Rattle.cx_region_call.specs.Call.{Call, call_of}
-use Rattle.cx_region_call.specs.Inputs.{are_inputs_there}
+use Rattle.cx_region_call.specs.Call.{Call}
 use Rattle.cx_region_state.specs.State.{TaskContext}
 use Rattle.cx_region_state.specs.declared.replies.TurnReply.{TurnReply}
 use Rattle.cx_region_state.specs.declared.replies.TurnReply.TheVariants as turn
@@ -31,35 +29,23 @@ use Rattle.cx_region_state.specs.declared.verdict.Fill.TheVariants.{Byte, Item}
 use Rattle.cx_region_state.specs.declared.verdict.NewLevel.{NewLevel}
 use Rattle.cx_region_state.specs.declared.verdict.TaskChange.{TaskChange}
 use Rattle.cx_region_state.specs.declared.verdict.TaskChange.TheVariants.{Nothing, Makes, Ends, Gets, Enters, Replaces, LevelEnds, TaskEnds, AbendsWith}
-use Rattle.cx_region_state.specs.declared.verdict.Verdict.{Verdict}
-use Rattle.cx_region_state.specs.declared.verdict.Verdict.TheVariants.{Meets, Refuses, Waits}
+use Rattle.cx_region_state.specs.declared.verdict.Verdict.TheVariants.{Meets, Waits}
 use Rattle.cx_region_commands.specs.CommandVerdicts.{HasVerdict}
 use Rattle.cx_region_task.specs.declared.continuation.Continuation.{Continuation}
 use Rattle.cx_region_task.specs.declared.continuation.Continuation.TheVariants as continuation
 use Rattle.cx_region_task.specs.Abends.{Abends, AbendsAt}
-use Rattle.cx_region_task.specs.Answers.{Answers, Does, LeavesAll, MeetsWith, has_room, continuation_at}
-use Rattle.cx_region_task.specs.Changes.{Commits, apply_after, read_for, report_of}
-use Rattle.cx_region_task.specs.Performing.{PerformsCall as IsCalled, PerformsCommand, Performs, fault_abend, list_of}
-use Rattle.cx_region_task.specs.Turn.{HalfTurn, EndsRun, RunsOn}
-use Rattle.cx_region_task.specs.Continuations.{Goes, choice_for, is_normal, is_wait, continuation_by, continuation_chosen, continuation_of, replace_level, return_to_caller, returned_to, enter_level}
+use Rattle.cx_region_task.specs.Decisions.{continuation_at}
+use Rattle.cx_region_task.specs.Changes.{apply_after, read_for, report_of}
+use Rattle.cx_region_task.specs.Facts.Met.{IsMet, by_decision}
+use Rattle.cx_region_task.specs.declared.cause.AbendRecord.{AbendRecord}
+use Rattle.cx_region_task.specs.Turn.{HalfTurn, HalfTurnWith, PerformsCommand, EndsRun, RunsOn}
+use Rattle.cx_region_task.specs.Continuations.{Goes, choice_for, is_normal, continuation_by, continuation_chosen, continuation_of, replace_level, return_to_caller, returned_to, enter_level}
 use Rattle.cx_region_laws.specs.Laws.Reports.{condition_of, function_after}
 use Rattle.cx_region_laws.proofs.ReturnLemmas.{ends_level, goes_ends, judged_ends, way_ends}
 use Rattle.cx_region_laws.proofs.RowLemmas.{passes}
 use Rattle.cx_region_laws.proofs.StayingLemmas.{IsFreed, none_freed}
 
 -- ---- a condition that is met
-pub record IsMet (reply : TurnReply) (before after : TaskContext) : Type 0 where
-  pub call : Call
-  pub reads : call_of before.shared.storage (list_of before.task) ≡ Ok call
-  pub inputs : are_inputs_there before.shared.storage call ≡ true
-  pub condition : Condition
-  pub outputs : List Output
-  pub change : TaskChange
-  pub judged : HasVerdict call before (Meets condition outputs change)
-  pub committed : TaskContext
-  pub commits : Commits call condition outputs change before committed
-  pub goes : Goes (continuation_at call condition change before) condition committed reply after
-
 pub record IsRefused (reply : TurnReply) (before after : TaskContext) : Type 0 where
   pub code : List ℕ
   pub abends : Abends code false before reply after
@@ -68,57 +54,22 @@ is_waiting : TurnReply → Bool
 is_waiting turn.Waiting = true
 is_waiting _ = false
 
-answers_met : (reply : TurnReply) (verdict : Verdict) (call : Call) (before after : TaskContext) → is_waiting reply ≡ false → call_of before.shared.storage (list_of before.task) ≡ Ok call
-    → are_inputs_there before.shared.storage call ≡ true → HasVerdict call before verdict → Answers verdict call before reply after → IsRefused reply before after ⊎ IsMet reply before after
-unfolding Answers MeetsWith is_waiting
-answers_met reply (Refuses own) call before after busy reads there judged it = inl (record { code = abend_code own; abends = it })
-answers_met reply Waits call before after busy reads there judged it = absurd (true≢false (sym (ap is_waiting it.waiting) ∙ busy))
-answers_met reply (Meets condition outputs change) call before after busy reads there judged it = by_room (has_room call outputs change before) it
-  where
-    by_wait : (b : Bool) → MatchBool b (LeavesAll before reply after) (Does call condition outputs change before reply after) → IsRefused reply before after ⊎ IsMet reply before after
-    by_wait true leaves = absurd (true≢false (sym (ap is_waiting leaves.waiting) ∙ busy))
-    by_wait false does =
-        inr (record {
-          call = call;
-          reads = reads;
-          inputs = there;
-          condition = condition;
-          outputs = outputs;
-          change = change;
-          judged = judged;
-          committed = does.committed;
-          commits = does.commits;
-          goes = does.goes;
-        })
-
-    by_room : (b : Bool) → MatchBool b (MatchBool (is_wait (continuation_at call condition change before)) (LeavesAll before reply after) (Does call condition outputs change before reply after))
-        (Abends (abend_code abend.Xarg) false before reply after) → IsRefused reply before after ⊎ IsMet reply before after
-    by_room true met = by_wait (is_wait (continuation_at call condition change before)) met
-    by_room false abends = inl (record { code = abend_code abend.Xarg; abends = abends })
-
-commanded_met : (reply : TurnReply) (before after : TaskContext) → is_waiting reply ≡ false → PerformsCommand before reply after → IsRefused reply before after ⊎ IsMet reply before after
-unfolding PerformsCommand IsCalled
-commanded_met reply before after busy commanded = by_call (call_of before.shared.storage (list_of before.task)) refl commanded
-  where
-    by_inputs : (call : Call) → call_of before.shared.storage (list_of before.task) ≡ Ok call → (b : Bool) → are_inputs_there before.shared.storage call ≡ b
-        → MatchBool b (Performs call before reply after) (Abends (abend_code abend.Xarg) false before reply after) → IsRefused reply before after ⊎ IsMet reply before after
-    by_inputs call reads true there it = answers_met reply it.verdict call before after busy reads there it.judged it.answers
-    by_inputs call reads false there abends = inl (record { code = abend_code abend.Xarg; abends = abends })
-
-    by_call : (r : Result Call CallFault) → call_of before.shared.storage (list_of before.task) ≡ r
-        → MatchResult r (λ call. IsCalled call before reply after) (λ fault. Abends (abend_code (fault_abend fault)) false before reply after) → IsRefused reply before after ⊎ IsMet reply before after
-    by_call (Ok call) reads called = by_inputs call reads (are_inputs_there before.shared.storage call) refl called
-    by_call (Err fault) reads abends = inl (record { code = abend_code (fault_abend fault); abends = abends })
+commanded_met : (reply : TurnReply) (abend_record : Option AbendRecord) (before after : TaskContext) → is_waiting reply ≡ false → PerformsCommand before reply abend_record after
+    → IsRefused reply before after ⊎ IsMet reply before after
+unfolding is_waiting
+commanded_met reply abend_record before after busy it =
+    by_decision before after reply abend_record it (λ refusal abends. inl (record { code = abend_code refusal; abends = abends }))
+    (λ leaves. absurd (true≢false (sym (ap is_waiting leaves.waiting) ∙ busy))) (λ met. inr met)
 
 -- where an exit takes the abend of a command
 pub exits_met : (code : List ℕ) (before after : TaskContext) → before.task.due ≡ true → HalfTurn before (turn.TookExit code) after
     → IsRefused (turn.TookExit code) before after ⊎ IsMet (turn.TookExit code) before after
-unfolding HalfTurn is_waiting
-exits_met code before after due half = by_due before.task.due due half
+unfolding HalfTurnWith is_waiting
+exits_met code before after due half = by_due before.task.due due half.turns
   where
-    by_due : (b : Bool) → b ≡ true → MatchBool b (PerformsCommand before (turn.TookExit code) after) (RunsOn before (turn.TookExit code) after)
+    by_due : (b : Bool) → b ≡ true → MatchBool b (PerformsCommand before (turn.TookExit code) half.abend_record after) (RunsOn before (turn.TookExit code) half.abend_record after)
         → IsRefused (turn.TookExit code) before after ⊎ IsMet (turn.TookExit code) before after
-    by_due true e commanded = commanded_met (turn.TookExit code) before after refl commanded
+    by_due true e commanded = commanded_met (turn.TookExit code) half.abend_record before after refl commanded
     by_due false e runs = cc
 
 -- a reply with a condition is no abend, no wait and no end
@@ -145,9 +96,10 @@ busy_with condition (turn.TookExit code) e = refl
 busy_with condition (turn.Abended code) e = refl
 busy_with condition turn.Ended e = refl
 
-runs_not : {P : Type 0} (condition : Condition) (reply : TurnReply) (before after : TaskContext) → condition_of reply ≡ Some condition → RunsOn before reply after → P
+runs_not : {P : Type 0} (condition : Condition) (reply : TurnReply) (abend_record : Option AbendRecord) (before after : TaskContext) → condition_of reply ≡ Some condition
+    → RunsOn before reply abend_record after → P
 unfolding EndsRun
-runs_not {P} condition reply before after e it = by_halt it.how it.ends
+runs_not {P} condition reply abend_record before after e it = by_halt it.how it.ends
   where
     by_halt : (how : Halt) → EndsRun how it.between reply after → P
     by_halt halt.AtEntry over = let no : condition_of turn.AtCommand ≡ Some condition = ap condition_of (sym over.0) ∙ e in cc
@@ -155,15 +107,15 @@ runs_not {P} condition reply before after e it = by_halt it.how it.ends
     by_halt halt.Limit abends = abends_not (abend_code abend.Aica) false condition reply it.between after e abends
 
 pub replies_met : (condition : Condition) (reply : TurnReply) (before after : TaskContext) → condition_of reply ≡ Some condition → HalfTurn before reply after → IsMet reply before after
-unfolding HalfTurn
-replies_met condition reply before after e half = by_due before.task.due half
+unfolding HalfTurnWith
+replies_met condition reply before after e half = by_due before.task.due half.turns
   where
-    by_due : (b : Bool) → MatchBool b (PerformsCommand before reply after) (RunsOn before reply after) → IsMet reply before after
-    by_due true commanded = elim (commanded_met reply before after (busy_with condition reply e) commanded) [
+    by_due : (b : Bool) → MatchBool b (PerformsCommand before reply half.abend_record after) (RunsOn before reply half.abend_record after) → IsMet reply before after
+    by_due true commanded = elim (commanded_met reply half.abend_record before after (busy_with condition reply e) commanded) [
       | inl refused ↦ abends_not refused.code false condition reply before after e refused.abends
       | inr met ↦ met
     ]
-    by_due false runs = runs_not condition reply before after e runs
+    by_due false runs = runs_not condition reply half.abend_record before after e runs
 
 -- ---- the function value that is reported
 function_own : (call : Call) (condition : Condition) (change : TaskChange) (r : TaskContext) → ends_level change ≡ false

@@ -1,5 +1,5 @@
 -- Each half-turn and each event has an outcome, and each list of events is a run.
-use Rattle.std.proofs.Common.{◌≡◌, ℕ, ◌+◌, Bool, true, false, ◌&&◌, Option, Some, None, List, [], ◌∷◌, length, refl}
+use Rattle.std.proofs.Common.{◌≡◌, ℕ, ◌+◌, Bool, true, false, ◌&&◌, Option, Some, None, List, [], ◌∷◌, length, refl, sym, subst}
 use Rattle.std.specs.Prelude.{MatchBool, MatchOption, MatchResult, Result, Ok, Err, nat_lt}
 use Rattle.indexmap.specs.IndexMap.{insert_entry}
 use Rattle.cx_ebcdic.specs.Names.{is_name}
@@ -7,7 +7,6 @@ use Rattle.cx_code.specs.declared.image.Image.{Image}
 use Rattle.cx_base_commands.specs.declared.abends.Abend.TheVariants as abend
 use Rattle.cx_base_commands.specs.declared.commands.Command.{Command}
 use Rattle.cx_base_commands.specs.declared.commands.Command.TheVariants as command
-use Rattle.cx_base_commands.specs.declared.conditions.Condition.{Condition}
 use Rattle.cx_base_commands.specs.declared.options.OptionName.TheVariants as option
 use Rattle.cx_base_commands.specs.Abends.{abend_code}
 use Rattle.cx_exec.specs.declared.machine.Halt.{Halt}
@@ -18,7 +17,6 @@ use Rattle.cx_load.specs.Program.{IsProgramPlace, first_of_programs, last_of_pro
 use Rattle.cx_program.specs.Levels.{Levels}
 use Rattle.cx_region_call.specs.Call.{Call, call_of}
 use Rattle.cx_region_call.specs.Inputs.{are_inputs_there}
-use Rattle.cx_region_call.specs.declared.outputs.Output.{Output}
 use Rattle.cx_service.specs.Lines.{AreLinesOf}
 use Rattle.cx_storage.specs.Storage.{Storage}
 use Rattle.cx_region_commands.specs.CommandVerdicts.{HasVerdict, JudgedBy}
@@ -41,13 +39,15 @@ use Rattle.cx_region_state.specs.declared.verdict.Made.TheVariants as made
 use Rattle.cx_region_state.specs.declared.verdict.TaskChange.{TaskChange}
 use Rattle.cx_region_state.specs.declared.verdict.TaskChange.TheVariants.{Makes, Gets, Enters, Replaces, TaskEnds}
 use Rattle.cx_region_state.specs.declared.verdict.Verdict.{Verdict}
-use Rattle.cx_region_state.specs.declared.verdict.Verdict.TheVariants.{Refuses, Waits, Meets}
-use Rattle.cx_region_task.specs.Abends.{Abends}
-use Rattle.cx_region_task.specs.Answers.{Answers, Does, LeavesAll, MeetsWith, continuation_at, has_room}
+use Rattle.cx_region_state.specs.declared.verdict.Verdict.TheVariants.{Refuses}
+use Rattle.cx_region_task.specs.Decisions.{decision_by}
 use Rattle.cx_region_task.specs.Changes.{AppliesBefore, apply_after, report_of, write_outputs, write_report}
-use Rattle.cx_region_task.specs.Continuations.{is_wait}
-use Rattle.cx_region_task.specs.Performing.{Performs, PerformsCall, PerformsCommand, fault_abend, list_of}
-use Rattle.cx_region_task.specs.Turn.{EndsRun, HalfTurn, RunsOn, after_machine, machine_of}
+use Rattle.cx_region_task.specs.Performing.{CarriesOut, Decides, DecidesCall, Does, LeavesAll, fault_abend, list_of}
+use Rattle.cx_region_task.specs.declared.cause.AbendRecord.{AbendRecord}
+use Rattle.cx_region_task.specs.declared.decision.Act.{Act}
+use Rattle.cx_region_task.specs.declared.decision.Decision.{Decision}
+use Rattle.cx_region_task.specs.declared.decision.Decision.TheVariants as decision
+use Rattle.cx_region_task.specs.Turn.{EndsRun, HalfTurnWith, PerformsCommand, RunsOn, after_machine, machine_of}
 use Rattle.cx_service.specs.Queues.{Queues, read_fault}
 use Rattle.cx_service.specs.Screen.{screen_before_text, with_lines}
 use Rattle.cx_service.specs.declared.faults.ServiceFault.{ServiceFault}
@@ -67,7 +67,7 @@ use Rattle.cx_region.specs.declared.replies.Event.TheVariants as event
 use Rattle.cx_region.specs.declared.replies.KeyReply.{KeyReply}
 use Rattle.cx_region.specs.declared.replies.KeyReply.TheVariants as key
 use Rattle.cx_region.specs.declared.replies.Reply.TheVariants as reply
-use Rattle.cx_region_laws.specs.Laws.Outcomes.{AdvancesHaveOutcomes, EventListsAreRuns, EventsHaveOutcomes, HalfTurnsHaveEnds}
+use Rattle.cx_region_laws.specs.Laws.Outcomes.{AdvancesHaveOutcomes, EventListsAreRuns, EventsHaveOutcomes, HalfTurnsHaveEnds, HasEnd}
 use Rattle.cx_region_laws.proofs.LoadedLemmas.{ImagesAreLoaded}
 use Rattle.cx_region_laws.proofs.EndingLemmas.{Answered, Ended, abends_somehow, attaches_somehow, found_place, goes_somehow}
 
@@ -86,10 +86,6 @@ either A B false one other = other
 optional : {X Y : Type 0} (A : X → Type 0) (F : Y → X → Type 0) (o : Option Y) → Found A → ((y : Y) → Found (F y)) → Found (λ x. MatchOption o (A x) (λ y. F y x))
 optional A F None none some = none
 optional A F (Some y) none some = some y
-
-either_ends : (A B : TurnReply → TaskContext → Type 0) (b : Bool) → Ended A → Ended B → Ended (λ reply after. MatchBool b (A reply after) (B reply after))
-either_ends A B true one other = one
-either_ends A B false one other = other
 
 -- ---- verdicts
 at_place : (storage : Storage) (len : ℕ) (row : Option ℕ → Verdict) → Found (AtPlace storage len row)
@@ -184,45 +180,34 @@ applied law (Replaces copying level) before = (_, refl)
 applied law (TaskEnds next) before = (_, refl)
 applied law _ before = (_, refl)
 
-does : HaveLines → (call : Call) (condition : Condition) (outputs : List Output) (change : TaskChange) (before : TaskContext) → Ended (Does call condition outputs change before)
-does law call condition outputs change before =
-    let made = applied law change before in
-    let committed = apply_after change (write_report call (report_of call condition change before) (write_outputs call outputs change made.0)) in
-    let end = goes_somehow (continuation_at call condition change before) condition committed in
+does : HaveLines → (act : Act) (before : TaskContext) → Ended (Does act before)
+does law act before =
+    let made = applied law act.change before in
+    let committed = apply_after act.change (write_report act.call (report_of act.call act.condition act.change before) (write_outputs act.call act.outputs act.change made.0)) in
+    let end = goes_somehow act.continuation act.condition committed in
     (end.0, end.1, record { committed = committed; commits = record { made = made.0; applied = made.1; committed = refl }; goes = end.2 })
 
 leaves_all : (before : TaskContext) → Ended (LeavesAll before)
 leaves_all before = (turn.Waiting, before, record { waiting = refl; same = refl })
 
-answers : HaveLines → (verdict : Verdict) (call : Call) (before : TaskContext) → Ended (Answers verdict call before)
-unfolding Answers MeetsWith
-answers law (Refuses code) call before = abends_somehow (abend_code code) false before
-answers law Waits call before = leaves_all before
-answers law (Meets condition outputs change) call before =
-    either_ends (λ reply after. MatchBool (is_wait (continuation_at call condition change before)) (LeavesAll before reply after) (Does call condition outputs change before reply after))
-    (Abends (abend_code abend.Xarg) false before) (has_room call outputs change before)
-    (either_ends (LeavesAll before) (Does call condition outputs change before) (is_wait (continuation_at call condition change before)) (leaves_all before) (does law call condition outputs change before))
-    (abends_somehow (abend_code abend.Xarg) false before)
+carries_out : HaveLines → (decided : Decision) (before : TaskContext) → Ended (CarriesOut decided before)
+unfolding CarriesOut
+carries_out law (decision.Refuse call refusal) before = abends_somehow (abend_code refusal) false before
+carries_out law (decision.Wait call wait) before = leaves_all before
+carries_out law (decision.Act act) before = does law act before
 
-performs : HaveLines → (call : Call) (before : TaskContext) → Ended (Performs call before)
-performs law call before =
-    let verdict = has_verdict call before in
-    let end = answers law verdict.0 call before in
-    (end.0, end.1, record { verdict = verdict.0; judged = verdict.1; answers = end.2 })
+decides_call : (call : Call) (before : TaskContext) → Found (DecidesCall call before)
+decides_call call before = let verdict = has_verdict call before in (decision_by call verdict.0 before, record { verdict = verdict.0; judged = verdict.1; is = refl })
 
-performs_call : HaveLines → (call : Call) (before : TaskContext) → Ended (PerformsCall call before)
-unfolding PerformsCall
-performs_call law call before =
-    either_ends (Performs call before) (Abends (abend_code abend.Xarg) false before) (are_inputs_there before.shared.storage call) (performs law call before)
-    (abends_somehow (abend_code abend.Xarg) false before)
-
-performs_command : HaveLines → (before : TaskContext) → Ended (PerformsCommand before)
-unfolding PerformsCommand
-performs_command law before = go (call_of before.shared.storage (list_of before.task))
+decides : (before : TaskContext) → Found (Decides before)
+unfolding Decides
+decides before = go (call_of before.shared.storage (list_of before.task))
   where
-    go : (r : Result Call CallFault) → Ended (λ reply after. MatchResult r (λ call. PerformsCall call before reply after) (λ fault. Abends (abend_code (fault_abend fault)) false before reply after))
-    go (Ok call) = performs_call law call before
-    go (Err fault) = abends_somehow (abend_code (fault_abend fault)) false before
+    go : (r : Result Call CallFault)
+        → Found (λ decided. MatchResult r (λ call. MatchBool (are_inputs_there before.shared.storage call) (DecidesCall call before decided) (decided ≡ decision.Refuse (Some call) abend.Xarg))
+        (λ fault. decided ≡ decision.Refuse None (fault_abend fault)))
+    go (Ok call) = either _ _ (are_inputs_there before.shared.storage call) (decides_call call before) (_, refl)
+    go (Err fault) = (_, refl)
 
 -- ---- half-turns
 ends_run : (how : Halt) (before : TaskContext) → Ended (EndsRun how before)
@@ -231,18 +216,26 @@ ends_run halt.AtEntry before = (turn.AtCommand, _, (refl, refl))
 ends_run (halt.Interrupt cause place) before = abends_somehow (abend_code abend.Asra) false before
 ends_run halt.Limit before = abends_somehow (abend_code abend.Aica) false before
 
-runs_on : AdvancesHaveOutcomes → (before : TaskContext) → Ended (RunsOn before)
-runs_on law before =
-    let ran = law (machine_of before) in
-    let between : TaskContext = after_machine before ran.after in
-    let end = ends_run ran.how between in
-    (end.0, end.1, record { how = ran.how; between = between; advances = ran.advances; rest = refl; ends = end.2 })
-
 pub half_turns_have_ends : AdvancesHaveOutcomes → HaveLines → HalfTurnsHaveEnds
-unfolding HalfTurn
-half_turns_have_ends advance law before =
-    let end = either_ends (PerformsCommand before) (RunsOn before) before.task.due (performs_command law before) (runs_on advance before) in
-    record { reply = end.0; after = end.1; half_turn = end.2 }
+unfolding HalfTurnWith
+half_turns_have_ends advance law before = go before.task.due refl
+  where
+    turned : (b : Bool) → before.task.due ≡ b → (reply : TurnReply) (abend_record : Option AbendRecord) (after : TaskContext)
+        → MatchBool b (PerformsCommand before reply abend_record after) (RunsOn before reply abend_record after) → HasEnd before
+    turned b due reply abend_record after turns =
+        let whole = subst (λ b. MatchBool b (PerformsCommand before reply abend_record after) (RunsOn before reply abend_record after)) (sym due) turns in
+        record { reply = reply; after = after; half_turn = record { abend_record = abend_record; turns = whole } }
+
+    go : (b : Bool) → before.task.due ≡ b → HasEnd before
+    go true due =
+        let decided = decides before in
+        let end = carries_out law decided.0 before in
+        turned true due end.0 _ end.1 (record { decided = decided.0; decides = decided.1; carries = end.2; recorded = refl })
+    go false due =
+        let ran = advance (machine_of before) in
+        let between : TaskContext = after_machine before ran.after in
+        let end = ends_run ran.how between in
+        turned false due end.0 _ end.1 (record { how = ran.how; between = between; advances = ran.advances; rest = refl; ends = end.2; recorded = refl })
 
 -- ---- events
 optional_key : {Y : Type 0} (A : KeyReply → RegionState → Type 0) (F : Y → KeyReply → RegionState → Type 0) (o : Option Y) → Answered A → ((y : Y) → Answered (F y))

@@ -1,6 +1,6 @@
 -- Where a program goes on after its command, and that the command's outputs are there.
 use Rattle.std.proofs.Common.{◌≡◌, ℕ, ◌^◌, ◌<◌, Bool, true, false, Option, Some, None, List, [], ◌∷◌, ◌++◌, length, slice_index, refl, sym, ◌∙◌, ap, subst, arith, inl, inr}
-use Rattle.std.specs.Prelude.{◌||◌, Result, Ok, Err, MatchBool, MatchResult}
+use Rattle.std.specs.Prelude.{◌||◌, Ok, MatchBool}
 use Rattle.std.specs.List.{list_any}
 use Rattle.cx_base_commands.specs.Abends.{abend_code}
 use Rattle.cx_base_commands.specs.declared.abends.Abend.TheVariants as abend
@@ -10,12 +10,10 @@ use Rattle.cx_exec.specs.declared.machine.Halt.{Halt}
 use Rattle.cx_exec.specs.declared.machine.Halt.TheVariants as halt
 use Rattle.cx_storage.specs.Address.{address_in, address_after}
 use Rattle.cx_storage.specs.Storage.{Storage, byte_at, with_area}
-use Rattle.cx_region_call.specs.declared.call.CallFault.{CallFault}
 use Rattle.cx_region_call.specs.declared.outputs.Output.{Output}
 use Rattle.cx_region_call.specs.declared.outputs.OutputValue.TheVariants.{Word}
 use Rattle.cx_region_call.specs.Call.{Call, call_of, resp_place}
 use Rattle.cx_region_call.specs.Facts.Inputs.{place_below}
-use Rattle.cx_region_call.specs.Inputs.{are_inputs_there}
 use Rattle.cx_region_call.specs.Laws.Calls.{CallIsRead}
 use Rattle.cx_region_call.specs.Outputs.{bytes_from, can_put, put_out}
 use Rattle.cx_region_commands.specs.Common.{output as output_of}
@@ -29,19 +27,20 @@ use Rattle.cx_region_state.specs.declared.verdict.Fill.{Fill}
 use Rattle.cx_region_state.specs.declared.verdict.Fill.TheVariants.{Byte, Item}
 use Rattle.cx_region_state.specs.declared.verdict.Made.{Made}
 use Rattle.cx_region_state.specs.declared.verdict.Made.TheVariants as made
-use Rattle.cx_region_state.specs.declared.verdict.Verdict.{Verdict}
-use Rattle.cx_region_state.specs.declared.verdict.Verdict.TheVariants.{Meets, Refuses, Waits}
+use Rattle.cx_region_state.specs.declared.verdict.Verdict.TheVariants.{Meets, Waits}
 use Rattle.cx_region_state.specs.Areas.{got_owner, with_filled}
 use Rattle.cx_region_state.specs.State.{TaskContext}
 use Rattle.cx_region_state.specs.Verdicts.{handed_over}
 use Rattle.cx_region_task.specs.declared.continuation.Continuation.{Continuation}
 use Rattle.cx_region_task.specs.declared.continuation.Continuation.TheVariants as continuation
 use Rattle.cx_region_task.specs.Abends.{Abends, AbendsAt}
-use Rattle.cx_region_task.specs.Answers.{Answers, Does, LeavesAll, MeetsWith, has_room, continuation_at}
+use Rattle.cx_region_task.specs.Decisions.{has_room, continuation_at}
 use Rattle.cx_region_task.specs.Changes.{AppliesBefore, Commits, fill_bytes, apply_after, write_outputs, read_for, report_of, write_report, with_got}
-use Rattle.cx_region_task.specs.Performing.{PerformsCall, PerformsCommand, Performs, fault_abend, list_of}
-use Rattle.cx_region_task.specs.Turn.{HalfTurn, EndsRun, RunsOn}
-use Rattle.cx_region_task.specs.Continuations.{Goes, is_wait, on_its_way}
+use Rattle.cx_region_task.specs.Performing.{LeavesAll, list_of}
+use Rattle.cx_region_task.specs.Facts.Met.{IsMet, by_decision}
+use Rattle.cx_region_task.specs.declared.cause.AbendRecord.{AbendRecord}
+use Rattle.cx_region_task.specs.Turn.{HalfTurn, HalfTurnWith, PerformsCommand, EndsRun, RunsOn}
+use Rattle.cx_region_task.specs.Continuations.{Goes, on_its_way}
 use Rattle.cx_region_laws.specs.Laws.Bytes.{is_among, is_in_output}
 use Rattle.cx_region_laws.specs.Laws.Pointers.{OutputsStand, OutputsStay, PointersStand, ProgramsGoOn}
 use Rattle.cx_region_laws.proofs.ClearLemmas.{clear_of}
@@ -194,60 +193,29 @@ goes_on (continuation.Replaces level) met condition committed after goes = let n
 goes_on continuation.LevelEnds met condition committed after goes = let no : turn.Performed condition ≡ turn.Returned = goes.0 in cc
 goes_on continuation.TaskEnds met condition committed after goes = let no : turn.Performed condition ≡ turn.Ended = goes.0 in cc
 
-answers_done : (verdict : Verdict) (call : Call) (condition : Condition) (before after : TaskContext) → call_of before.shared.storage (list_of before.task) ≡ Ok call → HasVerdict call before verdict
-    → Answers verdict call before (turn.Performed condition) after → IsDone condition before after
-unfolding Answers MeetsWith
-answers_done (Refuses own) call condition before after reads judged it = not_abends (abend_code own) false condition before after it
-answers_done Waits call condition before after reads judged it = not_waits condition before after it
-answers_done (Meets met outputs change) call condition before after reads judged it = by_room (has_room call outputs change before) refl it
-  where
-    gone : Continuation
-    gone = continuation_at call met change before
+met_done : (condition : Condition) (before after : TaskContext) → IsMet (turn.Performed condition) before after → IsDone condition before after
+met_done condition before after met =
+    let on = goes_on (continuation_at met.call met.condition met.change before) met.condition condition met.committed after met.goes in
+    record {
+      call = met.call;
+      reads = met.reads;
+      outputs = met.outputs;
+      change = met.change;
+      judged = subst (λ (c : Condition). HasVerdict met.call before (Meets c met.outputs met.change)) on.0 met.judged;
+      room = met.room;
+      committed = met.committed;
+      commits = subst (λ (c : Condition). Commits met.call c met.outputs met.change before met.committed) on.0 met.commits;
+      goes = on.1;
+    }
 
-    done : has_room call outputs change before ≡ true → Does call met outputs change before (turn.Performed condition) after → IsDone condition before after
-    done room does =
-        let on = goes_on gone met condition does.committed after does.goes in
-        record {
-          call = call;
-          reads = reads;
-          outputs = outputs;
-          change = change;
-          judged = subst (λ (c : Condition). HasVerdict call before (Meets c outputs change)) on.0 judged;
-          room = room;
-          committed = does.committed;
-          commits = subst (λ (c : Condition). Commits call c outputs change before does.committed) on.0 does.commits;
-          goes = on.1;
-        }
+commanded_done : (condition : Condition) (before after : TaskContext) (abend_record : Option AbendRecord) → PerformsCommand before (turn.Performed condition) abend_record after → IsDone condition before after
+commanded_done condition before after abend_record it =
+    by_decision before after (turn.Performed condition) abend_record it (λ refusal abends. not_abends (abend_code refusal) false condition before after abends)
+    (λ leaves. not_waits condition before after leaves) (λ met. met_done condition before after met)
 
-    by_wait : (b : Bool) → has_room call outputs change before ≡ true → MatchBool b (LeavesAll before (turn.Performed condition) after) (Does call met outputs change before (turn.Performed condition) after)
-        → IsDone condition before after
-    by_wait true room leaves = not_waits condition before after leaves
-    by_wait false room does = done room does
-
-    by_room : (b : Bool) → has_room call outputs change before ≡ b
-        → MatchBool b (MatchBool (is_wait gone) (LeavesAll before (turn.Performed condition) after) (Does call met outputs change before (turn.Performed condition) after))
-        (Abends (abend_code abend.Xarg) false before (turn.Performed condition) after) → IsDone condition before after
-    by_room true room it = by_wait (is_wait gone) room it
-    by_room false room abends = not_abends (abend_code abend.Xarg) false condition before after abends
-
-commanded_done : (condition : Condition) (before after : TaskContext) → PerformsCommand before (turn.Performed condition) after → IsDone condition before after
-unfolding PerformsCommand PerformsCall
-commanded_done condition before after commanded = by_call (call_of before.shared.storage (list_of before.task)) refl commanded
-  where
-    by_inputs : (call : Call) → call_of before.shared.storage (list_of before.task) ≡ Ok call → (b : Bool)
-        → MatchBool b (Performs call before (turn.Performed condition) after) (Abends (abend_code abend.Xarg) false before (turn.Performed condition) after) → IsDone condition before after
-    by_inputs call reads true it = answers_done it.verdict call condition before after reads it.judged it.answers
-    by_inputs call reads false abends = not_abends (abend_code abend.Xarg) false condition before after abends
-
-    by_call : (r : Result Call CallFault) → call_of before.shared.storage (list_of before.task) ≡ r
-        → MatchResult r (λ call. PerformsCall call before (turn.Performed condition) after) (λ fault. Abends (abend_code (fault_abend fault)) false before (turn.Performed condition) after)
-        → IsDone condition before after
-    by_call (Ok call) reads called = by_inputs call reads (are_inputs_there before.shared.storage call) called
-    by_call (Err fault) reads abends = not_abends (abend_code (fault_abend fault)) false condition before after abends
-
-not_runs : {P : Type 0} (condition : Condition) (before after : TaskContext) → RunsOn before (turn.Performed condition) after → P
+not_runs : {P : Type 0} (condition : Condition) (before after : TaskContext) (abend_record : Option AbendRecord) → RunsOn before (turn.Performed condition) abend_record after → P
 unfolding EndsRun
-not_runs {P} condition before after it = by_halt it.how it.ends
+not_runs {P} condition before after abend_record it = by_halt it.how it.ends
   where
     by_halt : (how : Halt) → EndsRun how it.between (turn.Performed condition) after → P
     by_halt halt.AtEntry over = let no : turn.Performed condition ≡ turn.AtCommand = over.0 in cc
@@ -255,13 +223,13 @@ not_runs {P} condition before after it = by_halt it.how it.ends
     by_halt halt.Limit abends = not_abends (abend_code abend.Aica) false condition it.between after abends
 
 half_done : (condition : Condition) (before after : TaskContext) → HalfTurn before (turn.Performed condition) after → (before.task.due ≡ true) × IsDone condition before after
-unfolding HalfTurn
-half_done condition before after half = by_due before.task.due refl half
+unfolding HalfTurnWith
+half_done condition before after half = by_due before.task.due refl half.turns
   where
-    by_due : (b : Bool) → before.task.due ≡ b → MatchBool b (PerformsCommand before (turn.Performed condition) after) (RunsOn before (turn.Performed condition) after)
+    by_due : (b : Bool) → before.task.due ≡ b → MatchBool b (PerformsCommand before (turn.Performed condition) half.abend_record after) (RunsOn before (turn.Performed condition) half.abend_record after)
         → (before.task.due ≡ true) × IsDone condition before after
-    by_due true due commanded = (due, commanded_done condition before after commanded)
-    by_due false due runs = not_runs condition before after runs
+    by_due true due commanded = (due, commanded_done condition before after half.abend_record commanded)
+    by_due false due runs = not_runs condition before after half.abend_record runs
 
 pub programs_go_on : ProgramsGoOn
 programs_go_on before after condition half =

@@ -31,6 +31,7 @@ use Rattle.cx_region_state.specs.Verdicts.{handed_over}
 use Rattle.cx_region_task.specs.Changes.{AppliesBefore, Commits, report_of, write_outputs, write_report}
 use Rattle.cx_region_task.specs.Laws.HalfTurns.{HalfTurnsKeep}
 use Rattle.cx_region_task.specs.Performing.{list_of}
+use Rattle.cx_region_task.specs.Facts.Met.{IsMet}
 use Rattle.cx_region_task.specs.Turn.{HalfTurn}
 use Rattle.cx_region_laws.specs.Laws.Bytes.{is_among}
 use Rattle.cx_region_laws.specs.Laws.Reports.{AreOutputsApart, CommandsReport, HasReported, IsRespApart, IsSoundContext, condition_of, field_at, function_after}
@@ -38,7 +39,7 @@ use Rattle.cx_region_laws.proofs.AppliedLemmas.{applied_task}
 use Rattle.cx_region_laws.proofs.CommandLemmas.{call_low, finished_task, resource_reported, text_same}
 use Rattle.cx_region_laws.proofs.EibLemmas.{InEib, IsEibThere, answer_areas, eib_has, fields_agree, in_eib, outputs_areas, resp_leaves, resp_stands, there_write}
 use Rattle.cx_region_laws.proofs.MadeLemmas.{Stays, applied_stays}
-use Rattle.cx_region_laws.proofs.MetLemmas.{IsMet, finished_freed, function_reported, goes_from, number_reported, replies_met}
+use Rattle.cx_region_laws.proofs.MetLemmas.{finished_freed, function_reported, goes_from, number_reported, replies_met}
 use Rattle.cx_region_laws.proofs.StandLemmas.{puts_elsewhere}
 use Rattle.cx_region_laws.proofs.StayingLemmas.{IsFreed, freed_on, freed_span, freed_was, ordered_same}
 use Rattle.cx_region_laws.proofs.WrittenLemmas.{AreLow, resource_fits, resp_low}

@@ -1,6 +1,6 @@
 -- A half-turn is answered Returned only where there is a caller.
 use Rattle.std.proofs.Common.{◌≡◌, ℕ, ◌<◌, Bool, true, false, List, [], ◌∷◌, length, Option, Some, None, refl, sym, ◌∙◌, ap, subst, arith, inl, inr}
-use Rattle.std.specs.Prelude.{◌&&◌, ◌||◌, not, Result, Ok, Err, MatchBool, MatchResult, if◌then◌else◌}
+use Rattle.std.specs.Prelude.{◌&&◌, ◌||◌, not, MatchBool, if◌then◌else◌}
 use Rattle.std.proofs.lemmas.Bool.{cases_Bool, true≢false}
 use Rattle.cx_base_commands.specs.Abends.{abend_code}
 use Rattle.cx_base_commands.specs.declared.abends.Abend.TheVariants as abend
@@ -13,9 +13,8 @@ use Rattle.cx_exec.specs.declared.machine.Halt.TheVariants as halt
 use Rattle.cx_program.specs.declared.choice.Choice.{Choice}
 use Rattle.cx_program.specs.declared.choice.Choice.TheVariants as choice
 use Rattle.cx_program.specs.declared.level.Level.{Level}
-use Rattle.cx_region_call.specs.declared.call.CallFault.{CallFault}
-use Rattle.cx_region_call.specs.Call.{Call, call_of}
-use Rattle.cx_region_call.specs.Inputs.{are_inputs_there, is_length_negative}
+use Rattle.cx_region_call.specs.Call.{Call}
+use Rattle.cx_region_call.specs.Inputs.{is_length_negative}
 use Rattle.cx_region_state.specs.State.{TaskContext}
 use Rattle.cx_region_state.specs.declared.replies.TurnReply.TheVariants as turn
 use Rattle.cx_region_state.specs.declared.verdict.TaskChange.{TaskChange}
@@ -23,8 +22,8 @@ use Rattle.cx_region_state.specs.declared.verdict.TaskChange.TheVariants.{Nothin
 use Rattle.cx_region_state.specs.declared.verdict.Made.TheVariants.{Handles}
 use Rattle.cx_region_state.specs.declared.verdict.Request.{Request}
 use Rattle.cx_region_state.specs.declared.verdict.Verdict.{Verdict}
-use Rattle.cx_region_state.specs.declared.verdict.Verdict.TheVariants.{Meets, Refuses, Waits}
-use Rattle.cx_region_commands.specs.Common.{does, has}
+use Rattle.cx_region_state.specs.declared.verdict.Verdict.TheVariants.{Meets, Waits}
+use Rattle.cx_region_commands.specs.Common.{has}
 use Rattle.cx_region_commands.specs.Abend.{abend_row}
 use Rattle.cx_region_commands.specs.Address.{address_row}
 use Rattle.cx_region_commands.specs.HandleAbend.{handle_abend_row}
@@ -35,10 +34,12 @@ use Rattle.cx_region_commands.specs.Suspend.{suspend_row}
 use Rattle.cx_region_task.specs.declared.continuation.Continuation.{Continuation}
 use Rattle.cx_region_task.specs.declared.continuation.Continuation.TheVariants as continuation
 use Rattle.cx_region_task.specs.Abends.{Abends, AbendsAt}
-use Rattle.cx_region_task.specs.Answers.{Answers, Does, LeavesAll, MeetsWith, has_room, continuation_at}
-use Rattle.cx_region_task.specs.Performing.{PerformsCall as IsCalled, PerformsCommand, Performs, fault_abend, list_of}
-use Rattle.cx_region_task.specs.Turn.{HalfTurn, EndsRun, RunsOn}
-use Rattle.cx_region_task.specs.Continuations.{Goes, choice_for, is_normal, is_wait, continuation_by, continuation_chosen, continuation_of}
+use Rattle.cx_region_task.specs.Decisions.{continuation_at}
+use Rattle.cx_region_task.specs.Performing.{LeavesAll}
+use Rattle.cx_region_task.specs.Facts.Met.{IsMet, by_decision}
+use Rattle.cx_region_task.specs.declared.cause.AbendRecord.{AbendRecord}
+use Rattle.cx_region_task.specs.Turn.{HalfTurnWith, PerformsCommand, EndsRun, RunsOn}
+use Rattle.cx_region_task.specs.Continuations.{Goes, choice_for, is_normal, continuation_by, continuation_chosen, continuation_of}
 use Rattle.cx_region_laws.specs.Laws.Levels.{ReturnsHaveCallers}
 use Rattle.cx_region_laws.proofs.RowLemmas.{IsApart, IsOfNoOther, deleteq_none, deq_none, enq_none, freemain_none, getmain_none, link_none, never, passes, pop_none, push_none, readq_none, receive_none, send_text_none, writeq_none, xctl_none}
 
@@ -174,38 +175,20 @@ goes_ends continuation.TaskEnds condition committed after goes = let no : turn.R
 waits_not : (before after : TaskContext) → LeavesAll before turn.Returned after → {P : Type 0} → P
 waits_not before after it = let no : turn.Returned ≡ turn.Waiting = it.waiting in cc
 
-answers_has : (verdict : Verdict) (call : Call) (before after : TaskContext) → HasVerdict call before verdict → Answers verdict call before turn.Returned after → 0 < length before.task.levels.callers
-unfolding Answers MeetsWith passes
-answers_has (Refuses code) call before after judged it = abends_not (abend_code code) false before after it
-answers_has Waits call before after judged it = waits_not before after it
-answers_has (Meets condition outputs change) call before after judged it = by_room (has_room call outputs change before) it
-  where
-    by_wait : (b : Bool) → MatchBool b (LeavesAll before turn.Returned after) (Does call condition outputs change before turn.Returned after) → 0 < length before.task.levels.callers
-    by_wait true leaves = waits_not before after leaves
-    by_wait false does =
-        (judged_ends call before (Meets condition outputs change) judged
-        (way_ends call condition change before (goes_ends (continuation_at call condition change before) condition does.committed after does.goes))).0
+met_has : (before after : TaskContext) → IsMet turn.Returned before after → 0 < length before.task.levels.callers
+unfolding passes
+met_has before after met =
+    (judged_ends met.call before (Meets met.condition met.outputs met.change) met.judged
+    (way_ends met.call met.condition met.change before (goes_ends (continuation_at met.call met.condition met.change before) met.condition met.committed after met.goes))).0
 
-    by_room : (b : Bool) → MatchBool b (MatchBool (is_wait (continuation_at call condition change before)) (LeavesAll before turn.Returned after) (Does call condition outputs change before turn.Returned after))
-        (Abends (abend_code abend.Xarg) false before turn.Returned after) → 0 < length before.task.levels.callers
-    by_room true met = by_wait (is_wait (continuation_at call condition change before)) met
-    by_room false abends = abends_not (abend_code abend.Xarg) false before after abends
+commanded_has : (before after : TaskContext) (abend_record : Option AbendRecord) → PerformsCommand before turn.Returned abend_record after → 0 < length before.task.levels.callers
+commanded_has before after abend_record it =
+    by_decision before after turn.Returned abend_record it (λ refusal abends. abends_not (abend_code refusal) false before after abends)
+    (λ leaves. waits_not before after leaves) (λ met. met_has before after met)
 
-commanded_has : (before after : TaskContext) → PerformsCommand before turn.Returned after → 0 < length before.task.levels.callers
-unfolding PerformsCommand IsCalled
-commanded_has before after commanded = by_call (call_of before.shared.storage (list_of before.task)) commanded
-  where
-    by_inputs : (call : Call) (b : Bool) → MatchBool b (Performs call before turn.Returned after) (Abends (abend_code abend.Xarg) false before turn.Returned after) → 0 < length before.task.levels.callers
-    by_inputs call true it = answers_has it.verdict call before after it.judged it.answers
-    by_inputs call false abends = abends_not (abend_code abend.Xarg) false before after abends
-
-    by_call : (r : Result Call CallFault) → MatchResult r (λ call. IsCalled call before turn.Returned after) (λ fault. Abends (abend_code (fault_abend fault)) false before turn.Returned after) → 0 < length before.task.levels.callers
-    by_call (Ok call) called = by_inputs call (are_inputs_there before.shared.storage call) called
-    by_call (Err fault) abends = abends_not (abend_code (fault_abend fault)) false before after abends
-
-runs_not : (before after : TaskContext) → RunsOn before turn.Returned after → {P : Type 0} → P
+runs_not : (before after : TaskContext) (abend_record : Option AbendRecord) → RunsOn before turn.Returned abend_record after → {P : Type 0} → P
 unfolding EndsRun
-runs_not before after it = by_halt it.how it.ends
+runs_not before after abend_record it = by_halt it.how it.ends
   where
     by_halt : {P : Type 0} (how : Halt) → EndsRun how it.between turn.Returned after → P
     by_halt halt.AtEntry over = let no : turn.Returned ≡ turn.AtCommand = over.0 in cc
@@ -213,9 +196,9 @@ runs_not before after it = by_halt it.how it.ends
     by_halt halt.Limit abends = abends_not (abend_code abend.Aica) false it.between after abends
 
 pub returns_have_callers : ReturnsHaveCallers
-unfolding HalfTurn
-returns_have_callers before after half = by_due before.task.due half
+unfolding HalfTurnWith
+returns_have_callers before after half = by_due before.task.due half.turns
   where
-    by_due : (b : Bool) → MatchBool b (PerformsCommand before turn.Returned after) (RunsOn before turn.Returned after) → 0 < length before.task.levels.callers
-    by_due true commanded = commanded_has before after commanded
-    by_due false runs = runs_not before after runs
+    by_due : (b : Bool) → MatchBool b (PerformsCommand before turn.Returned half.abend_record after) (RunsOn before turn.Returned half.abend_record after) → 0 < length before.task.levels.callers
+    by_due true commanded = commanded_has before after half.abend_record commanded
+    by_due false runs = runs_not before after half.abend_record runs

@@ -21,8 +21,7 @@ use Rattle.cx_region_state.specs.declared.verdict.Request.TheVariants as request
 use Rattle.cx_region_state.specs.State.{TaskContext, TaskState}
 use Rattle.cx_region_task.specs.Abends.{Abends, AbendsAt}
 use Rattle.cx_region_task.specs.Changes.{after_request, with_ignored, with_labels}
-use Rattle.cx_region_task.specs.Performing.{PerformsCommand}
-use Rattle.cx_region_task.specs.Turn.{HalfTurn, EndsRun, RunsOn}
+use Rattle.cx_region_task.specs.Turn.{HalfTurnWith, PerformsCommand, EndsRun, RunsOn}
 use Rattle.cx_region_laws.specs.Laws.Levels.{CommandsAreKept, HasBegun, IsBack, IsBalanced, Keeps, LeavesCallers, Links, LinksAreReturned, PopsRestore, RunsBelow, Turned, handled_all}
 use Rattle.cx_region_laws.proofs.CallerLemmas.{half_turns_leave_callers}
 
@@ -121,10 +120,10 @@ links_are_returned linking entered returning returned link back =
 
 -- ---- registers at a command
 pub commands_are_kept : CommandsAreKept
-unfolding HalfTurn EndsRun AbendsAt
-commands_are_kept before after none half = runs (by_due before.task.due none half)
+unfolding HalfTurnWith EndsRun AbendsAt
+commands_are_kept before after none half = runs (by_due before.task.due none half.turns)
   where
-    by_due : (b : Bool) → b ≡ false → MatchBool b (PerformsCommand before turn.AtCommand after) (RunsOn before turn.AtCommand after) → RunsOn before turn.AtCommand after
+    by_due : (b : Bool) → b ≡ false → MatchBool b (PerformsCommand before turn.AtCommand half.abend_record after) (RunsOn before turn.AtCommand half.abend_record after) → RunsOn before turn.AtCommand half.abend_record after
     by_due true e it = cc
     by_due false e it = it
 
@@ -135,7 +134,7 @@ commands_are_kept before after none half = runs (by_due before.task.due none hal
         go None over = absurd (let never : turn.AtCommand ≡ turn.Abended code = over.0 in cc)
         go (Some index) over = absurd (let never : turn.AtCommand ≡ turn.TookExit code = over.0 in cc)
 
-    runs : RunsOn before turn.AtCommand after → Keeps after.task
+    runs : RunsOn before turn.AtCommand half.abend_record after → Keeps after.task
     runs it = by_halt it.how it.ends
       where
         by_halt : (how : Halt) → EndsRun how it.between turn.AtCommand after → Keeps after.task

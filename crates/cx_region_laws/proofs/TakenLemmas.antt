@@ -1,6 +1,6 @@
 -- How a half-turn comes to the abend that an exit takes.
 use Rattle.std.proofs.Common.{◌≡◌, ℕ, Bool, true, false, Option, Some, None, List, refl, sym, ◌∙◌, ap, subst, inl, inr}
-use Rattle.std.specs.Prelude.{◌⊎◌, Result, Ok, Err, MatchBool, MatchResult, if◌then◌else◌}
+use Rattle.std.specs.Prelude.{◌⊎◌, MatchBool, if◌then◌else◌}
 use Rattle.std.proofs.lemmas.Bool.{true≢false}
 use Rattle.cx_base_commands.specs.Abends.{abend_code}
 use Rattle.cx_base_commands.specs.declared.abends.Abend.TheVariants as kind
@@ -9,24 +9,22 @@ use Rattle.cx_exec.specs.declared.machine.Halt.{Halt}
 use Rattle.cx_exec.specs.declared.machine.Halt.TheVariants as halt
 use Rattle.cx_exec.specs.Advance.{Advances}
 use Rattle.cx_program.specs.declared.choice.Choice.{Choice}
-use Rattle.cx_region_call.specs.declared.call.CallFault.{CallFault}
 use Rattle.cx_region_call.specs.declared.outputs.Output.{Output}
-use Rattle.cx_region_call.specs.Call.{Call, call_of}
-use Rattle.cx_region_call.specs.Inputs.{are_inputs_there}
+use Rattle.cx_region_call.specs.Call.{Call}
 use Rattle.cx_region_state.specs.declared.replies.TurnReply.TheVariants as turn
 use Rattle.cx_region_state.specs.declared.verdict.TaskChange.{TaskChange}
 use Rattle.cx_region_state.specs.declared.verdict.TaskChange.TheVariants.{Nothing, Makes, Ends, Gets, Enters, Replaces, LevelEnds, TaskEnds, AbendsWith}
-use Rattle.cx_region_state.specs.declared.verdict.Verdict.{Verdict}
-use Rattle.cx_region_state.specs.declared.verdict.Verdict.TheVariants.{Meets, Refuses, Waits}
+use Rattle.cx_region_state.specs.declared.verdict.Verdict.TheVariants.{Meets, Waits}
 use Rattle.cx_region_state.specs.State.{TaskContext}
-use Rattle.cx_region_commands.specs.CommandVerdicts.{HasVerdict}
 use Rattle.cx_region_task.specs.declared.continuation.Continuation.{Continuation}
 use Rattle.cx_region_task.specs.declared.continuation.Continuation.TheVariants as continuation
 use Rattle.cx_region_task.specs.Abends.{Abends, AbendsAt}
-use Rattle.cx_region_task.specs.Answers.{Answers, Does, LeavesAll, MeetsWith, has_room, continuation_at}
-use Rattle.cx_region_task.specs.Performing.{PerformsCall as IsCalled, PerformsCommand, Performs, fault_abend, list_of}
-use Rattle.cx_region_task.specs.Turn.{HalfTurn, EndsRun, RunsOn, machine_of, most_steps}
-use Rattle.cx_region_task.specs.Continuations.{Goes, choice_for, is_normal, is_wait, continuation_by, continuation_chosen, continuation_of}
+use Rattle.cx_region_task.specs.Decisions.{continuation_at}
+use Rattle.cx_region_task.specs.Performing.{LeavesAll}
+use Rattle.cx_region_task.specs.Facts.Met.{IsMet, by_decision}
+use Rattle.cx_region_task.specs.declared.cause.AbendRecord.{AbendRecord}
+use Rattle.cx_region_task.specs.Turn.{HalfTurnWith, PerformsCommand, EndsRun, RunsOn, machine_of, most_steps}
+use Rattle.cx_region_task.specs.Continuations.{Goes, choice_for, is_normal, continuation_by, continuation_chosen, continuation_of}
 use Rattle.cx_region_laws.specs.Laws.Exits.{ComesTo, ComesToExit, HalfTurnsTakeExits, HasDone, HaveRun, TakesExit}
 use Rattle.cx_region_laws.proofs.ExitLemmas.{exits_are_nearest}
 use Rattle.cx_region_laws.proofs.LevelLemmas.{IsWell, is_request, judged_well, settles_levels}
@@ -100,48 +98,23 @@ at_once own code before after it = record { abend = before; comes = inl refl; le
 waits_not : (code : List ℕ) (before after : TaskContext) → LeavesAll before (turn.TookExit code) after → IsCome before after
 waits_not code before after it = let no : turn.TookExit code ≡ turn.Waiting = it.waiting in cc
 
-answers_come : (verdict : Verdict) (call : Call) (code : List ℕ) (before after : TaskContext) → call_of before.shared.storage (list_of before.task) ≡ Ok call → HasVerdict call before verdict
-    → Answers verdict call before (turn.TookExit code) after → IsCome before after
-unfolding Answers MeetsWith
-answers_come (Refuses own) call code before after reads judged it = at_once (abend_code own) code before after it
-answers_come Waits call code before after reads judged it = waits_not code before after it
-answers_come (Meets condition outputs change) call code before after reads judged it = by_room (has_room call outputs change before) it
-  where
-    gone : Continuation
-    gone = continuation_at call condition change before
+met_comes : (code : List ℕ) (before after : TaskContext) → IsMet (turn.TookExit code) before after → IsCome before after
+met_comes code before after met =
+    let verdict = Meets met.condition met.outputs met.change in
+    let abends = goes_abend (continuation_at met.call met.condition met.change before) met.condition code met.committed after met.goes in
+    record {
+      abend = met.committed;
+      comes = inr (record { call = met.call; reads = met.reads; condition = met.condition; outputs = met.outputs; change = met.change; judged = met.judged; commits = met.commits });
+      levels =
+          settles_levels met.call met.condition met.outputs met.change before met.committed
+          (way_asks_none met.call met.condition met.outputs met.change before (judged_well met.call before verdict met.judged) abends.0) met.commits;
+      takes = abends.1;
+    }
 
-    done : Does call condition outputs change before (turn.TookExit code) after → IsCome before after
-    done does =
-        let abends = goes_abend gone condition code does.committed after does.goes in
-        record {
-          abend = does.committed;
-          comes = inr (record { call = call; reads = reads; condition = condition; outputs = outputs; change = change; judged = judged; commits = does.commits });
-          levels = settles_levels call condition outputs change before does.committed (way_asks_none call condition outputs change before (judged_well call before (Meets condition outputs change) judged) abends.0) does.commits;
-          takes = abends.1;
-        }
-
-    by_wait : (b : Bool) → MatchBool b (LeavesAll before (turn.TookExit code) after) (Does call condition outputs change before (turn.TookExit code) after) → IsCome before after
-    by_wait true leaves = waits_not code before after leaves
-    by_wait false does = done does
-
-    by_room : (b : Bool) → MatchBool b (MatchBool (is_wait gone) (LeavesAll before (turn.TookExit code) after) (Does call condition outputs change before (turn.TookExit code) after))
-        (Abends (abend_code kind.Xarg) false before (turn.TookExit code) after) → IsCome before after
-    by_room true met = by_wait (is_wait gone) met
-    by_room false abends = at_once (abend_code kind.Xarg) code before after abends
-
-commanded_comes : (code : List ℕ) (before after : TaskContext) → PerformsCommand before (turn.TookExit code) after → IsCome before after
-unfolding PerformsCommand IsCalled
-commanded_comes code before after commanded = by_call (call_of before.shared.storage (list_of before.task)) refl commanded
-  where
-    by_inputs : (call : Call) → call_of before.shared.storage (list_of before.task) ≡ Ok call → (b : Bool)
-        → MatchBool b (Performs call before (turn.TookExit code) after) (Abends (abend_code kind.Xarg) false before (turn.TookExit code) after) → IsCome before after
-    by_inputs call reads true it = answers_come it.verdict call code before after reads it.judged it.answers
-    by_inputs call reads false abends = at_once (abend_code kind.Xarg) code before after abends
-
-    by_call : (r : Result Call CallFault) → call_of before.shared.storage (list_of before.task) ≡ r
-        → MatchResult r (λ call. IsCalled call before (turn.TookExit code) after) (λ fault. Abends (abend_code (fault_abend fault)) false before (turn.TookExit code) after) → IsCome before after
-    by_call (Ok call) reads called = by_inputs call reads (are_inputs_there before.shared.storage call) called
-    by_call (Err fault) reads abends = at_once (abend_code (fault_abend fault)) code before after abends
+commanded_comes : (code : List ℕ) (before after : TaskContext) (abend_record : Option AbendRecord) → PerformsCommand before (turn.TookExit code) abend_record after → IsCome before after
+commanded_comes code before after abend_record it =
+    by_decision before after (turn.TookExit code) abend_record it (λ refusal abends. at_once (abend_code refusal) code before after abends)
+    (λ leaves. waits_not code before after leaves) (λ met. met_comes code before after met)
 
 -- ---- instructions
 record HasRunTo (before after : TaskContext) : Type 0 where
@@ -150,9 +123,9 @@ record HasRunTo (before after : TaskContext) : Type 0 where
   levels : abend.task.levels ≡ before.task.levels
   takes : TakesExit abend after
 
-runs_come : (code : List ℕ) (before after : TaskContext) → RunsOn before (turn.TookExit code) after → HasRunTo before after
+runs_come : (code : List ℕ) (before after : TaskContext) (abend_record : Option AbendRecord) → RunsOn before (turn.TookExit code) abend_record after → HasRunTo before after
 unfolding EndsRun
-runs_come code before after it = by_halt it.how it.advances it.ends
+runs_come code before after abend_record it = by_halt it.how it.advances it.ends
   where
     come : (how : Halt) → Advances most_steps (machine_of before) how (machine_of it.between) → TakesExit it.between after → HasRunTo before after
     come how advances taken =
@@ -172,13 +145,13 @@ comes_by : (before abend : TaskContext) (b : Bool) → before.task.due ≡ b →
 comes_by before abend b due it = subst (λ b. MatchBool b ((abend ≡ before) ⊎ HasDone before abend) (HaveRun before abend)) (sym due) it
 
 pub half_turns_take_exits : HalfTurnsTakeExits
-unfolding HalfTurn
-half_turns_take_exits code before after half = by_due before.task.due refl half
+unfolding HalfTurnWith
+half_turns_take_exits code before after half = by_due before.task.due refl half.turns
   where
-    by_due : (b : Bool) → before.task.due ≡ b → MatchBool b (PerformsCommand before (turn.TookExit code) after) (RunsOn before (turn.TookExit code) after) → ComesToExit before after
+    by_due : (b : Bool) → before.task.due ≡ b → MatchBool b (PerformsCommand before (turn.TookExit code) half.abend_record after) (RunsOn before (turn.TookExit code) half.abend_record after) → ComesToExit before after
     by_due true due commanded =
-        let it = commanded_comes code before after commanded in
+        let it = commanded_comes code before after half.abend_record commanded in
         record { abend = it.abend; comes = comes_by before it.abend true due it.comes; levels = it.levels; takes = it.takes }
     by_due false due runs =
-        let it = runs_come code before after runs in
+        let it = runs_come code before after half.abend_record runs in
         record { abend = it.abend; comes = comes_by before it.abend false due it.run; levels = it.levels; takes = it.takes }

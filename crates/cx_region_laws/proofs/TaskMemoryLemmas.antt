@@ -15,7 +15,7 @@ use Rattle.cx_region_call.specs.Inputs.{bytes_of, is_length_negative, length_opt
 use Rattle.cx_region_state.specs.State.{TaskContext}
 use Rattle.cx_region_state.specs.declared.verdict.TaskChange.TheVariants.{TaskEnds}
 use Rattle.cx_region_state.specs.declared.verdict.Verdict.{Verdict}
-use Rattle.cx_region_state.specs.declared.verdict.Verdict.TheVariants.{Meets, Refuses, Waits}
+use Rattle.cx_region_state.specs.declared.verdict.Verdict.TheVariants.{Meets}
 use Rattle.cx_region_commands.specs.Common.{commarea_of, does, has, condition_alone}
 use Rattle.cx_region_commands.specs.Services.{fault_or_verdict}
 use Rattle.cx_region_commands.specs.Abend.{abend_row}
@@ -27,8 +27,7 @@ use Rattle.cx_region_commands.specs.ReadqTs.{ReadqRow, Reads, ReadsItem, ReadsQu
 use Rattle.cx_region_commands.specs.Return.{highest_return, next_of, return_row}
 use Rattle.cx_region_commands.specs.Suspend.{suspend_row}
 use Rattle.cx_region_commands.specs.Facts.FitsParts.{by_option, by_test}
-use Rattle.cx_region_task.specs.Answers.{has_room, may_take_memory, continuation_at}
-use Rattle.cx_region_task.specs.Continuations.{is_wait}
+use Rattle.cx_region_task.specs.Facts.Met.{to_be_done}
 use Rattle.cx_region_task.specs.Changes.{change_takes_memory}
 use Rattle.cx_region_laws.specs.Laws.TaskMemory.{OnlyTheseTakeMemory, takes_memory}
 use Rattle.cx_region_laws.proofs.RowLemmas.{IsApart, deleteq_none, deq_none, freemain_none, never, passes, pop_none, push_none, receive_none, send_text_none, unless_none}
@@ -39,17 +38,6 @@ takes v = passes change_takes_memory v
 
 apart : IsApart change_takes_memory
 apart = record { none = refl; ends = λ e. refl; shows = λ piece erase. refl }
-
-first_of : (a b : Bool) → a && b ≡ true → a ≡ true
-first_of true b e = refl
-first_of false b e = e
-
-may_takes : (v : Verdict) (call : Call) (r : TaskContext) → may_take_memory v call r ≡ true → takes v ≡ true
-unfolding may_take_memory takes passes
-may_takes (Meets condition outputs change) call r e =
-    first_of (change_takes_memory change) (has_room call outputs change r) (first_of (change_takes_memory change && has_room call outputs change r) (not (is_wait (continuation_at call condition change r))) e)
-may_takes Waits call r e = e
-may_takes (Refuses abend) call r e = e
 
 -- ---- rows whose change takes memory in one case
 readq_takes : (call : Call) (r : TaskContext) (v : Verdict) → ReadqRow r.shared.storage r.shared.queues call v → takes v ≡ true → has call option.Set ≡ true
@@ -123,5 +111,7 @@ judged_takes call r v judged e = go call.command judged
     go command.SendText is = never change_takes_memory v _ is (send_text_none change_takes_memory apart r.shared.storage call) e
 
 pub only_these_take_memory : OnlyTheseTakeMemory
+unfolding takes passes
 only_these_take_memory before taken =
-    judged_takes taken.call before taken.verdict taken.judged (may_takes taken.verdict taken.call before taken.takes)
+    let act = taken.act in
+    judged_takes act.call before (Meets act.condition act.outputs act.change) (to_be_done act before taken.decides).judged taken.takes

@@ -76,7 +76,7 @@ pub fn the_nearest_exit_takes_an_abend()
 /// A half-turn leaves each level above the current one as it is: registers, code, handles and exit. A level that begins has
 /// asked for nothing, and its program is at its entry, with the registers of one. At a command the current level keeps the
 /// program's registers and code, and it keeps them as long as that is due.
-#[tactic(auto, using(crate::proofs::CallerLemmas::half_turns_leave_callers, crate::proofs::RunLemmas::commands_are_kept, crate::proofs::DueLemmas::due_is_kept))]
+#[tactic(auto, using(crate::proofs::CallerLemmas::half_turns_leave_callers))]
 pub fn half_turns_leave_callers()
     ensures callers { HalfTurnsLeaveCallers }
     ensures current { CommandsAreKept }
@@ -104,7 +104,6 @@ pub fn only_these_take_memory()
 {}
 
 /// A half-turn is answered Returned only where a level has linked to the current one, which is the current one then.
-#[tactic(auto, using(crate::proofs::ReturnLemmas::returns_have_callers))]
 pub fn a_return_has_a_caller()
     ensures { ReturnsHaveCallers }
 {}

@@ -1,9 +1,8 @@
 -- Why a half-turn leads to an abend is determined, and explains its reply.
 use Rattle.std.proofs.Common.{◌≡◌, ℕ, Bool, true, false, Option, Some, None, List, refl, sym, ◌∙◌, subst}
 use Rattle.cx_base_commands.specs.declared.conditions.Condition.TheVariants.{Error}
-use Rattle.std.specs.Result.{result_ok}
 use Rattle.cx_program.specs.Entries.{entry_for}
-use Rattle.std.specs.Prelude.{Result, Ok, Err, MatchBool, MatchResult, if◌then◌else◌, ⊤, ◌||◌, is_some}
+use Rattle.std.specs.Prelude.{MatchBool, if◌then◌else◌, ⊤, ◌||◌, is_some}
 use Rattle.std.specs.Option.{option_map}
 use Rattle.cx_base_commands.specs.Abends.{abend_code}
 use Rattle.cx_base_commands.specs.declared.abends.Abend.TheVariants as abend
@@ -20,17 +19,12 @@ use Rattle.cx_program.specs.declared.entries.Entries.{Entries}
 use Rattle.cx_program.specs.declared.entries.Handler.{Handler}
 use Rattle.cx_program.specs.declared.entries.Handler.TheVariants as entry
 use Rattle.cx_program.specs.Handles.{abend_code as condition_code, choice as choice_by, choice_by_entry, waits}
-use Rattle.cx_region_call.specs.declared.call.CallFault.{CallFault}
-use Rattle.cx_region_call.specs.declared.outputs.Output.{Output}
 use Rattle.cx_base_commands.specs.Arguments.{has_option}
 use Rattle.cx_base_commands.specs.declared.options.OptionName.TheVariants.{Nosuspend}
 use Rattle.cx_region_call.specs.Call.{Call, has_nohandle, resp_place}
-use Rattle.cx_region_call.specs.Inputs.{are_inputs_there}
 use Rattle.cx_region_commands.specs.Laws.Rows.{JudgedOnce}
 use Rattle.cx_region_state.specs.declared.replies.TurnReply.{TurnReply}
 use Rattle.cx_region_state.specs.declared.verdict.TaskChange.{TaskChange}
-use Rattle.cx_region_state.specs.declared.verdict.Verdict.{Verdict}
-use Rattle.cx_region_state.specs.declared.verdict.Verdict.TheVariants.{Refuses, Waits, Meets}
 use Rattle.cx_region_state.specs.State.{TaskContext}
 use Rattle.cx_region_task.specs.declared.cause.Cause.{Cause}
 use Rattle.cx_region_task.specs.declared.cause.Cause.TheVariants as cause
@@ -38,48 +32,35 @@ use Rattle.cx_region_task.specs.declared.cause.AbendRecord.{AbendRecord}
 use Rattle.cx_region_task.specs.declared.continuation.Continuation.{Continuation}
 use Rattle.cx_region_task.specs.declared.continuation.Continuation.TheVariants as continuation
 use Rattle.cx_region_task.specs.Abends.{Abends, AbendsAt}
-use Rattle.cx_region_task.specs.Answers.{Answers, Does, LeavesAll, MeetsWith, has_room, continuation_at}
-use Rattle.cx_region_task.specs.Causes.{CauseOfVerdict, CauseOfCall, CommandHasAbendRecord, RunHasAbendRecord, HasAbendRecord, halt_cause, read_of, abend_record_with, verdict_cause, continuation_cause}
+use Rattle.cx_region_task.specs.declared.decision.Decision.{Decision}
+use Rattle.cx_region_task.specs.declared.decision.Decision.TheVariants as decision
+use Rattle.cx_region_task.specs.Decisions.{command_of}
+use Rattle.cx_region_task.specs.Facts.Met.{to_be_done}
 use Rattle.cx_region_task.specs.Laws.AbendRecords.{Explains, IsCodeOf, AbendRecordsDecide, AbendRecordsExplain}
-use Rattle.cx_region_task.specs.Performing.{PerformsCall, PerformsCommand, Performs, fault_abend}
-use Rattle.cx_region_task.specs.Turn.{HalfTurn, EndsRun, RunsOn, machine_of, most_steps}
-use Rattle.cx_region_task.specs.Continuations.{Goes, choice_for, choice_unhandled, is_normal, is_wait, continuation_by, continuation_chosen, continuation_of, without_wait}
+use Rattle.cx_region_task.specs.Performing.{CarriesOut, Decides, continuation_cause, decision_cause}
+use Rattle.cx_region_task.specs.Turn.{HalfTurnWith, HasAbendRecord, PerformsCommand, EndsRun, RunsOn, abend_record_with, halt_cause, machine_of, most_steps}
+use Rattle.cx_region_task.specs.Continuations.{Goes, choice_for, choice_unhandled, is_normal, continuation_by, continuation_chosen, continuation_of, without_wait}
+use Rattle.cx_region_task.proofs.DecideLemmas.{decisions_decide}
 
 -- ---- it is determined
-judged_once : JudgedOnce → (call : Call) (before : TaskContext) (one other : Option Cause) → CauseOfCall call before one → CauseOfCall call before other → one ≡ other
-unfolding CauseOfCall
-judged_once once call before one other h k = by_inputs (are_inputs_there before.shared.storage call) h k
-  where
-    by_inputs : (b : Bool) → MatchBool b (CauseOfVerdict call before one) (one ≡ Some (cause.Refused abend.Xarg))
-        → MatchBool b (CauseOfVerdict call before other) (other ≡ Some (cause.Refused abend.Xarg)) → one ≡ other
-    by_inputs true it that =
-        let same : it.verdict ≡ that.verdict = once call before it.verdict that.verdict it.judged that.judged in
-        it.is ∙ (rw same refl) ∙ sym that.is
-    by_inputs false it that = it ∙ sym that
+runs_once : ((limit : ℕ) → RunsDecide (Advances limit)) → (before after later : TaskContext) (p q : TurnReply) (one other : Option AbendRecord) → RunsOn before p one after → RunsOn before q other later → one ≡ other
+runs_once runs before after later p q one other h k =
+    let same = runs most_steps (machine_of before) h.how k.how (machine_of h.between) (machine_of k.between) h.advances k.advances in
+    h.recorded ∙ (rw (same.0, same.1) refl) ∙ sym k.recorded
 
-read_once : JudgedOnce → (read : Result Call CallFault) (before : TaskContext) (one other : Option Cause)
-    → MatchResult read (λ call. CauseOfCall call before one) (λ fault. one ≡ Some (cause.Refused (fault_abend fault)))
-    → MatchResult read (λ call. CauseOfCall call before other) (λ fault. other ≡ Some (cause.Refused (fault_abend fault))) → one ≡ other
-read_once once (Ok call) before one other h k = judged_once once call before one other h k
-read_once once (Err fault) before one other h k = h ∙ sym k
-
-run_once : ((limit : ℕ) → RunsDecide (Advances limit)) → (before : TaskContext) (one other : Option AbendRecord) → RunHasAbendRecord before one → RunHasAbendRecord before other → one ≡ other
-run_once runs before one other h k =
-    let same = runs most_steps (machine_of before) h.how k.how h.between k.between h.advances k.advances in
-    h.is ∙ (rw (same.0, same.1) refl) ∙ sym k.is
-
-command_once : JudgedOnce → (before : TaskContext) (one other : Option AbendRecord) → CommandHasAbendRecord before one → CommandHasAbendRecord before other → one ≡ other
-command_once once before one other h k =
-    let same : h.why ≡ k.why = read_once once (read_of before) before h.why k.why h.causes k.causes in
-    h.is ∙ (rw same refl) ∙ sym k.is
+commands_once : JudgedOnce → (before after later : TaskContext) (p q : TurnReply) (one other : Option AbendRecord) → PerformsCommand before p one after → PerformsCommand before q other later → one ≡ other
+commands_once once before after later p q one other h k =
+    let same : h.decided ≡ k.decided = decisions_decide once before h.decided k.decided h.decides k.decides in
+    h.recorded ∙ (rw same refl) ∙ sym k.recorded
 
 pub abend_records_decide : ((limit : ℕ) → RunsDecide (Advances limit)) → JudgedOnce → AbendRecordsDecide
-unfolding HasAbendRecord
-abend_records_decide runs once before one other h k = by_due before.task.due h k
+unfolding HalfTurnWith
+abend_records_decide runs once before one other h k = by_due before.task.due h.turns k.turns
   where
-    by_due : (b : Bool) → MatchBool b (CommandHasAbendRecord before one) (RunHasAbendRecord before one) → MatchBool b (CommandHasAbendRecord before other) (RunHasAbendRecord before other) → one ≡ other
-    by_due true it that = command_once once before one other it that
-    by_due false it that = run_once runs before one other it that
+    by_due : (b : Bool) → MatchBool b (PerformsCommand before h.reply one h.after) (RunsOn before h.reply one h.after)
+        → MatchBool b (PerformsCommand before k.reply other k.after) (RunsOn before k.reply other k.after) → one ≡ other
+    by_due true it that = commands_once once before h.after k.after h.reply k.reply one other it that
+    by_due false it that = runs_once runs before h.after k.after h.reply k.reply one other it that
 
 -- ---- a condition that leads to an abend does so with its code
 abbrev Codes : Choice → Condition → Type 0
@@ -178,62 +159,16 @@ explains_way command m (continuation.Replaces level) condition committed after r
 explains_way command m continuation.LevelEnds condition committed after reply codes goes = rw goes.0 refl
 explains_way command m continuation.TaskEnds condition committed after reply codes goes = rw goes.0 refl
 
-explains_wait : (command : Option Command) (m : Machine) (gone : Continuation) (condition : Condition) (reply : TurnReply) → is_wait gone ≡ true
-    → Explains None reply → Explains (option_map (abend_record_with command m) (continuation_cause gone condition)) reply
-explains_wait command m continuation.Waits condition reply e none = none
-explains_wait command m continuation.GoesOn condition reply e none = none
-explains_wait command m (continuation.TakesLabel label) condition reply e none = none
-explains_wait command m (continuation.Abends code cancel) condition reply e none = absurd (let no : false ≡ true = e in cc)
-explains_wait command m (continuation.Enters level) condition reply e none = none
-explains_wait command m (continuation.Replaces level) condition reply e none = none
-explains_wait command m continuation.LevelEnds condition reply e none = none
-explains_wait command m continuation.TaskEnds condition reply e none = none
-
-explains_met : (command : Option Command) (m : Machine) (call : Call) (condition : Condition) (outputs : List Output) (change : TaskChange) (before after : TaskContext) (reply : TurnReply)
-    → MeetsWith call condition outputs change before reply after
-    → Explains (option_map (abend_record_with command m) (if has_room call outputs change before then continuation_cause (continuation_at call condition change before) condition else Some (cause.Refused abend.Xarg))) reply
-unfolding MeetsWith
-explains_met command m call condition outputs change before after reply meets = by_room (has_room call outputs change before) meets
-  where
-    by_wait : (b : Bool) → is_wait (continuation_at call condition change before) ≡ b → MatchBool b (LeavesAll before reply after) (Does call condition outputs change before reply after)
-        → Explains (option_map (abend_record_with command m) (continuation_cause (continuation_at call condition change before) condition)) reply
-    by_wait true e leaves = explains_wait command m (continuation_at call condition change before) condition reply e (rw leaves.waiting refl)
-    by_wait false e it =
-        explains_way command m (continuation_at call condition change before) condition it.committed after reply
-        (way_codes call before.task.levels.current.handles.active.entries condition change) it.goes
-
-    by_room : (b : Bool) → MatchBool b (MatchBool (is_wait (continuation_at call condition change before)) (LeavesAll before reply after) (Does call condition outputs change before reply after))
-        (Abends (abend_code abend.Xarg) false before reply after)
-        → Explains (option_map (abend_record_with command m) (if b then continuation_cause (continuation_at call condition change before) condition else Some (cause.Refused abend.Xarg))) reply
-    by_room true it = by_wait (is_wait (continuation_at call condition change before)) refl it
-    by_room false abends = explains_abend command m (cause.Refused abend.Xarg) (abend_code abend.Xarg) false before after reply refl abends
-
-explains_verdict : (command : Option Command) (m : Machine) (verdict : Verdict) (call : Call) (before after : TaskContext) (reply : TurnReply) → Answers verdict call before reply after
-    → Explains (option_map (abend_record_with command m) (verdict_cause verdict call before)) reply
-unfolding Answers verdict_cause
-explains_verdict command m (Refuses code) call before after reply it = explains_abend command m (cause.Refused code) (abend_code code) false before after reply refl it
-explains_verdict command m Waits call before after reply it = rw it.waiting refl
-explains_verdict command m (Meets condition outputs change) call before after reply it = explains_met command m call condition outputs change before after reply it
-
-explains_call : JudgedOnce → (command : Option Command) (m : Machine) (call : Call) (before after : TaskContext) (reply : TurnReply) (why : Option Cause)
-    → PerformsCall call before reply after → CauseOfCall call before why → Explains (option_map (abend_record_with command m) why) reply
-unfolding PerformsCall CauseOfCall
-explains_call once command m call before after reply why called causes = by_inputs (are_inputs_there before.shared.storage call) called causes
-  where
-    by_inputs : (b : Bool) → MatchBool b (Performs call before reply after) (Abends (abend_code abend.Xarg) false before reply after)
-        → MatchBool b (CauseOfVerdict call before why) (why ≡ Some (cause.Refused abend.Xarg)) → Explains (option_map (abend_record_with command m) why) reply
-    by_inputs true it that =
-        let same : it.verdict ≡ that.verdict = once call before it.verdict that.verdict it.judged that.judged in
-        let is : why ≡ verdict_cause it.verdict call before = that.is ∙ (rw same refl) in
-        rw is (explains_verdict command m it.verdict call before after reply it.answers)
-    by_inputs false it that = rw that (explains_abend command m (cause.Refused abend.Xarg) (abend_code abend.Xarg) false before after reply refl it)
-
-explains_read : JudgedOnce → (command : Option Command) (m : Machine) (read : Result Call CallFault) (before after : TaskContext) (reply : TurnReply) (why : Option Cause)
-    → MatchResult read (λ call. PerformsCall call before reply after) (λ f. Abends (abend_code (fault_abend f)) false before reply after)
-    → MatchResult read (λ call. CauseOfCall call before why) (λ fault. why ≡ Some (cause.Refused (fault_abend fault))) → Explains (option_map (abend_record_with command m) why) reply
-explains_read once command m (Ok call) before after reply why it that = explains_call once command m call before after reply why it that
-explains_read once command m (Err f) before after reply why it that =
-    rw that (explains_abend command m (cause.Refused (fault_abend f)) (abend_code (fault_abend f)) false before after reply refl it)
+explains_carried : (command : Option Command) (m : Machine) (decided : Decision) (before after : TaskContext) (reply : TurnReply) → Decides before decided → CarriesOut decided before reply after
+    → Explains (option_map (abend_record_with command m) (decision_cause decided)) reply
+unfolding CarriesOut
+explains_carried command m (decision.Refuse call refusal) before after reply decides it =
+    explains_abend command m (cause.Refused refusal) (abend_code refusal) false before after reply refl it
+explains_carried command m (decision.Wait call wait) before after reply decides it = rw it.waiting refl
+explains_carried command m (decision.Act act) before after reply decides it =
+    let known = to_be_done act before decides in
+    let codes = way_codes act.call before.task.levels.current.handles.active.entries act.condition act.change in
+    explains_way command m act.continuation act.condition it.committed after reply (subst (λ (gone : Continuation). WayCodes gone act.condition) (sym known.way) codes) it.goes
 
 explains_halt : (m : Machine) (how : Halt) (between after : TaskContext) (reply : TurnReply) → EndsRun how between reply after → Explains (option_map (abend_record_with None m) (halt_cause how)) reply
 unfolding EndsRun
@@ -241,18 +176,16 @@ explains_halt m halt.AtEntry between after reply it = rw it.0 refl
 explains_halt m (halt.Interrupt interruption place) between after reply it = explains_abend None m (cause.Interrupted interruption) (abend_code abend.Asra) false between after reply refl it
 explains_halt m halt.Limit between after reply it = explains_abend None m cause.Limit (abend_code abend.Aica) false between after reply refl it
 
-explains_run : ((limit : ℕ) → RunsDecide (Advances limit)) → (before after : TaskContext) (reply : TurnReply) (abend_record : Option AbendRecord)
-    → RunsOn before reply after → RunHasAbendRecord before abend_record → Explains abend_record reply
-explains_run runs before after reply abend_record h k =
-    let same = runs most_steps (machine_of before) h.how k.how (machine_of h.between) k.between h.advances k.advances in
-    let first : EndsRun k.how h.between reply after = subst (λ (how : Halt). EndsRun how h.between reply after) same.0 h.ends in
-    rw k.is (explains_halt k.between k.how h.between after reply first)
+explains_turn : (before after : TaskContext) (reply : TurnReply) (abend_record : Option AbendRecord) → HalfTurnWith before reply abend_record after → Explains abend_record reply
+unfolding HalfTurnWith
+explains_turn before after reply abend_record turns = by_due before.task.due turns
+  where
+    by_due : (b : Bool) → MatchBool b (PerformsCommand before reply abend_record after) (RunsOn before reply abend_record after) → Explains abend_record reply
+    by_due true it = rw it.recorded (explains_carried (command_of it.decided) (machine_of before) it.decided before after reply it.decides it.carries)
+    by_due false runs = rw runs.recorded (explains_halt (machine_of runs.between) runs.how runs.between after reply runs.ends)
 
 pub abend_records_explain : ((limit : ℕ) → RunsDecide (Advances limit)) → JudgedOnce → AbendRecordsExplain
-unfolding HalfTurn PerformsCommand HasAbendRecord
-abend_records_explain runs once before after reply abend_record h k = by_due before.task.due h k
-  where
-    by_due : (b : Bool) → MatchBool b (PerformsCommand before reply after) (RunsOn before reply after) → MatchBool b (CommandHasAbendRecord before abend_record) (RunHasAbendRecord before abend_record) → Explains abend_record reply
-    by_due true it that =
-        rw that.is (explains_read once (option_map (λ call. call.command) (result_ok (read_of before))) (machine_of before) (read_of before) before after reply that.why it that.causes)
-    by_due false it that = explains_run runs before after reply abend_record it that
+abend_records_explain runs once before after reply abend_record half has =
+    let own : HasAbendRecord before half.abend_record = record { reply = reply; after = after; turns = half.turns } in
+    let same : half.abend_record ≡ abend_record = abend_records_decide runs once before half.abend_record abend_record own has in
+    subst (λ (it : Option AbendRecord). Explains it reply) same (explains_turn before after reply half.abend_record half.turns)

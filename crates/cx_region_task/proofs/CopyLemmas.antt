@@ -1,6 +1,5 @@
 -- A copy's area, given back.
-use Rattle.std.proofs.Common.{◌≡◌, ◌<◌, ◌≤◌, ◌^◌, ℕ, List, length, Option, Some, None, is_some, refl, take, replicate}
-use Rattle.std.proofs.lemmas.List.{take-replicate}
+use Rattle.std.proofs.Common.{◌≡◌, ◌<◌, ◌≤◌, ◌^◌, ℕ, List, length, Option, Some, None, is_some, refl}
 use Rattle.std.specs.Prelude.{MatchOption, IsTrue, ⊤}
 use Rattle.cx_storage.specs.Storage.{Storage, IsSound}
 use Rattle.cx_storage.specs.Facts.Spans.{span_length}
@@ -21,9 +20,6 @@ pub copy_given_back : (s : Storage) (slot : ℕ) (copying : Option Copying) → 
 unfolding with_copy_area
 copy_given_back s slot None ok fits = refl
 copy_given_back s slot (Some copying) ok fits = given_back s copying.from.len copying.to (system_owner slot) ok fits.some fits.place
-
-pub front_replicate : (n m b : ℕ) → n ≤ m → take n (replicate m b) ≡ replicate n b
-front_replicate n m b le = take-replicate n m b le
 
 -- a piece that is there has no more bytes than a halfword can measure
 pub piece_few : (s : Storage) (piece : StorageSpan) → IsThere s piece → length (bytes_in s piece) ≤ 32767

@@ -1,5 +1,5 @@
--- A wait leaves all as it is; a half-turn is decided by what was reached before.
-use Rattle.std.proofs.Common.{◌≡◌, ℕ, Bool, true, false, Option, Some, None, List, refl}
+-- What is decided is determined; who waits; and a wait leaves all as it is.
+use Rattle.std.proofs.Common.{◌≡◌, ℕ, Bool, true, false, Option, Some, None, List, refl, sym, ◌∙◌, ap}
 use Rattle.std.specs.Prelude.{Result, Ok, Err, MatchBool, MatchResult}
 use Rattle.cx_base_commands.specs.Abends.{abend_code}
 use Rattle.cx_base_commands.specs.declared.abends.Abend.TheVariants as abend
@@ -7,78 +7,100 @@ use Rattle.cx_base_commands.specs.declared.conditions.Condition.{Condition}
 use Rattle.cx_exec.specs.declared.machine.Halt.{Halt}
 use Rattle.cx_exec.specs.declared.machine.Halt.TheVariants as halt
 use Rattle.cx_region_call.specs.declared.call.CallFault.{CallFault}
-use Rattle.cx_region_call.specs.declared.outputs.Output.{Output}
 use Rattle.cx_region_call.specs.Call.{Call, call_of}
 use Rattle.cx_region_call.specs.Inputs.{are_inputs_there}
+use Rattle.cx_region_commands.specs.Laws.Rows.{JudgedOnce}
+use Rattle.cx_region_state.specs.declared.replies.TurnReply.{TurnReply}
 use Rattle.cx_region_state.specs.declared.replies.TurnReply.TheVariants as turn
-use Rattle.cx_region_state.specs.declared.verdict.TaskChange.{TaskChange}
-use Rattle.cx_region_state.specs.declared.verdict.Verdict.{Verdict}
-use Rattle.cx_region_state.specs.declared.verdict.Verdict.TheVariants.{Refuses, Waits, Meets}
 use Rattle.cx_region_state.specs.State.{TaskContext}
 use Rattle.cx_region_task.specs.declared.continuation.Continuation.{Continuation}
 use Rattle.cx_region_task.specs.declared.continuation.Continuation.TheVariants as continuation
+use Rattle.cx_region_task.specs.declared.decision.Decision.{Decision}
+use Rattle.cx_region_task.specs.declared.decision.Decision.TheVariants as decision
 use Rattle.cx_region_task.specs.Abends.{Abends, AbendsAt}
-use Rattle.cx_region_task.specs.Answers.{Answers, Does, LeavesAll, MeetsWith, has_room, continuation_at}
-use Rattle.cx_region_task.specs.Performing.{PerformsCall, PerformsCommand, Performs, fault_abend, list_of}
-use Rattle.cx_region_task.specs.Turn.{HalfTurn, EndsRun, RunsOn}
 use Rattle.cx_region_task.specs.Continuations.{Goes, is_wait}
+use Rattle.cx_region_task.specs.Decisions.{continuation_at, waits}
+use Rattle.cx_region_task.specs.Facts.Met.{acts_met}
+use Rattle.cx_region_task.specs.Laws.Decisions.{DecisionsDecide, WaitsAreDecided, is_wait_reply}
+use Rattle.cx_region_task.specs.Performing.{CarriesOut, Decides, DecidesCall, fault_abend, list_of}
+use Rattle.cx_region_task.specs.Turn.{EndsRun, HalfTurn, HalfTurnWith, PerformsCommand, RunsOn}
 
--- ---- waits
-never : (code : List ℕ) (cancel : Bool) (mid after before : TaskContext) → Abends code cancel mid turn.Waiting after → after ≡ before
+-- ---- what is decided is determined
+pub decisions_decide : JudgedOnce → DecisionsDecide
+unfolding Decides
+decisions_decide once r one other h k = by_call (call_of r.shared.storage (list_of r.task)) h k
+  where
+    by_inputs : (call : Call) (b : Bool) → MatchBool b (DecidesCall call r one) (one ≡ decision.Refuse (Some call) abend.Xarg)
+        → MatchBool b (DecidesCall call r other) (other ≡ decision.Refuse (Some call) abend.Xarg) → one ≡ other
+    by_inputs call true it that =
+        let same : it.verdict ≡ that.verdict = once call r it.verdict that.verdict it.judged that.judged in
+        it.is ∙ (rw same refl) ∙ sym that.is
+    by_inputs call false it that = it ∙ sym that
+
+    by_call : (read : Result Call CallFault)
+        → MatchResult read (λ call. MatchBool (are_inputs_there r.shared.storage call) (DecidesCall call r one) (one ≡ decision.Refuse (Some call) abend.Xarg))
+        (λ fault. one ≡ decision.Refuse None (fault_abend fault))
+        → MatchResult read (λ call. MatchBool (are_inputs_there r.shared.storage call) (DecidesCall call r other) (other ≡ decision.Refuse (Some call) abend.Xarg))
+        (λ fault. other ≡ decision.Refuse None (fault_abend fault))
+        → one ≡ other
+    by_call (Ok call) it that = by_inputs call (are_inputs_there r.shared.storage call) it that
+    by_call (Err fault) it that = it ∙ sym that
+
+-- ---- who waits
+abend_replies : (code : List ℕ) (cancel : Bool) (mid after : TaskContext) (reply : TurnReply) → Abends code cancel mid reply after → is_wait_reply reply ≡ false
 unfolding AbendsAt
-never code cancel mid after before it = go it.exit it.ends
+abend_replies code cancel mid after reply it = go it.exit it.ends
   where
-    go : (o : Option ℕ) → AbendsAt o code mid turn.Waiting after → after ≡ before
-    go None over = absurd (let no : turn.Waiting ≡ turn.Abended code = over.0 in cc)
-    go (Some index) over = absurd (let no : turn.Waiting ≡ turn.TookExit code = over.0 in cc)
+    go : (o : Option ℕ) → AbendsAt o code mid reply after → is_wait_reply reply ≡ false
+    go None over = rw over.0 refl
+    go (Some index) over = rw over.0 refl
 
-goes_wait : (gone : Continuation) (condition : Condition) (committed after before : TaskContext) → is_wait gone ≡ false → Goes gone condition committed turn.Waiting after → after ≡ before
+goes_replies : (gone : Continuation) (condition : Condition) (committed after : TaskContext) (reply : TurnReply) → is_wait gone ≡ false → Goes gone condition committed reply after → is_wait_reply reply ≡ false
 unfolding Goes
-goes_wait continuation.GoesOn condition committed after before moves goes = absurd (let no : turn.Waiting ≡ turn.Performed condition = goes.0 in cc)
-goes_wait (continuation.TakesLabel label) condition committed after before moves goes = absurd (let no : turn.Waiting ≡ turn.TookLabel condition = goes.0 in cc)
-goes_wait continuation.Waits condition committed after before moves goes = absurd (let no : true ≡ false = moves in cc)
-goes_wait (continuation.Abends code cancel) condition committed after before moves goes = never code cancel committed after before goes
-goes_wait (continuation.Enters level) condition committed after before moves goes = absurd (let no : turn.Waiting ≡ turn.Entered = goes.0 in cc)
-goes_wait (continuation.Replaces level) condition committed after before moves goes = absurd (let no : turn.Waiting ≡ turn.Entered = goes.0 in cc)
-goes_wait continuation.LevelEnds condition committed after before moves goes = absurd (let no : turn.Waiting ≡ turn.Returned = goes.0 in cc)
-goes_wait continuation.TaskEnds condition committed after before moves goes = absurd (let no : turn.Waiting ≡ turn.Ended = goes.0 in cc)
+goes_replies continuation.GoesOn condition committed after reply moves goes = rw goes.0 refl
+goes_replies (continuation.TakesLabel label) condition committed after reply moves goes = rw goes.0 refl
+goes_replies continuation.Waits condition committed after reply moves goes = absurd (let no : true ≡ false = moves in cc)
+goes_replies (continuation.Abends code cancel) condition committed after reply moves goes = abend_replies code cancel committed after reply goes
+goes_replies (continuation.Enters level) condition committed after reply moves goes = rw goes.0 refl
+goes_replies (continuation.Replaces level) condition committed after reply moves goes = rw goes.0 refl
+goes_replies continuation.LevelEnds condition committed after reply moves goes = rw goes.0 refl
+goes_replies continuation.TaskEnds condition committed after reply moves goes = rw goes.0 refl
 
-meets_wait : (call : Call) (condition : Condition) (outputs : List Output) (change : TaskChange) (before after : TaskContext) → MeetsWith call condition outputs change before turn.Waiting after → after ≡ before
-unfolding MeetsWith
-meets_wait call condition outputs change before after meets = by_room (has_room call outputs change before) meets
+carried_replies : (decided : Decision) (before after : TaskContext) (reply : TurnReply) → Decides before decided → CarriesOut decided before reply after → is_wait_reply reply ≡ waits decided
+unfolding CarriesOut
+carried_replies (decision.Refuse call refusal) before after reply decides it = abend_replies (abend_code refusal) false before after reply it
+carried_replies (decision.Wait call wait) before after reply decides it = rw it.waiting refl
+carried_replies (decision.Act act) before after reply decides it =
+    let met = acts_met act before after reply decides it in
+    goes_replies (continuation_at met.call met.condition met.change before) met.condition met.committed after reply met.moves met.goes
+
+halts : (how : Halt) (mid after : TaskContext) (reply : TurnReply) → EndsRun how mid reply after → is_wait_reply reply ≡ false
+unfolding EndsRun
+halts halt.AtEntry mid after reply it = rw it.0 refl
+halts (halt.Interrupt cause place) mid after reply abends = abend_replies (abend_code abend.Asra) false mid after reply abends
+halts halt.Limit mid after reply abends = abend_replies (abend_code abend.Aica) false mid after reply abends
+
+pub waits_are_decided : JudgedOnce → WaitsAreDecided
+unfolding HalfTurnWith
+waits_are_decided once before after reply half = by_due before.task.due half.turns
   where
-    by_wait : (b : Bool) → is_wait (continuation_at call condition change before) ≡ b → MatchBool b (LeavesAll before turn.Waiting after) (Does call condition outputs change before turn.Waiting after) → after ≡ before
-    by_wait true e leaves = leaves.same
-    by_wait false e it = goes_wait (continuation_at call condition change before) condition it.committed after before e it.goes
+    by_due : (b : Bool) → MatchBool b (PerformsCommand before reply half.abend_record after) (RunsOn before reply half.abend_record after)
+        → MatchBool b ((decided : Decision) → Decides before decided → is_wait_reply reply ≡ waits decided) (is_wait_reply reply ≡ false)
+    by_due true it =
+        λ decided decides. carried_replies it.decided before after reply it.decides it.carries ∙ ap waits (decisions_decide once before it.decided decided it.decides decides)
+    by_due false runs = halts runs.how runs.between after reply runs.ends
 
-    by_room : (b : Bool) → MatchBool b (MatchBool (is_wait (continuation_at call condition change before)) (LeavesAll before turn.Waiting after) (Does call condition outputs change before turn.Waiting after))
-        (Abends (abend_code abend.Xarg) false before turn.Waiting after) → after ≡ before
-    by_room true it = by_wait (is_wait (continuation_at call condition change before)) refl it
-    by_room false abends = never (abend_code abend.Xarg) false before after before abends
-
-answers_wait : (verdict : Verdict) (call : Call) (before after : TaskContext) → Answers verdict call before turn.Waiting after → after ≡ before
-unfolding Answers
-answers_wait (Refuses code) call before after it = never (abend_code code) false before after before it
-answers_wait Waits call before after it = it.same
-answers_wait (Meets condition outputs change) call before after it = meets_wait call condition outputs change before after it
+-- ---- a wait leaves all as it is
+carried_leaves : (decided : Decision) (before after : TaskContext) → waits decided ≡ true → CarriesOut decided before turn.Waiting after → after ≡ before
+unfolding CarriesOut
+carried_leaves (decision.Refuse call refusal) before after waits it = absurd (let no : false ≡ true = waits in cc)
+carried_leaves (decision.Wait call wait) before after waits it = it.same
+carried_leaves (decision.Act act) before after waits it = absurd (let no : false ≡ true = waits in cc)
 
 pub waits_leave : (before after : TaskContext) → HalfTurn before turn.Waiting after → after ≡ before
-unfolding HalfTurn PerformsCommand PerformsCall EndsRun
-waits_leave before after half = by_due before.task.due half
+unfolding HalfTurnWith
+waits_leave before after half = by_due before.task.due half.turns
   where
-    by_inputs : (call : Call) (b : Bool) → MatchBool b (Performs call before turn.Waiting after) (Abends (abend_code abend.Xarg) false before turn.Waiting after) → after ≡ before
-    by_inputs call true it = answers_wait it.verdict call before after it.answers
-    by_inputs call false abends = never (abend_code abend.Xarg) false before after before abends
-
-    by_call : (r : Result Call CallFault) → MatchResult r (λ call. PerformsCall call before turn.Waiting after) (λ fault. Abends (abend_code (fault_abend fault)) false before turn.Waiting after) → after ≡ before
-    by_call (Ok call) called = by_inputs call (are_inputs_there before.shared.storage call) called
-    by_call (Err fault) abends = never (abend_code (fault_abend fault)) false before after before abends
-
-    none : (mid : TaskContext) (how : Halt) → EndsRun how mid turn.Waiting after → after ≡ before
-    none mid halt.AtEntry it = absurd (let no : turn.Waiting ≡ turn.AtCommand = it.0 in cc)
-    none mid (halt.Interrupt cause place) abends = never (abend_code abend.Asra) false mid after before abends
-    none mid halt.Limit abends = never (abend_code abend.Aica) false mid after before abends
-
-    by_due : (b : Bool) → MatchBool b (PerformsCommand before turn.Waiting after) (RunsOn before turn.Waiting after) → after ≡ before
-    by_due true commanded = by_call (call_of before.shared.storage (list_of before.task)) commanded
-    by_due false runs = none runs.between runs.how runs.ends
+    by_due : (b : Bool) → MatchBool b (PerformsCommand before turn.Waiting half.abend_record after) (RunsOn before turn.Waiting half.abend_record after) → after ≡ before
+    by_due true it = carried_leaves it.decided before after (sym (carried_replies it.decided before after turn.Waiting it.decides it.carries)) it.carries
+    by_due false runs = absurd (let no : true ≡ false = halts runs.how runs.between after turn.Waiting runs.ends in cc)

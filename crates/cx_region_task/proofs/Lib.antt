@@ -1,5 +1,7 @@
 mod UnwindLemmas
 mod HandleLemmas
+mod BlockLemmas
+mod FreshAreas
 mod CopyLemmas
 mod CallerLemmas
 mod SettleLemmas
@@ -10,10 +12,10 @@ mod SoundSteps
 mod MidLemmas
 mod GoLemmas
 mod GrowLemmas
+mod DecisionLemmas
 mod TurnLemmas
 mod HalfLemmas
 mod DecideLemmas
 mod TurnDecide
 mod AbendRecordLemmas
-pub mod StayLemmas
-pub mod DueLemmas
+mod StayLemmas

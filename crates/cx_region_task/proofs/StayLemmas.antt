@@ -1,16 +1,14 @@
 -- A half-turn leaves its slot and the programs, and is answered as a task's.
 use Rattle.std.proofs.Common.{◌≡◌, ◌∙◌, ℕ, Bool, true, false, Option, Some, None, List, [], ◌∷◌, refl, ap}
-use Rattle.std.specs.Prelude.{Result, Ok, Err, MatchBool, MatchResult}
+use Rattle.std.specs.Prelude.{MatchBool}
 use Rattle.cx_base_commands.specs.Abends.{abend_code}
 use Rattle.cx_base_commands.specs.declared.abends.Abend.TheVariants as abend
 use Rattle.cx_base_commands.specs.declared.conditions.Condition.{Condition}
 use Rattle.cx_exec.specs.declared.machine.Halt.{Halt}
 use Rattle.cx_exec.specs.declared.machine.Halt.TheVariants as halt
 use Rattle.cx_program.specs.declared.level.Level.{Level}
-use Rattle.cx_region_call.specs.declared.call.CallFault.{CallFault}
 use Rattle.cx_region_call.specs.declared.outputs.Output.{Output}
-use Rattle.cx_region_call.specs.Call.{Call, call_of}
-use Rattle.cx_region_call.specs.Inputs.{are_inputs_there}
+use Rattle.cx_region_call.specs.Call.{Call}
 use Rattle.cx_region_state.specs.declared.replies.TurnReply.{TurnReply}
 use Rattle.cx_region_state.specs.declared.replies.TurnReply.TheVariants as turn
 use Rattle.cx_region_state.specs.declared.verdict.TaskChange.{TaskChange}
@@ -21,18 +19,17 @@ use Rattle.cx_region_state.specs.declared.verdict.Fill.{Fill}
 use Rattle.cx_region_state.specs.declared.verdict.Fill.TheVariants.{Byte, Item}
 use Rattle.cx_region_state.specs.declared.verdict.Made.{Made}
 use Rattle.cx_region_state.specs.declared.verdict.Made.TheVariants as made
-use Rattle.cx_region_state.specs.declared.verdict.Verdict.{Verdict}
-use Rattle.cx_region_state.specs.declared.verdict.Verdict.TheVariants.{Refuses, Waits, Meets}
 use Rattle.cx_region_state.specs.State.{TaskContext}
 use Rattle.cx_region_task.specs.declared.continuation.Continuation.{Continuation}
 use Rattle.cx_region_task.specs.declared.continuation.Continuation.TheVariants as continuation
 use Rattle.cx_region_task.specs.Abends.{Abends, AbendsAt}
-use Rattle.cx_region_task.specs.Answers.{Answers, Does, LeavesAll, MeetsWith, has_room, continuation_at}
+use Rattle.cx_region_task.specs.declared.decision.Decision.{Decision}
+use Rattle.cx_region_task.specs.declared.decision.Decision.TheVariants as decision
 use Rattle.cx_region_task.specs.Changes.{AppliesBefore, Commits, apply_after, write_outputs, read_for, write_report}
 use Rattle.cx_region_task.specs.Laws.HalfTurns.{HalfTurnStays, is_of_task}
-use Rattle.cx_region_task.specs.Performing.{PerformsCall, PerformsCommand, Performs, fault_abend, list_of}
-use Rattle.cx_region_task.specs.Turn.{HalfTurn, EndsRun, RunsOn}
-use Rattle.cx_region_task.specs.Continuations.{Goes, enter_level, is_wait, replace_level, return_to_caller, returned_to}
+use Rattle.cx_region_task.specs.Performing.{CarriesOut, LeavesAll}
+use Rattle.cx_region_task.specs.Turn.{HalfTurn, HalfTurnWith, PerformsCommand, EndsRun, RunsOn}
+use Rattle.cx_region_task.specs.Continuations.{Goes, enter_level, replace_level, return_to_caller, returned_to}
 
 -- the slot and the programs stay
 record Same (before after : TaskContext) : Type 0 where
@@ -138,46 +135,22 @@ settled_same call condition outputs change before after it =
 leaves_stay : (before after : TaskContext) (reply : TurnReply) → LeavesAll before reply after → HalfTurnStays before reply after
 leaves_stay before after reply it = stays_at before after reply turn.Waiting (same_at before before after it.same (record { slot = refl; programs = refl })) it.waiting refl
 
-meets_stay : (call : Call) (condition : Condition) (outputs : List Output) (change : TaskChange) (before after : TaskContext) (reply : TurnReply) → MeetsWith call condition outputs change before reply after
-    → HalfTurnStays before reply after
-unfolding MeetsWith
-meets_stay call condition outputs change before after reply meets = by_room (has_room call outputs change before) meets
-  where
-    by_wait : (b : Bool) → MatchBool b (LeavesAll before reply after) (Does call condition outputs change before reply after) → HalfTurnStays before reply after
-    by_wait true leaves = leaves_stay before after reply leaves
-    by_wait false it = goes_stay (continuation_at call condition change before) condition before it.committed after reply (settled_same call condition outputs change before it.committed it.commits) it.goes
-
-    by_room : (b : Bool) → MatchBool b (MatchBool (is_wait (continuation_at call condition change before)) (LeavesAll before reply after) (Does call condition outputs change before reply after))
-        (Abends (abend_code abend.Xarg) false before reply after) → HalfTurnStays before reply after
-    by_room true it = by_wait (is_wait (continuation_at call condition change before)) it
-    by_room false it = abends_stay before before after reply (abend_code abend.Xarg) false (record { slot = refl; programs = refl }) it
-
-answers_stay : (verdict : Verdict) (call : Call) (before after : TaskContext) (reply : TurnReply) → Answers verdict call before reply after → HalfTurnStays before reply after
-unfolding Answers
-answers_stay (Refuses code) call before after reply it = abends_stay before before after reply (abend_code code) false (record { slot = refl; programs = refl }) it
-answers_stay Waits call before after reply it = leaves_stay before after reply it
-answers_stay (Meets condition outputs change) call before after reply it = meets_stay call condition outputs change before after reply it
+carried_stay : (decided : Decision) (before after : TaskContext) (reply : TurnReply) → CarriesOut decided before reply after → HalfTurnStays before reply after
+unfolding CarriesOut
+carried_stay (decision.Refuse call refusal) before after reply it = abends_stay before before after reply (abend_code refusal) false (record { slot = refl; programs = refl }) it
+carried_stay (decision.Wait call wait) before after reply it = leaves_stay before after reply it
+carried_stay (decision.Act act) before after reply it =
+    goes_stay act.continuation act.condition before it.committed after reply (settled_same act.call act.condition act.outputs act.change before it.committed it.commits) it.goes
 
 pub half_turn_stays : (before after : TaskContext) (reply : TurnReply) → HalfTurn before reply after → HalfTurnStays before reply after
-unfolding HalfTurn PerformsCommand PerformsCall EndsRun
-half_turn_stays before after reply half = by_due before.task.due half
+unfolding HalfTurnWith EndsRun
+half_turn_stays before after reply half = by_due before.task.due half.turns
   where
-    abends : (code : List ℕ) → Abends code false before reply after → HalfTurnStays before reply after
-    abends code it = abends_stay before before after reply code false (record { slot = refl; programs = refl }) it
-
-    by_inputs : (call : Call) (b : Bool) → MatchBool b (Performs call before reply after) (Abends (abend_code abend.Xarg) false before reply after) → HalfTurnStays before reply after
-    by_inputs call true it = answers_stay it.verdict call before after reply it.answers
-    by_inputs call false it = abends (abend_code abend.Xarg) it
-
-    by_call : (r : Result Call CallFault) → MatchResult r (λ call. PerformsCall call before reply after) (λ fault. Abends (abend_code (fault_abend fault)) false before reply after) → HalfTurnStays before reply after
-    by_call (Ok call) called = by_inputs call (are_inputs_there before.shared.storage call) called
-    by_call (Err fault) it = abends (abend_code (fault_abend fault)) it
-
     by_halt : (mid : TaskContext) (how : Halt) → Same before mid → EndsRun how mid reply after → HalfTurnStays before reply after
     by_halt mid halt.AtEntry same it = stays_at before after reply turn.AtCommand (same_at before _ after it.1 (record { slot = same.slot; programs = same.programs })) it.0 refl
     by_halt mid (halt.Interrupt cause place) same it = abends_stay before mid after reply (abend_code abend.Asra) false same it
     by_halt mid halt.Limit same it = abends_stay before mid after reply (abend_code abend.Aica) false same it
 
-    by_due : (b : Bool) → MatchBool b (PerformsCommand before reply after) (RunsOn before reply after) → HalfTurnStays before reply after
-    by_due true commanded = by_call (call_of before.shared.storage (list_of before.task)) commanded
+    by_due : (b : Bool) → MatchBool b (PerformsCommand before reply half.abend_record after) (RunsOn before reply half.abend_record after) → HalfTurnStays before reply after
+    by_due true it = carried_stay it.decided before after reply it.carries
     by_due false runs = by_halt runs.between runs.how (same_at before _ runs.between runs.rest (record { slot = refl; programs = refl })) runs.ends

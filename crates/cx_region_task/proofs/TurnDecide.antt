@@ -1,8 +1,7 @@
 -- A half-turn is decided by what was reached before.
 use Rattle.std.proofs.Common.{◌≡◌, ℕ, Bool, true, false, Option, Some, None, List, sym, ◌∙◌, ap, subst}
-use Rattle.std.specs.Prelude.{Result, Ok, Err, MatchBool, MatchResult}
+use Rattle.std.specs.Prelude.{MatchBool}
 use Rattle.cx_base_commands.specs.Abends.{abend_code}
-use Rattle.cx_base_commands.specs.declared.abends.Abend.TheVariants as abend
 use Rattle.cx_base_commands.specs.declared.conditions.Condition.{Condition}
 use Rattle.cx_exec.specs.declared.machine.Halt.{Halt}
 use Rattle.cx_exec.specs.declared.machine.Halt.TheVariants as halt
@@ -11,29 +10,27 @@ use Rattle.cx_exec_laws.specs.Laws.Decide.{RunsDecide}
 use Rattle.cx_program.specs.Facts.NearestExit.{nearest_exit_one}
 use Rattle.cx_program.specs.Levels.{Levels, all_levels}
 use Rattle.cx_service.specs.Screen.{ShowsText}
-use Rattle.cx_region_call.specs.declared.call.CallFault.{CallFault}
-use Rattle.cx_region_call.specs.declared.outputs.Output.{Output}
-use Rattle.cx_region_call.specs.Call.{Call, call_of}
-use Rattle.cx_region_call.specs.Inputs.{are_inputs_there}
 use Rattle.cx_region_commands.specs.Laws.Rows.{JudgedOnce}
 use Rattle.cx_region_state.specs.declared.replies.TurnReply.{TurnReply}
 use Rattle.cx_region_state.specs.declared.verdict.TaskChange.{TaskChange}
 use Rattle.cx_region_state.specs.declared.verdict.TaskChange.TheVariants.{Nothing, Makes, Ends, Gets, Enters, Replaces, LevelEnds, TaskEnds, AbendsWith}
 use Rattle.cx_region_state.specs.declared.verdict.Made.{Made}
 use Rattle.cx_region_state.specs.declared.verdict.Made.TheVariants as made
-use Rattle.cx_region_state.specs.declared.verdict.Verdict.{Verdict}
-use Rattle.cx_region_state.specs.declared.verdict.Verdict.TheVariants.{Refuses, Waits, Meets}
 use Rattle.cx_region_state.specs.Areas.{bytes_in}
 use Rattle.cx_region_state.specs.State.{TaskContext}
 use Rattle.cx_region_task.specs.declared.continuation.Continuation.{Continuation}
 use Rattle.cx_region_task.specs.declared.continuation.Continuation.TheVariants as continuation
 use Rattle.cx_region_task.specs.Abends.{Abends, AbendsAt, IsExit}
-use Rattle.cx_region_task.specs.Answers.{Answers, Does, LeavesAll, MeetsWith, has_room, continuation_at}
+use Rattle.cx_region_task.specs.declared.cause.AbendRecord.{AbendRecord}
+use Rattle.cx_region_task.specs.declared.decision.Act.{Act}
+use Rattle.cx_region_task.specs.declared.decision.Decision.{Decision}
+use Rattle.cx_region_task.specs.declared.decision.Decision.TheVariants as decision
 use Rattle.cx_region_task.specs.Changes.{AppliesBefore, apply_after, write_outputs, report_of, write_report}
 use Rattle.cx_region_task.specs.Laws.HalfTurns.{HalfTurnsDecide}
-use Rattle.cx_region_task.specs.Performing.{PerformsCall, PerformsCommand, Performs, fault_abend, list_of}
-use Rattle.cx_region_task.specs.Turn.{HalfTurn, EndsRun, RunsOn, after_machine, machine_of, most_steps}
-use Rattle.cx_region_task.specs.Continuations.{Goes, is_wait}
+use Rattle.cx_region_task.specs.Performing.{CarriesOut, Does}
+use Rattle.cx_region_task.specs.Turn.{HalfTurnWith, PerformsCommand, EndsRun, RunsOn, after_machine, machine_of, most_steps}
+use Rattle.cx_region_task.specs.Continuations.{Goes}
+use Rattle.cx_region_task.proofs.DecideLemmas.{decisions_decide}
 
 abbrev Same : TurnReply → TurnReply → TaskContext → TaskContext → Type 0
 Same p q a b = (p ≡ q) × (a ≡ b)
@@ -89,41 +86,19 @@ goes_decides (continuation.Replaces level) condition committed p q a b h k = sam
 goes_decides continuation.LevelEnds condition committed p q a b h k = same_answers p q _ a b _ h k
 goes_decides continuation.TaskEnds condition committed p q a b h k = same_answers p q _ a b _ h k
 
-does_decides : ShownOnce → (call : Call) (condition : Condition) (outputs : List Output) (change : TaskChange) (before : TaskContext) (p q : TurnReply) (a b : TaskContext)
-    → Does call condition outputs change before p a → Does call condition outputs change before q b → Same p q a b
-does_decides shown call condition outputs change before p q a b h k =
-    let made = applied_decides shown change before h.commits.made k.commits.made h.commits.applied k.commits.applied in
+does_decides : ShownOnce → (act : Act) (before : TaskContext) (p q : TurnReply) (a b : TaskContext) → Does act before p a → Does act before q b → Same p q a b
+does_decides shown act before p q a b h k =
+    let made = applied_decides shown act.change before h.commits.made k.commits.made h.commits.applied k.commits.applied in
     let committed : h.committed ≡ k.committed =
-    h.commits.committed ∙ ap (λ (r : TaskContext). apply_after change (write_report call (report_of call condition change before) (write_outputs call outputs change r))) made ∙ sym k.commits.committed in
-    goes_decides (continuation_at call condition change before) condition k.committed p q a b
-    (subst (λ (r : TaskContext). Goes (continuation_at call condition change before) condition r p a) committed h.goes) k.goes
+    h.commits.committed
+    ∙ ap (λ (r : TaskContext). apply_after act.change (write_report act.call (report_of act.call act.condition act.change before) (write_outputs act.call act.outputs act.change r))) made ∙ sym k.commits.committed in
+    goes_decides act.continuation act.condition k.committed p q a b (subst (λ (r : TaskContext). Goes act.continuation act.condition r p a) committed h.goes) k.goes
 
-meets_decide : ShownOnce → (call : Call) (condition : Condition) (outputs : List Output) (change : TaskChange) (before : TaskContext) (p q : TurnReply) (a b : TaskContext)
-    → MeetsWith call condition outputs change before p a → MeetsWith call condition outputs change before q b → Same p q a b
-unfolding MeetsWith
-meets_decide shown call condition outputs change before p q a b h k = by_room (has_room call outputs change before) h k
-  where
-    by_wait : (w : Bool) → MatchBool w (LeavesAll before p a) (Does call condition outputs change before p a) → MatchBool w (LeavesAll before q b) (Does call condition outputs change before q b) → Same p q a b
-    by_wait true one two = same_answers p q _ a b _ (one.waiting, one.same) (two.waiting, two.same)
-    by_wait false one two = does_decides shown call condition outputs change before p q a b one two
-
-    by_room : (r : Bool)
-        → MatchBool r (MatchBool (is_wait (continuation_at call condition change before)) (LeavesAll before p a) (Does call condition outputs change before p a)) (Abends (abend_code abend.Xarg) false before p a)
-        → MatchBool r (MatchBool (is_wait (continuation_at call condition change before)) (LeavesAll before q b) (Does call condition outputs change before q b)) (Abends (abend_code abend.Xarg) false before q b)
-        → Same p q a b
-    by_room true one two = by_wait (is_wait (continuation_at call condition change before)) one two
-    by_room false one two = abends_decide (abend_code abend.Xarg) false before p q a b one two
-
-answers_decide : ShownOnce → (verdict : Verdict) (call : Call) (before : TaskContext) (p q : TurnReply) (a b : TaskContext) → Answers verdict call before p a → Answers verdict call before q b → Same p q a b
-unfolding Answers
-answers_decide shown (Refuses code) call before p q a b h k = abends_decide (abend_code code) false before p q a b h k
-answers_decide shown Waits call before p q a b h k = same_answers p q _ a b _ (h.waiting, h.same) (k.waiting, k.same)
-answers_decide shown (Meets condition outputs change) call before p q a b h k = meets_decide shown call condition outputs change before p q a b h k
-
-performs_decide : ShownOnce → JudgedOnce → (call : Call) (before : TaskContext) (p q : TurnReply) (a b : TaskContext) → Performs call before p a → Performs call before q b → Same p q a b
-performs_decide shown judged call before p q a b h k =
-    let same = judged call before h.verdict k.verdict h.judged k.judged in
-    answers_decide shown k.verdict call before p q a b (subst (λ (v : Verdict). Answers v call before p a) same h.answers) k.answers
+carried_decides : ShownOnce → (decided : Decision) (before : TaskContext) (p q : TurnReply) (a b : TaskContext) → CarriesOut decided before p a → CarriesOut decided before q b → Same p q a b
+unfolding CarriesOut
+carried_decides shown (decision.Refuse call refusal) before p q a b h k = abends_decide (abend_code refusal) false before p q a b h k
+carried_decides shown (decision.Wait call wait) before p q a b h k = same_answers p q _ a b _ (h.waiting, h.same) (k.waiting, k.same)
+carried_decides shown (decision.Act act) before p q a b h k = does_decides shown act before p q a b h k
 
 halts_decide : (how : Halt) (before : TaskContext) (p q : TurnReply) (a b : TaskContext) → EndsRun how before p a → EndsRun how before q b → Same p q a b
 unfolding EndsRun
@@ -131,27 +106,23 @@ halts_decide halt.AtEntry before p q a b h k = same_answers p q _ a b _ h k
 halts_decide (halt.Interrupt cause place) before p q a b h k = abends_decide _ false before p q a b h k
 halts_decide halt.Limit before p q a b h k = abends_decide _ false before p q a b h k
 
-runs_decide : ((limit : ℕ) → RunsDecide (Advances limit)) → (before : TaskContext) (p q : TurnReply) (a b : TaskContext) → RunsOn before p a → RunsOn before q b → Same p q a b
-runs_decide runs before p q a b h k =
+runs_decide : ((limit : ℕ) → RunsDecide (Advances limit)) → (before : TaskContext) (p q : TurnReply) (one other : Option AbendRecord) (a b : TaskContext) → RunsOn before p one a → RunsOn before q other b → Same p q a b
+runs_decide runs before p q one other a b h k =
     let same = runs most_steps (machine_of before) h.how k.how (machine_of h.between) (machine_of k.between) h.advances k.advances in
     let between : h.between ≡ k.between = h.rest ∙ ap (after_machine before) same.1 ∙ sym k.rest in
     let first : EndsRun k.how h.between p a = subst (λ (how : Halt). EndsRun how h.between p a) same.0 h.ends in
     halts_decide k.how k.between p q a b (subst (λ (r : TaskContext). EndsRun k.how r p a) between first) k.ends
 
+commands_decide : ShownOnce → JudgedOnce → (before : TaskContext) (p q : TurnReply) (one other : Option AbendRecord) (a b : TaskContext) → PerformsCommand before p one a → PerformsCommand before q other b → Same p q a b
+commands_decide shown judged before p q one other a b h k =
+    let same = decisions_decide judged before h.decided k.decided h.decides k.decides in
+    carried_decides shown k.decided before p q a b (subst (λ (decided : Decision). CarriesOut decided before p a) same h.carries) k.carries
+
 pub half_turns_decide : ((limit : ℕ) → RunsDecide (Advances limit)) → ShownOnce → JudgedOnce → HalfTurnsDecide
-unfolding HalfTurn PerformsCommand PerformsCall
-half_turns_decide runs shown judged before a b p q h k = by_due before.task.due h k
+unfolding HalfTurnWith
+half_turns_decide runs shown judged before a b p q h k = by_due before.task.due h.turns k.turns
   where
-    by_inputs : (call : Call) (there : Bool) → MatchBool there (Performs call before p a) (Abends (abend_code abend.Xarg) false before p a)
-        → MatchBool there (Performs call before q b) (Abends (abend_code abend.Xarg) false before q b) → Same p q a b
-    by_inputs call true one two = performs_decide shown judged call before p q a b one two
-    by_inputs call false one two = abends_decide (abend_code abend.Xarg) false before p q a b one two
-
-    by_call : (r : Result Call CallFault) → MatchResult r (λ call. PerformsCall call before p a) (λ fault. Abends (abend_code (fault_abend fault)) false before p a)
-        → MatchResult r (λ call. PerformsCall call before q b) (λ fault. Abends (abend_code (fault_abend fault)) false before q b) → Same p q a b
-    by_call (Ok call) one two = by_inputs call (are_inputs_there before.shared.storage call) one two
-    by_call (Err fault) one two = abends_decide (abend_code (fault_abend fault)) false before p q a b one two
-
-    by_due : (due : Bool) → MatchBool due (PerformsCommand before p a) (RunsOn before p a) → MatchBool due (PerformsCommand before q b) (RunsOn before q b) → Same p q a b
-    by_due true one two = by_call (call_of before.shared.storage (list_of before.task)) one two
-    by_due false one two = runs_decide runs before p q a b one two
+    by_due : (due : Bool) → MatchBool due (PerformsCommand before p h.abend_record a) (RunsOn before p h.abend_record a)
+        → MatchBool due (PerformsCommand before q k.abend_record b) (RunsOn before q k.abend_record b) → Same p q a b
+    by_due true one two = commands_decide shown judged before p q h.abend_record k.abend_record a b one two
+    by_due false one two = runs_decide runs before p q h.abend_record k.abend_record a b one two

@@ -1,9 +1,7 @@
 -- What a half-turn keeps.
 use Rattle.std.proofs.Common.{◌≡◌, ℕ, Bool, true, false, Some, List, refl, sym, ◌∙◌, ap, subst}
-use Rattle.std.specs.Prelude.{MatchBool, if◌then◌else◌}
+use Rattle.std.specs.Prelude.{if◌then◌else◌}
 use Rattle.std.proofs.lemmas.Option.{same_Some}
-use Rattle.cx_base_commands.specs.Abends.{abend_code}
-use Rattle.cx_base_commands.specs.declared.abends.Abend.TheVariants as abend
 use Rattle.cx_base_commands.specs.declared.conditions.Condition.{Condition}
 use Rattle.cx_storage.specs.declared.areas.Area.{Area}
 use Rattle.cx_storage.specs.declared.areas.Kind.TheVariants.{Got as GotKind, System}
@@ -25,21 +23,21 @@ use Rattle.cx_region_state.specs.declared.verdict.Ended.{Ended}
 use Rattle.cx_region_state.specs.declared.verdict.Ended.TheVariants.{TakesInput, ReadOf, QueueGone, Dequeues, Frees}
 use Rattle.cx_region_state.specs.declared.verdict.Fill.{Fill}
 use Rattle.cx_region_state.specs.declared.verdict.Fill.TheVariants.{Byte, Item}
-use Rattle.cx_region_state.specs.declared.verdict.Verdict.{Verdict}
-use Rattle.cx_region_state.specs.declared.verdict.Verdict.TheVariants.{Refuses, Waits, Meets}
 use Rattle.cx_region_state.specs.Areas.{IsAreaOf, got_owner, system_owner}
 use Rattle.cx_region_state.specs.State.{TaskContext, TaskState}
-use Rattle.cx_region_state.specs.Parts.Fits.{Fits, FitsChange, FitsEnded}
+use Rattle.cx_region_state.specs.Parts.Fits.{FitsChange, FitsEnded}
 use Rattle.cx_region_state.specs.Verdicts.{handed_over}
-use Rattle.cx_region_task.specs.Abends.{Abends}
-use Rattle.cx_region_task.specs.Answers.{Answers, Does, LeavesAll, MeetsWith, has_room, continuation_at}
+use Rattle.cx_region_task.specs.declared.continuation.Continuation.{Continuation}
+use Rattle.cx_region_task.specs.declared.decision.Act.{Act}
+use Rattle.cx_region_task.specs.Facts.Met.{IsToBeDone}
+use Rattle.cx_region_task.specs.Performing.{Does, LeavesAll}
 use Rattle.cx_region_task.specs.Changes.{AppliesBefore, Commits, apply_after, write_outputs, read_for, report_of, write_report}
 use Rattle.cx_region_task.specs.Laws.HalfTurns.{HalfTurnKeeps}
 use Rattle.cx_region_task.specs.Sound.{IsSoundTask}
-use Rattle.cx_region_task.specs.Continuations.{choice_for, is_normal, is_wait, continuation_by, continuation_chosen, continuation_of}
+use Rattle.cx_region_task.specs.Continuations.{choice_for, is_normal, continuation_by, continuation_chosen, continuation_of}
 use Rattle.cx_region_task.proofs.GoLemmas.{Stands, goes_keeps}
 use Rattle.cx_region_task.proofs.GrowLemmas.{Grew, Standing, answered_areas, applied_keeps, put_out_areas}
-use Rattle.cx_region_task.proofs.MidLemmas.{Mid, abend_keeps, begins, goes_on}
+use Rattle.cx_region_task.proofs.MidLemmas.{Mid, goes_on}
 use Rattle.cx_region_task.proofs.OwnAreas.{areas_filtered, freed_own}
 use Rattle.cx_region_task.proofs.ReleaseLemmas.{dequeued_keeps}
 use Rattle.cx_region_task.proofs.SoundSteps.{OwnStay, free_keeps, of_owns, owns_of, owns_stay}
@@ -194,34 +192,16 @@ way_stands call entries condition change slot s task stands = either (is_normal 
     either true = by_change change slot s task stands
     either false = by_choice (choice_for call entries condition) slot s task
 
--- ---- a verdict
-waits_keeps : (start after : TaskContext) (reply : TurnReply) → Mid start start → LeavesAll start reply after → HalfTurnKeeps start reply after
+-- ---- a decision
+pub waits_keeps : (start after : TaskContext) (reply : TurnReply) → Mid start start → LeavesAll start reply after → HalfTurnKeeps start reply after
 waits_keeps start after reply held leaves =
     rw (leaves.waiting, leaves.same) (goes_on start start start turn.Waiting held refl refl refl refl held.storage held.same held.others (owns_of start.terminal_entry.slot held.storage start.task held.task))
 
-meets_keeps : (call : Call) (condition : Condition) (outputs : List Output) (change : TaskChange) (start after : TaskContext) (reply : TurnReply) → IsSoundStorage start.shared.storage
-    → IsSoundTask start.shared.storage start.terminal_entry.slot start.task → FitsChange change start → MeetsWith call condition outputs change start reply after → HalfTurnKeeps start reply after
-unfolding MeetsWith
-meets_keeps call condition outputs change start after reply ok own fits meets = by_room (has_room call outputs change start) meets
-  where
-    does : Does call condition outputs change start reply after → HalfTurnKeeps start reply after
-    does it =
-        let grew = settled_grew call condition outputs change start it.committed ok own fits it.commits in
-        goes_keeps (continuation_at call condition change start) condition start it.committed after reply grew.held
-        (way_stands call start.task.levels.current.handles.active.entries condition change start.terminal_entry.slot grew.held.storage it.committed.task grew.stands) it.goes
-
-    by_wait : (b : Bool) → MatchBool b (LeavesAll start reply after) (Does call condition outputs change start reply after) → HalfTurnKeeps start reply after
-    by_wait true leaves = waits_keeps start after reply (begins start ok own) leaves
-    by_wait false it = does it
-
-    by_room : (b : Bool) → MatchBool b (MatchBool (is_wait (continuation_at call condition change start)) (LeavesAll start reply after) (Does call condition outputs change start reply after))
-        (Abends (abend_code abend.Xarg) false start reply after) → HalfTurnKeeps start reply after
-    by_room true it = by_wait (is_wait (continuation_at call condition change start)) it
-    by_room false abends = abend_keeps (abend_code abend.Xarg) false start start after reply (begins start ok own) abends
-
-pub answers_keep : (verdict : Verdict) (call : Call) (start after : TaskContext) (reply : TurnReply) → IsSoundStorage start.shared.storage
-    → IsSoundTask start.shared.storage start.terminal_entry.slot start.task → Fits verdict start → Answers verdict call start reply after → HalfTurnKeeps start reply after
-unfolding Answers
-answers_keep (Refuses code) call start after reply ok own fits answers = abend_keeps (abend_code code) false start start after reply (begins start ok own) answers
-answers_keep Waits call start after reply ok own fits answers = waits_keeps start after reply (begins start ok own) answers
-answers_keep (Meets condition outputs change) call start after reply ok own fits answers = meets_keeps call condition outputs change start after reply ok own fits.1 answers
+pub acts_keep : (act : Act) (start after : TaskContext) (reply : TurnReply) → IsSoundStorage start.shared.storage
+    → IsSoundTask start.shared.storage start.terminal_entry.slot start.task → FitsChange act.change start → IsToBeDone act start → Does act start reply after → HalfTurnKeeps start reply after
+acts_keep act start after reply ok own fits known it =
+    let grew = settled_grew act.call act.condition act.outputs act.change start it.committed ok own fits it.commits in
+    let slot = start.terminal_entry.slot in
+    let way = way_stands act.call start.task.levels.current.handles.active.entries act.condition act.change slot grew.held.storage it.committed.task grew.stands in
+    let stands : Stands act.continuation slot grew.held.storage it.committed.task = subst (λ (gone : Continuation). Stands gone slot grew.held.storage it.committed.task) (sym known.way) way in
+    goes_keeps act.continuation act.condition start it.committed after reply grew.held stands it.goes

@@ -107,9 +107,12 @@ few_callers (continuation.Replaces level) one other same fits = fits
 few_callers continuation.LevelEnds one other same fits = tt
 few_callers continuation.TaskEnds one other same fits = tt
 
-pub fits_way : (call : Call) (entries : Entries) (condition : Condition) (outputs : List Output) (change : TaskChange) (before after : TaskContext) (gone : Continuation) → FitsChange change before
-    → gone ≡ continuation_of call entries condition change → Commits call condition outputs change before after → MatchWay gone after.task.levels
+pub way_fits : (call : Call) (entries : Entries) (condition : Condition) (change : TaskChange) (before : TaskContext) → FitsChange change before
+    → MatchWay (continuation_of call entries condition change) before.task.levels
 unfolding continuation_of
-fits_way call entries condition outputs change before after gone fits is commits =
-    few_callers gone before.task.levels after.task.levels (settled_callers call condition outputs change before after commits)
-    (rw is (either (is_normal condition) (choice_for call entries condition) change before fits))
+way_fits call entries condition change before fits = either (is_normal condition) (choice_for call entries condition) change before fits
+
+pub way_stays : (gone : Continuation) (call : Call) (condition : Condition) (outputs : List Output) (change : TaskChange) (before after : TaskContext) → MatchWay gone before.task.levels
+    → Commits call condition outputs change before after → MatchWay gone after.task.levels
+way_stays gone call condition outputs change before after fits commits =
+    few_callers gone before.task.levels after.task.levels (settled_callers call condition outputs change before after commits) fits

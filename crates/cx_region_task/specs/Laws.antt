@@ -1,3 +1,4 @@
 -- What the definitions come to; each is the contract of a public function.
+pub mod Decisions
 pub mod HalfTurns
 pub mod AbendRecords

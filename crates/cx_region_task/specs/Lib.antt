@@ -2,12 +2,12 @@
 pub mod Abends
 pub mod Changes
 pub mod Continuations
-pub mod Answers
+pub mod Decisions
 pub mod Performing
 pub mod Turn
-pub mod Causes
 pub mod Sound
 pub mod Laws
+pub mod Facts
 pub mod Parts
 pub use Rattle.cx_region_call.specs.Call
 pub use Rattle.cx_region_call.specs.Eib

@@ -1,3 +1,3 @@
 -- The vocabulary of private functions: no public contract reaches it.
 pub mod Making
-pub mod Due
+pub mod Performing

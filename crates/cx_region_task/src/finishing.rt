@@ -11,7 +11,7 @@ ghost use Rattle.cx_region_state.specs.Verdicts.{handed_over};
 ghost use Rattle.cx_region_state.specs.Parts.Fits.{FitsChange, FitsEnded};
 ghost use Rattle.cx_region_task.specs.Changes.{apply_after, write_outputs, read_for, report_of, write_report, with_change, with_queues, with_resources};
 ghost use Rattle.cx_region_task.specs.Parts.Making.{MatchEnded, MatchFinished, text_of};
-ghost use Rattle.cx_region_task.specs.Answers.{has_room};
+ghost use Rattle.cx_region_task.specs.Decisions.{has_room};
 ghost use Rattle.cx_region_call.specs.Outputs.{put_out};
 
 use crate::areas::length_or_zero;
@@ -47,8 +47,8 @@ fn text_of<'a>(change: &TaskChange, queues: &'a Queues, input: &'a Option<Input>
 
 /// Whether each byte of a command's outputs is in storage, with the text that it hands over. An output whose option isn't
 /// there has none.
-#[tactic(auto, unfolding(crate::specs::Answers::has_room, cx_region_state::specs::Verdicts::handed_over))]
-pub fn has_room<S: Store + Drop>(
+#[tactic(auto, unfolding(crate::specs::Decisions::has_room, cx_region_state::specs::Verdicts::handed_over))]
+pub(crate) fn has_room<S: Store + Drop>(
     call: &Call,
     outputs: &Outputs,
     change: &TaskChange,

@@ -64,10 +64,17 @@ fn continuation_by(change: &TaskChange) -> Continuation
     }
 }
 
+/// Whether the command waits: its task stays at it.
+pub(crate) fn is_wait(continuation: &Continuation) -> bool
+    ensures { result ≡ is_wait continuation.now }
+{
+    matches!(continuation, Continuation::Waits)
+}
+
 /// How a task goes on after a command that meets a condition and has an effect: as its current level asked, or, with no
 /// condition met, as the effect says. The condition mustn't be ERROR, which no command meets.
 #[tactic(auto, unfolding(crate::specs::Continuations::continuation_of))]
-pub fn continuation_at(
+pub(crate) fn continuation_at(
     call: &Call,
     condition: Condition,
     change: &TaskChange,

@@ -1,5 +1,5 @@
 //! What a command makes before its outputs are written.
-ghost use Rattle.std.specs.Prelude.{◌≡◌, ◌<◌, ◌≤◌, ◌^◌, length, replicate, take, unwrap_or, is_some, [], false, true, IfOk, IsOk, OnOk, OnErr, None, Some, MatchOption, ⊤};
+ghost use Rattle.std.specs.Prelude.{◌≡◌, ◌<◌, ◌≤◌, ◌^◌, length, replicate, unwrap_or, is_some, [], false, true, IfOk, IsOk, OnOk, OnErr, None, Some, MatchOption, ⊤};
 ghost use Rattle.std.specs.Fn.{CalledAt};
 ghost use Rattle.std.specs.Option.{option_map_or};
 ghost use Rattle.cx_program.specs.Entries.{turned_off, turned_on};
@@ -11,10 +11,11 @@ ghost use Rattle.cx_region_state.specs.Areas.{IsTaskPlace, bytes_in, with_cap, w
 ghost use Rattle.cx_region_state.specs.State.{context, with_storage};
 ghost use Rattle.cx_region_state.specs.Parts.Fits.{FitsChange, FitsCopy, FitsLevel, FitsMade, FitsPiece, IsThere, FitsGot, FitsNext};
 ghost use Rattle.cx_region_task.specs.Changes.{AppliesBefore, change_takes_memory, after_request, kept_next, with_got, with_stg, with_handles, with_ignored, with_labels, with_replacement};
-ghost use Rattle.cx_region_task.specs.Parts.Making.{MatchItem, MatchPush, copied_len};
+ghost use Rattle.cx_region_task.specs.Parts.Making.{MatchCopy, MatchItem, MatchPush};
 ghost use Rattle.cx_program.specs.declared.entries.Handler.TheVariants as Entry;
 
-use crate::areas::{MOST_BYTES, get_both, get_filled, get_stg, put_cap};
+use crate::areas::{MOST_BYTES, get_at, get_both, get_filled, get_stg, put_cap};
+use crate::blocks::{copy, fill};
 use cx_base_lists::List;
 use cx_ebcdic::Name8;
 use cx_program::HandleTable;
@@ -24,6 +25,7 @@ use cx_region_state::{
     TerminalEntry,
 };
 use cx_service::{Enqueues, Queues, ResourceName, Screen};
+use cx_storage::laws::store_is_sound;
 use cx_storage::{Kind, Owner, Store};
 use std::alloc::{AllocError, Global};
 
@@ -234,19 +236,8 @@ pub(crate) fn item_bytes(queues: &Queues, name: Name8, n: usize) -> &[u8]
     queues.item(name, n).unwrap_or(&[])
 }
 
-/// The most bytes of an area that a program gets.
-const MOST_GOT: usize = 65_520;
-
-/// The first `len` bytes.
-fn first_bytes(bytes: &[u8; MOST_GOT], len: usize) -> &[u8]
-    requires { len ≤ 65520 }
-    ensures value { result.now ≡ take len bytes.now }
-    ensures few { length result.now ≡ len }
-{
-    &bytes[..len]
-}
-
-/// An area of which each byte is the same.
+/// An area of which each byte is the same. A fresh one has zeros.
+#[tactic(auto, using(crate::proofs::FreshAreas::fresh_ends, crate::proofs::FreshAreas::fresh_there, crate::proofs::FreshAreas::fresh_zeros), unfolding(cx_region_state::specs::Areas::with_filled))]
 fn get_of_byte<S: Store>(
     store: &mut S,
     place: u32,
@@ -255,14 +246,16 @@ fn get_of_byte<S: Store>(
     byte: u8,
 ) -> Result<(), AllocError>
     requires some { 0 < len }
-    requires few { len ≤ 65520 }
     requires place { IsTaskPlace (S.storage store.old) len (Some place) }
     ensures ok { let bytes = replicate len byte in
         OnOk result (S.storage store.new ≡ with_filled (S.storage store.old) place len owner bytes) }
     ensures err { OnErr result (S.storage store.new ≡ S.storage store.old) }
 {
-    let buffer = [byte; MOST_GOT];
-    get_filled(store, place, len, owner, first_bytes(&buffer, len as usize))?;
+    store_is_sound(store);
+    get_at(store, place, len, owner)?;
+    if byte != 0 {
+        fill(store, place, len, byte);
+    }
     Ok(())
 }
 
@@ -290,46 +283,23 @@ fn get_got<S: Store>(store: &mut S, queues: &Queues, slot: u8, got: &Got) -> Res
     Ok(())
 }
 
-/// How many bytes are copied.
-fn copied_len(copying: Option<Copying>) -> usize
-    ensures value { result ≡ copied_len copying }
-    ensures most { result ≤ 65535 }
-{
-    match copying {
-        Some(copying) => copying.from.len as usize,
-        None => 0,
-    }
-}
-
-/// The bytes that are copied.
-fn read_copied<S: Store>(store: &S, copying: Option<Copying>, bytes: &mut [u8])
-    requires copy { FitsCopy copying (S.storage store.now) }
-    requires len { length bytes.old ≡ copied_len copying }
-    ensures { bytes.new ≡ option_map_or (λ copying. bytes_in (S.storage store.now) copying.from) copying [] }
-{
-    let Some(copying) = copying else {
-        return;
-    };
-    store.read(copying.from.place, bytes);
-}
-
 /// Puts a copy into its area.
 #[tactic(auto, unfolding(cx_region_state::specs::Areas::with_copied))]
-fn put_copied<S: Store>(store: &mut S, copying: Option<Copying>, bytes: &[u8])
-    requires place { MatchOption copying ⊤ (λ it. it.to < 2 ^ 24) }
-    requires len { length bytes.now ≤ 65536 }
-    ensures { S.storage store.new ≡ with_copied (S.storage store.old) copying bytes.now }
+fn put_copied<S: Store>(store: &mut S, copying: Option<Copying>)
+    requires { MatchCopy copying (S.storage store.old) }
+    ensures { let bytes = option_map_or (λ it. bytes_in (S.storage store.old) it.from) copying [] in
+        S.storage store.new ≡ with_copied (S.storage store.old) copying bytes }
 {
     let Some(copying) = copying else {
         return;
     };
-    store.write(copying.to, bytes);
+    copy(store, copying);
 }
 
 /// Makes and fills the areas of a level that begins in place of another.
 ///
 /// An error comes only where an allocation failed; then all is as before.
-#[tactic(auto, using(crate::proofs::CopyLemmas::copy_below), unfolding(crate::specs::Changes::with_replacement))]
+#[tactic(auto, using(crate::proofs::FreshAreas::copyable))]
 fn get_replacement<S: Store>(
     store: &mut S,
     slot: u8,
@@ -341,11 +311,8 @@ fn get_replacement<S: Store>(
     ensures ok { OnOk result (S.storage store.new ≡ with_replacement (S.storage store.old) slot copying level.now) }
     ensures err { OnErr result (S.storage store.new ≡ S.storage store.old) }
 {
-    let mut buffer = [0; MOST_BYTES];
-    let bytes = &mut buffer[..copied_len(copying)];
-    read_copied(store, copying, bytes);
     get_both(store, slot, copying, level)?;
-    put_copied(store, copying, bytes);
+    put_copied(store, copying);
     put_cap(store, level);
     Ok(())
 }

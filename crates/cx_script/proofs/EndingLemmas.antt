@@ -1,14 +1,16 @@
 -- Why no more was read, by the calls.
-use Rattle.std.proofs.Common.{◌≡◌, ℕ, ◌<◌, ◌≤◌, ◌⊎◌, inl, inr, Bool, true, false, List, [], ◌∷◌, ◌++◌, length, take, None, Some, Option, nat_lt, refl, sym, ap, ◌∙◌, subst, append-nil, arith}
+use Rattle.std.proofs.Common.{◌≡◌, ℕ, ◌<◌, ◌≤◌, ◌⊎◌, inl, inr, Bool, true, false, List, [], ◌∷◌, ◌++◌, length, take, None, Some, Option, Err, nat_lt, refl, sym, ap, ◌∙◌, subst, append-nil, arith}
 use Rattle.std.specs.Option.{option_or}
 use Rattle.std.proofs.lemmas.List.{take_all}
 use borrow.Author.Tests.{ltb-true, ltb-false}
 use Rattle.cx_script_actions.specs.Language.{Language}
-use Rattle.cx_script_io.specs.Calls.{Call, Reading, Writing, given, last_read}
+use Rattle.cx_script_io.specs.Calls.{Call, Reading, Writing, given, last_read, taken}
 use Rattle.cx_script_io.specs.Facts.Calls.{given_append}
 use Rattle.cx_script_io.specs.Input.{IsEnding, IsReadOf, most_bytes}
 use Rattle.cx_script_io.specs.declared.input.Ending.{Ending}
 use Rattle.cx_script_io.specs.declared.input.Ending.TheVariants.{AtEnd, Failed, PastBound}
+use Rattle.cx_script_blocks.specs.declared.faults.RunFault.TheVariants.{Read}
+use Rattle.cx_script.specs.Transcript.{Ends}
 use Rattle.cx_script.specs.Parts.Progress.{InTime}
 
 -- whether the reads say why no more was read
@@ -106,6 +108,13 @@ module _ {A S : Type 0} (language : Language A) (performs : S → A → List ℕ
 
   pub read_whole : (why : Ending) → IsEnding calls why → is_past why ≡ false → IsReadOf calls why (given calls)
   read_whole why h p = subst (IsReadOf calls why) (take_all most_bytes (given calls) (ended_within why h p)) (read_ended why h)
+
+  -- a read failed after all that was given
+  pub failed_front : IsEnding calls Failed → (front : List Call) × (given calls ≡ given front) × Ends language performs start Failed (given front) (Err Read) (taken front)
+  failed_front h =
+      let l = last_of calls None h in
+      let same : given calls ≡ given l.before = ap given l.at ∙ given_append l.before (Reading None ∷ l.after) ∙ ap (λ r. given l.before ++ r) l.rest ∙ append-nil (given l.before) in
+      (l.before, same, (t l.before l.after None l.at).1)
 
 -- where they don't say why no more was read
 pub read_open : (calls : List Call) → ((why : Ending) → IsEnding calls why → ⊥) → (ending : Ending) → IsReadOf calls ending (take most_bytes (given calls))

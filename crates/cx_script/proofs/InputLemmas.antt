@@ -1,5 +1,5 @@
 -- What the reads gave decides the answer.
-use Rattle.std.proofs.Common.{◌≡◌, ℕ, false, List, inl, inr, take, Some, Result, Ok, Err, refl, sym, ap, ◌∙◌}
+use Rattle.std.proofs.Common.{◌≡◌, ℕ, true, false, List, inl, inr, take, Some, Result, Ok, Err, refl, sym, ap, ◌∙◌}
 use Rattle.std.specs.Result.{result_err}
 use Rattle.cx_edf.specs.State.{EdfState}
 use Rattle.cx_script_io.specs.Calls.{Call, given, taken}
@@ -11,12 +11,13 @@ use Rattle.cx_script_actions.specs.Effects.{Performs, fresh_state}
 use Rattle.cx_script.specs.Session.{IsScriptSession}
 use Rattle.cx_script.specs.Laws.Inputs.{was_stopped, InputsDecide, IsPastBound, FailuresAreReported, PastTheBoundIsReadBound, ReadBoundIsPastTheBound, ReadIsAFailure}
 use Rattle.cx_script_actions.specs.declared.actions.Action.{Action}
+use Rattle.cx_script_blocks.specs.Faults.{is_read}
 use Rattle.cx_script_blocks.specs.declared.faults.RunFault.{RunFault}
 use Rattle.cx_script_blocks.specs.declared.faults.RunFault.TheVariants.{BadLine, Source, Read, Write, Memory, ReadBound}
 use Rattle.cx_script_blocks.specs.declared.faults.Summary.{Summary}
 use Rattle.cx_script_io.specs.declared.input.Ending.{Ending}
 use Rattle.cx_script_io.specs.declared.input.Ending.TheVariants.{AtEnd, Failed, PastBound}
-use Rattle.cx_script.proofs.EndingLemmas.{Endings, ending_of, read_ended, read_open, read_whole}
+use Rattle.cx_script.proofs.EndingLemmas.{Endings, ending_of, failed_front, read_ended, read_open, read_whole}
 use Rattle.cx_script.proofs.FaultLemmas.{has_this}
 use Rattle.cx_script.proofs.WholeLemmas.{one_transcript}
 
@@ -122,3 +123,13 @@ pub failures_reported : FailuresAreReported
 failures_reported calls answer s h e =
     let ends = s.ends Failed (given calls) (read_whole edf_language Performs fresh_state calls s.in_time Failed h refl) in
     (reported Failed (given calls) answer (taken calls) e ends).0
+
+-- a read failed, so the answer is Read
+read_failed : (calls : List Call) (answer : Result Summary RunFault) → IsScriptSession calls answer → IsEnding calls Failed → was_stopped answer ≡ false → answer ≡ Err Read
+read_failed calls answer s h e =
+    let front = failed_front edf_language Performs fresh_state calls s.in_time h in
+    let due = (own edf_language Performs fresh_state Failed (given front.0) Read (taken front.0) refl front.2).0 in
+    err_is answer Read (failures_reported calls answer s h e ∙ ap (λ bytes. (script_in edf_language Failed bytes).fault) front.1 ∙ due)
+
+pub unfailed : (calls : List Call) (answer : Result Summary RunFault) → IsScriptSession calls answer → was_stopped answer ≡ false → is_read answer ≡ false → IsEnding calls Failed → ⊥
+unfailed calls answer s e r h = let same : answer ≡ Err Read = read_failed calls answer s h e in let never : true ≡ false = rw same at r in cc

@@ -8,6 +8,7 @@ pub mod FaultLemmas
 pub mod WholeLemmas
 pub mod ActionLemmas
 pub mod InputLemmas
+pub mod KnownLemmas
 pub mod BadLineLemmas
 pub mod PieceLemmas
 pub mod FrontLemmas

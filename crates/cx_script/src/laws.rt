@@ -13,11 +13,14 @@ ghost use Rattle.cx_script.specs.Laws.Fronts.{FrontsAreScripts};
 ghost use Rattle.cx_script.specs.Laws.BadLines.{BadLinesAreBad};
 ghost use Rattle.cx_script.specs.Laws.Events.{ScriptsRunTheirEvents};
 ghost use Rattle.cx_script.specs.Laws.Inputs.{FailuresAreReported, InputsDecide, PastTheBoundIsReadBound, ReadBoundIsPastTheBound, ReadIsAFailure};
+ghost use Rattle.cx_script.specs.Laws.KnownBytes.{AreCallsOver, KnownBytesAreRead, KnownBytesDecide};
 ghost use Rattle.cx_script_actions.specs.declared.actions.Action.{Action};
 ghost use Rattle.cx_script_blocks.specs.declared.faults.Summary.{Summary};
 ghost use Rattle.cx_script_io.specs.declared.input.Ending.TheVariants.{AtEnd};
 
-use cx_script_actions::ScriptAction;
+use crate::script::EdfStage;
+use cx_script_actions::{Performer, ScriptAction};
+use cx_script_io::ScriptDevices;
 
 /// The lines of a script that is read to its end are those that the standard library cuts a text into: an LF
 /// ends each, one CR before it is dropped, and bytes after the last LF are a line too.
@@ -43,6 +46,24 @@ pub fn the_input_decides()
     ensures reported { FailuresAreReported }
 {
     an_action_has_one_outcome();
+}
+
+/// Where the bytes that a reader has are known and no read fails, what the reads give are the pieces of a script: of these
+/// bytes, or of the first 16,777,216 where they are more.
+pub fn known_bytes_are_read<P: Performer, D: ScriptDevices>()
+    ensures { KnownBytesAreRead P.Action.language P.performs (AreCallsOver D.reads D.writes D.left) }
+{
+    cx_script_io::laws::calls_move_what_is_known::<D>();
+}
+
+/// Where the bytes that readers have are known, they decide the answer and the transcript, whatever the devices are,
+/// unless lack of memory or the writer stops the run, or a read fails.
+pub fn known_bytes_decide<D: ScriptDevices, E: ScriptDevices>()
+    ensures { KnownBytesDecide (AreCallsOver D.reads D.writes D.left) (AreCallsOver E.reads E.writes E.left) }
+{
+    the_input_decides();
+    known_bytes_are_read::<EdfStage, D>();
+    known_bytes_are_read::<EdfStage, E>();
 }
 
 /// A front of a script is a script: the actions that the lines complete in it give, and a fault met there, are those of

@@ -1,5 +1,5 @@
 -- Which words clap takes.
-use Rattle.std.proofs.Common.{rules, arith, ap, ap₂, refl, codes, true, false, List, ℕ, Option, Some, None, is_some, [], ◌∷◌, ◌≡◌, ◌≢◌, ◌∙◌, ◌==◌, ◌&&◌, sym, inl, inr, Bool}
+use Rattle.std.proofs.Common.{ap, ap₂, refl, codes, true, false, List, ℕ, Option, Some, None, is_some, [], ◌∷◌, ◌≡◌, ◌∙◌, ◌==◌, ◌&&◌, inl, inr, Bool}
 use Rattle.std.specs.List.{list_all}
 use Rattle.std.proofs.lemmas.Bool.{cases_Bool, eqb-true}
 use Rattle.clap.specs.Simple.{built, names_of, entered}

@@ -1,3 +1,4 @@
 -- The definitions, in reading order.
 pub mod Words
 pub mod Program
+pub mod Start

@@ -1,8 +1,11 @@
 //! What a program of scripts does when it is started: what it runs, what it writes on standard error, and its status.
 #![tactic(auto)]
 
+mod host;
 mod program;
+mod starting;
 mod words;
 
+pub use host::{Host, Machine};
 pub use program::{Refusal, program_status, run_opened, run_reader};
-pub use words::start;
+pub use starting::start;

@@ -1,2 +1,3 @@
 -- Lemmas for the crates above.
 pub mod AllFaults
+pub mod Mended

@@ -35,12 +35,18 @@ fault_of continues number line =
 abbrev pub source_from : List (List ℕ) → Source
 source_from texts = record { items = items_from false 1 texts }
 
+-- whether a line with this fault continues the statement before it: one that continues it wrongly begins anew
+abbrev pub goes_on : Bool → Option SourceFault → Bool
+goes_on continues (Some (BadContinuation number)) = false
+goes_on continues fault = continues
+
 -- the faults of all lines up to END's, in their order; without END, last that of the line after them
 abbrev pub line_faults : Bool → ℕ → List (List ℕ) → List SourceFault
 line_faults continues number [] = NoEnd number ∷ []
 line_faults continues number (line ∷ more) =
-    option_to_list (fault_of continues number line)
-    ++ (if is_last continues (text_of line) then [] else line_faults (is_continued continues (text_of line)) (number + 1) more)
+    let fault = fault_of continues number line in let joined = goes_on continues fault in
+    option_to_list fault
+    ++ (if is_last joined (text_of line) then [] else line_faults (is_continued joined (text_of line)) (number + 1) more)
 
 -- a source, or the faults that it has
 abbrev pub unless_faulty : {F : Type 0} → List F → Source → Result Source (List F)

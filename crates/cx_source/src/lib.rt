@@ -10,7 +10,7 @@ mod reader;
 mod source;
 mod statements;
 
-pub use all_faults::source_or_faults;
+pub use all_faults::{source_or_faults, source_with_faults};
 pub use lines::{
     begins_with_letter, is_letter, is_name, is_name_character, skip_blanks, text_of, trimmed,
 };

@@ -1,11 +1,11 @@
 //! A store over a store: what was fetched is kept until it may have changed.
 
-ghost use Rattle.std.specs.Prelude.{◌≡◌, ◌+◌, ◌%◌, ◌^◌, ◌<◌, ◌≤◌, Some, IfSome, OnSome};
-ghost use Rattle.cx_storage.specs.Storage.{span};
+ghost use Rattle.std.specs.Prelude.{◌≡◌, ◌+◌, ◌%◌, ◌^◌, ◌<◌, ◌≤◌, length, is_some, Some, IfSome, OnSome};
+ghost use Rattle.cx_storage.specs.Storage.{after_write, span};
 ghost use Rattle.cx_storage_keep.specs.Parts.Slots.{IsPlaced, AreWithin, AreStored, AreLeft};
 ghost use Rattle.cx_storage_keep.specs.Facts.Slots.{IsPlaced-prop, AreWithin-prop, AreStored-prop};
 
-use crate::slots::{NOWHERE, SLOTS, forget, slot_of};
+use crate::slots::{NOWHERE, SLOTS, empty_near, forget, is_aside, slot_of};
 use cx_storage::laws::span_after_write;
 use cx_storage::{Area, Owner, Store};
 use std::alloc::AllocError;
@@ -72,6 +72,21 @@ impl<S: Store + Drop> KeepingStore<S> {
         self.bytes[slot] = bytes;
         Some(bytes)
     }
+
+    /// Writes bytes that may be some of those that are kept.
+    #[tactic(auto, using(crate::proofs::SlotLemmas::placed_left, crate::proofs::SlotLemmas::within_left, crate::proofs::SlotLemmas::stored_after_write))]
+    #[cold]
+    #[inline(never)]
+    fn write_near(&mut self, a: u32, bytes: &[u8]) -> bool
+        requires address { a < 2 ^ 24 }
+        requires size { length bytes.now ≤ 65536 }
+        ensures present { result ≡ is_some (span (S.storage self.old.store) a (length bytes.now)) }
+        ensures after { S.storage self.new.store ≡ after_write (S.storage self.old.store) a bytes.now }
+    {
+        span_after_write();
+        empty_near(&mut self.slots, a, bytes.len());
+        self.store.write(a, bytes)
+    }
 }
 
 impl<S: Store + Drop> Store for KeepingStore<S> {
@@ -114,11 +129,13 @@ impl<S: Store + Drop> Store for KeepingStore<S> {
         self.store.read(a, buffer)
     }
 
-    #[tactic(auto, using(crate::proofs::SlotLemmas::placed_left, crate::proofs::SlotLemmas::within_left, crate::proofs::SlotLemmas::stored_after_write))]
+    #[tactic(auto, using(crate::proofs::SlotLemmas::stored_after_write))]
     #[inline(always)]
     fn write(&mut self, a: u32, bytes: &[u8]) -> bool {
         span_after_write();
-        forget(&mut self.slots, self.first, self.end, a, bytes.len());
+        if !is_aside(&self.slots, self.first, self.end, a, bytes.len()) {
+            return self.write_near(a, bytes);
+        }
         self.store.write(a, bytes)
     }
 

@@ -1,6 +1,6 @@
 //! The slots: an address has one slot, and a slot has one address at most.
 
-ghost use Rattle.std.specs.Prelude.{◌≡◌, ◌/◌, ◌%◌, ◌<◌, ◌^◌};
+ghost use Rattle.std.specs.Prelude.{◌≡◌, ◌/◌, ◌%◌, ◌<◌, ◌^◌, true};
 ghost use Rattle.cx_storage_keep.specs.Parts.Slots.{IsPlaced, AreWithin, AreLeft, IsAside, IsOutside};
 
 /// How many slots there are.
@@ -42,7 +42,7 @@ fn empty_part(slots: &mut [u32; 1024], from: usize, end: usize)
 /// Empties the slots whose eight bytes have one of the `n` from `a` on, and others.
 #[cold]
 #[inline(never)]
-fn empty_near(slots: &mut [u32; 1024], a: u32, n: usize)
+pub(crate) fn empty_near(slots: &mut [u32; 1024], a: u32, n: usize)
     requires placed { IsPlaced slots.old }
     requires address { a < 2 ^ 24 }
     ensures { AreLeft (IsAside a n) slots.old slots.new }
@@ -55,6 +55,19 @@ fn empty_near(slots: &mut [u32; 1024], a: u32, n: usize)
     empty_part(slots, a.saturating_sub(7) / 2, (a + n + 1) / 2);
 }
 
+/// Whether it is known that none of the bytes that are kept, which are from `first` up to `end`, exclusive, is one of the `n`
+/// from `a` on.
+#[inline(always)]
+pub(crate) fn is_aside(slots: &[u32; 1024], first: u32, end: u32, a: u32, n: usize) -> bool
+    requires within { AreWithin first end slots.now }
+    requires address { a < 2 ^ 24 }
+    ensures { result ≡ true → AreLeft (IsAside a n) slots.now slots.now }
+{
+    let _slots = slots;
+    // A write of no more goes on only to addresses that are never kept.
+    n <= 4096 && (end <= a || a as usize + n <= first as usize)
+}
+
 /// Empties the slots whose eight bytes have one of the `n` from `a` on, where all that are kept are from `first` up to `end`,
 /// exclusive.
 #[inline(always)]
@@ -64,9 +77,7 @@ pub(crate) fn forget(slots: &mut [u32; 1024], first: u32, end: u32, a: u32, n: u
     requires address { a < 2 ^ 24 }
     ensures { AreLeft (IsAside a n) slots.old slots.new }
 {
-    // A write of no more goes on only to addresses that are never kept.
-    if n <= 4096 && (end <= a || a as usize + n <= first as usize) {
-        return;
+    if !is_aside(slots, first, end, a, n) {
+        empty_near(slots, a, n);
     }
-    empty_near(slots, a, n);
 }

@@ -1,4 +1,3 @@
-pub mod AllFaultsLemmas
 pub mod AscentLemmas
 pub mod CountLemmas
 pub mod KeptLemmas

@@ -1,3 +1,4 @@
 -- Lemmas and words for the crates above.
 pub mod AllFaults
 pub mod Found
+pub mod Mended

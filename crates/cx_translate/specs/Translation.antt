@@ -1,6 +1,6 @@
 -- A source translated (Application Programmer's Reference Manual, SC33-0077, "EXEC CICS" command format; what is put in
 -- place of an EXEC statement is this product's own).
-use Rattle.std.specs.Prelude.{option_and_then, ◌≡◌, Bool, false, ◌&&◌, ◌||◌, if◌then◌else◌, List, [], ◌∷◌, ◌++◌, Option, None, is_none, Result, Ok, Err, slice_get}
+use Rattle.std.specs.Prelude.{option_and_then, ◌≡◌, Bool, false, ◌&&◌, ◌||◌, if◌then◌else◌, List, [], ◌∷◌, ◌++◌, Option, None, is_none, Result, Ok, Err, slice_get, is_some, codes}
 use Rattle.std.specs.List.{filter_map, list_any}
 use Rattle.std.specs.Option.{option_map_or}
 use Rattle.cx_source.specs.declared.source.Item.{Item}
@@ -11,7 +11,7 @@ use Rattle.cx_translate.specs.declared.faults.TransFault.{TransFault}
 use Rattle.cx_translate.specs.declared.faults.TransFault.TheVariants.{Memory}
 use Rattle.cx_translate.specs.Words.{words_of}
 use Rattle.cx_translate.specs.Refusals.{fault_of}
-use Rattle.cx_translate.specs.Expansion.{made_of}
+use Rattle.cx_translate.specs.Expansion.{made_of, stmt}
 use Rattle.cx_translate.specs.Sections.{begins_exec, lines, with_bases, with_eib, with_storage}
 
 -- a line continues an EXEC statement: the EXEC's line before it, or its continuation, is continued, and no statement
@@ -63,3 +63,22 @@ AnswersAs due result = due ≡ result
 -- the source translated, or all its faults
 unfoldable pub translation_or_faults : Source → Result Source (List TransFault)
 translation_or_faults source = unless_faulty (statement_faults source.items) (made_source source)
+
+-- ---- with faults
+-- what an EXEC statement at fault becomes: DS 0H, with its name
+abbrev pub stand_in : Item → List Item
+stand_in item = option_map_or (λ exec. lines item.line (stmt exec.name (codes "DS") (codes "0H") ∷ [])) item.stmt []
+
+-- what a line becomes in spite of a fault
+unfoldable pub mended_expansion : Bool → Item → List Item
+mended_expansion continues item = if is_some (fault_at item) then stand_in item else expansion continues item
+
+abbrev pub mended_items : Bool → List Item → List Item
+mended_items continues [] = []
+mended_items continues (item ∷ rest) = mended_expansion continues item ++ mended_items (continues_exec continues item) rest
+
+-- what a source is translated to in spite of its faults
+unfoldable pub mended_source : Source → Source
+mended_source source =
+    if list_any begins_exec source.items then record { items = with_eib (with_bases (with_storage (mended_items false source.items))) }
+    else source

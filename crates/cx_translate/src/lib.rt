@@ -16,5 +16,5 @@ mod words;
 pub use due_arguments::DueArgument;
 pub use faults::TransFault;
 pub use pieces::Token;
-pub use translation::{translate, translate_or_faults};
+pub use translation::{translate, translate_or_faults, translate_with_faults};
 pub use words::{Argument, Word};

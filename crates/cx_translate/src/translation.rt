@@ -3,7 +3,6 @@
 ghost use Rattle.std.specs.Prelude.{◌≡◌, ◌≢◌, ◌++◌, [], IfErr, IfOk, None, OnOk, Some, false, slice_get};
 ghost use Rattle.std.specs.List.{list_any};
 ghost use Rattle.std.specs.Option.{option_to_list};
-ghost use Rattle.cx_source.specs.Faults.{unless_faulty};
 ghost use Rattle.cx_translate.specs.declared.faults.TransFault.TheVariants.{Memory};
 ghost use Rattle.cx_translate.specs.Sections.{begins_exec, with_bases, with_eib, with_storage};
 ghost use Rattle.cx_translate.specs.Translation.{
@@ -13,7 +12,10 @@ ghost use Rattle.cx_translate.specs.Translation.{
   expansion,
   fault_at,
   is_dropped,
-  made_source,
+  mended_expansion,
+  mended_items,
+  mended_source,
+  stand_in,
   statement_faults,
   translation_of,
   translation_or_faults,
@@ -23,7 +25,7 @@ use crate::expansion::statements_of;
 use crate::faults::TransFault;
 use crate::sections::{begins_exec, lines, put_bases, put_eib, put_storage};
 use cx_base_lists::List;
-use cx_source::{Item, Items, Source, is_continued};
+use cx_source::{Item, Items, Source, Stmt, Text, is_continued};
 use std::alloc::{AllocError, Global};
 
 /// Whether a line continues an EXEC statement, where such a line is expected.
@@ -135,7 +137,24 @@ pub fn translate(alloc: Global, source: &Source) -> Result<Source, TransFault>
     })
 }
 
-/// Puts what a line becomes at the end of made lines, or its fault at the end of others.
+/// What a line with an EXEC statement at fault becomes: DS 0H, with the statement's name.
+fn stand_in(alloc: Global, item: &Item) -> Result<Vec<Item>, AllocError>
+    ensures { IfOk result (λ made. made.items ≡ stand_in item.now) }
+{
+    let Some(exec) = &item.stmt else {
+        return Ok(Vec::new(alloc));
+    };
+    let mut stmts = Vec::new(alloc);
+    stmts.push(Stmt {
+        name: Text::from_slice(alloc, exec.name.as_slice())?,
+        operation: Text::from_slice(alloc, b"DS".as_slice())?,
+        operand: Text::from_slice(alloc, b"0H".as_slice())?,
+    })?;
+    lines(alloc, item.line, stmts.as_slice())
+}
+
+/// Puts what a line becomes in spite of its fault at the end of made lines, and its fault at the end of others.
+#[tactic(auto, unfolding(crate::specs::Translation::mended_expansion))]
 fn expand(
     alloc: Global,
     continues: bool,
@@ -144,23 +163,21 @@ fn expand(
     faults: &mut Vec<TransFault>,
 ) -> Result<(), AllocError>
     ensures faults { OnOk result (faults.new.items ≡ faults.old.items ++ option_to_list (fault_at item.now)) }
-    ensures made { let lines = expansion continues item.now in
-        OnOk result (fault_at item.now ≡ None → made.new.items ≡ made.old.items ++ lines) }
+    ensures made { OnOk result (made.new.items ≡ made.old.items ++ mended_expansion continues item.now) }
 {
-    match expansion(alloc, continues, item) {
-        Ok(mut lines) => {
-            made.append(&mut lines)?;
-            Ok(())
-        }
-        Err(TransFault::Memory) => Err(AllocError),
+    let mut lines = match expansion(alloc, continues, item) {
+        Ok(lines) => lines,
+        Err(TransFault::Memory) => return Err(AllocError),
         Err(fault) => {
             faults.push(fault)?;
-            Ok(())
+            stand_in(alloc, item)?
         }
-    }
+    };
+    made.append(&mut lines)?;
+    Ok(())
 }
 
-/// The lines of a source with made lines in place of its EXEC statements, where these have no fault, and their faults.
+/// The lines of a source with made lines in place of its EXEC statements in spite of their faults, and these.
 fn expand_all(
     alloc: Global,
     items: &[Item],
@@ -168,8 +185,7 @@ fn expand_all(
 ) -> Result<Vec<Item>, AllocError>
     requires { faults.old.items ≡ [] }
     ensures faults { OnOk result (faults.new.items ≡ statement_faults items.now) }
-    ensures made { IfOk result
-        (λ made. statement_faults items.now ≡ [] → made.items ≡ expanded_items false items.now) }
+    ensures made { IfOk result (λ made. made.items ≡ mended_items false items.now) }
 {
     let mut made = Vec::new(alloc);
     let mut continues = false;
@@ -180,43 +196,49 @@ fn expand_all(
     Ok(made)
 }
 
-/// The source of made lines, or its faults where it has any.
-fn unless_faulty(
-    alloc: Global,
-    mut made: Vec<Item>,
-    faults: Vec<TransFault>,
-) -> Result<Result<Source, List<TransFault>>, AllocError>
-    ensures { let items = with_eib (with_bases (with_storage made.items)) in
-        IfOk result (λ answer. answer ≡ unless_faulty faults.items (record { items = items })) }
-{
-    if !faults.is_empty() {
-        return Ok(Err(List::from_vec(faults)));
-    }
-    put_sections(alloc, &mut made)?;
-    Ok(Ok(Source {
-        items: Items::from_vec(made),
-    }))
-}
-
-/// A source with its EXEC CICS statements made into assembler statements, as by `translate`, or the faults of all its
-/// EXEC statements, in order.
+/// A source with its EXEC CICS statements made into assembler statements, as by `translate`, but DS 0H in place of one
+/// at fault, with its name; and the faults of all its EXEC statements, in order.
 ///
 /// A statement has at most one, the first that applies, with the line on which it begins. An error comes only where an
 /// allocation failed.
-#[tactic(auto, using(crate::specs::Facts::AllFaults::no_exec_no_fault), unfolding(crate::specs::Translation::translation_or_faults, crate::specs::Translation::made_source))]
+#[tactic(auto, using(crate::specs::Facts::AllFaults::no_exec_no_fault), unfolding(crate::specs::Translation::mended_source))]
+pub fn translate_with_faults(
+    alloc: Global,
+    source: &Source,
+) -> Result<(Source, List<TransFault>), AllocError>
+    ensures source { IfOk result (λ both. both.0 ≡ mended_source source.now) }
+    ensures faults { IfOk result (λ both. both.1 ≡ statement_faults source.now.items) }
+{
+    let items = source.items.as_slice();
+    let mut faults = Vec::new(alloc);
+    if !has_exec(items) {
+        let copy = Source {
+            items: Items::from_vec(copied(alloc, items)?),
+        };
+        return Ok((copy, List::from_vec(faults)));
+    }
+    let mut made = expand_all(alloc, items, &mut faults)?;
+    put_sections(alloc, &mut made)?;
+    let translated = Source {
+        items: Items::from_vec(made),
+    };
+    Ok((translated, List::from_vec(faults)))
+}
+
+/// A source with its EXEC CICS statements made into assembler statements, as by `translate`, or the faults of all its
+/// EXEC statements, as `translate_with_faults` has them.
+///
+/// An error comes only where an allocation failed.
+#[tactic(auto, using(crate::specs::Facts::Mended::translation_whole), unfolding(crate::specs::Translation::translation_or_faults))]
 pub fn translate_or_faults(
     alloc: Global,
     source: &Source,
 ) -> Result<Result<Source, List<TransFault>>, AllocError>
     ensures { IfOk result (λ answer. answer ≡ translation_or_faults source.now) }
 {
-    let items = source.items.as_slice();
-    if !has_exec(items) {
-        return Ok(Ok(Source {
-            items: Items::from_vec(copied(alloc, items)?),
-        }));
+    let (translated, faults) = translate_with_faults(alloc, source)?;
+    if faults.as_slice().is_empty() {
+        return Ok(Ok(translated));
     }
-    let mut faults = Vec::new(alloc);
-    let made = expand_all(alloc, items, &mut faults)?;
-    unless_faulty(alloc, made, faults)
+    Ok(Err(faults))
 }

@@ -1,8 +1,10 @@
-//! A processor over both stores, for tests of instructions: the calls without what their contracts ensure.
+//! A processor over both stores and over one that keeps what it fetches, for tests of instructions: the calls without what
+//! their contracts ensure.
 ghost use Rattle.std.specs.Prelude.{◌<◌, ◌^◌, ◌-◌, ◌≤◌, length};
 
 use cx_exec::{Cpu, Halt, Step, advance, step};
 use cx_storage::{FlatStore, Kind, Owner, Store};
+use cx_storage_keep::KeepingStore;
 use cx_storage_pages::PagedStore;
 use std::alloc::{AllocError, Global};
 
@@ -27,6 +29,7 @@ pub struct Machine {
     pub cpu: Cpu,
     flat: FlatStore,
     paged: PagedStore,
+    kept: KeepingStore<PagedStore>,
 }
 
 /// Makes the area that begins with the program.
@@ -71,12 +74,15 @@ impl Machine {
     {
         let mut flat = FlatStore::new(alloc);
         let mut paged = PagedStore::new(alloc);
+        let mut kept = KeepingStore::new(PagedStore::new(alloc));
         fill(&mut flat, program)?;
         fill(&mut paged, program)?;
+        fill(&mut kept, program)?;
         Ok(Machine {
             cpu: cpu_at(PROGRAM),
             flat,
             paged,
+            kept,
         })
     }
 
@@ -100,7 +106,17 @@ impl Machine {
     {
         self.flat.get_area(first, first + 15, 16, OWNER)?;
         self.paged.get_area(first, first + 15, 16, OWNER)?;
+        self.kept.get_area(first, first + 15, 16, OWNER)?;
         Ok(())
+    }
+
+    /// Frees the area that starts at an address, in each store.
+    pub fn free(&mut self, start: u32)
+        requires { start < 2 ^ 24 }
+    {
+        self.flat.free_area(start);
+        self.paged.free_area(start);
+        self.kept.free_area(start);
     }
 
     /// Writes bytes from an address on; nothing where one of the addresses is absent.
@@ -110,6 +126,7 @@ impl Machine {
     {
         self.flat.write(a, bytes);
         self.paged.write(a, bytes);
+        self.kept.write(a, bytes);
     }
 
     /// Begins again at the program, with all registers as at first.
@@ -117,12 +134,23 @@ impl Machine {
         self.cpu = cpu_at(PROGRAM);
     }
 
-    /// Performs one instruction over each store, and says whether both end so and leave the same processor.
+    /// The same at an address, which register 15 holds.
+    pub fn begin_at(&mut self, a: u32)
+        requires { a < 2 ^ 24 }
+    {
+        self.cpu = cpu_at(a);
+        self.cpu.regs[15] = a;
+    }
+
+    /// Performs one instruction over each store, and says whether all end so and leave the same processor.
     pub fn ends(&mut self, end: Step) -> bool {
         let mut other = copy_of(&self.cpu);
+        let mut third = copy_of(&self.cpu);
         step(&mut self.cpu, &mut self.flat) == end
             && step(&mut other, &mut self.paged) == end
+            && step(&mut third, &mut self.kept) == end
             && are_alike(&self.cpu, &other)
+            && are_alike(&self.cpu, &third)
     }
 
     /// Performs one instruction, and says whether it was done.
@@ -130,13 +158,16 @@ impl Machine {
         self.ends(Step::Done)
     }
 
-    /// Performs at most `limit` instructions over each store, and says whether both end so and leave the same
+    /// Performs at most `limit` instructions over each store, and says whether all end so and leave the same
     /// processor.
     pub fn halts(&mut self, limit: u32, end: Halt) -> bool {
         let mut other = copy_of(&self.cpu);
+        let mut third = copy_of(&self.cpu);
         advance(&mut self.cpu, &mut self.flat, limit) == end
             && advance(&mut other, &mut self.paged, limit) == end
+            && advance(&mut third, &mut self.kept, limit) == end
             && are_alike(&self.cpu, &other)
+            && are_alike(&self.cpu, &third)
     }
 
     /// Sets a register.
@@ -155,7 +186,9 @@ impl Machine {
     pub fn holds(&self, a: u32, bytes: &[u8]) -> bool
         requires { a < 2 ^ 24 }
     {
-        has_bytes(&self.flat, a, bytes) && has_bytes(&self.paged, a, bytes)
+        has_bytes(&self.flat, a, bytes)
+            && has_bytes(&self.paged, a, bytes)
+            && has_bytes(&self.kept, a, bytes)
     }
 }
 

@@ -10,13 +10,11 @@ use Rattle.cx_source.specs.declared.source.Source.{Source}
 use Rattle.cx_source.specs.declared.source.Stmt.{Stmt}
 use Rattle.cx_asm_expressions.specs.Faults.{lower, lowest}
 use Rattle.cx_asm_expressions.specs.declared.faults.FaultKind.{FaultKind}
-use Rattle.cx_asm_pass1.specs.Facts.Apart.{in_control}
+use Rattle.cx_asm_pass1.specs.Facts.Apart.{control_kept, in_control}
 use Rattle.cx_asm_pass1.specs.Facts.Faults.{none_before}
 use Rattle.cx_asm_pass1.specs.Facts.StatementExtents.{lower_none}
 use Rattle.cx_asm_pass1.specs.PassState.{PassState, next_state, after_line, duplicate_in, fault_in, first_fault_after, given_in, is_control, literal_fault, name_fault, operation_fault, control_after, state_after, extent_in, line_fault, own_fault, parts_in, role_in, section_fault, name_in, place_in}
 use Rattle.cx_asm_pass1.specs.declared.place.LineFault.{LineFault}
-use Rattle.cx_asm_pass1.specs.declared.roles.Role.{Role}
-use Rattle.cx_asm_pass1.specs.declared.roles.Role.TheVariants as role
 use Rattle.cx_asm_pass1.specs.declared.place.Place.{Place}
 use Rattle.cx_asm_pass2.specs.Statements.{PlacedItem, PlacedStatement, placed_latest_first, placed_of, stated_in, statements_of}
 
@@ -98,19 +96,8 @@ own_sound line stmt state e =
 control_line : (line : ℕ) (stmt : Option Stmt) (state : PassState) (name : List ℕ) → state.control ≡ Some name → (after_line line stmt state).control ≡ Some name
 unfolding next_state
 control_line line None state name e = e
-control_line line (Some stmt) state name e = ap (control_after (role_in stmt) (name_in stmt)) e ∙ stays (role_in stmt)
-  where
-    stays : (r : Role) → control_after r (name_in stmt) (Some name) ≡ Some name
-    stays role.Control = refl
-    stays (role.Instruction size) = refl
-    stays role.Pool = refl
-    stays role.Unknown = refl
-    stays role.Dummy = refl
-    stays role.Equate = refl
-    stays (role.Storage is_ds) = refl
-    stays role.Registers = refl
-    stays role.Member = refl
-    stays role.Nothing = refl
+control_line line (Some stmt) state name e =
+    ap (control_after (role_in stmt) (name_in stmt) state.section) e ∙ control_kept (role_in stmt) (name_in stmt) state.section name
 
 control_stays : (more before : List Item) (name : List ℕ) → (state_after before).control ≡ Some name → (state_after (more ++ before)).control ≡ Some name
 control_stays [] before name e = e

@@ -12,7 +12,7 @@ use Rattle.cx_asm_pools.specs.Laws.Literals.{IsPool}
 use Rattle.cx_asm_pools.specs.Pools.{OpenLiterals, cap, pool_extent}
 use Rattle.cx_asm_pass1.specs.Facts.Faults.{none_before, sound_statement}
 use Rattle.cx_asm_pass1.specs.Facts.StatementExtents.{capped_same, extent_begins, extent_stands, extent_within, pool_apart, pool_begins}
-use Rattle.cx_asm_pass1.specs.PassState.{PassState, next_state, after_line, control_after, is_control, state_after, extent_in, length_after, length_of_section, name_in, next_in, parts_in, pool_after, role_in}
+use Rattle.cx_asm_pass1.specs.PassState.{PassState, next_state, after_line, control_after, control_or_blank, named_control, is_astray, is_control, state_after, extent_in, length_after, length_of_section, name_in, next_in, parts_in, pool_after, role_in}
 use Rattle.cx_asm_pass1.specs.Laws.Apart.{AreApart, ClosesApart, EndWithin, ComesAfter, Stands, Stretch, control_length, section_length, stretch_before, stretch_of, stretches_after}
 use Rattle.cx_asm_pass1.specs.Locations.{last_pool_extent}
 use Rattle.cx_asm_pass1.specs.declared.roles.Role.{Role}
@@ -118,40 +118,50 @@ lengths_grow before line stmt sound name =
     let order = statement_begins before line stmt sound in
     longer (state_after before).section (state_after before).lengths (extent_in stmt (state_after before)).end name (omega (arith, order.0, order.1))
 
-control_kept : (role : Role) (name : Option (List ℕ)) (control : List ℕ) → control_after role name (Some control) ≡ Some control
-control_kept Control name control = refl
-control_kept (Instruction size) name control = refl
-control_kept Pool name control = refl
-control_kept Unknown name control = refl
-control_kept Dummy name control = refl
-control_kept Equate name control = refl
-control_kept (Storage is_ds) name control = refl
-control_kept Registers name control = refl
-control_kept Member name control = refl
-control_kept Nothing name control = refl
+named_kept : (role : Role) (name : Option (List ℕ)) (control : List ℕ) → named_control role name (Some control) ≡ Some control
+named_kept Control name control = refl
+named_kept (Instruction size) name control = refl
+named_kept Pool name control = refl
+named_kept Unknown name control = refl
+named_kept Dummy name control = refl
+named_kept Equate name control = refl
+named_kept (Storage is_ds) name control = refl
+named_kept Registers name control = refl
+named_kept Member name control = refl
+named_kept Nothing name control = refl
 
-control_longer : (role : Role) (name control : Option (List ℕ)) (one other : List ℕ → ℕ) → ((n : List ℕ) → one n ≤ other n)
-    → length_of_section control one ≤ length_of_section (control_after role name control) other
-control_longer role name None one other h = omega arith
-control_longer role name (Some control) one other h = subst (λ c. one control ≤ length_of_section c other) (sym (control_kept role name control)) (h control)
+astray_kept : (astray : Bool) (control : List ℕ) (named : Option (List ℕ)) → named ≡ Some control → cond astray (control_or_blank (Some control)) named ≡ Some control
+astray_kept true control named e = refl
+astray_kept false control named e = e
+
+-- the control section stays
+pub control_kept : (role : Role) (name section : Option (List ℕ)) (control : List ℕ) → control_after role name section (Some control) ≡ Some control
+control_kept role name section control =
+    astray_kept (is_astray role name section (Some control)) control (named_control role name (Some control)) (named_kept role name control)
+
+control_longer : (role : Role) (name section control : Option (List ℕ)) (one other : List ℕ → ℕ) → ((n : List ℕ) → one n ≤ other n)
+    → length_of_section control one ≤ length_of_section (control_after role name section control) other
+control_longer role name section None one other h = omega arith
+control_longer role name section (Some control) one other h =
+    subst (λ c. one control ≤ length_of_section c other) (sym (control_kept role name section control)) (h control)
 
 -- nor does the control section
 pub control_grows : (before : List Item) (line : ℕ) (stmt : Stmt) → (next_state line stmt (state_after before)).fault ≡ None
     → control_length (state_after before) ≤ control_length (next_state line stmt (state_after before))
 unfolding next_state
 control_grows before line stmt sound =
-    control_longer (role_in stmt) (name_in stmt) (state_after before).control (state_after before).lengths (next_state line stmt (state_after before)).lengths (lengths_grow before line stmt sound)
+    control_longer (role_in stmt) (name_in stmt) (state_after before).section (state_after before).control (state_after before).lengths (next_state line stmt (state_after before)).lengths (lengths_grow before line stmt sound)
 
 pub in_control : (section control : Option (List ℕ)) → is_control section control ≡ true → section ≡ control
 in_control None control e = cc
 in_control (Some section) control e = sym (same_section section control e)
 
 ends_control : (role : Role) (name : Option (List ℕ)) (state : PassState) (end : ℕ) (section : Option (List ℕ)) → state.section ≡ section → is_control section state.control ≡ true
-    → length_of_section (control_after role name state.control) (length_after state.section end state.lengths) ≡ end
+    → length_of_section (control_after role name state.section state.control) (length_after state.section end state.lengths) ≡ end
 ends_control role name state end None e is = cc
 ends_control role name state end (Some section) e is =
-    ap (λ c. length_of_section (control_after role name c) (length_after state.section end state.lengths)) (same_section section state.control is)
-    ∙ ap (λ c. length_of_section c (length_after state.section end state.lengths)) (control_kept role name section)
+    ap (λ c. length_of_section (control_after role name state.section c) (length_after state.section end state.lengths)) (same_section section state.control is)
+    ∙ ap (λ c. length_of_section c (length_after state.section end state.lengths)) (control_kept role name state.section section)
     ∙ section_ends state end section e
 
 -- after a statement of it the control section is as long as that statement's end

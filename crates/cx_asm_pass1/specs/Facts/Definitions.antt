@@ -39,7 +39,7 @@ symbol_line : (line : ℕ) (stmt : Option Stmt) (state : PassState) (after : Sym
     → (after_line line stmt state).symbols name ≡ find_in (after ++ definitions_at stmt state) name
 unfolding next_state
 symbol_line line None state after name e = e ∙ or_nothing (find_in after name) ∙ sym (found_in_both after [] name)
-symbol_line line (Some stmt) state after name e = ap (λ o. option_or o (find_in (definitions_in stmt state None) name)) e ∙ sym (found_in_both after (definitions_in stmt state None) name)
+symbol_line line (Some stmt) state after name e = ap (λ o. option_or o (find_in (definitions_in stmt state) name)) e ∙ sym (found_in_both after (definitions_in stmt state) name)
 
 -- a symbol's value is that of its first definition
 pub first_value : (items : List Item) (name : List ℕ) → (state_after items).symbols name ≡ find_in (definitions_after items) name
@@ -166,10 +166,10 @@ once_line : (before : List Item) (line : ℕ) (stmt : Option Stmt) → (after_li
 once_line before line None e h = subst (λ l. IsDistinct is_same (keys_of l)) (sym (append_none (definitions_after before))) (h e)
 once_line before line (Some stmt) e h =
     let state = state_after before in
-    let unknown = no_duplicate (is_any_known state.symbols (definitions_in stmt state None)) (sound_statement line stmt state e).definitions in
-    once_both (definitions_after before) (definitions_in stmt state None) (h (none_before line stmt state e))
+    let unknown = no_duplicate (is_any_known state.symbols (definitions_in stmt state)) (sound_statement line stmt state e).definitions in
+    once_both (definitions_after before) (definitions_in stmt state) (h (none_before line stmt state e))
     (defined_once (role_in stmt) (name_in stmt) state.control state.symbols stmt.operand _)
-    (new_by state.symbols (find_in (definitions_after before)) (definitions_in stmt state None) (first_value before) (new_unknown state.symbols (definitions_in stmt state None) unknown))
+    (new_by state.symbols (find_in (definitions_after before)) (definitions_in stmt state) (first_value before) (new_unknown state.symbols (definitions_in stmt state) unknown))
 
 -- without a fault no name is defined twice
 pub defined_once_after : (items : List Item) → (state_after items).fault ≡ None → IsDistinct is_same (keys_of (definitions_after items))

@@ -1,16 +1,18 @@
 -- What holds of statements without a fault.
-use Rattle.std.specs.Prelude.{Result, option_map, unwrap_or, pos}
-use Rattle.std.specs.Result.{result_err, result_ok}
-use Rattle.std.proofs.Common.{◌≡◌, ℕ, ◌==◌, Bool, true, false, cond, Option, Some, None, Ok, Err, refl, sym, ◌∙◌, ap}
+use Rattle.std.specs.Prelude.{is_some, option_map}
+use Rattle.std.specs.Result.{result_err}
+use Rattle.std.proofs.Common.{◌≡◌, ℕ, ◌==◌, Bool, true, false, cond, List, Option, Some, None, refl, sym, ◌∙◌, ap}
 use Rattle.cx_source.specs.declared.source.Stmt.{Stmt}
 use Rattle.cx_asm_expressions.specs.Faults.{lower}
-use Rattle.cx_asm_expressions.specs.Symbols.{absolute}
+use Rattle.cx_asm_expressions.specs.Names.{symbol_name}
 use Rattle.cx_asm_expressions.specs.declared.faults.FaultKind.{FaultKind}
-use Rattle.cx_asm_expressions.specs.declared.values.Value.{Value}
+use Rattle.cx_asm_expressions.specs.declared.faults.FaultKind.TheVariants.{BadOperand}
 use Rattle.cx_asm_pass1.specs.Facts.StatementExtents.{lower_none}
-use Rattle.cx_asm_pass1.specs.Given.{definitions, duplicate}
-use Rattle.cx_asm_pass1.specs.PassState.{PassState, next_state, definitions_in, duplicate_in, fault_in, first_fault_after, given_in, extent_in, literal_fault, name_fault, name_in, operation_fault, own_fault, parts_in, role_in, section_fault, line_fault}
+use Rattle.cx_asm_pass1.specs.Given.{duplicate}
+use Rattle.cx_asm_pass1.specs.PassState.{PassState, next_state, bad_name, control_or_blank, named_control, named_section, is_astray, definitions_in, duplicate_in, fault_in, first_fault_after, given_in, extent_in, literal_fault, name_fault, name_in, operation_fault, own_fault, parts_in, role_in, section_fault, line_fault}
 use Rattle.cx_asm_pass1.specs.declared.place.LineFault.{LineFault}
+use Rattle.cx_asm_pass1.specs.declared.roles.Role.{Role}
+use Rattle.cx_asm_pass1.specs.declared.roles.Role.TheVariants.{Unknown, Instruction, Control, Dummy, Equate, Storage, Pool, Registers, Member, Nothing}
 
 lower_some : (one : FaultKind) (other : Option FaultKind) (line : ℕ) → option_map (line_fault line) (lower (Some one) other) ≡ None → ⊥
 lower_some one None line e = cc
@@ -41,12 +43,26 @@ none_own line stmt state e =
 
 pub record IsSound (stmt : Stmt) (state : PassState) : Type 0 where
   pub extent : (extent_in stmt state).fault ≡ None
-  pub definitions : duplicate state.symbols (definitions_in stmt state None) ≡ None
+  pub definitions : duplicate state.symbols (definitions_in stmt state) ≡ None
+  pub in_place : is_astray (role_in stmt) (name_in stmt) state.section state.control ≡ false
 
-sound_value : (given : Result (Option Value) FaultKind) → result_err given ≡ None
-    → unwrap_or (result_ok given) (Some (absolute (pos 0))) ≡ unwrap_or (result_ok given) None
-sound_value (Ok value) e = refl
-sound_value (Err fault) e = cc
+-- a CSECT whose name is none has a fault
+unnamed : (text : List ℕ) → symbol_name text ≡ None → bad_name text ≡ None → ⊥
+unnamed text e f = let no : Some BadOperand ≡ None = ap (λ name. cond (is_some name) None (Some BadOperand)) (sym e) ∙ f in cc
+
+not_astray : (role : Role) (text : List ℕ) (name section control : Option (List ℕ)) → symbol_name text ≡ name → name_fault role text ≡ None
+    → section_fault role name section control ≡ None → is_astray role name section control ≡ false
+not_astray Control text None section control e f g = absurd (unnamed text e f)
+not_astray Control text (Some name) section control e f g = ap is_some g
+not_astray (Instruction size) text name section control e f g = ap is_some g
+not_astray Pool text name section control e f g = ap is_some g
+not_astray Unknown text name section control e f g = refl
+not_astray Dummy text name section control e f g = refl
+not_astray Equate text name section control e f g = refl
+not_astray (Storage is_ds) text name section control e f g = ap is_some g
+not_astray Registers text name section control e f g = refl
+not_astray Member text name section control e f g = refl
+not_astray Nothing text name section control e f g = refl
 
 sound_own : (stmt : Stmt) (state : PassState) → own_fault stmt state ≡ None → IsSound stmt state
 sound_own stmt state e =
@@ -65,11 +81,23 @@ sound_own stmt state e =
     let h = (extent (placed (titled (operated e).1).1).1) in
     record {
       extent = h.0;
-      definitions =
-          ap (λ v. duplicate state.symbols (definitions (role_in stmt) (name_in stmt) state.control state.symbols stmt.operand v)) (sym (sound_value (given_in stmt state) (valued h.1).0))
-          ∙ (inner (valued h.1).1).0;
+      definitions = (inner (valued h.1).1).0;
+      in_place = not_astray (role_in stmt) stmt.name (name_in stmt) state.section state.control refl (titled (operated e).1).0 (placed (titled (operated e).1).1).0;
     }
 
 -- a statement has no fault where there is none after it is taken in
 pub sound_statement : (line : ℕ) (stmt : Stmt) (state : PassState) → (next_state line stmt state).fault ≡ None → IsSound stmt state
 sound_statement line stmt state e = sound_own stmt state (none_own line stmt state e)
+
+-- then its section and the control section are those of the names
+pub section_named : (line : ℕ) (stmt : Stmt) (state : PassState) → (next_state line stmt state).fault ≡ None
+    → (next_state line stmt state).section ≡ named_section (role_in stmt) (name_in stmt) state.section
+unfolding next_state
+section_named line stmt state e =
+    ap (λ astray. cond astray (control_or_blank state.control) (named_section (role_in stmt) (name_in stmt) state.section)) (sound_statement line stmt state e).in_place
+
+pub control_named : (line : ℕ) (stmt : Stmt) (state : PassState) → (next_state line stmt state).fault ≡ None
+    → (next_state line stmt state).control ≡ named_control (role_in stmt) (name_in stmt) state.control
+unfolding next_state
+control_named line stmt state e =
+    ap (λ astray. cond astray (control_or_blank state.control) (named_control (role_in stmt) (name_in stmt) state.control)) (sound_statement line stmt state e).in_place

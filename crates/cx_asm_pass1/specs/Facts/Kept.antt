@@ -47,7 +47,7 @@ pool_line line (Some stmt) state k it e = pools_step (role_in stmt) (extent_in s
 value_line : (line : ℕ) (stmt : Option Stmt) (state : PassState) (name : List ℕ) (value : Value) → state.symbols name ≡ Some value → (after_line line stmt state).symbols name ≡ Some value
 unfolding next_state
 value_line line None state name value e = e
-value_line line (Some stmt) state name value e = ap (λ o. option_or o (find_in (definitions_in stmt state None) name)) e
+value_line line (Some stmt) state name value e = ap (λ o. option_or o (find_in (definitions_in stmt state) name)) e
 
 -- a statement's place
 pub place_kept : (more before : List Item) (k : ℕ) (it : Place) → slice_get (state_after before).places k ≡ Some it → slice_get (state_after (more ++ before)).places k ≡ Some it

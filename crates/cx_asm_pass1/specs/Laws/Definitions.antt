@@ -8,7 +8,7 @@ use Rattle.cx_asm_pass1.specs.PassState.{PassState, definitions_in, state_after}
 -- all that the statements of lines define, in the source's order; the lines the latest first
 abbrev pub definitions_at : Option Stmt → PassState → Symbols
 definitions_at None state = []
-definitions_at (Some stmt) state = definitions_in stmt state None
+definitions_at (Some stmt) state = definitions_in stmt state
 
 abbrev pub definitions_after : List Item → Symbols
 definitions_after [] = []

@@ -1,36 +1,26 @@
--- Which texts are lines of looks.
-use Rattle.std.specs.Prelude.{ℕ, ◌==◌, Bool, true, false, if◌then◌else◌, List, [], ◌∷◌, ◌++◌, codes, length}
-use Rattle.std.specs.List.{AllByRecursion, flat_map}
-use Rattle.std.proofs.Common.{refl, sym, ap, ◌∙◌, append-nil}
-use Rattle.std.proofs.lemmas.List.Concat.{flat_map-append}
-use Rattle.cx_look_words.specs.Marked.{AreWords, IsOfLooks, IsWord}
-use Rattle.cx_look_words.specs.Words.{look_line, none_line, or_none}
+-- What is written of lines is a text of lines of looks.
+use Rattle.std.specs.Prelude.{◌≡◌, ℕ, Bool, true, false, List, [], ◌∷◌, ◌++◌, codes, cond, map}
+use Rattle.std.specs.List.{AllByRecursion, filter, flat_map}
+use Rattle.std.proofs.Common.{refl, ap}
+use Rattle.cx_look_words.specs.Marked.{IsLine, IsOfLooks}
+use Rattle.cx_look_words.specs.Words.{Lines, is_in_line, marked}
 
-pub no_lines : IsOfLooks []
-no_lines = record { lines = []; words = tt; whole = refl }
-
-pub a_line : (words : List (List ℕ)) → AreWords words → IsOfLooks (look_line words)
-a_line words p = record { lines = words ∷ []; words = (p, tt); whole = sym (append-nil (look_line words)) }
-
-both : (one other : List (List (List ℕ))) → AllByRecursion AreWords one → AllByRecursion AreWords other → AllByRecursion AreWords (one ++ other)
-both [] other p q = q
-both (line ∷ one) other p q = (p.0, both one other p.1 q)
-
-pub more_lines : (one other : List ℕ) → IsOfLooks one → IsOfLooks other → IsOfLooks (one ++ other)
-more_lines one other p q =
-    record {
-      lines = p.lines ++ q.lines;
-      words = both p.lines q.lines p.words q.words;
-      whole = ap (λ t. t ++ other) p.whole ∙ ap (λ t. flat_map look_line p.lines ++ t) q.whole ∙ sym (flat_map-append look_line p.lines q.lines);
-    }
-
-pub lines_of_each : {A : Type 0} (f : A → List ℕ) → ((x : A) → IsOfLooks (f x)) → (xs : List A) → IsOfLooks (flat_map f xs)
-lines_of_each f h [] = no_lines
-lines_of_each f h (x ∷ xs) = more_lines (f x) (flat_map f xs) (h x) (lines_of_each f h xs)
-
-pub lines_or_none : (word text : List ℕ) → IsWord word → IsOfLooks text → IsOfLooks (or_none word text)
-lines_or_none word text p q = go (length text == 0)
+kept_is_line : (line : List ℕ) → IsLine (filter is_in_line line)
+kept_is_line [] = refl
+kept_is_line (c ∷ line) = go (is_in_line c) refl (kept_is_line line)
   where
-    go : (b : Bool) → IsOfLooks (if b then none_line word else text)
-    go true = a_line (word ∷ codes "NONE" ∷ []) (p, (refl, tt))
-    go false = q
+    go : (b : Bool) → is_in_line c ≡ b → IsLine (filter is_in_line line) → IsLine (cond b (c ∷ filter is_in_line line) (filter is_in_line line))
+    go true e p = rw (e, p) refl
+    go false e p = p
+
+kept_are_lines : (lines : Lines) → AllByRecursion IsLine (map (filter is_in_line) lines)
+kept_are_lines [] = tt
+kept_are_lines (line ∷ lines) = (kept_is_line line, kept_are_lines lines)
+
+same_text : (lines : Lines) → marked lines ≡ flat_map (λ line. codes "> " ++ line ++ codes "\n") (map (filter is_in_line) lines)
+unfolding marked
+same_text [] = refl
+same_text (line ∷ lines) = ap (λ rest. (codes "> " ++ filter is_in_line line ++ codes "\n") ++ rest) (same_text lines)
+
+pub marked_is_of_looks : (lines : Lines) → IsOfLooks (marked lines)
+marked_is_of_looks lines = record { lines = map (filter is_in_line) lines; are = kept_are_lines lines; whole = same_text lines }

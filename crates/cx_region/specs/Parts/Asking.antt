@@ -1,10 +1,8 @@
 -- What a key asks for, as a plan that is made before anything changes; no public contract cites it.
 use Rattle.std.specs.Prelude.{◌≡◌, ℕ, List, length, Option, Some, None, IsSomeAnd, MatchOption, option_and_then}
 use Rattle.std.specs.Option.{option_map_or}
-use Rattle.cx_base_commands.specs.Eib.{eib_len}
 use Rattle.cx_load.specs.declared.program.Loaded.{Loaded}
 use Rattle.cx_region_state.specs.declared.verdict.NewLevel.{NewLevel}
-use Rattle.cx_region_state.specs.Areas.{IsTaskPlace}
 use Rattle.cx_region_state.specs.State.{Input, TaskState}
 use Rattle.cx_region.specs.declared.replies.KeyReply.TheVariants as key
 use Rattle.cx_region.specs.declared.asking.Asked.{Asked}
@@ -12,7 +10,7 @@ use Rattle.cx_region.specs.declared.asking.Asked.TheVariants.{Answer, Give, Atta
 use Rattle.cx_region.specs.declared.asking.Start.{Start}
 use Rattle.cx_region.specs.State.{RegionState, TerminalState}
 use Rattle.cx_region.specs.Tables.{program_of, terminal_of, transaction_of}
-use Rattle.cx_region.specs.Attach.{commarea_kept, first_level, fresh_task, transaction_named}
+use Rattle.cx_region.specs.Attach.{HasNoTaskPlaces, commarea_kept, first_level, fresh_task, transaction_named}
 use Rattle.cx_region.specs.declared.asking.Places.{Places}
 
 -- a task to be attached
@@ -43,7 +41,7 @@ KeyTakesMemory region name bytes =
     IsSomeAnd (terminal_of region name) (λ terminal.
     MatchOption terminal.task
     (IsSomeAnd (option_and_then (program_of region) (transaction_of region (transaction_named terminal.following bytes)))
-    (λ loaded. IsTaskPlace region.storage eib_len None → ⊥))
+    (λ loaded. HasNoTaskPlaces region terminal loaded → ⊥))
     (λ task. terminal.input ≡ None))
 
 -- the level and the task that begin

@@ -12,7 +12,6 @@ use Rattle.cx_region_state.specs.declared.verdict.NewLevel.{NewLevel}
 use Rattle.cx_region.specs.Attach.{ArePlaced, HasNoPlaces, with_task_areas}
 use Rattle.cx_region.specs.declared.asking.Places.{Places}
 use Rattle.cx_region.specs.Parts.Asking.{level_of, task_of_start}
-use Rattle.cx_base_commands.specs.Eib.{eib_len}
 
 -- no place for `len` bytes; or there is one, and an allocation failed
 abbrev pub IsPlaceFault : Storage → ℕ → StartFault → Type 0
@@ -23,10 +22,19 @@ abbrev pub IsCopyFault : Storage → ℕ → StartFault → Type 0
 IsCopyFault storage len NoStorage = (len == 0 ≡ false) × IsTaskPlace storage len None
 IsCopyFault storage len (Memory refused) = Unit {0}
 
--- no places for the areas of a task; or there is one for its EIB, and an allocation failed
+-- no places for the areas of a task
+abbrev pub HasNoPlacesFor : Storage → Start → Type 0
+HasNoPlacesFor storage start = HasNoPlaces storage (system_owner start.slot) start.calen start.loaded.stg_len
+
+-- no places; or an allocation failed
+abbrev pub MayBeFaultsOf : Storage → Start → StartFault → Type 0
+MayBeFaultsOf storage start NoStorage = HasNoPlacesFor storage start
+MayBeFaultsOf storage start (Memory refused) = Unit {0}
+
+-- no places; or there are, and an allocation failed
 abbrev pub AreFaultsOf : Storage → Start → StartFault → Type 0
-AreFaultsOf storage start NoStorage = HasNoPlaces storage (system_owner start.slot) start.calen start.loaded.stg_len
-AreFaultsOf storage start (Memory refused) = IsTaskPlace storage eib_len None → ⊥
+AreFaultsOf storage start NoStorage = HasNoPlacesFor storage start
+AreFaultsOf storage start (Memory refused) = HasNoPlacesFor storage start → ⊥
 
 -- addresses of 24 bits
 pub record ArePlacesBelow (places : Places) : Type 0 where

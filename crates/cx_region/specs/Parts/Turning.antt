@@ -4,8 +4,7 @@ use Rattle.cx_region_state.specs.declared.replies.TurnReply.{TurnReply}
 use Rattle.cx_region_state.specs.declared.replies.TurnReply.TheVariants as turn
 use Rattle.cx_region_state.specs.State.{TaskContext, SharedState, TaskState, context}
 use Rattle.cx_region_task.specs.declared.cause.AbendRecord.{AbendRecord}
-use Rattle.cx_region_task.specs.Causes.{HasAbendRecord}
-use Rattle.cx_region_task.specs.Turn.{TakesMemory, HalfTurn}
+use Rattle.cx_region_task.specs.Turn.{TakesMemory, HalfTurn, HasAbendRecord}
 use Rattle.cx_region.specs.State.{TerminalState, terminal_entry_of, terminal_with}
 use Rattle.cx_region.specs.Turn.{task_after}
 

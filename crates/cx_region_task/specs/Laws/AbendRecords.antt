@@ -9,8 +9,7 @@ use Rattle.cx_region_state.specs.State.{TaskContext}
 use Rattle.cx_region_task.specs.declared.cause.Cause.{Cause}
 use Rattle.cx_region_task.specs.declared.cause.Cause.TheVariants as cause
 use Rattle.cx_region_task.specs.declared.cause.AbendRecord.{AbendRecord}
-use Rattle.cx_region_task.specs.Causes.{HasAbendRecord}
-use Rattle.cx_region_task.specs.Turn.{HalfTurn}
+use Rattle.cx_region_task.specs.Turn.{HalfTurn, HasAbendRecord}
 
 -- what was reached before a half-turn decides what is reported
 abbrev pub AbendRecordsDecide : Type 0

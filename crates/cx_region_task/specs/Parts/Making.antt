@@ -1,8 +1,10 @@
 -- Words for the steps of making, which no public contract cites.
-use Rattle.std.specs.Prelude.{◌≡◌, ℕ, ◌<◌, ◌^◌, ⊤, List, [], length, Option, Some, None, unwrap_or}
+use Rattle.std.specs.Prelude.{◌≡◌, ℕ, ◌+◌, ◌<◌, ◌≤◌, ◌^◌, true, ⊤, List, [], length, Option, Some, None, is_some, unwrap_or}
 use Rattle.std.specs.Option.{option_map_or}
-use Rattle.cx_storage.specs.Storage.{Storage, starts_elsewhere, with_areas_kept}
+use Rattle.cx_storage.specs.Address.{address_after, distance}
+use Rattle.cx_storage.specs.Storage.{Storage, span, starts_elsewhere, with_areas_kept}
 use Rattle.cx_service.specs.Queues.{Queues, delete_fault, item_len_of, item_of, read_fault}
+use Rattle.cx_region_call.specs.Inputs.{piece_bytes}
 use Rattle.cx_region_state.specs.declared.verdict.TaskChange.{TaskChange}
 use Rattle.cx_region_state.specs.declared.verdict.TaskChange.TheVariants.{Ends, Gets}
 use Rattle.cx_region_state.specs.declared.verdict.Copying.{Copying}
@@ -33,10 +35,21 @@ abbrev pub without_copy : Option Copying → Storage → Storage
 without_copy None storage = storage
 without_copy (Some copying) storage = with_areas_kept (starts_elsewhere copying.to) storage
 
--- how many bytes are copied
-abbrev pub copied_len : Option Copying → ℕ
-copied_len None = 0
-copied_len (Some copying) = copying.from.len
+-- of len bytes from one address on, and as many from another on, none of the first is one of the second
+abbrev pub AreApart : ℕ → ℕ → ℕ → Type 0
+AreApart from to len = (k : ℕ) → k < len → len ≤ distance to (address_after from k)
+
+-- the bytes of a copy are in storage, and so are those that they replace, which lie beside them
+pub record IsCopyable (copying : Copying) (storage : Storage) : Type 0 where
+  pub from : copying.from.place < 2 ^ 24
+  pub below : copying.to + copying.from.len ≤ 2 ^ 24
+  pub source : is_some (piece_bytes storage copying.from) ≡ true
+  pub there : is_some (span storage copying.to copying.from.len) ≡ true
+  pub apart : AreApart copying.from.place copying.to copying.from.len
+
+abbrev pub MatchCopy : Option Copying → Storage → Type 0
+MatchCopy None storage = ⊤
+MatchCopy (Some copying) storage = IsCopyable copying storage
 
 -- what an ended thing needs of the queues, and of the address of the area that is freed
 abbrev pub MatchEnded : Ended → Queues → Type 0

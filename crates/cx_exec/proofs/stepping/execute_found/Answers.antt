@@ -4,5 +4,5 @@ use Rattle.cx_exec.proofs.stepping.execute_found.Goals as goal
 
 pub returns : goal.returns
 returns g c =
-    lent_executes (machine c.args.cpu.now (g.S.Store.storage c.args.store.now)) _ c.args.prefix.now _ _ _ c.requires
+    lent_executes (machine c.args.cpu.now (g.S.Store.storage c.args.store.now)) _ c.args.prefix.now _ _ _ c.requires.performed
     c.indexed_of-it.ensures.r1 c.indexed_of-it.ensures.operand c.execute.ensures

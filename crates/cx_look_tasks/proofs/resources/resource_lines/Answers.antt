@@ -5,7 +5,7 @@ use Rattle.cx_look_tasks.proofs.resources.resource_lines.Goals as goal
 
 pub loop-i-preserved : goal.loop-i-preserved
 loop-i-preserved g c =
-    flat_goes_on (resource_lines c.args.region.now c.args.activities.now) c.args.region.now.resources c.loop-i.i _ _ c.in_ok-push_resource.ensures c.loop-i.invariant
+    flat_goes_on (resource_lines c.args.region.now c.args.activities.now) c.args.region.now.resources c.loop-i.i _ _ c.in_ok-resource_at.ensures c.loop-i.invariant
 
 pub returns : goal.returns
 returns g c =

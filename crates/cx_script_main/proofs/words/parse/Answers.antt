@@ -1,4 +1,4 @@
-use Rattle.std.proofs.Common.{rules, ◌≡◌, ◌∙◌, ap₂, codes, map}
+use Rattle.std.proofs.Common.{rules, ◌≡◌, ◌∙◌, ap₂}
 use Rattle.clap.specs.Words.{app_of, rule_of, with_rule}
 use Rattle.cx_script_main.proofs.WordLemmas.{file_rule, script, refused_words}
 use Rattle.cx_script_main.proofs.words.parse.Goals as goal

@@ -4,13 +4,13 @@ use Rattle.cx_region.proofs.state.Region.turn_with_cause.Goals as goal
 
 pub invariant_of-self-2 : goal.invariant_of-self-2
 invariant_of-self-2 g c =
-    sound_turn (λ both. both.0) c.half_turns_keep.ensures _ c.args.name c.in-Some.terminal.now c.turn_terminal-both.new.terminal c.turn_terminal-both.result c.turn_terminal-both.new.shared _
+    sound_turn c.half_turns_keep.ensures _ c.args.name c.in-Some.terminal.now c.turn_terminal-both.new.terminal c.turn_terminal-both.result c.turn_terminal-both.new.shared _
     (sym c.in-Some.ensures.value, (c.get_mut.follows.holds c.turn_terminal-both.new.terminal).0) c.self.invariant c.turn_terminal-both.ensures.turned c.turn_terminal-both.ensures.err
     c.services_are_sound.ensures.storage c.services_are_sound.ensures.queues c.services_are_sound.ensures.resources
 
 pub returns-clause-turned : goal.returns-clause-turned
 returns-clause-turned g c =
-    turned_seen (λ both. both.0) _ _ c.args.name c.in-Some.terminal.now c.turn_terminal-both.new.terminal c.turn_terminal-both.result c.turn_terminal-both.new.shared _
+    turned_seen _ _ c.args.name c.in-Some.terminal.now c.turn_terminal-both.new.terminal c.turn_terminal-both.result c.turn_terminal-both.new.shared _
     (sym c.in-Some.ensures.value, (c.get_mut.follows.holds c.turn_terminal-both.new.terminal).0) c.self.view_is c.turn_terminal-both.ensures.turned
 
 pub returns-clause-abend_record : goal.returns-clause-abend_record

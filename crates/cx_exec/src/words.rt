@@ -1,0 +1,143 @@
+//! Rows whose second operand is a word in storage, or a halfword extended to one.
+
+ghost use Rattle.std.specs.Prelude.{◌≡◌, ◌<◌, ◌^◌, true, Some};
+ghost use Rattle.cx_exec.specs.Machine.{machine};
+ghost use Rattle.cx_exec.specs.Rows.{RxEffect};
+ghost use Rattle.cx_exec.specs.Parts.{takes_word, has_half, takes_second, second_at};
+
+use crate::arithmetic::{difference, put_sum, sum};
+use crate::comparison::{logical_order, signed_order};
+use crate::machine::{Cpu, Interruption, Updated};
+use crate::numbers::extended;
+use crate::operands::{halfword_apart, lent_halfword, lent_word, word_apart};
+use crate::results::{load, set_code};
+use cx_code::Op;
+use cx_storage::Store;
+
+/// The effect of a row, of the word that its second operand is.
+#[tactic(auto, unfolding(crate::specs::Rows::RxEffect))]
+#[inline(always)]
+fn with_second<S: Store>(
+    cpu: &mut Cpu,
+    _store: &S,
+    op: Op,
+    r1: u8,
+    _a: u32,
+    second: u32,
+    updated: Updated,
+) -> Result<(), Interruption>
+    requires rows { takes_second op ≡ true }
+    requires first { r1 < 16 }
+    requires second { second_at op (S.storage _store.now) _a ≡ Some second }
+    requires address { updated.address < 2 ^ 24 }
+    ensures { let before = machine cpu.old (S.storage _store.now) in let after = machine cpu.new (S.storage _store.now) in
+        RxEffect op r1 _a updated before result after }
+{
+    let first = cpu.regs[r1 as usize];
+    match op {
+        Op::L => load(cpu, r1, second, updated),
+        Op::Lh => load(cpu, r1, second, updated),
+        Op::Cl => set_code(cpu, logical_order(first, second), updated),
+        Op::C => set_code(cpu, signed_order(first, second), updated),
+        Op::Ch => set_code(cpu, signed_order(first, second), updated),
+        Op::A => put_sum(cpu, r1, sum(first, second), updated),
+        Op::Ah => put_sum(cpu, r1, sum(first, second), updated),
+        Op::S => put_sum(cpu, r1, difference(first, second), updated),
+        Op::Sh => put_sum(cpu, r1, difference(first, second), updated),
+        // Not reached.
+        _ => Err(Interruption::Operation),
+    }
+}
+
+/// The effect of a row whose second operand is a word, wherever its bytes lie.
+#[tactic(auto, unfolding(crate::specs::Rows::RxEffect))]
+#[cold]
+#[inline(never)]
+fn word_row_apart<S: Store>(
+    cpu: &mut Cpu,
+    store: &S,
+    op: Op,
+    r1: u8,
+    a: u32,
+    updated: Updated,
+) -> Result<(), Interruption>
+    requires rows { takes_word op ≡ true }
+    requires first { r1 < 16 }
+    requires operand { a < 2 ^ 24 }
+    requires address { updated.address < 2 ^ 24 }
+    ensures { let before = machine cpu.old (S.storage store.now) in let after = machine cpu.new (S.storage store.now) in
+        RxEffect op r1 a updated before result after }
+{
+    let second = word_apart(store, a)?;
+    with_second(cpu, store, op, r1, a, second, updated)
+}
+
+/// The effect of a row whose second operand is a word.
+#[inline(always)]
+pub(crate) fn word_row<S: Store>(
+    cpu: &mut Cpu,
+    store: &S,
+    op: Op,
+    r1: u8,
+    a: u32,
+    updated: Updated,
+) -> Result<(), Interruption>
+    requires rows { takes_word op ≡ true }
+    requires first { r1 < 16 }
+    requires operand { a < 2 ^ 24 }
+    requires address { updated.address < 2 ^ 24 }
+    ensures { let before = machine cpu.old (S.storage store.now) in let after = machine cpu.new (S.storage store.now) in
+        RxEffect op r1 a updated before result after }
+{
+    match lent_word(store, a) {
+        Some(second) => with_second(cpu, store, op, r1, a, second, updated),
+        None => word_row_apart(cpu, store, op, r1, a, updated),
+    }
+}
+
+/// The effect of a row whose second operand is a halfword, wherever its bytes lie.
+#[tactic(auto, unfolding(crate::specs::Rows::RxEffect))]
+#[cold]
+#[inline(never)]
+fn half_row_apart<S: Store>(
+    cpu: &mut Cpu,
+    store: &S,
+    op: Op,
+    r1: u8,
+    a: u32,
+    updated: Updated,
+) -> Result<(), Interruption>
+    requires rows { has_half op ≡ true }
+    requires first { r1 < 16 }
+    requires operand { a < 2 ^ 24 }
+    requires address { updated.address < 2 ^ 24 }
+    ensures { let before = machine cpu.old (S.storage store.now) in let after = machine cpu.new (S.storage store.now) in
+        RxEffect op r1 a updated before result after }
+{
+    let second = halfword_apart(store, a)?;
+    with_second(cpu, store, op, r1, a, second, updated)
+}
+
+/// The effect of a row whose second operand is a halfword.
+#[tactic(auto, unfolding(crate::specs::Operands::extended_at))]
+#[inline(always)]
+pub(crate) fn half_row<S: Store>(
+    cpu: &mut Cpu,
+    store: &S,
+    op: Op,
+    r1: u8,
+    a: u32,
+    updated: Updated,
+) -> Result<(), Interruption>
+    requires rows { has_half op ≡ true }
+    requires first { r1 < 16 }
+    requires operand { a < 2 ^ 24 }
+    requires address { updated.address < 2 ^ 24 }
+    ensures { let before = machine cpu.old (S.storage store.now) in let after = machine cpu.new (S.storage store.now) in
+        RxEffect op r1 a updated before result after }
+{
+    match lent_halfword(store, a) {
+        Some(second) => with_second(cpu, store, op, r1, a, extended(second), updated),
+        None => half_row_apart(cpu, store, op, r1, a, updated),
+    }
+}

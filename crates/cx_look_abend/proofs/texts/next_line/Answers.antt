@@ -1,0 +1,8 @@
+use Rattle.std.proofs.Common.{◌≡◌, ◌∙◌}
+use Rattle.cx_look_abend.proofs.texts.next_line.Goals as goal
+
+pub returns : goal.returns
+returns c =
+    let place = c.deref.ensures.value ∙ c.in_ok-place.ensures in
+    let instruction = c.deref-2.ensures.value ∙ c.in_ok-instruction.ensures in
+    rw (← place, ← instruction) c.line.ensures

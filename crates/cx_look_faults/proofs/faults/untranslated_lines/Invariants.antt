@@ -1,7 +1,0 @@
-use Rattle.std.proofs.Common.{◌≡◌, ◌++◌, drop}
-use Rattle.cx_asm_build.specs.Kinds.{of_translation}
-use Rattle.cx_look_faults.specs.Faults.{faulty_lines}
-use Rattle.cx_look_faults.proofs.faults.untranslated_lines.Given as goal
-
-abbrev pub invariant-loop-fault : goal.invariant-loop-fault
-invariant-loop-fault l = l.lines.items ++ faulty_lines of_translation (drop l.fault-index l.faults) ≡ faulty_lines of_translation l.faults

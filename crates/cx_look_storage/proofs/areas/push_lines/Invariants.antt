@@ -1,7 +1,0 @@
-use Rattle.std.proofs.Common.{◌≡◌, ◌++◌, take}
-use Rattle.std.specs.List.{flat_map}
-use Rattle.cx_look_storage.specs.Uses.{area_line}
-use Rattle.cx_look_storage.proofs.areas.push_lines.Given as goal
-
-abbrev pub invariant-loop-area : goal.invariant-loop-area
-invariant-loop-area g l = l.text.items ≡ l.initial.text.items ++ flat_map (area_line l.region) (take l.area-index l.areas)

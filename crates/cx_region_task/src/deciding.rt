@@ -1,0 +1,144 @@
+//! The command that is due: what it will do.
+ghost use Rattle.std.specs.Prelude.{◌≡◌, ◌≢◌};
+ghost use Rattle.cx_region_commands.specs.Common.{AreSoundPrograms};
+ghost use Rattle.cx_service.specs.Queues.{AreSoundQueues};
+ghost use Rattle.cx_region_state.specs.State.{context};
+ghost use Rattle.cx_region_state.specs.Parts.Fits.{Fits};
+ghost use Rattle.cx_region_task.specs.Decisions.{decision_by, resource_waited, wait_for};
+ghost use Rattle.cx_region_task.specs.Performing.{Decides, fault_abend};
+
+use crate::decision::{Act, Decision, Wait};
+use crate::finishing::has_room;
+use crate::going::{continuation_at, is_wait};
+use cx_base_commands::{Abend, Condition, OptionName};
+use cx_ebcdic::Name8;
+use cx_region_call::{Call, CallFault, Outputs, are_inputs_there, name8, read_call};
+use cx_region_commands::{is_wrong_length, judge, resource_named};
+use cx_region_state::{Shared, Task, TaskChange, TerminalEntry, Verdict};
+use cx_service::{Queues, ResourceName};
+use cx_storage::{Store, address_in};
+
+/// The abend that a call's fault leads to.
+fn fault_abend(fault: CallFault) -> Abend
+    ensures { result ≡ fault_abend fault }
+{
+    match fault {
+        CallFault::Xarg => Abend::Xarg,
+        CallFault::Xfun => Abend::Xfun,
+    }
+}
+
+/// The resource that a command names.
+fn resource_waited<S: Store>(store: &S, call: &Call) -> Option<ResourceName>
+    ensures { result ≡ resource_waited (S.storage store.now) call.now }
+{
+    if is_wrong_length(store, call) {
+        return None;
+    }
+    resource_named(store, call)
+}
+
+/// What a command that meets a condition waits for.
+fn wait_for<S: Store>(condition: Condition, store: &S, call: &Call) -> Wait
+    ensures { result ≡ wait_for condition (S.storage store.now) call.now }
+{
+    match condition {
+        Condition::Enqbusy => Wait::Resource(resource_waited(store, call)),
+        Condition::Nospace => Wait::Room(name8(store, call, OptionName::Queue)),
+        _ => Wait::Storage,
+    }
+}
+
+/// What is decided of a call that meets a condition.
+#[tactic(auto, unfolding(crate::specs::Decisions::decision_by))]
+fn decide_met<S: Store + Drop>(
+    call: Call,
+    condition: Condition,
+    outputs: Outputs,
+    change: TaskChange,
+    shared: &Shared<S>,
+    terminal_entry: &TerminalEntry,
+    task: &Task,
+) -> Decision
+    requires { condition ≢ Condition.Error }
+    ensures { let before = context shared.now terminal_entry.now task.now in
+        result ≡ decision_by call (Verdict.Meets condition outputs change) before }
+{
+    if !has_room(&call, &outputs, &change, shared, terminal_entry, task) {
+        return Decision::Refuse(Some(call), Abend::Xarg);
+    }
+    let continuation = continuation_at(&call, condition, &change, task);
+    if is_wait(&continuation) {
+        let wait = wait_for(condition, &shared.store, &call);
+        return Decision::Wait(call, wait);
+    }
+    Decision::Act(Act {
+        call,
+        condition,
+        outputs,
+        change,
+        continuation,
+    })
+}
+
+/// What is decided of a call by its verdict.
+#[tactic(auto, unfolding(crate::specs::Decisions::decision_by))]
+fn decide_by<S: Store + Drop>(
+    call: Call,
+    verdict: Verdict,
+    shared: &Shared<S>,
+    terminal_entry: &TerminalEntry,
+    task: &Task,
+) -> Decision
+    requires { Fits verdict (context shared.now terminal_entry.now task.now) }
+    ensures { result ≡ decision_by call verdict (context shared.now terminal_entry.now task.now) }
+{
+    match verdict {
+        Verdict::Refuses(abend) => Decision::Refuse(Some(call), abend),
+        Verdict::Waits => Decision::Wait(call, Wait::Input),
+        Verdict::Meets(condition, outputs, change) => {
+            decide_met(
+                call,
+                condition,
+                outputs,
+                change,
+                shared,
+                terminal_entry,
+                task,
+            )
+        }
+    }
+}
+
+/// The queues are within their limits, as always.
+fn queues_are_sound(queues: &Queues)
+    ensures { AreSoundQueues queues.now }
+{
+    // A look at them says so.
+    queues.items(Name8::from_bytes([0; 8]));
+}
+
+/// What the command that is due will do: its argument list is read, its inputs are tested, its row judges it, and its
+/// outputs are tested. Nothing changes, and no memory is taken.
+#[tactic(auto, unfolding(crate::specs::Performing::Decides), using(cx_region_commands::specs::Facts::Fits::judged_fits))]
+pub fn decide<S: Store + Drop>(
+    shared: &Shared<S>,
+    terminal_entry: &TerminalEntry,
+    task: &Task,
+) -> Decision
+    requires { AreSoundPrograms shared.now.programs }
+    ensures decides { Decides (context shared.now terminal_entry.now task.now) result }
+    ensures queues { AreSoundQueues shared.now.queues }
+{
+    queues_are_sound(&shared.queues);
+    let call = match read_call(&shared.store, address_in(task.cpu.regs[1])) {
+        Ok(call) => call,
+        Err(fault) => return Decision::Refuse(None, fault_abend(fault)),
+    };
+    if !are_inputs_there(&shared.store, &call) {
+        return Decision::Refuse(Some(call), Abend::Xarg);
+    }
+    call.addresses_are_below();
+    let verdict = judge(&call, shared, terminal_entry, task);
+    decide_by(call, verdict, shared, terminal_entry, task)
+}

@@ -1,0 +1,105 @@
+//! Starting a program `NAME [FILE]`: it runs a script from a file or from standard input, and writes its transcript.
+
+ghost use Rattle.std.specs.Prelude.{◌≡◌};
+ghost use Rattle.std.specs.Option.{option_map};
+ghost use Rattle.std.specs.Process.{exit_status};
+ghost use Rattle.cx_script_main.specs.Start.{Does, Reports, RunsFile, RunsInput, RunsOn, RunsScript, Starts, report_of};
+
+use crate::host::Host;
+use crate::program::{Refusal, program_status, run_opened};
+use crate::words::file_in;
+use cx_script::{DeviceFault, Performer, RunFault, Summary};
+use std::alloc::{AllocError, Global};
+use std::process::ExitCode;
+
+/// Runs the script of a file.
+fn run_file<P: Performer + Drop, H: Host>(
+    host: &mut H,
+    alloc: Global,
+    performer: Result<P, AllocError>,
+    path: &str,
+) -> Result<Summary, RunFault>
+    ensures { let runs = RunsOn P.Action.language P.performs performer H.File.reads H.File.writes in
+        RunsFile H.opens runs host.old path.now result host.new }
+{
+    let opened = host.open(path);
+    run_opened(performer, alloc, opened)
+}
+
+/// Runs the script of standard input.
+fn run_input<P: Performer + Drop, H: Host>(
+    host: &mut H,
+    alloc: Global,
+    performer: Result<P, AllocError>,
+) -> Result<Summary, RunFault>
+    ensures { let runs = RunsOn P.Action.language P.performs performer H.Input.reads H.Input.writes in
+        RunsInput H.takes_input runs host.old result host.new }
+{
+    let input = host.input();
+    run_opened(performer, alloc, Ok::<_, DeviceFault>(input))
+}
+
+/// Runs the script of the file that is named, or that of standard input.
+fn run<P: Performer + Drop, H: Host>(
+    host: &mut H,
+    alloc: Global,
+    performer: Result<P, AllocError>,
+    file: Option<&str>,
+) -> Result<Summary, RunFault>
+    ensures { let runs_file = RunsOn P.Action.language P.performs performer H.File.reads H.File.writes in
+        let runs_input = RunsOn P.Action.language P.performs performer H.Input.reads H.Input.writes in
+        let path = option_map (λ it. it.now) file.entry in
+        RunsScript H.opens runs_file H.takes_input runs_input host.old path result host.new }
+{
+    match file {
+        Some(path) => run_file(host, alloc, performer, path),
+        None => run_input(host, alloc, performer),
+    }
+}
+
+/// Does what the words ask.
+fn outcome_of<P: Performer + Drop, H: Host>(
+    host: &mut H,
+    alloc: Global,
+    performer: Result<P, AllocError>,
+) -> Result<Result<Summary, RunFault>, Refusal>
+    ensures { let runs_file = RunsOn P.Action.language P.performs performer H.File.reads H.File.writes in
+        let runs_input = RunsOn P.Action.language P.performs performer H.Input.reads H.Input.writes in
+        let runs = RunsScript H.opens runs_file H.takes_input runs_input in
+        Does H.gives_words runs host.old result host.new }
+{
+    let words = host.words()?;
+    let file = file_in(alloc, &words)?;
+    Ok(run(host, alloc, performer, file))
+}
+
+/// Reports a fault, or why the words are refused, on standard error.
+fn report<H: Host>(host: &mut H, usage: &str, outcome: &Result<Result<Summary, RunFault>, Refusal>)
+    ensures { Reports H.reports host.old (report_of usage.now outcome.now) host.new }
+{
+    match outcome {
+        Ok(Ok(_)) => {}
+        Ok(Err(fault)) => host.report(*fault),
+        Err(Refusal::Usage) => host.report(usage),
+        Err(Refusal::Memory) => host.report(RunFault::Memory),
+    }
+}
+
+/// Does what the words of a host ask, on a performer that was to be made: runs the script of the file that they name, or that of
+/// standard input. Gives the status: 0, or that of the run's fault; 2 where the words are refused, 4 where memory ran out. The
+/// fault's line is reported, or `usage` where the words are refused.
+pub fn start<P: Performer + Drop, H: Host>(
+    host: &mut H,
+    alloc: Global,
+    performer: Result<P, AllocError>,
+    usage: &str,
+) -> ExitCode
+    ensures { let runs_file = RunsOn P.Action.language P.performs performer H.File.reads H.File.writes in
+        let runs_input = RunsOn P.Action.language P.performs performer H.Input.reads H.Input.writes in
+        let runs = RunsScript H.opens runs_file H.takes_input runs_input in
+        Starts H.gives_words runs H.reports usage.now host.old (exit_status result) host.new }
+{
+    let outcome = outcome_of(host, alloc, performer);
+    report(host, usage, &outcome);
+    ExitCode::from(program_status(&outcome))
+}

@@ -1,0 +1,24 @@
+* ADD - A PART IS PUT INTO THE QUEUE PARTS
+*
+* INPUT     ADD, NAME OF 8, QUANTITY AND PRICE OF 5 DIGITS EACH
+*
+DFHEISTG DSECT
+INLEN    DS    H
+INPUT    DS    CL24
+PART     DS    0CL24                   THE RECORD
+NAME     DS    CL8
+QTY      DS    PL4
+PRICE    DS    PL3
+         DS    CL9                     FOR LATER
+ADD      CSECT
+         MVC   INLEN,=H'24'
+         EXEC  CICS RECEIVE INTO(INPUT) LENGTH(INLEN) NOHANDLE
+         MVC   PART,=CL24' '
+         MVC   NAME,INPUT+4
+         PACK  QTY,INPUT+13(5)
+         PACK  PRICE,INPUT+19(5)
+         EXEC  CICS WRITEQ TS QUEUE('PARTS') FROM(PART)                -
+               LENGTH(=H'24')
+         EXEC  CICS SEND TEXT FROM(=C'ADDED') LENGTH(=H'5') ERASE
+         EXEC  CICS RETURN
+         END
