@@ -14,7 +14,7 @@ TOKEN = re.compile(
 )
 USE = re.compile(r"(?m)^([ \t]*(?:ghost )?use )([^;{]+)(?:\{([^}]*)\})?;\n?")
 CLAUSES = ("requires", "ensures", "ghost")
-PROVED = ("coded", "invariant", "inverse", "inverse_ok", "sound")
+PROVED = ("aligned", "coded", "invariant", "inverse", "inverse_ok", "sound")
 ITEMS = {"impl", "struct", "enum", "trait", "macro_rules", "union", "mod", "static", "const", "ghost"}
 CLOSES = {"{": "}", "(": ")", "[": "]"}
 

@@ -1,11 +1,11 @@
 """How many lines a reader of a statement has to read: its own definition and each that it reaches, word by word, in the definitions of
-whatever crates, with the types of sources that these cite; without comments, imports and blank lines, as `.ci/believing.py` counts them.
+whatever crates, with the types of sources that these cite; without comments, imports and blank lines, as `.ci/trusted.py` counts them.
 Words at which he may stop are not entered."""
 import functools
 import os
 import re
 
-from believing import cites, filled, imports_of, paths_in, types_in, without_comments, without_imports
+from trusted import cites, filled, imports_of, paths_in, types_in, without_comments, without_imports
 from repository import Repository, text_of
 
 DEFINED = re.compile(r"(?:(?:abbrev|unfoldable|pub|record|data) )*([^\W\d][\w'-]*)")

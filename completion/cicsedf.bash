@@ -4,8 +4,10 @@ _cics_words() {
   case ${COMP_WORDS[0]##*/} in
     cics-adapt) options="--copy --keep --ebcdic --version --help" ;;
     cics-check) options="--json --cicsedf --cicslook --version --help" ;;
+    cics-film) options="-o --open --cicslook --version --help" ;;
     cics-run) options="--key --tran --queue --script --film --cicsedf --cicslook --version --help" ;;
     cics-same) options="--source --queue --cicsedf --cicslook --version --help" ;;
+    cics-terminals) options="--resume --back --port --session --mixed --clock --idle --any-user --program --version --help" ;;
   esac
   if [[ $word == -* ]]; then
     mapfile -t COMPREPLY < <(compgen -W "$options" -- "$word")
@@ -13,4 +15,5 @@ _cics_words() {
     mapfile -t COMPREPLY < <(compgen -f -- "$word")
   fi
 }
-complete -o filenames -F _cics_words cicsedf cicslook cics-adapt cics-check cics-run cics-same
+complete -o filenames -F _cics_words cicsedf cicslook cics-adapt cics-check cics-film cics-run cics-same \
+  cics-terminals

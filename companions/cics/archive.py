@@ -14,8 +14,7 @@ from cics.manual import Page, one_page
 
 FOLDERS = ("companions/", "completion/", "docs/", "examples/", "terminals/")
 SINGLE = ("README.md", "VERSION")
-LEFT_OUT = re.compile(r"(companions|terminals)/(?:[a-z]+/)?tests?(/|$)|companions/cics/(running|archive|manual)\.py$|docs/(man/|index$)")
-CHECKS = re.compile(r"examples/(?:(?!same$)[a-z-]+|refuse\.c|[a-z]+\.py|lessons/pictures)$")  # programs that check the repository
+LEFT_OUT = re.compile(r"(companions|terminals)/(?:[a-z]+/)?tests?(/|$)|companions/cics/(running|turned|archive|manual)\.py$|docs/(man/|index$)")
 MAN = re.compile(r"docs/man/(?P<name>[a-z-]+\.1)$")
 VERSIONS = re.compile(r"\(?(GLIBC(?:XX)?_[0-9.]+|GCC_[0-9.]+)\)?")
 
@@ -37,8 +36,7 @@ def file_content(path: str, top: str = TOP) -> Content:
 
 
 def is_released(path: str) -> bool:
-    is_there = path in SINGLE or path.startswith(FOLDERS)
-    return is_there and not LEFT_OUT.search(path) and not (CHECKS.fullmatch(path) and not path.endswith((".script", ".transcript")))
+    return (path in SINGLE or path.startswith(FOLDERS)) and not LEFT_OUT.search(path)
 
 
 def of_repository(paths: list[str], top: str = TOP) -> list[Content]:

@@ -24,6 +24,13 @@ def version() -> str:
         return "unknown"
 
 
+def answer_version(name: str) -> None:
+    """Ends a command that is asked for its version, where its own words don't have that."""
+    if sys.argv[1:] == ["--version"]:
+        print(f"{name} {version()}")
+        sys.exit(DONE)
+
+
 class Words(argparse.ArgumentParser):
     """The words of a command; a fault in them is a line that says what to write."""
 

@@ -2,7 +2,7 @@
 from dataclasses import dataclass, field, replace
 
 from cics.data import rewritten_literal
-from cics.expressions import Value, read_expression, value_of, whole
+from cics.expressions import Kind, Value, read_expression, terms_of, value_of, whole
 from cics.from_cics import advice
 from cics.operands import CONDITIONS
 from cics.program import Program
@@ -133,11 +133,17 @@ def remark_at(text: str, before: int, start: int, name: str) -> str | None:
     is one of the command's own, and it has no parenthesis, nor is one opened after it."""
     is_apart = start - before >= 2 and line_at(before) == line_at(start)
     end = end_of_line(start)
-    rest, following = text[start:end], text[begin_of_word(text, end) :]
+    rest = text[start:end]
     words = rest.replace(",", " ").replace(".", " ").split()
     has_option = words[:1] != [] and words[0] in KNOWN or any(word in own_words(name) for word in words)
-    is_remark = is_apart and "(" not in rest and ")" not in rest and not has_option and not following.startswith("(")
-    return rest if is_remark else None
+    is_alone = "(" not in rest and ")" not in rest and not text.startswith("(", begin_of_word(text, end))
+    return rest if is_apart and is_alone and not has_option else None
+
+
+def has_place(argument: str) -> bool:
+    """Whether `*`, the place, is a term of an argument."""
+    expression = whole(argument)
+    return expression is not None and any(term.kind is Kind.STAR for term in terms_of(expression))
 
 
 def without_blanks(argument: str) -> str:
@@ -226,7 +232,9 @@ class Rewriting:
             if is_literal or is_number:
                 self.left(f"{unit.text()}: {self.command.name} writes to it; write: a halfword field, set before each time")
             return
-        if is_number and not is_literal:
+        if is_number and not is_literal and has_place(argument):
+            self.left(f"{unit.text()}: a literal has a place of its own; write: a halfword field")
+        elif is_number and not is_literal:
             is_small = is_decimal(argument) and int(argument) < 32768
             self.change(unit, f"=H'{argument}'" if is_small else f"=AL2({argument})")
 
@@ -286,6 +294,7 @@ def lines_of_command(statement: Statement, command: Command, begin: int) -> list
         gap = max(unit.gap, 1) if lines[-1].strip() and not lines[-1].endswith(" ") else 0
         if unit.line != line or len(lines[-1]) + gap + len(unit.text()) > LAST:
             column = column_of(unit) if unit.line != line else CONTINUED
+            column = max(column, CONTINUED + (len(lines[-1]) == LAST))  # a blank, where the line before is full
             line, gap = unit.line, 0
             lines.append(" " * column)
         put_unit(lines, " " * gap + unit.text())

@@ -1,13 +1,14 @@
 """Items of DS and DC, and literals after their sign: duplication, type, length modifier and value."""
 from dataclasses import dataclass, replace
 
-from cics.texts import DIGITS, closing, cut, quoted_length
+from cics.texts import DIGITS, closing, cut, is_decimal, quoted_length
 
 ALIGNED = {"F": 4, "H": 2, "A": 4, "V": 4, "D": 8, "E": 4, "Y": 2, "S": 2, "Q": 4, "L": 8}  # types to their own unit, which is their length
 OWN_LENGTH = {**ALIGNED, "L": 16}
 ADDRESSES = "AYSVQ"  # types whose values stand in parentheses
 SEVERAL = "FHPXBAYDES"  # types of which an item may have several values
 KINDS = "CXBFHPZAVDEYSQL"
+MOST_DIGITS = 10  # of a duplication or a length: those of 2^32
 
 
 @dataclass(frozen=True)
@@ -55,7 +56,8 @@ def item_of(text: str) -> Item | None:
     modifier_end = end_of_factor(text, after + 1) if has_modifier else after
     item = Item(text[:duplication_end], kind, text[after + 1 : modifier_end], text[modifier_end:])
     is_empty = has_modifier and not item.modifier
-    return None if is_empty or not is_one_value(item) else item
+    is_long = any(is_decimal(part) and len(part) > MOST_DIGITS for part in (item.duplication, item.modifier))
+    return None if is_empty or is_long or not is_one_value(item) else item
 
 
 def end_of_factor(text: str, at: int) -> int:

@@ -8,6 +8,7 @@ from cics.telling import Log
 
 OF_THE_ASSEMBLER = "DFHAID"  # the one member that needs no file
 MOST_LINES = 100_000  # of all members together
+DEEPEST = 50  # members in one another
 
 
 @dataclass
@@ -48,6 +49,8 @@ class Copying:
         return [statement]
 
     def refusal(self, name: str, inside: tuple[str, ...]) -> str | None:
+        if len(inside) >= DEEPEST:
+            return f"more than {DEEPEST} members in one another"
         if name in inside:
             return f"in a circle, {' in '.join([*inside, name])}"
         if member_path(name, self.folders) is None:

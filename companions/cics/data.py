@@ -1,8 +1,9 @@
 """Rewritings of DS, DC, EQU and literals."""
+import re
 from dataclasses import dataclass, replace
 
 from cics.constants import Item, is_lone_mark, item_of
-from cics.expressions import Kind, Value, is_plain, terms_of, whole, worked_out
+from cics.expressions import Kind, Value, is_plain, terms_of, value_of, whole, worked_out
 from cics.from_cics import advice
 from cics.program import Program
 from cics.statements import Statement, new_statement
@@ -11,6 +12,7 @@ from cics.texts import cut
 STATEMENTS = "Assembler statements"
 WRITTEN_OUT = "FHPXBAY"  # types of which each value becomes an item
 MOST_ITEMS = 4096
+WHOLE = re.compile(r"[+-]?[0-9]+")
 
 
 @dataclass(frozen=True)
@@ -62,7 +64,8 @@ def has_star(item: Item) -> bool:
 
 
 def own_table(item: Item, context: Context) -> list[Piece] | None:
-    """`T DC 256AL1(*-T)`, by its own name: the bytes of all copies; the first one is an item, so that the length attribute stays."""
+    """`T DC 256AL1(*-T)`, by its own name: the bytes of all copies; the first one is an item, so that the length attribute stays. It is a
+    fullword where the old one is aligned as that."""
     name, copies = context.statement.name, int(item.duplication or "1")
     length = int(item.modifier or ("2" if item.kind == "Y" else "4"))
     expressions = [whole(value) for value in item.values()]
@@ -73,13 +76,16 @@ def own_table(item: Item, context: Context) -> list[Piece] | None:
     texts = []
     for at in range(copies * len(expressions)):
         here = context.here.plus(Value(length * at), 1)
-        value = context.program.layout.evaluated(item.values()[at % len(expressions)], here)
+        expression = expressions[at % len(expressions)]
+        value = value_of(expression, context.program.layout, here) if expression else None
         if value is None or not value.is_number():
             return None
         texts.append(f"{value.number % 256**length:0{2 * length}X}")
-    units = ["".join(texts[:1]), "".join(texts[1:])]
+    first, others = Item("", "X", "", f"'{texts[0]}'"), "".join(texts[1:])
+    if item.kind == "A" and not item.modifier:
+        first = Item("", "F", "", f"'{int.from_bytes(bytes.fromhex(texts[0]), 'big', signed=True)}'")
     is_even = item.kind == "Y" and not item.modifier
-    return [Piece(Item("", "X", "", f"'{unit}'"), is_even and at == 0) for at, unit in enumerate(units) if unit]
+    return [Piece(first, is_even), *([Piece(Item("", "X", "", f"'{others}'"))] if others else [])]
 
 
 def each_alone(item: Item, context: Context) -> list[Item]:
@@ -89,8 +95,8 @@ def each_alone(item: Item, context: Context) -> list[Item]:
         return [item]
     copies = int(item.duplication or "1")
     if context.is_literal or copies * len(values) > MOST_ITEMS:
-        context.left(f"{item.text()}: several values in {'a literal' if context.is_literal else 'too many copies'}"
-                     f"{advice(STATEMENTS, 'several values in A')}")
+        left = "a literal; write: a DC of them" if context.is_literal else f"too many copies{advice(STATEMENTS, 'several values in A')}"
+        context.left(f"{item.text()}: several values in {left}")
         return [item]
     if copies == 0:
         return [item.of(values[0])]
@@ -115,6 +121,9 @@ def is_refused(item: Item, context: Context) -> bool:
         return True
     if item.kind in "AY" and length < 4 and any(context.program.is_place(value, context.here) for value in item.values()):
         context.left(f"{item.text()}: a place in fewer than four bytes{advice(STATEMENTS, 'a place in fewer')}")
+        return True
+    if item.kind in "FHP" and not all(WHOLE.fullmatch(value) for value in item.values()):
+        context.left(f"{item.text()}: not a whole number{advice(STATEMENTS, 'a point or an exponent')}")
         return True
     if item.kind == "C" and is_lone_mark(item.value[1:-1]):
         context.left(f"{item.text()}: an ampersand or apostrophe alone in a text; write: two of them")

@@ -6,6 +6,9 @@ from typing import Protocol
 
 from cics.texts import DIGITS, LETTERS, NAME, is_length_attribute
 
+LARGEST = 2**32  # no number of a source is as large
+MOST_TERMS, MOST_DEPTH = 200, 50  # of an expression that is read here, more than any assembler takes
+
 
 @dataclass(frozen=True)
 class Chain:
@@ -101,6 +104,7 @@ class Reader:
 
     def __init__(self, text: str, at: int = 0) -> None:
         self.text, self.at = text, at
+        self.terms, self.depth = 0, 0
 
     def is_next(self, characters: str) -> bool:
         return self.at < len(self.text) and self.text[self.at] in characters
@@ -122,18 +126,27 @@ class Reader:
         return found
 
     def factor(self) -> Expression:
-        if self.is_next("+-"):
-            return Signed(self.take(), self.factor())
-        if self.is_next("("):
-            self.take()
-            inside = self.sum()
-            if not self.is_next(")"):
-                raise NotOne
-            self.take()
-            return Group(inside)
-        return self.term()
+        if not self.is_next("+-("):
+            return self.term()
+        self.depth += 1
+        if self.depth > MOST_DEPTH:
+            raise NotOne
+        found: Expression = Signed(self.take(), self.factor()) if self.is_next("+-") else self.group()
+        self.depth -= 1
+        return found
+
+    def group(self) -> Group:
+        self.take()
+        inside = self.sum()
+        if not self.is_next(")"):
+            raise NotOne
+        self.take()
+        return Group(inside)
 
     def term(self) -> Term:
+        self.terms += 1
+        if self.terms > MOST_TERMS:
+            raise NotOne
         if self.is_next("*"):
             return Term(Kind.STAR, self.take())
         if self.text[self.at + 1 : self.at + 2] == "'":
@@ -195,16 +208,17 @@ class Names(Protocol):
 
 
 def number_of(text: str) -> int | None:
-    """The number that a self-defining term is."""
-    if text[0] in DIGITS:
-        return int(text)
+    """The number that a self-defining term is; None where it is too large."""
     inside = text[2:-1]
     if text[0] == "C":
-        return int.from_bytes(inside.replace("''", "'").replace("&&", "&").encode("cp037", errors="replace"), "big")
+        code = inside.replace("''", "'").replace("&&", "&").encode("cp037", errors="replace")
+        return int.from_bytes(code, "big") if len(code) <= 4 else None
+    digits, base = (text, 10) if text[0] in DIGITS else (inside, 16 if text[0] == "X" else 2)
     try:
-        return int(inside, 16 if text[0] == "X" else 2)
+        number = int(digits, base)
     except ValueError:
         return None
+    return number if number < LARGEST else None
 
 
 def value_of(expression: Expression, names: Names, here: Value | None) -> Value | None:
@@ -234,10 +248,12 @@ def combined(operator: str, left: Value | None, right: Value | None) -> Value | 
     if left is None or right is None:
         return None
     if operator in "+-":
-        return left.plus(right, 1 if operator == "+" else -1)
-    if not (left.is_number() and right.is_number()):
+        found = left.plus(right, 1 if operator == "+" else -1)
+    elif left.is_number() and right.is_number():
+        found = Value(left.number * right.number if operator == "*" else quotient(left.number, right.number))
+    else:
         return None
-    return Value(left.number * right.number if operator == "*" else quotient(left.number, right.number))
+    return found if abs(found.number) < LARGEST else None
 
 
 def quotient(dividend: int, divisor: int) -> int:

@@ -6,14 +6,16 @@ from cics.assembler_files import Source, encoded
 from cics.child import run
 from cics.cli import Failure
 
-# A line of FAULTS: the line, perhaps the column, the fault or NOTE, and the text, in which >> and << may stand around a word.
-FAULT = re.compile(r"> (?P<line>\d+)(?:[ :](?P<column>\d+))? (?P<kind>NOTE|[A-Z][A-Za-z]+)(?P<text>.*)")
+# A line of FAULTS: line and column, the fault, perhaps what is missing, and the text, in which >> and << stand around the part at fault;
+# or NOTE and what it says.
+FAULT = re.compile(r"> (?P<line>\d+):(?P<column>\d+) "
+                   r"(?P<kind>NOTE|MissingOption (?P<missing>[A-Z]+(?: OR [A-Z]+)*)|[A-Z][A-Za-z]+)(?P<text>.*)")
 WORD = re.compile(r">>(?P<word>.*?)<<")
 
 
 @dataclass(frozen=True)
 class Fault:
-    """A fault or a note: where it is, and what. The column is 0 where it isn't known."""
+    """A fault or a note: where it is, and what."""
 
     file: str
     line: int
@@ -25,7 +27,7 @@ class Fault:
         return self.kind == "note"
 
     def __str__(self) -> str:
-        place = f"{self.file}:{self.line}:" + (f"{self.column}:" if self.column else "")
+        place = f"{self.file}:{self.line}:{self.column}:"
         return f"{place} {self.kind}: {self.text}" if self.text else f"{place} {self.kind}"
 
 
@@ -42,10 +44,10 @@ class Block:
     def fault(self, found: re.Match[str]) -> Fault:
         line = int(found["line"]) - self.first
         word, text = WORD.search(found["text"]), found["text"].strip()
-        kind = "note" if found["kind"] == "NOTE" else found["kind"]
-        shown = text if kind == "note" else word["word"] if word else text
+        kind = "note" if found["kind"] == "NOTE" else found["kind"].split()[0]
+        shown = text if kind == "note" else found["missing"] or (word["word"] if word else text)
         number = self.source.before + min(line, max(len(self.source.lines), 1))
-        return Fault(self.source.path, number, int(found["column"] or 0), kind, shown)
+        return Fault(self.source.path, number, int(found["column"]), kind, shown)
 
 
 def faults_of(sources: list[Source], cicslook: str) -> list[Fault]:

@@ -3,6 +3,7 @@ from dataclasses import dataclass
 
 from cics.data import rewritten_literal
 from cics.expressions import Kind, is_plain, leftmost, read_expression, worked_out
+from cics.from_cics import advice
 from cics.instructions import INSTRUCTIONS, MASKS
 from cics.program import Program
 from cics.statements import Statement
@@ -55,14 +56,24 @@ def implied_length(operand: Operand, program: Program) -> str:
     return f"({length})" if length is not None and length != program.layout.new_length(term.text) else ""
 
 
+def tell_place(literal: Operand, program: Program) -> None:
+    """Tells a literal that is the first operand of an instruction."""
+    if literal.number == 0:
+        write = advice("Assembler statements", "a literal as the first operand")
+        program.left(literal.statement.origin, f"{literal.text}: a literal as the first operand{write}")
+
+
 def rewritten_operand(operand: Operand, program: Program) -> str:
     text = operand.text
     if text.startswith("="):
+        tell_place(operand, program)
         return rewritten_literal(text, operand.statement, program)
     if text.startswith(RESP) and text.endswith(")"):
         return without_resp(operand, program)
     found = read_expression(text)
     if found is None:
+        if operand.statement.operation == "USING":
+            program.left(operand.statement.origin, f"USING {text}: no place that can be read here; write: a place alone")
         return text
     rest = text[found.end :]
     if rest and (rest[0] != "(" or closing(rest, 0) != len(rest) - 1):

@@ -73,10 +73,11 @@ def overlay_at(statements: list[Statement], at: int, program: Program) -> Overla
     placed = program.layout.placed.get(statements[at].origin.order)
     if placed is None:
         raise NotLaidOut("the place to which it goes back isn't known before")
-    (chain,), target = placed.begin.places, placed.begin.number
-    begin = begin_of_overlay(statements, at, chain, target, program)
+    chain, = placed.begin.places
     end = next((number for number in range(at, len(statements)) if is_last(statements[number]) or statements[number].operation in ENDS),
                len(statements))
+    target = min(place_in(one, chain, program).begin.number for one in statements[at:end] if one.operation == "ORG")
+    begin = begin_of_overlay(statements, at, chain, target, program)
     if begin == at or place_in(statements[begin], chain, program).begin.number > target:
         raise NotLaidOut("it doesn't go back over DS alone")
     found = Overlay(begin, end, [], [])
@@ -142,18 +143,23 @@ def laid_in_order(fields: list[Field]) -> list[Statement]:
 
 
 def without_overlays(statements: list[Statement], program: Program) -> list[Statement]:
-    """A source without the ORGs that can be written otherwise."""
-    found, at = list(statements), 0
+    """A source without the ORGs that can be written otherwise. One that goes on after all where nothing has gone back changes nothing."""
+    found, at, is_back = list(statements), 0, False
     while at < len(found):
         one = found[at]
         at += 1
         if one.operation != "ORG":
+            continue
+        if is_last(one) and not is_back:
+            found[at - 1] = one.made_comment()
+            program.log.changed(one.origin, f"ORG {one.operand}".strip(), "a comment")
             continue
         try:
             if is_last(one):
                 raise NotLaidOut("it ends one that is left")
             at = put_in_order(found, overlay_at(found, at - 1, program), one, program)
         except NotLaidOut as why:
+            is_back = True
             program.left(one.origin, f"ORG {one.operand}".strip() + f": {why}{advice('Assembler statements', 'ORG')}")
     return found
 

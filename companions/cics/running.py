@@ -1,4 +1,4 @@
-"""Runs programs for the checks of the folder of examples, in which a check is when it has imported this."""
+"""Runs programs for the checks of the folder `checks`. A check that has imported this is in the folder of examples."""
 import glob
 import os
 import re

@@ -179,9 +179,10 @@ def with_remark(lines: list[str], statement: Statement) -> list[str]:
     column = max(min(statement.columns.remark if len(lines) == 1 else 0, LAST - len(remark)), begin)
     while remark:
         piece = first_words(remark, LAST - column, is_line_empty=not lines[-1].strip())
-        is_full = len(lines[-1]) >= LAST
         lines[-1] = (lines[-1].ljust(column) + piece).rstrip()
-        remark, column = remark[len(piece) :].strip(), CONTINUED + is_full
+        rest = remark[len(piece) :]
+        is_cut = piece != "" and not rest.startswith(" ")
+        remark, column = rest.strip(), CONTINUED + (len(lines[-1]) >= LAST and not is_cut)
         if remark:
             lines.append("")
     return lines

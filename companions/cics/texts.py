@@ -1,4 +1,5 @@
 """Texts of the assembler's language: which characters are in apostrophes, and how deep in parentheses each stands."""
+from collections.abc import Iterator
 from dataclasses import dataclass
 
 LETTERS = "ABCDEFGHIJKLMNOPQRSTUVWXYZ@#$"
@@ -22,18 +23,19 @@ def is_length_attribute(text: str, at: int) -> bool:
     return is_term and text[at + 1 : at + 2] in set(LETTERS)
 
 
-def places_of(text: str) -> list[Place]:
-    places, depth, is_text = [], 0, False
-    for at, character in enumerate(text):
+def places_of(text: str, begin: int = 0) -> Iterator[Place]:
+    """The place of each character, one after the other, from a place on at which neither a text nor a name has begun."""
+    depth, is_text = 0, False
+    for at in range(begin, len(text)):
+        character = text[at]
         opens_or_closes = character == "'" and (is_text or not is_length_attribute(text, at))
         was_text, is_text = is_text, is_text != opens_or_closes
         inside = was_text or is_text
         if character == ")" and not inside:
             depth = max(0, depth - 1)
-        places.append(Place(depth, inside))
+        yield Place(depth, inside)
         if character == "(" and not inside:
             depth += 1
-    return places
 
 
 def cut(text: str, mark: str = ",") -> list[str]:
@@ -48,15 +50,14 @@ def cut(text: str, mark: str = ",") -> list[str]:
 
 def end_of_operand(text: str, begin: int) -> int:
     """Where an operand ends that begins here: at the first blank outside apostrophes."""
-    places = places_of(text[begin:])
-    return next((begin + at for at, place in enumerate(places) if text[begin + at] == " " and not place.is_text), len(text))
+    places = enumerate(places_of(text, begin), begin)
+    return next((at for at, place in places if text[at] == " " and not place.is_text), len(text))
 
 
 def closing(text: str, begin: int) -> int | None:
     """Where the parenthesis that opens here is closed."""
-    places = places_of(text[begin:])
-    found = (at for at, place in enumerate(places) if at and text[begin + at] == ")" and place == Place(0, False))
-    return next((begin + at for at in found), None)
+    places = enumerate(places_of(text, begin), begin)
+    return next((at for at, place in places if at > begin and text[at] == ")" and place == Place(0, False)), None)
 
 
 def is_name(text: str) -> bool:

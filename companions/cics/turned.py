@@ -9,7 +9,7 @@ from dataclasses import dataclass, field
 from cics.child import is_of_page
 
 OF_CICSLOOK = {"RUN", "QUEUES", "QUEUE", "PROGRAMS", "TASKS", "RESOURCES", "COMMAND", "TASK", "AREAS", "STORAGE", "ABEND", "SYMBOL", "SYMBOLS",
-               "XREF", "FAULTS"}
+               "XREF", "FAULTS", "HELP", "FIELD", "FIELDS"}
 BLOCKS = ("IMAGE", "SOURCE", "FAULTS")
 PAGED = ("SCREEN", "DISPLAY")
 ENDS = ("Idle", "Waiting", "Held", "Ended", "Abended", "NoSuchTerminal")

@@ -1,19 +1,24 @@
 """Runs a script and keeps what `cicslook` shows of the region after each event."""
 from __future__ import annotations
 
+import itertools
 import re
 from collections.abc import Callable
 from dataclasses import dataclass, field
 
 from film.child import Child, Ended
-from film.script import RUN, Action
+from film.script import RUN, SOURCE, Action
 from film.sources import Source, source_of, with_fields
 
 MOST_EVENTS = 10_000
 CWA = ("001000", 512)
-SHOWN = 4_096  # of a DFHEISTG
-LEVEL = re.compile(r"> LEVEL (\d\d) PROGRAM (\S+) R14 ([0-9A-F]{6}) .*?DFHEISTG ([0-9A-F]{6}) LENGTH ([0-9A-F]{6}) ")
+SHOWN, IN_AREA = 4_096, 256  # bytes of a DFHEISTG, and of another area
+OWN, OTHER, OTHERS = 16_384, 4_096, 32_768  # bytes of a task's areas; at an event of another terminal; of all such tasks together
+LEVEL = re.compile(r"> LEVEL \d\d PROGRAM (\S+) R14 ([0-9A-F]{6}) ")
+AREA = re.compile(r"> AREA ([0-9A-F]{6}) LENGTH ([0-9A-F]{6}) (?:DFHEISTG (\d+)|GETMAIN|OTHER) OWNER \S+")
 NEXT = re.compile(r"> CC \d NEXT ([0-9A-F]{6}) ")
+ABENDED = [re.compile(r"> NEXT \S+ (?P<program>[^ +]+)\+\S+ LINE (?P<line>\d+)", re.M),
+           re.compile(r"> COMMAND .* LINE (?P<line>\d+)\n> R14 \S+ (?P<program>[^ +]+)\+", re.M)]
 LAST_OF_RUN = ("Idle", "Waiting", "Held", "Ended", "Abended", "NoSuchTerminal")
 
 Lines = list[str]
@@ -31,7 +36,8 @@ class Event:
     answer: Lines
     changes: Shown
     comments: Lines = field(default_factory=list)
-    ran: tuple[str, int] | None = None  # the program and the line at which the task stands
+    ran: tuple[str, int] | None = None  # the program and the line at which the task is, or was when it abended
+    passed: list[int] = field(default_factory=list)  # the lines that this half-turn surely did, from its first on
 
 
 @dataclass
@@ -51,10 +57,14 @@ class Film:
 class Camera:
     """Performs a script's actions, and asks after each event."""
 
-    def __init__(self, child: Child, film: Film, skipped: int = 0, tell: Callable[[int], None] = lambda _: None) -> None:
-        self.child, self.film, self.skipped, self.tell = child, film, skipped, tell
+    def __init__(self, child: Child, film: Film, skipped: int = 0, report: Callable[[int], None] = lambda _: None) -> None:
+        self.child, self.film, self.skipped, self.report = child, film, skipped, report
         self.shown: Shown = {}
-        self.levels: dict[str, list[tuple[str, str, int, int]]] = {}  # of each terminal: program, DFHEISTG, its length, R14
+        self.levels: dict[str, tuple[str, int]] = {}  # of each terminal's task: its last level's program, and R14 there
+        self.areas: dict[str, dict[str, str]] = {}  # of each terminal's task: what is asked of its areas, those of its last level first
+        self.places: dict[str, tuple[tuple[str, int], bool]] = {}  # of each terminal's task: where it is; after an EXEC's command
+        self.queues: dict[str, str] = {}  # of each queue: its line
+        self.lines_left, self.named = 0, set[str]()  # of sources that FIELDS may still look through; of which terminals it was asked
         self.done = 0
 
     def perform(self, actions: list[Action]) -> None:
@@ -94,11 +104,8 @@ class Camera:
 
     def define(self, action: Action) -> None:
         """Defines a program; of a source the listing is asked for, which isn't shown as answer."""
-        lines = [*action.lines]
-        words = action.text.split(" ")
-        if words[0] == "SOURCE" and "LIST" not in words[2:]:
-            lines[0] = " ".join([*words[:2], "LIST", *words[2:]])
-        answer = self.event(action, lines, None)
+        first = SOURCE.sub(r"SOURCE \1 LIST\2", action.text) if SOURCE.fullmatch(action.text) else action.lines[0]
+        answer = self.event(action, [first, *action.lines[1:]], None)
         source = source_of(action.lines, action.line, answer)
         if source:
             if source.lines:
@@ -108,111 +115,143 @@ class Camera:
     def event(self, action: Action, lines: Lines, terminal: str | None, turn: int = 0) -> Lines:
         """Gives an event, keeps what it changed, and returns what was answered."""
         self.done += 1
-        self.tell(self.done)
+        self.report(self.done)
         if self.done <= self.skipped:
-            answer = self.child.ask([lines])[0]
+            answer, *display = self.child.ask([lines, *([[f"DISPLAY {terminal}"]] if turn else [])])
             self.note_terminal(action, answer)
+            self.shown = {f"display {terminal}": it for it in display if is_there(it)}
             return answer
-        asked = self.questions(terminal)
+        is_first = self.done == self.skipped + 1 and self.skipped > 0
+        self.shown = {} if is_first else self.shown
+        asked = self.questions(set(self.film.terminals) if is_first else {terminal or ""} - {""})
         answer, *given = self.child.ask([lines, *([it] for it in asked.values())])
         self.note_terminal(action, answer)
         shown = dict(zip(asked, given))
-        shown.update(self.areas(shown))
+        shown.update(self.more(shown, terminal))
         before = self.shown
         kept = {key: lines for key, lines in before.items() if key not in shown}
         now = {key: lines for key, lines in {**kept, **shown}.items() if self.lives(key) and is_there(lines)}
         self.shown = now
-        if self.done == self.skipped + 1 and self.skipped:
+        if is_first:
             self.film.before, before = now, now
         gone: Shown = {key: [] for key in before if key not in now}
         changes = {**{key: it for key, it in now.items() if before.get(key) != it}, **gone}
         answer_shown = [it for it in answer if not it.startswith("> ")]
-        event = Event(action.line, turn, lines[0], terminal, answer_shown[-1:], changes, action.comments if turn < 2 else [])
-        event.ran = self.place_of(terminal) if terminal else None
+        event = Event(action.line, turn, lines[0] if turn else action.text, terminal, answer_shown[-1:], changes, action.comments if turn < 2 else [])
+        if terminal:
+            self.note_place(event, terminal, answer_shown[-1:])
         self.film.events.append(event)
         return answer
+
+    def note_place(self, event: Event, terminal: str, answer: Lines) -> None:
+        """Notes where the task is after an event, and what a turn surely did since it was there."""
+        before, (address, is_due) = self.places.pop(terminal, None), self.address_of(terminal)
+        event.ran = self.place_of(terminal, address)
+        abended = [it for it in (form.search("\n".join(self.shown.get(f"abend {terminal}", []))) for form in ABENDED) if it]
+        if event.ran:
+            self.places[terminal] = event.ran, not is_due and self.film.sources[event.ran[0]].is_within(address)
+        elif answer and " Abended " in answer[0] and abended:
+            event.ran = abended[0]["program"], int(abended[0]["line"])
+        if before and event.text.startswith("TURN "):
+            (program, line), is_done = before
+            event.passed = self.film.sources[program].path(line, event.ran[1] if event.ran and event.ran[0] == program else None, is_done)
 
     def note_terminal(self, action: Action, answer: Lines) -> None:
         if action.word == "TERMINAL" and answer and answer[-1].endswith(" DEFINED"):
             self.film.terminals.append(answer[-1].split(" ")[1])
 
-    def questions(self, terminal: str | None) -> dict[str, str]:
-        """What is asked after an event, by the name under which it is shown: the tables, what is at the event's terminal, and of each task
-        what another task can change too."""
+    def questions(self, terminals: set[str]) -> dict[str, str]:
+        """What is asked after an event, by the name under which it is shown: the tables, what is at the event's terminal, and of each other
+        task what others can change too, of its lowest levels first."""
         asked = {"tasks": "TASKS", "resources": "RESOURCES", "queues": "QUEUES", "cwa": f"STORAGE {CWA[0]} {CWA[1]}"}
-        if terminal:
+        for terminal in sorted(terminals):
             for name in ("SCREEN", "DISPLAY", "ABEND"):
                 asked[f"{name.lower()} {terminal}"] = f"{name} {terminal}"
-        for it in {terminal or "", *self.levels} - {""}:
+        for it in sorted({*terminals, *self.levels}):
             asked[f"task {it}"], asked[f"command {it}"] = f"TASK {it}", f"COMMAND {it}"
-        for it, levels in self.levels.items():
-            for number, level in enumerate(levels, 1):
-                asked[area_key(it, number)] = storage_of(level)
-        for queue in self.queues(self.shown):
-            asked[f"queue {queue}"] = f"QUEUE {queue}"
+        asked |= {f"areas {terminal}": f"AREAS {terminal}" for terminal in terminals}
+        left = OTHERS
+        for it, areas in sorted(self.areas.items(), key=lambda it: it[0] not in terminals):
+            chosen = areas if it in terminals else within(areas, min(left, OTHER))
+            left -= 0 if it in terminals else sum(map(length_of, chosen.values()))
+            asked |= chosen
         return asked
 
-    def areas(self, shown: Shown) -> Shown:
-        """The areas of levels that weren't known, and queues that are new: they are asked for once these are."""
-        more: dict[str, str] = {}
-        for key, lines in shown.items():
-            if key.startswith("task "):
-                more.update(self.levels_in(key.partition(" ")[2], lines))
-        for queue in self.queues(shown):
-            if f"queue {queue}" not in shown:
-                more[f"queue {queue}"] = f"QUEUE {queue}"
+    def more(self, shown: Shown, terminal: str | None) -> Shown:
+        """Notes levels, areas and queues; new areas are asked for now, and queues that can have changed."""
+        old_lines, due = self.shown.get("queues", []), self.shown.get(f"command {terminal}", [""])[0]
+        self.queues = {f"queue {queue_word(line)}": line for line in shown["queues"] if " ITEMS " in line}
+        more = {it: it.replace("queue", "QUEUE", 1) for it, line in self.queues.items() if line not in old_lines or due.startswith("> WRITEQ")}
+        for key, lines in [*shown.items()]:
+            word, _, name = key.partition(" ")
+            if word == "task":
+                self.levels.pop(name, None)
+                self.levels.update({name: (it[1], int(it[2], 16)) for it in [it for it in map(LEVEL.match, lines) if it][-1:]})
+            elif word == "areas":
+                old, self.areas[name] = self.areas.get(name, {}), areas_in(name, shown.pop(key))
+                more.update({area: question for area, question in self.areas[name].items() if old.get(area) != question})
+                self.named = {*self.named, name} if self.has_names(name) else self.named - {name}
+                more.update({f"fields {name}": f"FIELDS {name}"} if name in self.named else {})
         return dict(zip(more, self.child.ask([[it] for it in more.values()]))) if more else {}
 
-    def levels_in(self, terminal: str, lines: Lines) -> dict[str, str]:
-        """Notes the levels of a task, and returns what is to be asked of those that have another area than before."""
-        found = [it for it in map(LEVEL.match, lines) if it]
-        levels = [(it[2], it[4], int(it[5], 16), int(it[3], 16)) for it in found]
-        old = self.levels.pop(terminal, [])
-        if levels:
-            self.levels[terminal] = levels
-        new = [(n, it) for n, it in enumerate(levels, 1) if n > len(old) or old[n - 1][1:3] != it[1:3]]
-        return {area_key(terminal, n): storage_of(it) for n, it in new}
-
-    @staticmethod
-    def queues(shown: Shown) -> list[str]:
-        """The queues there are, by the names that look asks for them by."""
-        found = (re.match(r"> QUEUE (?:'(.+?)'|X'([0-9A-F]{16})') ITEMS ", line) for line in shown.get("queues", []))
-        return [it[2] or queue_word(it[1]) for it in found if it]
+    def has_names(self, terminal: str) -> bool:
+        """Whether the fields of a task's areas are asked for, which takes the longer the longer the source is."""
+        source = self.film.sources.get(self.levels.get(terminal, ("", 0))[0])
+        if not source or not source.lines or not any(it.startswith("area ") for it in self.areas[terminal]):
+            return False
+        self.lines_left -= len(source.lines)
+        return self.lines_left >= 0
 
     def lives(self, key: str) -> bool:
-        """Whether what was shown under a name is there yet: a task's area while the level has it, a queue while it is listed."""
+        """Whether what was shown under a name is there yet: an area while the task has it, a task while it lives, a queue."""
         word, _, rest = key.partition(" ")
-        if word == "storage":
-            terminal, number = rest.split(" ")
-            return len(self.levels.get(terminal, [])) >= int(number)
-        return word not in ("task", "command") or rest in self.levels
+        if word in ("storage", "area"):
+            return key in self.areas.get(rest.split(" ")[0], {})
+        if word == "queue":
+            return key in self.queues
+        return rest in self.named if word == "fields" else word not in ("task", "command") or rest in self.levels
 
-    def place_of(self, terminal: str) -> tuple[str, int] | None:
-        """The program and the line of the source at which a terminal's task stands: the instruction that comes next, or the EXEC
-        whose command is due: that is the line of the byte before the address to which it returns."""
-        levels = self.levels.get(terminal)
-        if not levels:
-            return None
-        program, _, _, back = levels[-1]
+    def address_of(self, terminal: str) -> tuple[int, bool]:
+        """Where a terminal's task is: its next instruction's address, or where a command is due that of the last byte of its EXEC."""
+        lines = self.shown.get(f"task {terminal}", [""])
+        following = next(filter(None, map(NEXT.match, lines)), None)
+        if following and " RUNNING" in lines[0]:
+            return int(following[1], 16), False
+        return self.levels.get(terminal, ("", 0))[1] - 1, True
+
+    def place_of(self, terminal: str, address: int) -> tuple[str, int] | None:
+        """The program at which a terminal's task is, and the line of the source."""
+        program, _ = self.levels.get(terminal, ("", 0))
         source = self.film.sources.get(program)
-        head = self.shown.get(f"task {terminal}", [""])[0]
-        following = next(filter(None, map(NEXT.match, self.shown.get(f"task {terminal}", []))), None)
-        address = int(following[1], 16) if following and " RUNNING" in head else back - 1
         line = source.line_of(address) if source else None
         return (program, line) if line else None
 
 
-def area_key(terminal: str, level: int) -> str:
-    return f"storage {terminal} {level}"
+def length_of(question: str) -> int:
+    return int(question.split(" ")[2])
 
 
-def storage_of(level: tuple[str, str, int, int]) -> str:
-    return f"STORAGE {level[1]} {min(level[2], SHOWN)}"
+def within(areas: dict[str, str], most: int) -> dict[str, str]:
+    """The first areas that have together at most so many bytes."""
+    sums = itertools.accumulate(map(length_of, areas.values()))
+    return {key: question for (key, question), length in zip(areas.items(), sums) if length <= most}
 
 
-def queue_word(name: str) -> str:
-    """A queue's name as QUEUE takes it: as it is, or by the codes of its characters."""
-    return name if re.fullmatch(r"[A-Z0-9@#$]{1,8}", name) else name.ljust(8).encode("cp037").hex().upper()
+def areas_in(terminal: str, lines: Lines) -> dict[str, str]:
+    """What is asked of a task's areas, by what AREAS writes: its last level's DFHEISTG, those of GETMAIN and others, levels before."""
+    found = [it for it in map(AREA.match, lines) if it]
+    storages = [(f"storage {terminal} {it[3]}", it, SHOWN) for it in sorted(found, key=lambda it: -int(it[3] or 0)) if it[3]]
+    others = [(f"area {terminal} {it[1]}", it, IN_AREA) for it in found if not it[3]]
+    ordered = [*storages[:1], *others, *storages[1:]]
+    return within({key: f"STORAGE {it[1]} {min(int(it[2], 16), most)}" for key, it, most in ordered}, OWN)
+
+
+def queue_word(line: str) -> str:
+    """A queue's name as QUEUE takes it, of its line: as it is, or by the codes of its characters."""
+    found = re.match(r"> QUEUE (?:'(.*?)'|X'([0-9A-F]{16})') ITEMS ", line)
+    assert found
+    is_word = found[1] and re.fullmatch(r"[A-Z0-9@#$]{1,8}", found[1])
+    return found[2] or (found[1] if is_word else found[1].ljust(8).encode("cp037").hex().upper())
 
 
 def is_there(lines: Lines) -> bool:

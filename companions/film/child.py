@@ -7,6 +7,8 @@ import subprocess
 import tempfile
 import time
 
+from film.script import decoded, encoded
+
 SECONDS = 60  # no answer may take longer
 
 
@@ -44,7 +46,7 @@ class Child:
 
     def ask(self, texts: list[list[str]]) -> list[list[str]]:
         """Gives texts of some lines each, and returns the lines that are written for each."""
-        given = b"".join("".join(f"{line}\n" for line in [*text, self.question]).encode("latin-1") for text in texts)
+        given = b"".join(encoded("".join(f"{line}\n" for line in [*text, self.question])) for text in texts)
         answers: list[list[str]] = [[]]
         until = time.monotonic() + SECONDS
         while len(answers) <= len(texts):
@@ -59,7 +61,7 @@ class Child:
 
     def finish(self, lines: list[str]) -> None:
         """Gives the last lines, and raises how the child ended."""
-        given = "".join(f"{line}\n" for line in lines).encode("latin-1")
+        given = encoded("".join(f"{line}\n" for line in lines))
         until = time.monotonic() + SECONDS
         while given:
             given = self.pass_on(given, until)
@@ -89,9 +91,9 @@ class Child:
     def taken(self) -> list[str]:
         """Takes the whole lines that were read."""
         whole, _, self.unread = self.unread.rpartition(b"\n")
-        return whole.decode("latin-1").split("\n") if whole else []
+        return decoded(whole).split("\n") if whole else []
 
     def ended(self) -> Ended:
         status = self.process.wait()
         self.reported.seek(0)
-        return Ended(status, self.reported.read().decode("latin-1").strip(), self.taken())
+        return Ended(status, decoded(self.reported.read()).strip(), self.taken())

@@ -1,69 +1,65 @@
 """The command `cics-film`."""
 from __future__ import annotations
 
-import argparse
+import functools
 import os
 import sys
 import time
 import webbrowser
 from collections.abc import Callable
+from typing import NoReturn
 
+from cics.cli import DONE, FOUND, Failure, Words, ended, program_path, run_main, write_out
 from film.camera import MOST_EVENTS, Camera, Film
-from film.child import Child, Silent
+from film.child import Child, Ended, Silent
 from film.page import page_of
-from film.script import Action, actions_of, lines_of
+from film.script import Action, actions_of, decoded, lines_of
 
-TOP = os.path.dirname(os.path.dirname(os.path.dirname(os.path.abspath(__file__))))
+NAME = "cics-film"
+ABOUT = """Makes a page of a run: every event of a script, forward and back, in a browser.
+
+Status 0: the page has all of the run. 1: the script has a fault, and the page the run up to it. 2: wrong words. 3: no page is made."""
 MARKS = ("@@@@", "####", "$$$$", "@#$@", "$#@#")  # names of terminals, one of which no script has
+MOST_LINES = 1_000_000  # of sources, which FIELDS looks through
+SOON = 2  # seconds, after which it is reported how long a film takes
 
 
-class Refused(Exception):
-    """Why no page is made."""
-
-
-def words_of() -> argparse.Namespace:
-    words = argparse.ArgumentParser(prog="cics-film", description="Makes a page of a run: every event of a script, forward and back.")
+def words_of(name: str = NAME) -> Words:
+    words = Words(name, ABOUT)
     words.add_argument("script", nargs="+", help="a script of cicsedf or cicslook, - for standard input; two are shown side by side")
-    words.add_argument("-o", dest="out", help="the page's file, - for standard output (the script's name with .html)")
-    words.add_argument("--open", action="store_true", help="tell the browser to open it")
-    words.add_argument("--cicslook", default=None, help="the program")
-    given = words.parse_args()
-    if len(given.script) > 2:
-        words.error("at most two scripts")
-    return given
-
-
-def program(given: str | None) -> str:
-    """The program `cicslook`: the one given, or beside this command, or where it is built."""
-    beside = os.path.dirname(os.path.dirname(os.path.abspath(__file__)))
-    for path in [given] if given else [f"{beside}/cicslook", f"{TOP}/cicslook", f"{TOP}/crates/cicslook/out/cicslook"]:
-        if path and os.path.isfile(path) and os.access(path, os.X_OK):
-            return path
-    raise Refused(f"no program {given or 'cicslook'}: ./prove builds it, or name it by --cicslook")
+    words.add_argument("-o", dest="out", metavar="FILE", help="the page's file, - for standard output (the first script's name with .html)")
+    words.add_argument("--open", action="store_true", help="has the browser open it")
+    words.add_argument("--cicslook", metavar="PATH", help="the program, where it isn't the one beside the companions")
+    return words
 
 
 def read(path: str) -> str:
     try:
         if path == "-":
-            return sys.stdin.buffer.read().decode("latin-1")
+            return decoded(sys.stdin.buffer.read())
         with open(path, "rb") as file:
-            return file.read().decode("latin-1")
+            return decoded(file.read())
     except OSError as error:
-        raise Refused(f"{path}: {error.strerror}") from None
+        raise Failure(f"{path}: {error.strerror}") from None
 
 
 def progress(name: str, most: int) -> Callable[[int], None]:
-    """Tells on standard error, where it is a terminal, how far a film is that takes more than two seconds."""
-    began, shown = time.monotonic(), [0.0]
+    """Reports on standard error how long a film takes that takes more than two seconds: a bar where it is a terminal, else a line."""
+    began, last = time.monotonic(), [0.0]
 
-    def tell(done: int) -> None:
+    def report(done: int) -> None:
         now = time.monotonic()
-        if now - began > 2 and now - shown[0] > 0.5 and sys.stderr.isatty():
-            left = (now - began) / done * max(0, most - done)
-            print(f"\rcics-film: {name}: {done:,} of at most {most:,} events, {left:.0f} s left  ", end="", file=sys.stderr, flush=True)
-            shown[0] = now
+        if now - began < SOON or now - last[0] < 0.5 or last[0] and not sys.stderr.isatty():
+            return
+        last[0] = now
+        left = f"about {(now - began) / done * max(0, most - done):.0f} s more"
+        if sys.stderr.isatty():
+            bar = "#" * (20 * done // max(most, done))
+            print(f"\r{NAME}: {name}: [{bar:20}] {done:,} of at most {most:,} events, {left}  ", end="", file=sys.stderr, flush=True)
+        else:
+            print(f"{NAME}: {name}: at most {most:,} events, {left}", file=sys.stderr, flush=True)
 
-    return tell
+    return report
 
 
 def events_of(actions: list[Action], path: str, mark: str) -> int:
@@ -80,51 +76,74 @@ def events_of(actions: list[Action], path: str, mark: str) -> int:
         child.close()
 
 
+@functools.cache
+def has_fields(path: str) -> bool:
+    """Whether a program has the look FIELDS, by which areas are shown by names."""
+    child = Child(path, MARKS[0])
+    try:
+        return child.ask([[f"FIELDS {MARKS[0]}"]]) == [[f"> FIELDS {MARKS[0]} NONE"]]
+    except Ended:
+        return False
+    finally:
+        child.close()
+
+
 def filmed(name: str, text: str, path: str) -> Film:
-    """Films a script."""
+    """Films a script by the program at a path."""
     actions = actions_of(text)
     mark = next((it for it in MARKS if it not in text), None)
     if not mark:
-        raise Refused(f"{name} has a terminal of each of the names {' '.join(MARKS)}")
+        raise Failure(f"{name} has a terminal of each of the names {' '.join(MARKS)}")
     events = events_of(actions, path, mark)
     skipped = max(0, events - MOST_EVENTS)
     if skipped:
-        print(f"cics-film: {name} has {events:,} events: the last {MOST_EVENTS:,} are filmed", file=sys.stderr)
-    film = Film(os.path.basename(name) if name != "-" else "standard input", [it.rstrip("\r") for it in lines_of(text)], left_out=skipped)
+        ended(f"{NAME}: {name} has {events:,} events: the last {MOST_EVENTS:,} are filmed", DONE)
+    film = Film(os.path.basename(name) if name != "-" else "standard input", [it.removesuffix("\r") for it in lines_of(text)], left_out=skipped)
     child = Child(path, mark)
     try:
-        Camera(child, film, skipped, progress(name, events)).perform(actions)
+        camera = Camera(child, film, skipped, progress(name, events))
+        camera.lines_left = MOST_LINES if has_fields(path) else 0
+        camera.perform(actions)
     finally:
         child.close()
     return film
 
 
 def write(path: str, page: str) -> None:
+    """Writes the page; a file that can't be written whole isn't left."""
+    if path == "-":
+        return write_out(page.encode())
     try:
-        if path == "-":
-            sys.stdout.write(page)
-            sys.stdout.flush()
-            return
         with open(path, "w", encoding="utf-8") as file:
             file.write(page)
     except OSError as error:
-        raise Refused(f"{path}: {error.strerror}") from None
+        if os.path.isfile(path):
+            os.remove(path)
+        raise Failure(f"{path}: {error.strerror}") from None
 
 
-def main() -> int:
-    given = words_of()
+def made() -> int:
+    given = words_of().parse_args()
+    if len(given.script) > 2:
+        words_of().error("at most two scripts")
+    path = program_path("cicslook", given.cicslook)
     try:
-        path = program(given.cicslook)
         films = [filmed(it, read(it), path) for it in given.script]
-        first = given.script[0]
-        out = given.out or ("-" if first == "-" else f"{first.removesuffix('.script')}.html")
-        write(out, page_of(films))
-    except (Refused, Silent) as error:
-        print(f"cics-film: {error}", file=sys.stderr)
-        return 1
-    for film in films:
+    except (Silent, OSError) as error:
+        raise Failure(str(error)) from None
+    first = given.script[0]
+    out = given.out or ("-" if first == "-" else f"{first.removesuffix('.script')}.html")
+    page, left_out = page_of(films)
+    write(out, page)
+    for film, count in zip(films, left_out):
+        if count:
+            ended(f"{NAME}: {film.name}: the page has no room for its first {count:,} events", DONE)
         if film.fault:
-            print(f"cics-film: {film.name}, line {film.fault[0]}: {film.fault[1]}: the page has the run up to it", file=sys.stderr)
+            ended(f"{NAME}: {film.name}, line {film.fault[0]}: {film.fault[1]}: the page has the run up to it", DONE)
     if given.open and out != "-":
         webbrowser.open(f"file://{os.path.abspath(out)}")
-    return 0
+    return FOUND if any(film.fault for film in films) else DONE
+
+
+def main() -> NoReturn:
+    run_main(NAME, made)

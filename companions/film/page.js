@@ -3,11 +3,22 @@
 
 const byId = (id) => document.getElementById(id);
 
+/** A text as it is shown: of control characters, and of those that turn a text round, a sign is seen. */
+const visible = (text) => text.replace(/[\0-\x1f]/g, (it) => String.fromCharCode(0x2400 + it.charCodeAt(0))).replace(/[\x7f-\x9f\u202a-\u202e\u2066-\u2069]/g, "\u2421");
+
 /** An element with a class, a text or parts. Texts of the film come in as text alone. */
 function make(tag, className, ...parts) {
   const it = document.createElement(tag);
   if (className) it.className = className;
-  it.append(...parts.filter((part) => part !== null && part !== undefined));
+  it.append(...parts.filter((part) => part !== null && part !== undefined).map((part) => (typeof part === "string" ? visible(part) : part)));
+  return it;
+}
+
+/** A part of a drawing. */
+function draw(tag, attributes, ...parts) {
+  const it = document.createElementNS("http://www.w3.org/2000/svg", tag);
+  Object.entries(attributes).forEach(([name, value]) => it.setAttribute(name, value));
+  it.append(...parts);
   return it;
 }
 
@@ -54,21 +65,38 @@ function kindOf(film, at) {
   return found ? found[0] : event.changes[`display ${event.terminal}`]?.length === 0 ? "" : event.changes[`display ${event.terminal}`] ? "stopped" : "";
 }
 
+const NOTHING = [];
+
 class Film {
   constructor(data) {
     this.data = data;
     this.states = statesOf(data);
+    this.found = new WeakMap();
+    for (const it of Object.values(data.sources)) it.lines = data.script.slice(it.first - 1, it.first - 1 + it.count);
   }
   get length() {
     return this.data.events.length;
   }
   /** The lines that stand under a name after the event at a place; at -1 before the first. */
   lines(at, key) {
-    return this.states[Math.min(at, this.length - 1) + 1]?.shown[key] || [];
+    return this.states[Math.min(at, this.length - 1) + 1]?.shown[key] || NOTHING;
+  }
+  /** What the task of each terminal that has one waits for: nothing, or something, of which the owner is known or not. */
+  tasks(at) {
+    const lines = this.lines(at, "tasks");
+    if (!this.found.has(lines)) {
+      const live = lines.filter((line) => !line.endsWith(" NO TASK"));
+      this.found.set(lines, new Map(live.map((line) => [line.split(" ")[1], / WAITING FOR (?:.* OWNER (?<owner>\S+)$)?/.exec(line)])));
+    }
+    return this.found.get(lines);
+  }
+  owner(at, terminal) {
+    const owner = this.tasks(at).get(terminal)?.groups.owner;
+    return this.data.terminals.includes(owner) ? owner : null;
   }
   names(at, word) {
     const shown = this.states[Math.min(at, this.length - 1) + 1].shown;
-    return Object.keys(shown).filter((key) => key.startsWith(`${word} `)).sort();
+    return Object.keys(shown).filter((key) => key.startsWith(`${word} `)).sort((one, other) => one.localeCompare(other, "en", { numeric: true }));
   }
 }
 
@@ -108,7 +136,7 @@ const valueOf = (film, at, item) => VALUES[item.type](film, at, item);
 /** The place of the event that changed an item last, at or before a place; or next, after it. None: -1. */
 function changedAt(film, item, from, step) {
   for (let at = from; at >= 0 && at < film.length; at += step) {
-    if (valueOf(film, at, item) !== valueOf(film, at - 1, item)) return at;
+    if (film.lines(at, item.key) !== film.lines(at - 1, item.key) && valueOf(film, at, item) !== valueOf(film, at - 1, item)) return at;
   }
   return -1;
 }
@@ -147,23 +175,26 @@ function asked(element, film, item) {
   element.classList.add("asked");
   element.tabIndex = 0;
   element.title = "Who changed it? (click)";
-  element.dataset.item = JSON.stringify(item);
   const choose = () => {
     view.item = { film, item };
     show();
+    focusSaid(0);
   };
   element.addEventListener("click", choose);
-  element.addEventListener("keydown", (event) => event.key === "Enter" && choose());
+  element.addEventListener("keydown", (event) => {
+    if (event.key !== "Enter") return;
+    event.preventDefault();
+    choose();
+  });
   return element;
 }
 
 const isNew = (film, item) => valueOf(film, view.at, item) !== valueOf(film, view.at - 1, item);
 
+/** A screen of 24 rows of 80 columns; that of the event's terminal is framed. */
 function screenCard(film, key, title, own) {
-  const rows = rowsOf(film.lines(view.at, key));
-  const last = own ? 24 : Math.max(4, rows.findLastIndex((row) => row) + 1);
   const screen = make("div", "screen");
-  rows.slice(0, last).forEach((text, row) => {
+  rowsOf(film.lines(view.at, key)).forEach((text, row) => {
     const item = { type: "row", key, row };
     screen.append(asked(make("span", isNew(film, item) ? "row new" : "row", text || " "), film, item));
   });
@@ -172,24 +203,29 @@ function screenCard(film, key, title, own) {
   return it;
 }
 
-/** The lines of a look, each without its mark. */
-function linesCard(film, key, title) {
-  const lines = film.lines(view.at, key);
-  if (!lines.length) return null;
-  const before = film.lines(view.at - 1, key);
-  const text = make("pre", "lines");
-  lines.forEach((line, at) => text.append(make("span", before[at] === line ? "row" : "row new", line.replace(/^> /, ""))));
-  return asked2(card(title, text), film, { type: "whole", key });
+/** The lines of a look, each without its mark; those that have changed are marked. */
+function looked(film, key, isWanted = () => true) {
+  const [lines, before] = [view.at, view.at - 1].map((at) => film.lines(at, key).filter(isWanted));
+  return make("pre", "lines", ...lines.map((line, at) => make("span", before[at] === line ? "row" : "row new", line.replace(/^> /, ""))));
 }
 
-function asked2(it, film, item) {
-  asked(it.querySelector("h2"), film, item);
+function linesCard(film, key, title) {
+  if (!film.lines(view.at, key).length) return null;
+  const it = card(title, looked(film, key));
+  asked(it.firstChild, film, { type: "whole", key });
   return it;
+}
+
+/** The storage under a name, which a click shows. */
+function raw(film, key, isOpen = false) {
+  const details = make("details", "", make("summary", "", "Storage"), looked(film, key));
+  details.open = isOpen;
+  return details;
 }
 
 /** Scrolls a part of the page, and not the page, so that an element in it is seen. */
 function middle(part, element) {
-  const top = element ? element.offsetTop : 0;
+  const top = element ? element.getBoundingClientRect().top - part.getBoundingClientRect().top + part.scrollTop : 0;
   if (top < part.scrollTop || top > part.scrollTop + part.clientHeight - 30) part.scrollTop = top - part.clientHeight / 2;
 }
 
@@ -200,54 +236,69 @@ function endOf(lines, line) {
   return end;
 }
 
+/** The source at which a task is: what comes next, or is due, is marked; what this half-turn surely did is tinted. */
 function sourceCard(film, terminal) {
+  const event = film.data.events[view.at];
   const ran = film.states[view.at + 1]?.ran[terminal];
   const source = ran && film.data.sources[ran[0]];
   if (!source || !source.lines.length) return null;
   const text = make("pre", "source lines");
-  const live = film.data.events[view.at]?.ran;
-  const end = endOf(source.lines, ran[1]);
+  const passed = (event?.terminal === terminal && event.passed) || [];
+  const isOf = (first, line) => line >= first && line <= endOf(source.lines, first);
   source.lines.forEach((line, at) => {
-    const here = at + 1 >= ran[1] && at + 1 <= end;
-    text.append(make("span", here ? (live ? "row here" : "row ran") : "row", `${String(at + 1).padStart(5)}  ${line.slice(0, 72)}`));
+    const kind = event?.ran && isOf(ran[1], at + 1) ? "row here" : passed.concat(event?.ran ? [] : ran[1]).some((it) => isOf(it, at + 1)) ? "row ran" : "row";
+    text.append(make("span", kind, `${String(at + 1).padStart(5)}  ${line.slice(0, 72)}`));
   });
-  setTimeout(() => middle(text, text.querySelector(".here, .ran")), 0);
-  return card(`Source ${source.name}, line ${ran[1]}${live ? "" : ", where the task stood last"}`, text);
+  setTimeout(() => middle(text, text.querySelector(".here") || text.querySelector(".ran")), 0);
+  const what = !event?.ran ? ", where the task was last" : / Abended /.test(event.answer) ? ", where the task abended" : "";
+  return card(`Source ${source.name}, line ${ran[1]}${what}`, text);
 }
 
 const HEADS = ["Field", "Offset", "Bytes", "Characters", "Value"];
 
-function fieldsCard(film, terminal, key) {
-  const level = Number(key.split(" ")[2]);
-  const line = film.lines(view.at, `task ${terminal}`).find((it) => it.startsWith(`> LEVEL ${String(level).padStart(2, "0")} PROGRAM `));
-  const program = line?.split(" ")[4];
-  const source = film.data.sources[program];
+/** A table of fields by their names; those that aren't in what is shown of their storage are left out. */
+function fieldsTable(film, fields, key) {
   const digits = digitsOf(film.lines(view.at, key));
-  if (!source?.fields.length) return rawCard(film, key, `DFHEISTG of level ${level}`, true);
   const table = make("table", "", make("tr", "", ...HEADS.map((it) => make("th", "", it))));
-  for (const it of source.fields) {
+  for (const it of fields) {
     const bytes = digits.substr(2 * it.offset, 2 * it.length);
     if (bytes.length < 2 * it.length) continue;
     const item = { type: "field", key, offset: it.offset, length: it.length, name: it.name };
-    const cells = [it.name, it.offset.toString(16).toUpperCase().padStart(4, "0"), bytes, `'${characters(bytes)}'`, worded(it.type, bytes)];
+    const cells = [it.name, it.offset.toString(16).toUpperCase().padStart(4, "0"), bytes.replace(/.{8}(?=.)/g, "$& "), `'${characters(bytes)}'`, worded(it.type, bytes)];
     table.append(asked(make("tr", isNew(film, item) ? "new" : "", ...cells.map((text, k) => make("td", k === 2 || k === 3 ? "long" : "", text))), film, item));
   }
-  return card(`Fields of ${program}, level ${level} at ${terminal}`, table, rawDetails(film, key));
+  return table;
 }
 
-function rawDetails(film, key) {
-  const details = make("details", "", make("summary", "", "Storage"));
-  const before = film.lines(view.at - 1, key);
-  const text = make("pre", "lines");
-  film.lines(view.at, key).forEach((line, at) => text.append(make("span", before[at] === line ? "row" : "row new", line.replace(/^> /, ""))));
-  details.append(text);
-  return details;
+function fieldsCard(film, terminal, key) {
+  const level = Number(key.split(" ")[2]);
+  const line = film.lines(view.at, `task ${terminal}`).find((it) => it.startsWith(`> LEVEL ${String(level).padStart(2, "0")} PROGRAM `));
+  const source = film.data.sources[line?.split(" ")[4]];
+  if (!source?.fields.length) return card(`DFHEISTG of level ${level}`, raw(film, key, true));
+  return card(`Fields of ${source.name}, level ${level} at ${terminal}`, fieldsTable(film, source.fields, key), raw(film, key));
 }
 
-function rawCard(film, key, title, open) {
-  const details = rawDetails(film, key);
-  details.open = Boolean(open);
-  return film.lines(view.at, key).length ? card(title, details) : null;
+const NAMED = /^> FIELD \S+ '(.+)' AT ([0-9A-F]{6}) LENGTH (\d+) /;
+
+/** An area, with the fields that a base register in use has there. */
+function areaCard(film, terminal, key) {
+  const [, , area] = key.split(" ");
+  const it = linesCard(film, key, `Area ${area} of ${terminal}`);
+  const types = film.data.sources[film.states[view.at + 1]?.ran[terminal]?.[0]]?.types || {};
+  const named = film.lines(view.at, `fields ${terminal}`).map((line) => NAMED.exec(line)).filter((found) => found && types[found[1]]);
+  const fields = named.map(([, name, at, length]) => ({ name, offset: parseInt(at, 16) - parseInt(area, 16), length: Number(length), type: types[name] }));
+  const table = fieldsTable(film, fields.filter((field) => field.offset >= 0), key);
+  if (table.rows.length > 1) it.append(table);
+  return it;
+}
+
+/** The CWA, by the names that the program at a terminal has for it, or else another program. */
+function cwaCard(film, terminal) {
+  const sources = [film.data.sources[film.states[view.at + 1]?.ran[terminal]?.[0]], ...Object.values(film.data.sources)];
+  const source = sources.find((it) => it?.cwa.length);
+  if (!film.lines(view.at, "cwa").length) return null;
+  if (!source) return card("CWA", raw(film, "cwa"));
+  return card(`Fields of the CWA, as ${source.name} has them`, fieldsTable(film, source.cwa, "cwa"), raw(film, "cwa"));
 }
 
 function registersCard(film, terminal) {
@@ -263,81 +314,86 @@ function registersCard(film, terminal) {
     });
     table.append(make("tr", "", ...cells));
   }
-  const rest = film.lines(view.at, key).filter((line) => !/^> R\d\d /.test(line));
-  const levels = make("pre", "lines", ...rest.map((line) => make("span", "row", line.replace(/^> /, ""))));
-  return card(`Task at ${terminal}`, table, levels);
+  return card(`Task at ${terminal}`, table, looked(film, key, (line) => !/^> R\d\d /.test(line)));
 }
 
 /** Who waits for whom: an arrow from each waiting terminal to the owner of what it waits for. */
 function waitsCard(film) {
-  const lines = film.lines(view.at, "tasks");
-  if (!lines.length) return null;
-  const waits = lines.map((line) => /^> (\S+) .* WAITING FOR RESOURCE .* OWNER (\S+)$/.exec(line)).filter((it) => it && it[2] !== "--");
   const it = linesCard(film, "tasks", "Tasks");
-  if (!waits.length) return it;
   const names = film.data.terminals;
-  const svg = document.createElementNS("http://www.w3.org/2000/svg", "svg");
-  svg.setAttribute("class", "waits");
-  svg.setAttribute("width", String(90 * names.length));
-  svg.setAttribute("height", "70");
-  svg.setAttribute("role", "img");
-  svg.setAttribute("aria-label", waits.map((w) => `${w[1]} waits for ${w[2]}`).join(", "));
-  const put = (tag, attributes, text) => {
-    const part = document.createElementNS("http://www.w3.org/2000/svg", tag);
-    Object.entries(attributes).forEach(([name, value]) => part.setAttribute(name, value));
-    if (text) part.textContent = text;
-    svg.append(part);
-    return part;
-  };
-  const tip = put("marker", { id: "tip", viewBox: "0 0 8 8", refX: 7, refY: 4, markerWidth: 7, markerHeight: 7, orient: "auto" });
-  tip.append(put("path", { d: "M 0 0 L 8 4 L 0 8 z", class: "tip" }));
+  const waits = names.map((name) => [name, film.owner(view.at, name)]).filter(([, owner]) => owner);
+  if (!it || !waits.length) return it;
+  const label = waits.map(([waiter, owner]) => `${waiter} waits for ${owner}`).join(", ");
+  const svg = draw("svg", { class: "waits", width: 90 * names.length, height: 70, viewBox: `0 0 ${90 * names.length} 70`, role: "img", "aria-label": label });
   const x = (name) => 40 + 90 * names.indexOf(name);
-  names.forEach((name) => put("text", { x: x(name) - 16, y: 38 }, name));
-  for (const [, waiter, owner] of waits) {
-    const [from, to] = [x(waiter), x(owner)];
+  svg.append(...names.map((name) => draw("text", { x: x(name) - 16, y: 38 }, name)));
+  for (const [from, to] of waits.map(([waiter, owner]) => [x(waiter), x(owner)])) {
     const [y, bend] = from < to ? [24, 2] : [46, 68];
-    put("path", { class: "wait", d: `M ${from} ${y} Q ${(from + to) / 2} ${bend} ${to} ${y}`, "marker-end": "url(#tip)" });
+    svg.append(draw("path", { class: "wait", d: `M ${from} ${y} Q ${(from + to) / 2} ${bend} ${to} ${y}`, "marker-end": "url(#tip)" }));
   }
   it.append(svg);
   return it;
 }
 
-/** The cards of a film at the event that is chosen: the event's terminal first. */
+/** The cards of a film at the event that is chosen, by their areas: what is seen at its terminal; its program; data; other screens. */
 function cardsOf(film) {
-  const event = film.data.events[Math.min(view.at, film.length - 1)];
-  const terminal = event?.terminal || film.data.terminals[0];
-  const order = [terminal, ...film.data.terminals.filter((it) => it !== terminal)].filter(Boolean);
-  const cards = order.map((it) => screenCard(film, `screen ${it}`, `Screen of ${it}`, it === terminal && film.data.terminals.length < 4));
-  if (film.lines(view.at, `display ${terminal}`).length) cards.splice(1, 0, screenCard(film, `display ${terminal}`, `EDF at ${terminal}`, false));
-  cards.push(linesCard(film, `abend ${terminal}`, `Last abend at ${terminal}`), sourceCard(film, terminal));
-  cards.push(linesCard(film, `command ${terminal}`, `Command that is due at ${terminal}`));
-  cards.push(...film.names(view.at, `storage ${terminal}`).reverse().map((key) => fieldsCard(film, terminal, key)));
-  cards.push(registersCard(film, terminal), waitsCard(film), linesCard(film, "resources", "Resources"), linesCard(film, "queues", "Queues"));
-  cards.push(...film.names(view.at, "queue").map((key) => linesCard(film, key, `Queue ${key.slice(6)}`)), rawCard(film, "cwa", "CWA"));
-  return cards.filter(Boolean);
+  const terminals = film.data.terminals;
+  const terminal = film.data.events[Math.min(view.at, film.length - 1)]?.terminal || terminals[0];
+  const has = (key) => film.lines(view.at, key).length;
+  const lines = (key, title) => linesCard(film, key, title);
+  const seen = [terminal && screenCard(film, `screen ${terminal}`, `Screen of ${terminal}`, true), has(`display ${terminal}`) && screenCard(film, `display ${terminal}`, `EDF at ${terminal}`)];
+  const program = [lines(`abend ${terminal}`, `Last abend at ${terminal}`), lines(`command ${terminal}`, `Command that is due at ${terminal}`), sourceCard(film, terminal)];
+  const fields = film.names(view.at, `storage ${terminal}`).reverse().map((key) => fieldsCard(film, terminal, key));
+  const queues = film.names(view.at, "queue").map((key) => lines(key, `Queue ${key.slice(6)}`));
+  const gotten = film.names(view.at, `area ${terminal}`).map((key) => areaCard(film, terminal, key));
+  const data = [...fields, ...gotten, registersCard(film, terminal), waitsCard(film), lines("resources", "Resources"), cwaCard(film, terminal),
+    lines("queues", "Queues"), ...queues];
+  const others = terminals.filter((it) => it !== terminal).flatMap((it) => [screenCard(film, `screen ${it}`, `Screen of ${it}`),
+    has(`display ${it}`) && screenCard(film, `display ${it}`, `EDF at ${it}`)]);
+  const areas = { [seen[1] ? "seen both" : "seen"]: seen, program, data, others };
+  return Object.entries(areas).map(([area, cards]) => make("div", area, ...cards.filter(Boolean)));
 }
 
 // ---- the time line
 
-function timeLine(film) {
-  const list = make("ol");
-  film.data.events.forEach((event, at) => {
-    for (const note of event.comments || []) list.append(make("li", "note", note));
-    const lanes = film.data.terminals.map((it) => (it === event.terminal ? "●" : isWaiting(film, at, it) ? "~" : "·")).join("");
-    const answer = event.answer.startsWith(event.text.split(" ").slice(0, 2).join(" ")) ? event.answer.split(" ").slice(2).join(" ") : event.answer;
-    const button = make("button", `event ${kindOf(film, at)}`, make("span", "lanes", lanes), make("span", "what", `${event.text}: ${answer}`));
-    button.type = "button";
-    button.addEventListener("click", () => go(at));
-    list.append(make("li", "", button));
-  });
-  const it = make("nav", "time", list);
-  it.setAttribute("aria-label", "Time line");
-  film.buttons = [...list.querySelectorAll("button")];
-  if (film.data.fault) list.append(make("li", "note", `Line ${film.data.fault[0]}: ${film.data.fault[1]}: ${film.data.script[film.data.fault[0] - 1] || ""}`));
-  return it;
+/** How wide a lane is, in pixels. */
+const laneOf = (film) => (film.data.terminals.length > 6 ? 8 : 13);
+
+/** The lanes at an event: a line for each terminal with a task, broken while that waits; a dot at the event's; an arrow to who is waited for. */
+function lanesOf(film, at, terminal) {
+  const [names, lane] = [film.data.terminals, laneOf(film)];
+  const x = (name) => 8 + lane * names.indexOf(name);
+  const svg = draw("svg", { class: "lanes", width: 4 + lane * names.length, height: "100%", "aria-hidden": "true" });
+  for (const [name, wait] of film.tasks(at)) svg.append(draw("line", { class: wait ? "lane waits" : "lane", x1: x(name), x2: x(name), y1: 0, y2: "100%" }));
+  if (names.includes(terminal)) svg.append(draw("circle", { cx: x(terminal), cy: 9, r: lane > 8 ? 4 : 3 }));
+  const owner = film.owner(at, terminal);
+  if (owner && owner !== terminal) {
+    const [from, to, way] = [x(terminal), x(owner), Math.sign(x(owner) - x(terminal))];
+    svg.append(draw("path", { class: "wait", d: `M ${from} 9 H ${to} m ${-4 * way} -3 l ${4 * way} 3 l ${-4 * way} 3` }));
+  }
+  return svg;
 }
 
-const isWaiting = (film, at, terminal) => film.lines(at, "tasks").some((line) => line.startsWith(`> ${terminal} `) && line.includes(" WAITING FOR "));
+function timeLine(film) {
+  const list = make("ol");
+  film.buttons = film.data.events.map((event, at) => {
+    const answer = event.answer.startsWith(event.text.split(" ").slice(0, 2).join(" ")) ? event.answer.split(" ").slice(2).join(" ") : event.answer;
+    const owner = film.owner(at, event.terminal);
+    const what = make("span", "what", `${event.text}: ${answer}${!owner ? "" : answer === "Waiting" ? ` for ${owner}` : `, waits for ${owner}`}`);
+    const button = make("button", `event ${kindOf(film, at)}`, lanesOf(film, at, event.terminal), what);
+    button.type = "button";
+    button.style.paddingLeft = `${10 + laneOf(film) * film.data.terminals.length}px`;
+    button.addEventListener("click", () => go(at));
+    list.append(...(event.comments || []).map((note) => make("li", "note", note)), make("li", "", button));
+    return button;
+  });
+  const fault = film.data.fault;
+  if (fault) list.append(make("li", "note fault", `Line ${fault[0]}: ${fault[1]}: ${film.data.script[fault[0] - 1] || ""}`));
+  const heads = film.data.terminals.map((it) => make("span", "", it));
+  const it = make("nav", laneOf(film) > 8 ? "time" : "time narrow", make("div", "heads", ...heads), list);
+  it.setAttribute("aria-label", "Time line");
+  return it;
+}
 
 // ---- going about
 
@@ -358,16 +414,25 @@ function changesOf() {
   const { film, item } = view.item;
   const before = changedAt(film, item, Math.min(view.at, film.length - 1), -1);
   const next = changedAt(film, item, view.at + 1, 1);
-  const button = (text, at) => {
+  const button = (text, at, place) => {
     const it = make("button", "", text);
     it.disabled = at < 0;
-    it.addEventListener("click", () => go(at));
+    it.addEventListener("click", () => {
+      go(at);
+      focusSaid(place);
+    });
     return it;
   };
   const said = (at) => (at < 0 ? "none" : `event ${at + 1}, ${film.data.events[at].text}`);
   const earlier = before === view.at ? changedAt(film, item, view.at - 1, -1) : before;
-  return make("span", "changed", `${itemName(item)} changed by: `, button(`< ${said(earlier)}`, earlier),
-    before === view.at ? make("strong", "", "this event") : null, button(`${said(next)} >`, next));
+  return make("span", "changed", `${itemName(item)} changed by: `, button(`< ${said(earlier)}`, earlier, 0),
+    before === view.at ? make("strong", "", "this event") : null, button(`${said(next)} >`, next, 1));
+}
+
+/** Gives one of these buttons the focus, or the other one, so that Enter goes on from event to event. */
+function focusSaid(place) {
+  const buttons = [...byId("said").querySelectorAll("button")];
+  [buttons[place], ...buttons].find((it) => it && !it.disabled)?.focus();
 }
 
 function show() {
@@ -386,19 +451,21 @@ function show() {
   byId("said").replaceChildren(view.item ? changesOf() : "Click a field, a register, a queue or a row of a screen to see which event changed it.");
 }
 
-/** Goes to the next event that has a text, in its line, its answer or its comments; after `screen:` on a screen. */
+/** Whether an event has a text, in its line, its answer or its comments; after `screen:` whether it brings it to a screen. */
+function hasText(film, at, text) {
+  const onScreen = /^SCREEN: */.exec(text);
+  const wanted = onScreen ? text.slice(onScreen[0].length) : text;
+  const event = film.data.events[at];
+  const isNewOn = (key) => film.lines(at, key) !== film.lines(at - 1, key) && rowsOf(film.lines(at, key)).join("\n").toUpperCase().includes(wanted);
+  if (onScreen) return film.names(at, "screen").some(isNewOn);
+  return [event.text, event.answer, ...(event.comments || [])].some((it) => it.toUpperCase().includes(wanted));
+}
+
+/** Goes to the next event that has a text, in one of the films; after the last one comes the first. */
 function find(text) {
-  const film = view.films[0];
-  const onScreen = /^screen: */i.exec(text);
-  const wanted = (onScreen ? text.slice(onScreen[0].length) : text).toUpperCase();
-  const has = (at) => {
-    const event = film.data.events[at];
-    if (onScreen) return film.names(at, "screen").some((key) => film.lines(at, key).join("\n").toUpperCase().includes(wanted));
-    return [event.text, event.answer, ...(event.comments || [])].some((it) => it.toUpperCase().includes(wanted));
-  };
-  for (let step = 1; step <= film.length; step += 1) {
-    const at = (view.at + step) % film.length;
-    if (has(at)) return go(at);
+  for (let step = 1; step <= length(); step += 1) {
+    const at = (view.at + step) % length();
+    if (view.films.some((film) => at < film.length && hasText(film, at, text.toUpperCase()))) return go(at);
   }
   byId("said").textContent = `Nothing has ${text}`;
 }
@@ -428,13 +495,14 @@ async function copy() {
   byId("said").textContent = "Copied.";
 }
 
-/** The place of the first event at which two films differ, in what was answered or on a screen; -1: none. */
+/** What a run shows outside after an event: screens, and queues with their items. */
+const outside = (film, at) => ["screen", "queue"].flatMap((word) => film.names(at, word).map((key) => `${key} ${film.lines(at, key).join("\n")}`)).join("\n");
+
+/** The place of the first event at which two films differ, in what was answered, on a screen or in a queue; -1: none. */
 function firstDifference([one, other]) {
   for (let at = 0; at < Math.max(one.length, other.length); at += 1) {
     const [a, b] = [one.data.events[at], other.data.events[at]];
-    if (!a || !b || a.answer !== b.answer) return at;
-    const key = `screen ${a.terminal}`;
-    if (one.lines(at, key).join("\n") !== other.lines(at, key).join("\n")) return at;
+    if (!a || !b || a.answer !== b.answer || outside(one, at) !== outside(other, at)) return at;
   }
   return -1;
 }

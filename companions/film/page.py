@@ -1,4 +1,4 @@
-"""Makes the page of a film: one file of HTML, with its data as JSON, its script and its style."""
+"""Makes the page of films: one file of HTML, with its data as JSON, its script and its style."""
 from __future__ import annotations
 
 import json
@@ -7,9 +7,10 @@ from dataclasses import asdict
 from typing import Any
 
 from film.camera import Event, Film, Lines, Shown
+from film.sources import Source
 
 FOLDER = os.path.dirname(os.path.abspath(__file__))
-MOST_BYTES = 30_000_000
+MOST_BYTES = 30_000_000  # of a page
 
 
 def patch_of(before: Lines, now: Lines) -> Lines | dict[str, str]:
@@ -22,7 +23,7 @@ def patch_of(before: Lines, now: Lines) -> Lines | dict[str, str]:
 
 
 def changes_of(shown: Shown, event: Event) -> dict[str, Lines | dict[str, str]]:
-    """An event's changes as the page has them; `shown` is what stood before, and is brought up to it."""
+    """An event's changes as the page has them; `shown` is what was there before, and is brought up to it."""
     found = {key: patch_of(shown.get(key, []), lines) for key, lines in event.changes.items()}
     shown.update(event.changes)
     return found
@@ -30,10 +31,16 @@ def changes_of(shown: Shown, event: Event) -> dict[str, Lines | dict[str, str]]:
 
 def event_data(shown: Shown, event: Event) -> dict[str, Any]:
     data: dict[str, Any] = {"line": event.line, "text": event.text, "answer": " ".join(event.answer), "changes": changes_of(shown, event)}
-    for key, value in (("turn", event.turn), ("terminal", event.terminal), ("comments", event.comments), ("ran", event.ran)):
-        if value:
+    for key in ("turn", "terminal", "comments", "ran", "passed"):
+        if value := getattr(event, key):
             data[key] = value
     return data
+
+
+def source_data(source: Source) -> dict[str, Any]:
+    """What the page knows of a source, whose lines are the script's."""
+    fields = {key: [asdict(it) for it in found] for key, found in (("fields", source.fields), ("cwa", source.cwa))}
+    return {"name": source.name, "first": source.first, "count": len(source.lines), "types": source.types, **fields}
 
 
 def film_data(film: Film) -> dict[str, Any]:
@@ -45,10 +52,42 @@ def film_data(film: Film) -> dict[str, Any]:
         "leftOut": film.left_out,
         "before": film.before,
         "terminals": film.terminals,
-        "sources": {name: asdict(source) for name, source in film.sources.items()},
+        "sources": {name: source_data(source) for name, source in film.sources.items()},
         "fault": film.fault,
         "events": [event_data(shown, event) for event in film.events],
     }
+
+
+def json_of(data: object) -> str:
+    """JSON of ASCII characters alone, without `<`: so nothing in it is markup."""
+    return json.dumps(data, separators=(",", ":"), ensure_ascii=True).replace("<", "\\u003c")
+
+
+def without_first(film: Film, count: int) -> None:
+    """Leaves out the first events of a film."""
+    for event in film.events[:count]:
+        film.before = {**film.before, **event.changes}
+    film.before = {key: lines for key, lines in film.before.items() if lines}
+    film.events, film.left_out = film.events[count:], film.left_out + count
+
+
+def excess(film: Film, most: int) -> int:
+    """How many of a film's first events are too many for a number of bytes."""
+    data = film_data(film)
+    sizes = [len(json_of(event)) + 1 for event in data["events"]]
+    left, count = sum(sizes) + len(json_of({**data, "events": []})) - most, 0
+    while left > 0 and count < len(sizes):
+        left, count = left - sizes[count], count + 1
+    return count
+
+
+def fit(film: Film, most: int) -> int:
+    """Leaves out the first events, where a film takes more bytes than it may; returns how many."""
+    left_out = 0
+    while count := excess(film, most):
+        without_first(film, count)
+        left_out += count
+    return left_out
 
 
 def part(name: str) -> str:
@@ -56,10 +95,10 @@ def part(name: str) -> str:
         return file.read()
 
 
-def page_of(films: list[Film]) -> str:
-    """The page. No text of the films is markup: `<` is escaped in the JSON, which is data and never run."""
-    data = json.dumps([film_data(it) for it in films], separators=(",", ":"), ensure_ascii=True).replace("<", "\\u003c")
+def page_of(films: list[Film]) -> tuple[str, list[int]]:
+    """The page, and how many of each film's first events it has no room for."""
+    left_out = [fit(it, MOST_BYTES // len(films) - (1 << 16)) for it in films]
     page = part("page.html")
-    for name, text in (("STYLE", part("page.css")), ("SCRIPT", part("page.js")), ("DATA", data)):
+    for name, text in (("STYLE", part("page.css")), ("SCRIPT", part("page.js")), ("DATA", json_of([film_data(it) for it in films]))):
         page = page.replace(f"/*{name}*/", text, 1)
-    return page
+    return page, left_out

@@ -7,8 +7,9 @@ from dataclasses import dataclass, field
 BLOCKS = ("IMAGE", "SOURCE", "FAULTS", "ORDERS")
 EVENTS = ("IMAGE", "SOURCE", "TRANSACTION", "TERMINAL", "CLOCK", "KEY", "TURN", "EDF", "ALTER", "RUN")
 RUN = re.compile(r"RUN ([A-Z0-9@#$]{1,4})(?: ([1-9][0-9]{0,3}))?")
+SOURCE = re.compile(r"SOURCE ([A-Z0-9@#$]{1,8})( DISASM)?")  # without LIST
 RUN_TURNS = 1_000  # of a RUN without a number
-MOST_TURNS = 4_096
+MOST_TURNS, LONGEST = 4_096, 4_096  # of a RUN; bytes of a line
 
 
 @dataclass
@@ -21,7 +22,7 @@ class Action:
 
     @property
     def text(self) -> str:
-        return self.lines[0].rstrip("\r")
+        return self.lines[0].removesuffix("\r")
 
     @property
     def word(self) -> str:
@@ -40,7 +41,7 @@ class Action:
     @property
     def is_open(self) -> bool:
         """Whether it is a block that isn't ended."""
-        return self.word in BLOCKS and (len(self.lines) < 2 or self.lines[-1].rstrip("\r") != "/*")
+        return self.word in BLOCKS and (len(self.lines) < 2 or self.lines[-1].removesuffix("\r") != "/*")
 
     @property
     def turns(self) -> int | None:
@@ -48,6 +49,15 @@ class Action:
         found = RUN.fullmatch(self.text)
         turns = int(found[2] or RUN_TURNS) if found else 0
         return turns if 0 < turns <= MOST_TURNS else None
+
+
+def decoded(data: bytes) -> str:
+    """A script's text. Bytes that are no UTF-8 come back as they were from `encoded`."""
+    return data.decode("utf-8", "surrogateescape")
+
+
+def encoded(text: str) -> bytes:
+    return text.encode("utf-8", "surrogateescape")
 
 
 def lines_of(text: str) -> list[str]:
@@ -62,11 +72,11 @@ def actions_of(text: str) -> list[Action]:
     comments: list[str] = []
     block: Action | None = None
     for number, line in enumerate(lines_of(text), 1):
-        bare = line.rstrip("\r")
+        bare = line.removesuffix("\r")
         if block:
             block.lines.append(line)
             block = None if bare == "/*" else block
-        elif bare.startswith("*") or not bare:
+        elif (bare.startswith("*") or not bare) and len(encoded(bare)) <= LONGEST:
             comments += [bare.lstrip("*").strip()] if bare else []
         else:
             found.append(Action(number, [line], comments))

@@ -1,4 +1,4 @@
-"""What cics-same tells of two versions of programs, beyond what examples/same-test sees: several sources, two scripts, queues, test
+"""What cics-same tells of two versions of programs, beyond what checks/same-test sees: several sources, two scripts, queues, test
 data."""
 from tests.calling import Call, failures_of
 

@@ -63,6 +63,8 @@ INPUTS = [
           ["old.asm:2: left: COPY A: no such file in m"]),
     Input("COPY in a circle", {"old.asm": b"P        CSECT\n         COPY  A\n         END\n", "m/A": b"         COPY  B\n", "m/B": b"         COPY  A\n"},
           ["old.asm", "--copy", "m"], 1, None, ["old.asm:2: changed: COPY A is now the lines of m/A", "m/A:1: changed: COPY B is now the lines of m/B", "m/B:1: left: COPY A: in a circle, A in B in A"]),
+    Input("COPY in 51 members", {"old.asm": b"P        CSECT\n         COPY  A0\n         END\n", **{f"m/A{at}": b"         COPY  A%d\n" % (at + 1) for at in range(60)}},
+          ["old.asm", "--copy", "m"], 1, None, ["changed"] * 50 + ["m/A49:1: left: COPY A50: more than 50 members in one another"]),
     Input("10,001 lines", {"old.asm": b"P        CSECT\n" + b"         BER   14\n" * 9999 + b"         END\n"}, ["old.asm"], 1, None,
           ["changed"] * 9999 + ["old.asm:10001: left: the source has more than 10000 lines"]),
 ]

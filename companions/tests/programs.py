@@ -1,5 +1,6 @@
 """Programs as shops have them, in examples/adapt: what is told of each is the list that is kept, and without the statements that are left
-the new source has no fault. A second time nothing changes. With the old text kept the statements are the same."""
+the new source has no fault. A second time nothing changes. With the old text kept the statements are the same. And sources that are
+accepted as they are stay so: those of the lessons and of examples/sources, but for what means something else there."""
 import glob
 import os
 
@@ -11,6 +12,8 @@ from cics.sources import SourceText, read_source
 from cics.statements import Statement
 
 FOLDER = os.path.join(TOP, "examples/adapt")
+ACCEPTED = os.path.join(TOP, "examples")
+TOLD = {"lessons/03-link/price": 3, "sources/absent-output": 1, "sources/without-an-end": 1, "sources/without-lines": 1}  # of accepted ones
 WRITE = "; write: "  # what follows it in a line that is told is from a page of the manual
 
 
@@ -61,7 +64,36 @@ def of_program(path: str, cicslook: str) -> list[str]:
     return wrong
 
 
+def blocks_of(path: str) -> list[list[str]]:
+    """The sources of a script."""
+    found: list[list[str]] = []
+    is_inside = False
+    for line in lines_of(read(path).decode()):
+        if line.startswith("SOURCE "):
+            is_inside = True
+            found.append([])
+        elif line == "/*":
+            is_inside = False
+        elif is_inside:
+            found[-1].append(line)
+    return found
+
+
+def of_accepted() -> list[str]:
+    """Scripts whose sources are changed, or of which more is told than is due."""
+    wrong = []
+    for path in sorted(glob.glob(f"{ACCEPTED}/lessons/*/*.script") + glob.glob(f"{ACCEPTED}/sources/*.script")):
+        name = path.removeprefix(f"{ACCEPTED}/").removesuffix(".script")
+        results = {tuple(block): adapted(SourceText(block), "OLD.asm", []) for block in blocks_of(path)}
+        count = sum(len(result.log.told) for result in results.values())
+        changed = [block for block, result in results.items() if list(block) != result.lines()]
+        if count != TOLD.get(name, 0) or changed and name not in TOLD:
+            wrong.append(f"{name}: {count} lines told, {len(changed)} sources changed")
+    return wrong
+
+
 def failures(cicslook: str) -> list[str]:
     paths = kept_lists()
     found = [failure for path in paths for failure in of_program(path, cicslook)]
+    found += of_accepted()
     return found if len(paths) >= 7 else [*found, f"only {len(paths)} programs stand in {FOLDER}"]

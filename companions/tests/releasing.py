@@ -1,12 +1,13 @@
 """The archive of a release: the same content gives the same bytes; from it alone, in an empty folder where the PATH has nothing but
-coreutils and Python, the first lesson runs, and the companions do; its sums are those of its files, and pages of man and the completion
-have each option."""
+coreutils and Python, the first lesson runs, and the companions do; its sums are those of its files, each link of the manual's one page
+within it leads to a place of it, and pages of man and the completion have each option."""
 import glob
 import io
 import os
 import re
 import shutil
 import subprocess
+import sys
 import tarfile
 import tempfile
 from dataclasses import dataclass
@@ -18,8 +19,9 @@ from cics.cli import Failure
 
 COREUTILS = ("cat", "cp", "dirname", "env", "ls", "mkdir", "rm", "sha256sum", "sort", "uname")
 FOLDER = "cicsedf-test"
+MANUAL = "docs/manual.html"
 LESSON = "examples/lessons/01-inquiry/inquiry"
-COMPANIONS = ("cics-adapt", "cics-check", "cics-run", "cics-same")
+COMPANIONS = ("cics-adapt", "cics-check", "cics-film", "cics-run", "cics-same", "cics-terminals")
 
 
 @dataclass(frozen=True)
@@ -31,6 +33,8 @@ class Command:
     has: str = ""
 
 
+OPTION = re.compile(r"(?<![\w-])--[a-z-]+")
+
 COMMANDS = [
     Command(["bin/cicslook", f"{LESSON}.script"], f"{LESSON}.transcript"),
     Command(["crates/cicslook/out/cicslook", f"{LESSON}.script"], f"{LESSON}.transcript"),
@@ -39,6 +43,8 @@ COMMANDS = [
     Command(["companions/cics-check", "examples/lessons/changing/pgm7.asm"]),
     Command(["companions/cics-run", "examples/lessons/changing/pgm7.asm", "--tran", "TICK=PGM7", "--key", "TICK"], has="01|TICKET 00001"),
     Command(["examples/same", "examples/lessons/changing/pgm7.script", "PGM7", *["examples/lessons/changing/pgm7.asm"] * 2], has="after each of 2 keys"),
+    Command(["companions/cics-film", f"{LESSON}.script", "-o", "-"], has="</html>"),
+    Command(["companions/cics-terminals", "--version"], has="cics-terminals "),
     Command(["sha256sum", "-c", "--quiet", "SHA256SUMS"]),
 ]
 
@@ -72,8 +78,9 @@ def failure_of(command: Command, folder: str, path: str) -> str | None:
 
 def failures_unpacked(archive: bytes) -> list[str]:
     with tempfile.TemporaryDirectory() as folder, tempfile.TemporaryDirectory() as path:
-        for name in (*COREUTILS, "python3", "sh"):
+        for name in COREUTILS:
             os.symlink(os.path.realpath(shutil.which(name) or f"/bin/{name}"), os.path.join(path, name))
+        os.symlink(os.path.realpath(sys.executable), os.path.join(path, "python3"))
         with tarfile.open(fileobj=io.BytesIO(archive)) as file:
             file.extractall(folder)
         found = [failure_of(command, os.path.join(folder, FOLDER), path) for command in COMMANDS]
@@ -81,8 +88,26 @@ def failures_unpacked(archive: bytes) -> list[str]:
 
 
 def options_of(companion: str) -> set[str]:
-    ran = subprocess.run([os.path.join(TOP, "companions", companion), "--help"], capture_output=True, text=True, check=False)
-    return set(re.findall(r"(?<![\w-])--[a-z]+", ran.stdout.partition("options:")[2])) - {"--help"}
+    command = os.path.join(TOP, "companions", companion)
+    ran = subprocess.run([command, "--help"], capture_output=True, text=True, check=False)
+    return set(OPTION.findall(ran.stdout.partition("options:")[2])) - {"--help"} | {"--version"}
+
+
+def failures_of_links(page: bytes) -> list[str]:
+    """Links of the manual's one page to places that it doesn't have."""
+    text = page.decode()
+    places = set(re.findall(r'id="([^"]*)"', text))
+    return [f"the manual's one page has no place {link}" for link in sorted(set(re.findall(r'href="#([^"]*)"', text)) - places)]
+
+
+def failures_of_versions() -> list[str]:
+    """Companions that don't say which version they are."""
+    due = read(os.path.join(TOP, "VERSION")).decode()
+    wrong = []
+    for companion in COMPANIONS:
+        ran = subprocess.run([os.path.join(TOP, "companions", companion), "--version"], capture_output=True, text=True, check=False)
+        wrong += [] if ran.stdout == f"{companion} {due}" else [f"{companion} --version: {ran}"]
+    return wrong
 
 
 def failures_of_pages() -> list[str]:
@@ -92,7 +117,7 @@ def failures_of_pages() -> list[str]:
     for companion in COMPANIONS:
         options = options_of(companion)
         line = next((line for line in lines_of(completion) if line.strip().startswith(f"{companion})")), "")
-        if set(re.findall(r"--[a-z]+", line)) - {"--help"} != options:
+        if set(OPTION.findall(line)) - {"--help"} != options:
             wrong.append(f"the completion of {companion}: {line.strip()}, where due is {sorted(options)}")
         page = read(os.path.join(TOP, f"docs/man/{companion}.1")).decode().replace("\\-", "-")
         lacking = {option for option in options if option not in page} - {"--cicsedf"}
@@ -113,7 +138,8 @@ def failures_of_others() -> list[str]:
 def failures(cicslook: str) -> list[str]:
     contents = contents_of(cicslook)
     archive = packed(FOLDER, contents, 500_000_000)
-    wrong = failures_unpacked(archive) + failures_of_pages() + failures_of_others()
+    wrong = failures_unpacked(archive) + failures_of_pages() + failures_of_versions() + failures_of_others()
+    wrong += [failure for one in contents if one.path == MANUAL for failure in failures_of_links(one.data)]
     if packed(FOLDER, list(reversed(contents)), 500_000_000) != archive:
         wrong.append("the same content gives other bytes")
     if shutil.which("objdump") and not needed_of(cicslook):

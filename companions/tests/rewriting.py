@@ -1,5 +1,5 @@
 """What cics-adapt makes of statements: their lines, and the offsets, bytes and length attributes that the assembler's manual gives the
-old form, worked out by hand, against those that the program gives the new one."""
+old form, worked out by hand, against those that the program gives the new one; and what a program in the old form shows when it is run."""
 from dataclasses import dataclass, field
 
 from cics.adapting import Adapted, adapted
@@ -36,9 +36,11 @@ CASES = [
          ["A        DC    A(F),A(G)", "         DC    A(F),A(G),A(F),A(G)", "         DC    0A(F)"]),
     Case("several numbers", ["A        DC    F'1,2',2HL1'3,4'", "B        DC    P'1,-22222'"],
          ["A        DC    F'1',F'2',HL1'3',HL1'4',HL1'3',HL1'4'", "B        DC    P'1',P'-22222'"]),
-    Case("several in a literal", ["         L     4,=A(F,G)", "         L     5,=F'1,2'"], [], ["several values in a literal", "several values in a literal"]),
+    Case("several in a literal", ["         L     4,=A(F,G)", "         L     5,=F'1,2'"], [], ["several values in a literal; write: a DC of them", "several values in a literal; write: a DC of them"]),
     Case("a duplicated place", ["A        DC    2A(*)", "B        DC    2A(F,*)"], [], ["a duplicated place", "a duplicated place"]),
     Case("a table of its own places", ["T        DC    4AL1(*-T)"], ["T        DC    X'00',X'010203'"]),
+    Case("tables of its own fullwords and halfwords", ["B        DC    X'00'", "T        DC    2A(T-*)", "C        DC    X'00'", "U        DC    2Y(U-*)"],
+         ["B        DC    X'00'", "T        DC    F'0',X'FFFFFFFC'", "C        DC    X'00'", "         DS    0H", "U        DC    X'0000',X'FFFE'"]),
     Case("another table's places", ["T        DC    X'00'", "U        DC    4AL1(*-T)"], [], ["a duplicated place"]),
     Case("factors", ["A        DC    (N)X'00',CL(N+1)' '   TWO", "B        DS    (LEN/N)CL(L'F-N/3)"],
          ["A        DC    4X'00',CL5' '         (N)X'00',CL(N+1)' ' TWO", "B        DS    20CL7                   (LEN/N)CL(L'F-N/3)"]),
@@ -93,6 +95,8 @@ CASES = [
          ["         EXEC  CICS HANDLE CONDITION QIDERR(F)   NO QUEUE".ljust(71) + "X", "               ERROR(G)".ljust(71) + "X", "               ITEMERR(W)   THE LAST ONE"],
          ["*        NO QUEUE", "*        THE LAST ONE", "         EXEC  CICS HANDLE CONDITION QIDERR(F)".ljust(71) + "X", "               ERROR(G)".ljust(71) + "X",
           "               ITEMERR(W)"]),
+    Case("a command's line that becomes full", ["         EXEC CICS WRITEQ TS    QUEUE(F) LENGTH(8) ITEM(W) NOHANDLE".ljust(71) + "X", "               FROM(F)"],
+         ["         EXEC CICS WRITEQ TS    QUEUE(F) LENGTH(=H'8') ITEM(W) NOHANDLEX", "                FROM(F)"]),
     Case("what is no remark", ["         EXEC  CICS SEND TEXT FROM(F) LENGTH(W)  ERASSE(X)", "         EXEC  CICS SEND TEXT FROM(F) LENGTH(W) HELLO",
                                "         EXEC  CICS SEND TEXT FROM(F) LENGTH(W)  ALARM",
                                "         EXEC  CICS SEND TEXT FROM(F) LENGTH(W)  ERAS ERASE"], [],
@@ -102,11 +106,53 @@ CASES = [
          ["         EXEC  CICS HANDLE AID PF3(F)", "         EXEC  CICS SEND MAP('M')", "         EXEC  CICS READ DATASET('D') INTO(F)",
           "         EXEC  CICS ADDRESS TWA(5)", "         EXEC  CICS HANDLE CONDITION MAPFAIL(F)"], [],
          ["compare EIBAID", "SEND MAP", "READQ TS", "TWA: no option", "MAPFAIL: no condition"]),
+    Case("type Y several times, and without bytes", ["A        DC    2Y(1,2)", "B        DS    0Y", "         DC    0Y(5)"],
+         ["         DS    0H", "A        DC    AL2(1),AL2(2),AL2(1),AL2(2)", "B        DS    0H", "         DS    0H", "         DC    0AL2(5)"]),
+    Case("several digits", ["A        DC    X'01,0203',B'1,10000000',PL3'1,2'"], ["A        DC    X'01',X'0203',B'1',B'10000000',PL3'1',PL3'2'"]),
+    Case("several places", ["A        DC    A(*,*)", "B        DC    2A(*-B,5)", "D        DC    2A(*-F,5)"],
+         ["A        DC    A(*),A(*)", "B        DC    2A(*-B,5)", "D        DC    2A(*-F,5)"], ["a duplicated place", "a duplicated place"]),
+    Case("factors of DS and of literals", ["A        DS    (2)CL(N-1)", "         L     4,=(2)F'1'", "         MVC   F,=CL(L'F)'Z'"],
+         ["A        DS    2CL3                    (2)CL(N-1)", "         L     4,=2F'1'                =(2)F'1'",
+          "         MVC   F,=CL8'Z'               =CL(L'F)'Z'"]),
+    Case("expressions of other operands",
+         ["         SRL   4,2*2", "         BCR   2*4,14", "         CLI   F,2*3", "         USING P+2*4,5", "         LA    1,2*L'F(2)", "         LA    1,(4)(2)",
+          "         LA    1,F+(N-1)", "         LA    1,-(1-5)", "         CLI   F,C'A'+1"],
+         ["         SRL   4,4                     2*2", "         BCR   8,14                    2*4", "         CLI   F,6                     2*3",
+          "         USING P+8,5                   P+2*4", "         LA    1,16(2)                 2*L'F(2)", "         LA    1,4(2)                  (4)(2)",
+          "         LA    1,F+N-1                 F+(N-1)", "         LA    1,4                     -(1-5)", "         CLI   F,C'A'+1"]),
+    Case("EQU of EQU with a length", ["D        EQU   *,3", "E        EQU   D", "A        DS    CL3", "         XC    E,E", "         LA    4,L'E-1"],
+         ["D        EQU   *", "E        EQU   D", "A        DS    CL3", "         XC    E(3),E", "         LA    4,2                     L'E-1"]),
+    Case("EQU with a length that isn't known", ["D        EQU   F,NOWHERE"], [], ["its length isn't known before"]),
+    Case("EQU with a length, in commands",
+         ["E        EQU   F,3", "         EXEC  CICS SEND TEXT FROM(E)", "         EXEC  CICS SEND TEXT FROM(E) LENGTH(L'E)"],
+         ["E        EQU   F", "         EXEC  CICS SEND TEXT FROM(E) LENGTH(=H'3')", "         EXEC  CICS SEND TEXT FROM(E) LENGTH(=H'3')"]),
+    Case("registers", ["         YREGS", "         EQUREGS", "         COPY  DFHAID"], ["         DFHREGS", "         DFHREGS", "         COPY  DFHAID"]),
+    Case("arguments that are worked out", ["         EXEC  CICS SEND TEXT FROM(F) LENGTH( LEN-1 )", "         EXEC  CICS SEND TEXT FROM(F) LENGTH(G-F)",
+                                           "         EXEC  CICS DELETEQ QUEUE(=CL(2*2)'Q')", "         EXEC  CICS SEND TEXT FROM(F+2*2) LENGTH(=Y(2))"],
+         ["         EXEC  CICS SEND TEXT FROM(F) LENGTH(=AL2(LEN-1))", "         EXEC  CICS SEND TEXT FROM(F) LENGTH(=AL2(G-F))",
+          "         EXEC  CICS DELETEQ QUEUE(=CL4'Q')", "         EXEC  CICS SEND TEXT FROM(F+4) LENGTH(=AL2(2))"]),
+    Case("an argument that has the place", ["         EXEC  CICS SEND TEXT FROM(F) LENGTH(*-P)"], [], ["a literal has a place of its own"]),
+    Case("INITIMG of a symbol", ["         EXEC  CICS GETMAIN SET(5) LENGTH(W) INITIMG(N)"],
+         ["         EXEC  CICS GETMAIN SET(5) LENGTH(W) INITIMG(=AL1(N))"]),
+    Case("halfwords that are written, of other commands",
+         ["         EXEC  CICS READQ TS QUEUE('Q') SET(5) NUMITEMS(N)", "         EXEC  CICS GETMAIN SET(5)", "         EXEC  CICS GETMAIN SET(5) FLENGTH(N)"], [],
+         ["NUMITEMS(N): READQ TS writes to it", "LENGTH is left out of READQ TS", "LENGTH is left out of GETMAIN", "FLENGTH: no option of GETMAIN"]),
+    Case("what is no command", ["         EXEC  SQL SELECT", "         EXEC  CICS SEND TEXT FROM(F"], [], ["no command that can be read", "no command that can be read"]),
+    Case("a condition that nobody knows", ["         CLC   W,DFHRESP(NOPE)"], [], ["no condition of this name is known"]),
+    Case("ORG that changes nothing", ["A        DS    CL4", "         ORG   ,", "         ORG"], ["A        DS    CL4", "*        ORG   ,", "*        ORG"]),
+    Case("ORG that goes on", ["         ORG   *+4"], [], ["ORG *+4"]),
+    Case("numbers with a point, and an exponent", ["A        DC    P'1.5',F'1'", "         L     4,=F'1E3'"], [], ["P'1.5': not a whole number", "F'1E3': not a whole number"]),
+    Case("a literal as the first operand", ["         CLC   =C'ABC',F"], [], ["a literal as the first operand; write: a DC with a name"]),
+    Case("USING of a range", ["         USING (F,G),5"], [], ["USING (F,G): no place that can be read"]),
+    Case("a second section", ["Q        CSECT", "P        CSECT"], [], ["CSECT Q: a second control section"]),
+    Case("what is left of types", ["A        DC    E'1'", "B        DC    D'1'", "C        DC    V(OTHER)", "D        DC    C'A&B'", "E        DC    F'1'S"], [],
+         ["type E", "type D", "type V", "an ampersand or apostrophe alone", "no item that can be read"]),
     Case("a macro", ["         MACRO", "&A       TEST  &B", "&A       DC    Y(&B)", "         MEND"], [], ["MACRO"]),
     Case("a packed instruction", ["         AP    F,G"], [], ["CVB into a register"]),
     Case("sequence numbers", ["A        BER   14".ljust(72) + "00010000"], ["A        BCR   8,14".ljust(72) + "00010000"]),
     Case("what passes column 71", ["A        DC    F'100000001,200000002,300000003,400000004' THE FOUR"],
          ["A        DC    F'100000001',F'200000002',F'300000003',F'400000004' THE X", "               FOUR"]),
+    Case("a remark that fills its line", ["LONGNAME BER   14 " + "A" * 51 + " B"], ["LONGNAME BCR   8,14 " + "A" * 51 + "X", " " * 16 + "B"]),
     Case("an overlay",
          ["A        DS    CL10", "         ORG   A", "B        DS    CL4", "         DS    C", "C        DS    H", "         ORG"],
          ["A        DS    0CL10", "B        DS    CL4", "         DS    C", "         DS    XL1", "C        DS    H", "         DS    XL2"]),
@@ -114,6 +160,10 @@ CASES = [
          ["A        DS    CL10", "B        DS    CL20", "         ORG   A+2", "* TWO PARTS", "C        DS    CL4", "D        DS    CL12", "DL       EQU   *-C", "         ORG ,"],
          ["A        DS    0CL10", "         DS    XL2", "* TWO PARTS", "C        DS    CL4", "D        DS    0CL12", "         DS    XL4", "B        DS    0CL20",
           "         DS    XL8", "DL       EQU   *-C", "         DS    XL12"]),
+    Case("an overlay that goes back once more, and farther",
+         ["A        DS    CL4", "B        DS    CL8", "         ORG   B+2", "C        DS    CL3", "         ORG   A+1", "D        DS    CL2", "         ORG"],
+         ["A        DS    0CL4", "         DS    XL1", "D        DS    CL2", "         DS    XL1", "B        DS    0CL8", "         DS    XL2",
+          "C        DS    CL3", "         DS    XL3"]),
     Case("ORG over a DC", ["T        DC    256X'FF'", "         ORG   T+C'0'", "         DC    10X'00'", "         ORG"], [],
          ["ORG T+C'0'", "ORG: it ends one"]),
 ]
@@ -153,7 +203,7 @@ def failure_of(case: Case) -> str | None:
 
 # ---- places, bytes and length attributes
 
-PLACES_OLD = """P        CSECT
+FIRST_OLD = """P        CSECT
 C1       DC    C'A'
 Y1       DC    Y(258)
 C2       DC    C'A',Y(1),C'B'
@@ -190,12 +240,49 @@ class Place:
 
 
 # By the manual, from the first statement on: each item at the next multiple of its unit, its first value's length the attribute.
-PLACES = {"C1": Place(0x00, 1), "Y1": Place(0x02, 2), "C2": Place(0x04, 1), "Y2": Place(0x09, 1), "Y3": Place(0x0A, 2), "A1": Place(0x10, 4),
+FIRST = {"C1": Place(0x00, 1), "Y1": Place(0x02, 2), "C2": Place(0x04, 1), "Y2": Place(0x09, 1), "Y3": Place(0x0A, 2), "A1": Place(0x10, 4),
           "A2": Place(0x18, 1), "F1": Place(0x1C, 4), "H1": Place(0x24, 2), "P1": Place(0x2C, 1), "X1": Place(0x30, 1), "T1": Place(0x33, 1),
           "T2": Place(0x37, 2), "N1": Place(0x3D, 1), "N2": Place(0x43, 5), "N3": Place(0x48, 1), "E2": Place(12, 1)}
-BYTES = ("C100 0102 C100 0001 C2 07 00000000 0000 00000001 00010000 01020102 00000001 00000002 0001 FFFF 0001 FFFF 1C 22222D 01 0222 00010203 "
+FIRST_BYTES = ("C100 0102 C100 0001 C2 07 00000000 0000 00000001 00010000 01020102 00000001 00000002 0001 FFFF 0001 FFFF 1C 22222D 01 0222 00010203 "
          "0000 0002 0004 AAAAAAAAAAAA E940404040 01 00 FD 00 D202 3043 3000 07BE 41100003 "
          "4840306C D2003033306E 58503068 0000 00000009 0102 0001").replace(" ", "")
+
+SECOND_OLD = """P        CSECT
+A1       DC    2Y(1,2)
+A2       DS    0Y
+A3       DC    0Y(5)
+A4       DC    PL3'1,2'
+A5       DC    B'1,10000000'
+A6       DC    2CL(2*2)'AB'
+A7       DC    X'01,0203'
+A8       DC    3AL1(1,2)
+A9       DC    A(*,*)
+B2       DC    (4-2)F'1,2'
+B3       DS    (2)F
+B4       DS    (2)CL(3)
+B5       EQU   *-B4
+B6       EQU   B4,2*3
+C1       EQU   *,3
+C2       EQU   C1
+         MVC   B6,A1
+         MVC   B6+1,A1
+         MVC   C2,A1
+         UNPK  B6,C1
+         LA    1,2*L'B6(2)
+         LA    1,-(1-5)
+         CLI   A1,2*3
+         SRL   4,2*2
+         BCR   2*4,14
+         LH    4,=Y(B5)
+         L     4,=FL(2*2)'1'
+         CLC   A9,DFHRESP(QIDERR)
+         END   ,""".split("\n")
+SECOND = {"A1": Place(0x00, 2), "A2": Place(0x08, 2), "A3": Place(0x08, 2), "A4": Place(0x08, 3), "A5": Place(0x0E, 1), "A6": Place(0x10, 4),
+          "A7": Place(0x18, 1), "A8": Place(0x1B, 1), "A9": Place(0x24, 4), "B2": Place(0x2C, 4), "B3": Place(0x3C, 4), "B4": Place(0x44, 3),
+          "B5": Place(6, 1)}
+SECOND_BYTES = ("0001 0002 0001 0002 00001C 00002C 01 80 C1C24040 C1C24040 01 0203 01 02 01 02 01 02 000000 00010024 00010028 "
+                "00000001 00000002 00000001 00000002 0000000000000000 000000000000 D20530443000 D20530453000 D202304A3000 F3523044304A "
+                "4112000C 41100004 95063000 88400004 078E 48403090 58403088 D5033024308C 000000000000 00000001 0000002C 0006").replace(" ", "")
 
 OVERLAY_OLD = """P        CSECT
          BR    14
@@ -222,21 +309,75 @@ def symbols_of(name: str, lines: list[str], cicslook: str) -> dict[str, Place]:
     return found
 
 
-def text_of(lines: list[str], cicslook: str) -> str:
+def text_of(lines: list[str], length: int, cicslook: str) -> str:
     """The bytes of a source's text, by STORAGE."""
-    length = len(BYTES) // 2
     ended = run([cicslook], encoded(["SOURCE P", *lines, "/*", f"STORAGE 010000 {length}"]))
     rows = [line[10:45] for line in ended.lines() if line.startswith("> 0100")]
     return "".join(rows).replace(" ", "")
 
 
+@dataclass(frozen=True)
+class Placing:
+    """A source in the old form, with the places of its names and its bytes by the manual."""
+
+    old: list[str]
+    places: dict[str, Place]
+    text: str
+
+    def failures(self, cicslook: str) -> list[str]:
+        new = adapted(SourceText(with_base(self.old)), "OLD.asm", []).lines()
+        found = symbols_of("P", new, cicslook)
+        wrong = [f"{name}: {found.get(name)}, where {due} is due" for name, due in self.places.items() if found.get(name) != due]
+        text = text_of(new, len(self.text) // 2, cicslook)
+        return wrong if text == self.text else [*wrong, f"the bytes {text}, where {self.text} are due"]
+
+
+# A program as shops have it, and what its terminal shows by the manuals.
+RUN_OLD = """         DFHEISTG
+INLEN    DS    H
+IN       DS    CL20
+LINE     DS    CL8
+LINE2    DS    CL8
+RC       DS    F
+P        DFHEIENT CODEREG=3,DATAREG=13,EIBREG=11
+         EXEC CICS GETMAIN SET(5) LENGTH(8) INITIMG(STAR)   EIGHT STARS
+         MVC   LINE,0(5)
+         MVC   LINE2,=CL8' '
+         MVC   INLEN,=Y(L'IN)
+         EXEC CICS READQ TS QUEUE('NONE') INTO(IN) LENGTH(INLEN)       X
+               ITEM(1) RESP(RC)         SURELY NOT THERE
+         CLC   RC,DFHRESP(QIDERR)
+         BNE   BAD
+         EXEC CICS WRITEQ TS QUEUE('Q') FROM(WORD)
+         EXEC CICS WRITEQ QUEUE('Q') FROM(WORD) LENGTH(L'WORD-3)
+         EXEC CICS WRITEQ QUEUE('Q') FROM(WORD+1) LENGTH( END-WORD-1 ) X
+               ITEM( ONE ) REWRITE
+         EXEC CICS READQ TS QUEUE('Q') INTO(LINE2) LENGTH(INLEN)       X
+               ITEM(ONE*2)
+         EXEC CICS READQ TS QUEUE('Q') INTO(LINE2+3) LENGTH(INLEN2)    X
+               ITEM(ONE)
+         EXEC CICS SEND TEXT FROM(LINE) LENGTH(L'LINE+L'LINE2) ERASE
+         DFHEIRET
+BAD      DS    0H
+         EXEC CICS ABEND ABCODE('BAD')
+STAR     EQU   C'*'
+ONE      EQU   1
+INLEN2   DC    Y(L'LINE2-3)
+WORD     DC    C'WORDS'
+END      EQU   *
+         DFHEIEND
+         END   ,""".split("\n")
+RUN = ["SCREEN T001", "01|********WO ORDS"]
+
+
+def failures_of_run(cicslook: str) -> list[str]:
+    new = adapted(SourceText(RUN_OLD), "OLD.asm", []).lines()
+    ended = run([cicslook], encoded(["SOURCE P", *new, "/*", "TRANSACTION P P", "TERMINAL T001", "KEY T001 ENTER P", "RUN T001", "SCREEN T001"]))
+    return [] if ended.lines()[-2:] == RUN else [f"a program that is run: {ended.lines()[-3:]}"]
+
+
 def failures_of_places(cicslook: str) -> list[str]:
-    new = adapted(SourceText(with_base(PLACES_OLD)), "OLD.asm", []).lines()
-    found = symbols_of("P", new, cicslook)
-    wrong = [f"{name}: {found.get(name)}, where {due} is due" for name, due in PLACES.items() if found.get(name) != due]
-    text = text_of(new, cicslook)
-    if text != BYTES:
-        wrong.append(f"the bytes {text}, where {BYTES} are due")
+    wrong = [failure for one in (Placing(FIRST_OLD, FIRST, FIRST_BYTES), Placing(SECOND_OLD, SECOND, SECOND_BYTES)) for failure in one.failures(cicslook)]
     overlay = symbols_of("P", adapted(SourceText(OVERLAY_OLD), "OLD.asm", []).lines(), cicslook)
     return wrong + [f"{name}: {overlay.get(name)}, where {due} is due" for name, due in OVERLAY.items() if overlay.get(name) != due]
 
@@ -250,4 +391,4 @@ def failures(cicslook: str) -> list[str]:
     for case in KEPT:
         lines = result_of(case, is_kept=True).lines()[len(HEAD) : -len(TAIL)]
         found += ["\n".join([f"{case.what}, kept:", *lines])] if lines != case.new else []
-    return found + failures_of_places(cicslook)
+    return found + failures_of_places(cicslook) + failures_of_run(cicslook)

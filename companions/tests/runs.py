@@ -2,12 +2,12 @@
 come to the screens that are kept."""
 import glob
 import os
+import tempfile
 
 from cics.child import TOP, lines_of, read
 from tests.calling import Call, called, failures_of
 
 FOLDER = os.path.join(TOP, "examples/adapt")
-FILM = os.path.join(TOP, "companions/cics-film")
 HELLO = """DFHEISTG DSECT
 INLEN    DS    H
 INPUT    DS    CL80
@@ -62,13 +62,11 @@ LAST     LH    4,N
 CALLS = [
     Call("a text", "cics-run", ["h.asm", "--key", "HELLO YOU"], 0, ["KEY T001 ENTER HELLO YOU", "01|HELLO YOU"], {"h.asm": HELLO}),
     Call("an abend", "cics-run", ["h.asm", "--key", "HELL A", "--key", "PF3 B"], 1,
-         ["KEY T001 ENTER HELL A", "01|HELL A", "KEY T001 PF3 B", "T001 Abended ASRA", "01|HELL A", "ABEND T001 ASRA INTERRUPTION 1 OPERATION",
+         ["KEY T001 ENTER HELL A", "01|HELL A", "KEY T001 PF3 B", "T001 Abended ASRA", "01|HELL A", "ABEND T001 ASRA INTERRUPTION 1 OPERATION TRAN HELL TASK 0000002",
           "NEXT *", "R00*", "R04*", "R08*", "R12*", "CC 0"], {"h.asm": HELLO}),
     Call("another transaction", "cics-run", ["h.asm", "--tran", "AB=HELLO", "--key", "AB"], 0, ["KEY T001 ENTER AB", "01|AB"], {"h.asm": HELLO}),
     Call("no transaction", "cics-run", ["h.asm", "--key", "XX"], 1, ["KEY T001 ENTER XX", "T001 NoSuchTransaction: *"], {"h.asm": HELLO}),
     Call("a transaction of no program", "cics-run", ["h.asm", "--tran", "AB=NONE", "--key", "AB"], 3, [], {"h.asm": HELLO}, "write: --tran NAME=PROGRAM"),
-    *([] if os.path.exists(FILM) else
-      [Call("a film", "cics-run", ["h.asm", "--key", "HELL", "--film"], 3, [], {"h.asm": HELLO}, "--film needs the companion cics-film")]),
     Call("no key", "cics-run", ["h.asm"], 2, [], {"h.asm": HELLO}, "write: --key"),
     Call("no file", "cics-run", ["n.asm", "--key", "A"], 3, [], {}, "n.asm: No such file"),
     Call("a faulty source", "cics-run", ["h.asm", "--key", "HELL"], 1, [], {"h.asm": HELLO.replace("BE    BAD", "BE    BED")}, "h.asm:9:"),
@@ -97,6 +95,16 @@ def failures_of_many(programs: list[str]) -> list[str]:
     return failures_of([call], programs)
 
 
+def failures_of_film(programs: list[str]) -> list[str]:
+    """The run as a page, which has the program's source."""
+    with tempfile.TemporaryDirectory() as folder:
+        with open(os.path.join(folder, "h.asm"), "w", encoding="utf-8") as file:
+            file.write(HELLO)
+        ended = called("cics-run", ["h.asm", "--key", "HELL A", "--film", *programs], folder)
+    is_page = ended.status == 0 and b"HELL A" in ended.out and ended.out.endswith(b"</html>\n")
+    return [] if is_page else [f"a film: {ended}"]
+
+
 def failures_of_programs(programs: list[str]) -> list[str]:
     wrong = []
     for path in sorted(glob.glob(f"{FOLDER}/*.run")):
@@ -108,4 +116,4 @@ def failures_of_programs(programs: list[str]) -> list[str]:
 
 def failures(cicslook: str) -> list[str]:
     programs = ["--cicslook", cicslook]
-    return failures_of(CALLS, programs) + failures_of_many(programs) + failures_of_programs(programs)
+    return failures_of(CALLS, programs) + failures_of_many(programs) + failures_of_film(programs) + failures_of_programs(programs)

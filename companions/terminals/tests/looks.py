@@ -53,7 +53,7 @@ def why_a_task_abended() -> None:
         terminal = session.terminal()
         expect_page(terminal.enter("divi"), {24: " ABENDED ASRA  PF14: WHY"})
         rows = terminal.enter("", "PF14").rows()
-        expect("why", rows[0], " ABEND T001 ASRA INTERRUPTION 9 FIXED-POINT DIVIDE")
+        expect("why", rows[0].startswith(" ABEND T001 ASRA INTERRUPTION 9 FIXED-POINT DIVIDE"), True)
         bright = [at for at, attribute in terminal.attributes.items() if attribute == 0xF8 and at < 1760]
         expect("line", [rows[at // 80].split()[1:3] for at in bright], [["DR", "2,4"]])
         expect("tasks", rows[terminal.rows().index(rows[bright[0] // 80]) :].count(" T001 NO TASK"), 1)
@@ -156,7 +156,8 @@ def words_of_operators() -> None:
 
 
 LOOKED_AT = ["QUEUES", "QUEUE JOBS", "QUEUE D1D6C2E240404040", "QUEUE JOBS 32767", "PROGRAMS", "TASKS", "RESOURCES", "COMMAND T001",
-             "TASK T001", "AREAS", "AREAS T001", "STORAGE 010000 4096", "ABEND T001", "SYMBOL JOBS LINE", "SYMBOLS JOBS", "XREF JOBS"]
+             "TASK T001", "AREAS", "AREAS T001", "STORAGE 010000 4096", "ABEND T001", "SYMBOL JOBS LINE", "SYMBOLS JOBS", "XREF JOBS",
+             "HELP", "HELP FIELD", "FIELD T001 LINE", "FIELD T001 LINE 16", "FIELDS T001", "FIELDS T001 2"]
 
 
 @test

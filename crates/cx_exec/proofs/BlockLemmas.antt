@@ -120,6 +120,16 @@ copied m after n a1 a2 size old bytes updated outcome low1 low2 fits outside wid
     go None h x = cc
     go (Some b) h x = x
 
+-- and the bytes that it lends
+pub copied_lent : (m after : Machine) (n a1 a2 : ℕ) (bytes : List ℕ) (updated : Updated) (outcome : Outcome)
+    → a1 < 2 ^ 24 → a2 < 2 ^ 24 → n ≤ 2 ^ 24 → Outside n a1 a2 → span m.storage a2 n ≡ Some bytes
+    → Stores a1 bytes m.cc updated m outcome after → MvcEffect n a1 a2 updated m outcome after
+unfolding MvcEffect
+copied_lent m after n a1 a2 bytes updated outcome low1 low2 fits outside there stores =
+    let same : stored_by (moved_byte m.storage a1 a2) n ≡ bytes = outside_is_moved m.storage a1 a2 n bytes low1 low2 fits outside there in
+    let moves : Stores a1 (stored_by (moved_byte m.storage a1 a2) n) m.cc updated m outcome after = rw same stores in
+    rw there moves
+
 -- XC of operands of which one isn't there
 pub not_joined : (m : Machine) (n a1 a2 : ℕ) (updated : Updated) → (is_some (span m.storage a1 n) && is_some (span m.storage a2 n)) ≡ false
     → XcEffect n a1 a2 updated m (Err interruption.Addressing) m

@@ -6,7 +6,7 @@ ghost use Rattle.cx_exec.specs.Masks.{byte_of, takes, selected_bytes, inserted_b
 
 use crate::logic::is_zero;
 use crate::machine::{Cpu, Interruption, Updated};
-use crate::operands::put_bytes;
+use crate::operands::{put_at_hand, put_bytes};
 use crate::results::load_coded;
 use cx_storage::Store;
 
@@ -59,8 +59,31 @@ fn take_bytes(mask: u8, word: u32, buffer: &mut [u8; 4]) -> usize
     count
 }
 
-/// STCM of a mask, for which its code is made where that is known.
+/// STCM, wherever its bytes lie.
 #[tactic(auto, unfolding(crate::specs::Masks::StcmEffect))]
+#[cold]
+#[inline(never)]
+fn stcm_apart<S: Store>(
+    cpu: &mut Cpu,
+    store: &mut S,
+    r1: u8,
+    mask: u8,
+    a: u32,
+    updated: Updated,
+) -> Result<(), Interruption>
+    requires first { r1 < 16 }
+    requires operand { a < 2 ^ 24 }
+    requires address { updated.address < 2 ^ 24 }
+    ensures { let before = machine cpu.old (S.storage store.old) in let after = machine cpu.new (S.storage store.new) in
+        StcmEffect r1 mask a updated before result after }
+{
+    let mut buffer = [0; 4];
+    let count = take_bytes(mask, cpu.regs[r1 as usize], &mut buffer);
+    put_bytes(cpu, store, a, &buffer[..count], updated)
+}
+
+/// STCM of a mask, for which its code is made where that is known.
+#[tactic(auto, using(crate::proofs::Storing::masked_as_before), unfolding(crate::specs::Masks::StcmEffect))]
 #[inline(always)]
 fn stcm_by<S: Store>(
     cpu: &mut Cpu,
@@ -78,7 +101,10 @@ fn stcm_by<S: Store>(
 {
     let mut buffer = [0; 4];
     let count = take_bytes(mask, cpu.regs[r1 as usize], &mut buffer);
-    put_bytes(cpu, store, a, &buffer[..count], updated)
+    if put_at_hand(cpu, store, a, &buffer[..count], updated) {
+        return Ok(());
+    }
+    stcm_apart(cpu, store, r1, mask, a, updated)
 }
 
 /// STCM. `r1` and the mask are below 16, and the bytes begin at `a`.

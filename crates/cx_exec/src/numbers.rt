@@ -26,13 +26,7 @@ pub(crate) fn order_code(first: i128, second: i128) -> u8
     ensures value { result ≡ order_code first second }
     ensures short { result ≤ 3 }
 {
-    if first < second {
-        1
-    } else if second < first {
-        2
-    } else {
-        0
-    }
+    u8::from(first < second) + 2 * u8::from(second < first)
 }
 
 /// The code of a word's sign.
@@ -44,15 +38,19 @@ pub(crate) fn sign_code(word: u32) -> u8
 }
 
 /// The code of an exact result: 3 where no word holds it, else that of its sign.
-#[tactic(auto, unfolding(crate::specs::Numbers::sum_code))]
+#[tactic(auto, unfolding(crate::specs::Numbers::sum_code, crate::specs::Numbers::order_code))]
 pub(crate) fn sum_code(x: i128) -> u8
     ensures value { result ≡ sum_code x }
     ensures short { result ≤ 3 }
 {
     if x < -0x8000_0000 || x >= 0x8000_0000 {
         3
+    } else if x < 0 {
+        1
+    } else if x > 0 {
+        2
     } else {
-        order_code(x, 0)
+        0
     }
 }
 

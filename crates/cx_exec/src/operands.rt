@@ -1,8 +1,8 @@
 //! Operands in storage and in pairs of registers.
 
-ghost use Rattle.std.specs.Prelude.{◌≡◌, ◌<◌, ◌≤◌, ◌^◌, ◌%◌, ◌==◌, ◌∷◌, [], length, true, false, Some, None, IfSome, MatchResult};
+ghost use Rattle.std.specs.Prelude.{◌≡◌, ◌<◌, ◌≤◌, ◌^◌, ◌%◌, ◌==◌, ◌∷◌, [], length, replicate, is_some, true, false, Ok, Some, None, IfSome, MatchResult};
 ghost use Rattle.byteorder.specs.Endian.{big_bytes};
-ghost use Rattle.cx_storage.specs.Storage.{byte_at};
+ghost use Rattle.cx_storage.specs.Storage.{byte_at, span};
 ghost use Rattle.cx_storage.specs.Word.{halfword_at, word_at};
 ghost use Rattle.cx_exec.specs.declared.machine.Interruption.TheVariants as interruption;
 ghost use Rattle.cx_exec.specs.Machine.{machine};
@@ -94,6 +94,87 @@ pub(crate) fn even(r: u8) -> Result<u8, Interruption>
     }
 }
 
+/// Stores bytes, at most 65,536, from an address on, where they are at hand; else nothing changes.
+#[tactic(auto, unfolding(crate::specs::Operands::Stores))]
+#[inline(always)]
+pub(crate) fn put_at_hand<S: Store>(
+    cpu: &mut Cpu,
+    store: &mut S,
+    a: u32,
+    bytes: &[u8],
+    updated: Updated,
+) -> bool
+    requires operand { a < 2 ^ 24 }
+    requires size { length bytes.now ≤ 65536 }
+    requires address { updated.address < 2 ^ 24 }
+    ensures done { let before = machine cpu.old (S.storage store.old) in let after = machine cpu.new (S.storage store.new) in
+        result ≡ true → Stores a bytes.now cpu.old.cc updated before (Ok tt) after }
+    ensures same { result ≡ false → machine cpu.new (S.storage store.new) ≡ machine cpu.old (S.storage store.old) }
+{
+    if !store.write_at_hand(a, bytes) {
+        return false;
+    }
+    cpu.next = updated.address;
+    true
+}
+
+/// Stores bytes likewise, and sets the condition code where they are stored.
+#[tactic(auto, unfolding(crate::specs::Operands::Stores))]
+#[inline(always)]
+pub(crate) fn put_coded_at_hand<S: Store>(
+    cpu: &mut Cpu,
+    store: &mut S,
+    a: u32,
+    bytes: &[u8],
+    cc: u8,
+    updated: Updated,
+) -> bool
+    requires operand { a < 2 ^ 24 }
+    requires size { length bytes.now ≤ 65536 }
+    requires code { cc ≤ 3 }
+    requires address { updated.address < 2 ^ 24 }
+    ensures done { let before = machine cpu.old (S.storage store.old) in let after = machine cpu.new (S.storage store.new) in
+        result ≡ true → Stores a bytes.now cc updated before (Ok tt) after }
+    ensures same { result ≡ false → machine cpu.new (S.storage store.new) ≡ machine cpu.old (S.storage store.old) }
+{
+    if !store.write_at_hand(a, bytes) {
+        return false;
+    }
+    cpu.cc = cc;
+    cpu.next = updated.address;
+    true
+}
+
+/// Stores a byte `n` times, at most 65,536, from an address on, where they are at hand, and sets the condition code; else
+/// nothing changes.
+#[tactic(auto, unfolding(crate::specs::Operands::Stores))]
+#[inline(always)]
+pub(crate) fn fill_at_hand<S: Store>(
+    cpu: &mut Cpu,
+    store: &mut S,
+    a: u32,
+    n: usize,
+    byte: u8,
+    cc: u8,
+    updated: Updated,
+) -> bool
+    requires operand { a < 2 ^ 24 }
+    requires size { n ≤ 65536 }
+    requires code { cc ≤ 3 }
+    requires address { updated.address < 2 ^ 24 }
+    ensures present { result ≡ true → is_some (span (S.storage store.old) a n) ≡ true }
+    ensures done { let before = machine cpu.old (S.storage store.old) in let after = machine cpu.new (S.storage store.new) in
+        result ≡ true → Stores a (replicate n byte) cc updated before (Ok tt) after }
+    ensures same { result ≡ false → machine cpu.new (S.storage store.new) ≡ machine cpu.old (S.storage store.old) }
+{
+    if !store.fill_at_hand(a, n, byte) {
+        return false;
+    }
+    cpu.cc = cc;
+    cpu.next = updated.address;
+    true
+}
+
 /// Stores bytes, at most 65,536, from an address on: all of them, or nothing and interruption 5.
 #[tactic(auto, using(crate::proofs::Storing::not_written), unfolding(crate::specs::Operands::Stores))]
 #[inline(always)]
@@ -140,9 +221,10 @@ pub(crate) fn put_coded<S: Store>(
     Ok(())
 }
 
-/// Stores a byte likewise.
-#[inline(always)]
-pub(crate) fn put_byte<S: Store>(
+/// Stores a byte likewise, wherever its bytes lie.
+#[cold]
+#[inline(never)]
+fn put_byte_apart<S: Store>(
     cpu: &mut Cpu,
     store: &mut S,
     a: u32,
@@ -157,9 +239,31 @@ pub(crate) fn put_byte<S: Store>(
     put_bytes(cpu, store, a, &[byte], updated)
 }
 
-/// Stores a halfword likewise.
+/// Stores a byte likewise.
+#[tactic(auto, using(crate::proofs::Storing::stored_as_before))]
 #[inline(always)]
-pub(crate) fn put_halfword<S: Store>(
+pub(crate) fn put_byte<S: Store>(
+    cpu: &mut Cpu,
+    store: &mut S,
+    a: u32,
+    byte: u8,
+    updated: Updated,
+) -> Result<(), Interruption>
+    requires operand { a < 2 ^ 24 }
+    requires address { updated.address < 2 ^ 24 }
+    ensures { let before = machine cpu.old (S.storage store.old) in let after = machine cpu.new (S.storage store.new) in
+        Stores a (byte ∷ []) cpu.old.cc updated before result after }
+{
+    if put_at_hand(cpu, store, a, &[byte], updated) {
+        return Ok(());
+    }
+    put_byte_apart(cpu, store, a, byte, updated)
+}
+
+/// Stores a halfword likewise, wherever its bytes lie.
+#[cold]
+#[inline(never)]
+fn put_halfword_apart<S: Store>(
     cpu: &mut Cpu,
     store: &mut S,
     a: u32,
@@ -174,7 +278,47 @@ pub(crate) fn put_halfword<S: Store>(
     put_bytes(cpu, store, a, &halfword.to_be_bytes(), updated)
 }
 
+/// Stores a halfword likewise.
+#[tactic(auto, using(crate::proofs::Storing::stored_as_before))]
+#[inline(always)]
+pub(crate) fn put_halfword<S: Store>(
+    cpu: &mut Cpu,
+    store: &mut S,
+    a: u32,
+    halfword: u16,
+    updated: Updated,
+) -> Result<(), Interruption>
+    requires operand { a < 2 ^ 24 }
+    requires address { updated.address < 2 ^ 24 }
+    ensures { let before = machine cpu.old (S.storage store.old) in let after = machine cpu.new (S.storage store.new) in
+        Stores a (big_bytes 2 halfword) cpu.old.cc updated before result after }
+{
+    if put_at_hand(cpu, store, a, &halfword.to_be_bytes(), updated) {
+        return Ok(());
+    }
+    put_halfword_apart(cpu, store, a, halfword, updated)
+}
+
+/// Stores a word likewise, wherever its bytes lie.
+#[cold]
+#[inline(never)]
+fn put_word_apart<S: Store>(
+    cpu: &mut Cpu,
+    store: &mut S,
+    a: u32,
+    word: u32,
+    updated: Updated,
+) -> Result<(), Interruption>
+    requires operand { a < 2 ^ 24 }
+    requires address { updated.address < 2 ^ 24 }
+    ensures { let before = machine cpu.old (S.storage store.old) in let after = machine cpu.new (S.storage store.new) in
+        Stores a (big_bytes 4 word) cpu.old.cc updated before result after }
+{
+    put_bytes(cpu, store, a, &word.to_be_bytes(), updated)
+}
+
 /// Stores a word likewise.
+#[tactic(auto, using(crate::proofs::Storing::stored_as_before))]
 #[inline(always)]
 pub(crate) fn put_word<S: Store>(
     cpu: &mut Cpu,
@@ -188,5 +332,8 @@ pub(crate) fn put_word<S: Store>(
     ensures { let before = machine cpu.old (S.storage store.old) in let after = machine cpu.new (S.storage store.new) in
         Stores a (big_bytes 4 word) cpu.old.cc updated before result after }
 {
-    put_bytes(cpu, store, a, &word.to_be_bytes(), updated)
+    if put_at_hand(cpu, store, a, &word.to_be_bytes(), updated) {
+        return Ok(());
+    }
+    put_word_apart(cpu, store, a, word, updated)
 }

@@ -140,12 +140,12 @@ impl Front {
     /// The base that this halfword has.
     #[tactic(auto, using(crate::proofs::FrontLemmas::base_back))]
     #[inline(always)]
-    pub(crate) fn first_base(&self) -> u32
+    pub(crate) fn first_base(&self) -> usize
         ensures value { result ≡ base_at 2 self.now }
         ensures short { result < 16 }
     {
         let _bytes = (self.bytes[2], self.bytes[3]);
-        BigEndian::read_u32(&self.bytes[0..4]) >> 12 & 15
+        BigEndian::read_u32(&self.bytes[0..4]) as usize >> 12 & 15
     }
 
     /// The displacement that it has.
@@ -183,7 +183,8 @@ pub(crate) fn fetched_front<S: Store>(store: &mut S, at: u32) -> Option<Front>
     Some(Front::of(bytes))
 }
 
-/// The row of a code. It is found by a match of its own, so that a row is found by one jump.
+/// The row of a code. It is found by a match of its own, so that a row is found by one jump, and each code has an arm, so that
+/// the jump needs no test before: even codes without a row have one, odd ones another, since those in a row would be a range.
 #[tactic(auto, unfolding(cx_code::specs::Table::row_of))]
 #[inline(always)]
 pub(crate) fn op_in(code: u8) -> Option<Op>
@@ -246,6 +247,205 @@ pub(crate) fn op_in(code: u8) -> Option<Op>
         0xDD => Op::Trt,
         0xF2 => Op::Pack,
         0xF3 => Op::Unpk,
+        0x00
+        | 0x02
+        | 0x04
+        | 0x08
+        | 0x0A
+        | 0x0C
+        | 0x0E
+        | 0x10
+        | 0x14
+        | 0x16
+        | 0x1E
+        | 0x20
+        | 0x22
+        | 0x24
+        | 0x26
+        | 0x28
+        | 0x2A
+        | 0x2C
+        | 0x2E
+        | 0x30
+        | 0x32
+        | 0x34
+        | 0x36
+        | 0x38
+        | 0x3A
+        | 0x3C
+        | 0x3E
+        | 0x4C
+        | 0x52
+        | 0x54
+        | 0x56
+        | 0x5E
+        | 0x60
+        | 0x62
+        | 0x64
+        | 0x66
+        | 0x68
+        | 0x6A
+        | 0x6C
+        | 0x6E
+        | 0x70
+        | 0x72
+        | 0x74
+        | 0x76
+        | 0x78
+        | 0x7A
+        | 0x7C
+        | 0x7E
+        | 0x80
+        | 0x82
+        | 0x84
+        | 0x86
+        | 0x8C
+        | 0x9A
+        | 0x9C
+        | 0x9E
+        | 0xA0
+        | 0xA2
+        | 0xA4
+        | 0xA6
+        | 0xA8
+        | 0xAA
+        | 0xAC
+        | 0xAE
+        | 0xB0
+        | 0xB2
+        | 0xB4
+        | 0xB6
+        | 0xB8
+        | 0xBA
+        | 0xBC
+        | 0xC0
+        | 0xC2
+        | 0xC4
+        | 0xC6
+        | 0xC8
+        | 0xCA
+        | 0xCC
+        | 0xCE
+        | 0xD0
+        | 0xD4
+        | 0xD6
+        | 0xD8
+        | 0xDA
+        | 0xDE
+        | 0xE0
+        | 0xE2
+        | 0xE4
+        | 0xE6
+        | 0xE8
+        | 0xEA
+        | 0xEC
+        | 0xEE
+        | 0xF0
+        | 0xF4
+        | 0xF6
+        | 0xF8
+        | 0xFA
+        | 0xFC
+        | 0xFE => return None,
+        0x01
+        | 0x03
+        | 0x09
+        | 0x0B
+        | 0x0D
+        | 0x0F
+        | 0x11
+        | 0x1F
+        | 0x21
+        | 0x23
+        | 0x25
+        | 0x27
+        | 0x29
+        | 0x2B
+        | 0x2D
+        | 0x2F
+        | 0x31
+        | 0x33
+        | 0x35
+        | 0x37
+        | 0x39
+        | 0x3B
+        | 0x3D
+        | 0x3F
+        | 0x4D
+        | 0x51
+        | 0x53
+        | 0x57
+        | 0x5F
+        | 0x61
+        | 0x63
+        | 0x65
+        | 0x67
+        | 0x69
+        | 0x6B
+        | 0x6D
+        | 0x6F
+        | 0x71
+        | 0x73
+        | 0x75
+        | 0x77
+        | 0x79
+        | 0x7B
+        | 0x7D
+        | 0x7F
+        | 0x81
+        | 0x83
+        | 0x85
+        | 0x87
+        | 0x8D
+        | 0x8F
+        | 0x93
+        | 0x97
+        | 0x99
+        | 0x9B
+        | 0x9D
+        | 0x9F
+        | 0xA1
+        | 0xA3
+        | 0xA5
+        | 0xA7
+        | 0xA9
+        | 0xAB
+        | 0xAD
+        | 0xAF
+        | 0xB1
+        | 0xB3
+        | 0xB5
+        | 0xB7
+        | 0xB9
+        | 0xBB
+        | 0xBD
+        | 0xC1
+        | 0xC3
+        | 0xC5
+        | 0xC7
+        | 0xC9
+        | 0xCB
+        | 0xCD
+        | 0xCF
+        | 0xD1
+        | 0xD3
+        | 0xD9
+        | 0xDB
+        | 0xDF
+        | 0xE1
+        | 0xE3
+        | 0xE5
+        | 0xE7
+        | 0xE9
+        | 0xEB
+        | 0xED
+        | 0xEF
+        | 0xF1
+        | 0xF5
+        | 0xF7
+        | 0xF9
+        | 0xFB
+        | 0xFD => return None,
         _ => return None,
     };
     Some(op)

@@ -37,21 +37,21 @@ use cx_storage::{Store, along};
 
 /// An address and what a register gives to it: register 0 gives zero.
 #[inline(always)]
-fn with_part(regs: &[u32; 16], r: u32, a: u32) -> u32
+fn with_part(regs: &[u32; 16], r: usize, a: u32) -> u32
     requires { r < 16 }
     ensures { result ≡ (a + address_part regs.now r) % 2 ^ 32 }
 {
     if r == 0 {
         return a;
     }
-    a.wrapping_add(regs[r as usize])
+    a.wrapping_add(regs[r])
 }
 
 /// The effective address of base, index and displacement.
 ///
 /// Principles of Operation, "Address Generation".
 #[tactic(auto, unfolding(crate::specs::Machine::effective))]
-pub(crate) fn effective(regs: &[u32; 16], index: u8, base: u32, displacement: u32) -> u32
+pub(crate) fn effective(regs: &[u32; 16], index: u8, base: usize, displacement: u32) -> u32
     requires index { index < 16 }
     requires base { base < 16 }
     requires displacement { displacement < 4096 }
@@ -59,7 +59,7 @@ pub(crate) fn effective(regs: &[u32; 16], index: u8, base: u32, displacement: u3
     ensures short { result < 2 ^ 24 }
 {
     let a = with_part(regs, base, displacement);
-    with_part(regs, u32::from(index), a) % 0x100_0000
+    with_part(regs, index as usize, a) % 0x100_0000
 }
 
 /// The effective address of an index, and of the base and the displacement that a halfword has.
@@ -69,8 +69,12 @@ fn address_in(cpu: &Cpu, index: u8, halfword: u16) -> u32
     ensures value { result ≡ effective cpu.now.regs index (halfword / 4096) (halfword % 4096) }
     ensures short { result < 2 ^ 24 }
 {
-    let halfword = u32::from(halfword);
-    effective(&cpu.regs, index, halfword >> 12, halfword & 0x0fff)
+    effective(
+        &cpu.regs,
+        index,
+        halfword as usize >> 12,
+        u32::from(halfword & 0x0fff),
+    )
 }
 
 /// The operands of format RR: two registers, with what they hold.

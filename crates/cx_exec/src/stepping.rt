@@ -70,7 +70,7 @@ fn performed<S: Store>(cpu: &Cpu, store: &S) -> Result<PendingInstruction, Inter
     let inst = code.read()?;
     match inst.fields() {
         Fields::Rx { r1, x2, b2, d2 } if inst.op() == Op::Ex => {
-            let a = effective(&cpu.regs, x2, u32::from(b2), u32::from(d2));
+            let a = effective(&cpu.regs, x2, b2 as usize, u32::from(d2));
             let target = target_at(cpu, store, r1, a)?;
             Ok(PendingInstruction {
                 inst: target,

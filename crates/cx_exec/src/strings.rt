@@ -1,15 +1,15 @@
 //! MVC and XC: two operands of one length, from left to right.
 
-ghost use Rattle.std.specs.Prelude.{◌≡◌, ◌≢◌, ℕ, ◌<◌, ◌≤◌, ◌^◌, ◌&&◌, take, true, is_some, length, slice_index, bit_xor};
+ghost use Rattle.std.specs.Prelude.{◌≡◌, ◌≢◌, ℕ, ◌<◌, ◌≤◌, ◌^◌, ◌&&◌, take, true, false, Ok, is_some, length, slice_index, bit_xor};
 ghost use Rattle.cx_storage.specs.Address.{address_after};
 ghost use Rattle.cx_storage.specs.Storage.{span};
 ghost use Rattle.cx_exec.specs.Machine.{machine};
-ghost use Rattle.cx_exec.specs.Sequence.{content, stored_by};
+ghost use Rattle.cx_exec.specs.Sequence.{stored_by};
 ghost use Rattle.cx_exec.specs.Strings.{moved_byte, xored_byte, MvcEffect, XcEffect};
 
 use crate::logic::string_code;
 use crate::machine::{Cpu, Interruption, Updated};
-use crate::operands::{put_bytes, put_coded};
+use crate::operands::{fill_at_hand, put_at_hand, put_bytes, put_coded};
 use crate::repeats::repeat;
 use crate::sequence::{content, distance, is_present, seen};
 use cx_storage::{Store, along};
@@ -125,9 +125,60 @@ fn copy_long<S: Store>(
     copy_through(cpu, store, a1, a2, &mut new[..n as usize], updated)
 }
 
-/// MVC of such operands. Those of a few bytes need no large buffer, and for each of the shortest lengths, which are the
-/// most frequent, there is code of its own.
+/// MVC through a buffer of such operands, where their bytes are at hand; else nothing changes but the buffer.
+#[tactic(auto, using(cx_storage::specs::Facts::Spans::span_length))]
+#[inline(always)]
+fn copy_at_hand<S: Store>(
+    cpu: &mut Cpu,
+    store: &mut S,
+    a1: u32,
+    a2: u32,
+    bytes: &mut [u8],
+    updated: Updated,
+) -> bool
+    requires first { a1 < 2 ^ 24 }
+    requires second { a2 < 2 ^ 24 }
+    requires count { length bytes.old ≤ 256 }
+    requires outside { (j : ℕ) → 0 < j → j < length bytes.old → a1 ≢ address_after a2 j }
+    requires address { updated.address < 2 ^ 24 }
+    ensures done { let before = machine cpu.old (S.storage store.old) in let after = machine cpu.new (S.storage store.new) in
+        result ≡ true → MvcEffect (length bytes.old) a1 a2 updated before (Ok tt) after }
+    ensures same { result ≡ false → machine cpu.new (S.storage store.new) ≡ machine cpu.old (S.storage store.old) }
+{
+    let Some(part) = store.slice(a2, bytes.len()) else {
+        return false;
+    };
+    bytes.copy_from_slice(part);
+    put_at_hand(cpu, store, a1, bytes, updated)
+}
+
+/// MVC of such operands of `N` bytes, for which there is code of its own.
+#[tactic(auto, using(crate::proofs::Storing::moved_as_before))]
 #[inline(never)]
+fn copy_few<S: Store, const N: usize>(
+    cpu: &mut Cpu,
+    store: &mut S,
+    a1: u32,
+    a2: u32,
+    updated: Updated,
+) -> Result<(), Interruption>
+    requires first { a1 < 2 ^ 24 }
+    requires second { a2 < 2 ^ 24 }
+    requires count { N ≤ 256 }
+    requires outside { (j : ℕ) → 0 < j → j < N → a1 ≢ address_after a2 j }
+    requires address { updated.address < 2 ^ 24 }
+    ensures { let before = machine cpu.old (S.storage store.old) in let after = machine cpu.new (S.storage store.new) in
+        MvcEffect N a1 a2 updated before result after }
+{
+    let mut new = [0; N];
+    if copy_at_hand(cpu, store, a1, a2, &mut new, updated) {
+        return Ok(());
+    }
+    copy_long(cpu, store, N as u32, a1, a2, updated)
+}
+
+/// MVC of such operands. The shortest lengths, which are the most frequent, have code of their own.
+#[inline(always)]
 fn copy<S: Store>(
     cpu: &mut Cpu,
     store: &mut S,
@@ -144,24 +195,23 @@ fn copy<S: Store>(
     ensures { let before = machine cpu.old (S.storage store.old) in let after = machine cpu.new (S.storage store.new) in
         MvcEffect n a1 a2 updated before result after }
 {
-    let mut new = [0; 16];
     match n {
-        1 => copy_through(cpu, store, a1, a2, &mut new[..1], updated),
-        2 => copy_through(cpu, store, a1, a2, &mut new[..2], updated),
-        3 => copy_through(cpu, store, a1, a2, &mut new[..3], updated),
-        4 => copy_through(cpu, store, a1, a2, &mut new[..4], updated),
-        5 => copy_through(cpu, store, a1, a2, &mut new[..5], updated),
-        6 => copy_through(cpu, store, a1, a2, &mut new[..6], updated),
-        7 => copy_through(cpu, store, a1, a2, &mut new[..7], updated),
-        8 => copy_through(cpu, store, a1, a2, &mut new[..8], updated),
-        9 => copy_through(cpu, store, a1, a2, &mut new[..9], updated),
-        10 => copy_through(cpu, store, a1, a2, &mut new[..10], updated),
-        11 => copy_through(cpu, store, a1, a2, &mut new[..11], updated),
-        12 => copy_through(cpu, store, a1, a2, &mut new[..12], updated),
-        13 => copy_through(cpu, store, a1, a2, &mut new[..13], updated),
-        14 => copy_through(cpu, store, a1, a2, &mut new[..14], updated),
-        15 => copy_through(cpu, store, a1, a2, &mut new[..15], updated),
-        16 => copy_through(cpu, store, a1, a2, &mut new[..16], updated),
+        1 => copy_few::<S, 1>(cpu, store, a1, a2, updated),
+        2 => copy_few::<S, 2>(cpu, store, a1, a2, updated),
+        3 => copy_few::<S, 3>(cpu, store, a1, a2, updated),
+        4 => copy_few::<S, 4>(cpu, store, a1, a2, updated),
+        5 => copy_few::<S, 5>(cpu, store, a1, a2, updated),
+        6 => copy_few::<S, 6>(cpu, store, a1, a2, updated),
+        7 => copy_few::<S, 7>(cpu, store, a1, a2, updated),
+        8 => copy_few::<S, 8>(cpu, store, a1, a2, updated),
+        9 => copy_few::<S, 9>(cpu, store, a1, a2, updated),
+        10 => copy_few::<S, 10>(cpu, store, a1, a2, updated),
+        11 => copy_few::<S, 11>(cpu, store, a1, a2, updated),
+        12 => copy_few::<S, 12>(cpu, store, a1, a2, updated),
+        13 => copy_few::<S, 13>(cpu, store, a1, a2, updated),
+        14 => copy_few::<S, 14>(cpu, store, a1, a2, updated),
+        15 => copy_few::<S, 15>(cpu, store, a1, a2, updated),
+        16 => copy_few::<S, 16>(cpu, store, a1, a2, updated),
         _ => copy_long(cpu, store, n, a1, a2, updated),
     }
 }
@@ -303,21 +353,8 @@ fn join<S: Store>(
     }
 }
 
-/// A buffer of a byte, the second operand's first one, which MVC stores throughout where the first operand begins after it.
-#[inline(always)]
-fn byte_throughout<S: Store>(_store: &S, n: u32, a1: u32, a2: u32, byte: u8) -> [u8; 256]
-    requires second { a2 < 2 ^ 24 }
-    requires count { n ≤ 256 }
-    requires begins { a1 ≡ address_after a2 1 }
-    requires byte { byte ≡ content (S.storage _store.now) a2 }
-    ensures { take n result ≡ stored_by (moved_byte (S.storage _store.now) a1 a2) n }
-{
-    let _place = (n, a1, a2);
-    [byte; 256]
-}
-
 /// MVC of operands of which the first begins at the second byte of the second, whose first byte is stored throughout.
-#[tactic(auto, using(crate::proofs::FillLemmas::begins_after, crate::proofs::FillLemmas::first_content, cx_storage::specs::Facts::Spans::span_length), unfolding(crate::specs::Strings::MvcEffect))]
+#[tactic(auto, using(crate::proofs::Storing::moved_as_before))]
 #[inline(never)]
 fn spread<S: Store>(
     cpu: &mut Cpu,
@@ -336,12 +373,14 @@ fn spread<S: Store>(
     ensures { let before = machine cpu.old (S.storage store.old) in let after = machine cpu.new (S.storage store.new) in
         MvcEffect n a1 a2 updated before result after }
 {
-    let Some(part) = store.slice(a2, n as usize) else {
+    let Some(byte) = store.byte(a2) else {
         return fill(cpu, store, n, a1, a2, updated);
     };
-    let byte = part[0];
-    let new = byte_throughout(store, n, a1, a2, byte);
-    put_bytes(cpu, store, a1, &new[..n as usize], updated)
+    let cc = cpu.cc;
+    if fill_at_hand(cpu, store, a1, n as usize, byte, cc, updated) {
+        return Ok(());
+    }
+    fill(cpu, store, n, a1, a2, updated)
 }
 
 /// MVC of operands of which the first may begin inside the second.
@@ -398,10 +437,11 @@ fn join_each<S: Store>(
     put_coded(cpu, store, a1, bytes, cc, updated)
 }
 
-/// XC of an operand with itself, whose bytes become zero.
+/// XC of an operand with itself, whose bytes become zero, wherever they lie.
 #[tactic(auto, unfolding(crate::specs::Strings::XcEffect))]
+#[cold]
 #[inline(never)]
-fn clear<S: Store>(
+fn clear_apart<S: Store>(
     cpu: &mut Cpu,
     store: &mut S,
     n: u32,
@@ -419,6 +459,28 @@ fn clear<S: Store>(
     }
     let new = [0; 256];
     put_coded(cpu, store, a, &new[..n as usize], 0, updated)
+}
+
+/// XC of an operand with itself, whose bytes become zero.
+#[tactic(auto, using(crate::proofs::Storing::xored_as_before))]
+#[inline(never)]
+fn clear<S: Store>(
+    cpu: &mut Cpu,
+    store: &mut S,
+    n: u32,
+    a: u32,
+    updated: Updated,
+) -> Result<(), Interruption>
+    requires operand { a < 2 ^ 24 }
+    requires count { n ≤ 256 }
+    requires address { updated.address < 2 ^ 24 }
+    ensures { let before = machine cpu.old (S.storage store.old) in let after = machine cpu.new (S.storage store.new) in
+        XcEffect n a a updated before result after }
+{
+    if fill_at_hand(cpu, store, a, n as usize, 0, 0, updated) {
+        return Ok(());
+    }
+    clear_apart(cpu, store, n, a, updated)
 }
 
 /// MVC. The operands, of `n` bytes, begin at `a1` and `a2`.

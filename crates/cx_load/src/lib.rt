@@ -4,6 +4,7 @@
 mod fault;
 pub mod laws;
 mod program;
+mod replicas;
 
 pub use fault::{CheckedImage, ImageFault, check};
 pub use program::{

@@ -11,7 +11,7 @@ use Rattle.cx_look.specs.declared.look.Look.TheVariants as look
 use Rattle.cx_look.specs.declared.look.Subject.{Subject}
 use Rattle.cx_look.specs.declared.look.Subject.TheVariants as subject
 
--- the word that a look at each subject begins with
+-- the word that a look at each subject begins with, and the words that begin other lines of `cicslook`
 abbrev pub subject_name : Subject → List ℕ
 subject_name subject.Storage = codes "STORAGE"
 subject_name subject.Areas = codes "AREAS"
@@ -26,11 +26,17 @@ subject_name subject.Command = codes "COMMAND"
 subject_name subject.Symbol = codes "SYMBOL"
 subject_name subject.Symbols = codes "SYMBOLS"
 subject_name subject.Xref = codes "XREF"
+subject_name subject.Field = codes "FIELD"
+subject_name subject.Fields = codes "FIELDS"
+subject_name subject.Run = codes "RUN"
+subject_name subject.Faults = codes "FAULTS"
+subject_name subject.Help = codes "HELP"
 
 abbrev pub subjects : List Subject
 subjects =
     subject.Storage ∷ subject.Areas ∷ subject.Task ∷ subject.Tasks ∷ subject.Abend ∷ subject.Queues ∷ subject.Queue ∷ subject.Resources
-    ∷ subject.Programs ∷ subject.Command ∷ subject.Symbol ∷ subject.Symbols ∷ subject.Xref ∷ []
+    ∷ subject.Programs ∷ subject.Command ∷ subject.Symbol ∷ subject.Symbols ∷ subject.Xref ∷ subject.Field ∷ subject.Fields
+    ∷ subject.Run ∷ subject.Faults ∷ subject.Help ∷ []
 
 unfoldable pub subject_of : List ℕ → Option Subject
 subject_of text = find (λ s. bytes_eq (subject_name s) text) subjects
@@ -51,6 +57,18 @@ abbrev pub queue_look : List ℕ → Option (List ℕ) → Option Look
 queue_look name None = Some (look.Queue name)
 queue_look name (Some text) = option_map (λ n. look.Item name n) (count_of 32767 text)
 
+-- the number of a level, 1 to 16, where there is one
+abbrev pub level_of : Option (List ℕ) → Option (Option ℕ)
+level_of None = Some None
+level_of (Some text) = option_map (λ k. Some k) (count_of 16 text)
+
+-- a field of a level of a terminal's task, and all of them
+abbrev pub field_look : List ℕ → List ℕ → Option Look
+field_look term text = option_and_then (λ name. option_map (look.Field term name) (level_of (after_first_blank text))) (padded_name 8 (word text))
+
+abbrev pub fields_look : List ℕ → Option (List ℕ) → Option Look
+fields_look term text = option_map (look.Fields term) (level_of text)
+
 -- a look by its first word, and by the words after it where there are some
 unfoldable pub look_by_word : Subject → Option (List ℕ) → Option Look
 look_by_word subject.Storage (Some text) = two_words look.Storage (hex_number 3) (count_of 4096) text
@@ -67,6 +85,10 @@ look_by_word subject.Command (Some text) = option_map (λ name. look.Command nam
 look_by_word subject.Symbol (Some text) = two_words look.Symbol (padded_name 8) (padded_name 8) text
 look_by_word subject.Symbols (Some text) = option_map (λ name. look.Symbols name) (padded_name 8 text)
 look_by_word subject.Xref (Some text) = option_map (λ name. look.Xref name) (padded_name 8 text)
+look_by_word subject.Field (Some text) = option_and_then (λ term. option_and_then (field_look term) (after_first_blank text)) (padded_name 4 (word text))
+look_by_word subject.Fields (Some text) = option_and_then (λ term. fields_look term (after_first_blank text)) (padded_name 4 (word text))
+look_by_word subject.Help None = Some (look.Help None)
+look_by_word subject.Help (Some text) = option_map (λ s. look.Help (Some s)) (subject_of text)
 look_by_word _ _ = None
 
 -- What a line looks at; None where it is no look.

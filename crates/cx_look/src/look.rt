@@ -4,7 +4,7 @@ ghost use Rattle.std.specs.List.{find};
 ghost use Rattle.std.specs.Option.{option_copied};
 ghost use Rattle.std.specs.Str.{bytes_eq};
 ghost use Rattle.cx_script_actions.specs.Words.{hex_bytes};
-ghost use Rattle.cx_look.specs.Looks.{count_of, look_of, look_by_word, queue_look, queue_name_of, subject_name, subject_of};
+ghost use Rattle.cx_look.specs.Looks.{count_of, field_look, level_of, look_of, look_by_word, queue_look, queue_name_of, subject_name, subject_of};
 ghost use Rattle.cx_look.specs.declared.look.Subject.TheVariants as subject;
 
 use cx_base_lists::List;
@@ -17,6 +17,9 @@ const MOST_BYTES: u32 = 4_096;
 
 /// The highest number of a queue's item.
 const LAST_ITEM: u32 = 32_767;
+
+/// The most levels of a task.
+const LEVELS: u32 = 16;
 
 /// The digits that spell the eight bytes of a queue's name.
 const NAME_DIGITS: usize = 16;
@@ -65,11 +68,17 @@ pub enum Look {
     Symbols(Name8),
     /// Where a program's source uses its names, its literals and its base registers.
     Xref(Name8),
+    /// A field of a level of a terminal's task: the terminal, the symbol, and the level's number, 1 to 16; without one the current level.
+    Field(Name4, Name8, Option<u8>),
+    /// All fields of a level of a terminal's task: the terminal, and the level's number.
+    Fields(Name4, Option<u8>),
+    /// The table of lines, or the line of a word in it.
+    Help(Option<Subject>),
     /// The faulty lines of a source.
     Faults(SourceLines),
 }
 
-/// The word that begins a look.
+/// The word that begins a look, or another line that a script of `cicsedf` doesn't have.
 #[derive(Clone, Copy, Debug, PartialEq, Eq)]
 pub enum Subject {
     Storage,
@@ -85,11 +94,16 @@ pub enum Subject {
     Symbol,
     Symbols,
     Xref,
+    Field,
+    Fields,
+    Run,
+    Faults,
+    Help,
 }
 
 impl Subject {
     /// All of these words.
-    pub const ALL: [Subject; 13] = [
+    pub const ALL: [Subject; 18] = [
         Subject::Storage,
         Subject::Areas,
         Subject::Task,
@@ -103,6 +117,11 @@ impl Subject {
         Subject::Symbol,
         Subject::Symbols,
         Subject::Xref,
+        Subject::Field,
+        Subject::Fields,
+        Subject::Run,
+        Subject::Faults,
+        Subject::Help,
     ];
 
     /// The word as it is written.
@@ -123,6 +142,11 @@ impl Subject {
             Subject::Symbol => b"SYMBOL",
             Subject::Symbols => b"SYMBOLS",
             Subject::Xref => b"XREF",
+            Subject::Field => b"FIELD",
+            Subject::Fields => b"FIELDS",
+            Subject::Run => b"RUN",
+            Subject::Faults => b"FAULTS",
+            Subject::Help => b"HELP",
         }
     }
 }
@@ -149,6 +173,7 @@ fn subject_of(word: &[u8]) -> Option<Subject>
 #[tactic(auto, using(std::proofs::lemmas::Bool::Decides::nat_tests), unfolding(crate::specs::Looks::count_of))]
 fn count_of(word: &[u8], most: u32) -> Option<u32>
     ensures value { result ≡ count_of most word.now }
+    ensures most { IfSome result (λ n. n ≤ most) }
 {
     let n = number(word, 1, 5)?;
     if n < 1 || n > most {
@@ -235,6 +260,57 @@ fn symbol(text: &[u8]) -> Option<Look>
     Some(Look::Symbol(program, name))
 }
 
+/// The number of a level, 1 to 16, where there is one.
+fn level_of(rest: Option<&[u8]>) -> Option<Option<u8>>
+    ensures { result ≡ level_of (option_copied rest.entry) }
+{
+    let Some(rest) = rest else {
+        return Some(None);
+    };
+    let k = count_of(rest, LEVELS)?;
+    Some(Some(k as u8))
+}
+
+/// A field of a terminal's task, by what follows the terminal.
+fn field_look(term: Name4, text: &[u8]) -> Option<Look>
+    ensures { result ≡ field_look term text.now }
+{
+    let (word, rest) = split_word(text);
+    let name = name8(word)?;
+    let k = level_of(rest)?;
+    Some(Look::Field(term, name, k))
+}
+
+/// FIELD, by what follows it.
+#[tactic(auto, unfolding(crate::specs::Looks::look_by_word))]
+fn field(text: &[u8]) -> Option<Look>
+    ensures { result ≡ look_by_word subject.Field (Some text.now) }
+{
+    let (word, rest) = split_word(text);
+    let term = name4(word)?;
+    field_look(term, rest?)
+}
+
+/// FIELDS, by what follows it.
+#[tactic(auto, unfolding(crate::specs::Looks::look_by_word))]
+fn fields(text: &[u8]) -> Option<Look>
+    ensures { result ≡ look_by_word subject.Fields (Some text.now) }
+{
+    let (word, rest) = split_word(text);
+    let term = name4(word)?;
+    let k = level_of(rest)?;
+    Some(Look::Fields(term, k))
+}
+
+/// HELP, by what follows it.
+#[tactic(auto, unfolding(crate::specs::Looks::look_by_word))]
+fn help(text: &[u8]) -> Option<Look>
+    ensures { result ≡ look_by_word subject.Help (Some text.now) }
+{
+    let subject = subject_of(text)?;
+    Some(Look::Help(Some(subject)))
+}
+
 /// A look whose word is alone.
 #[tactic(auto, unfolding(crate::specs::Looks::look_by_word))]
 fn alone(subject: Subject) -> Option<Look>
@@ -246,6 +322,7 @@ fn alone(subject: Subject) -> Option<Look>
         Subject::Queues => Some(Look::Queues),
         Subject::Resources => Some(Look::Resources),
         Subject::Programs => Some(Look::Programs),
+        Subject::Help => Some(Look::Help(None)),
         _ => None,
     }
 }
@@ -265,6 +342,9 @@ fn at(subject: Subject, text: &[u8]) -> Option<Look>
         Subject::Symbol => symbol(text),
         Subject::Symbols => name8(text).map(|name| Look::Symbols(name)),
         Subject::Xref => name8(text).map(|name| Look::Xref(name)),
+        Subject::Field => field(text),
+        Subject::Fields => fields(text),
+        Subject::Help => help(text),
         _ => None,
     }
 }

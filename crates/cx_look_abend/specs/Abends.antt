@@ -13,6 +13,7 @@ use Rattle.cx_region.specs.State.{RegionState}
 use Rattle.cx_region.specs.Tables.{task_of}
 use Rattle.cx_look_abend.specs.declared.abends.Explanation.{Explanation}
 use Rattle.cx_look_abend.specs.declared.abends.LastAbend.{LastAbend}
+use Rattle.cx_look_abend.specs.declared.abends.TaskName.{TaskName}
 use Rattle.cx_look_symbols.specs.Places.{place_of, spot_before}
 use Rattle.cx_look_symbols.specs.declared.places.Place.{Place}
 
@@ -49,19 +50,24 @@ explanation_of region abend_record =
       before = spot_before region.programs (abend_place abend_record);
     }
 
--- the abend of a turn of this terminal with that reply and record, in the region after it
-abbrev pub last_with : RegionState → List ℕ → TurnReply → AbendRecord → List ℕ → LastAbend
-last_with region name reply abend_record code =
+-- a terminal's task by its transaction and its number
+abbrev pub task_named : RegionState → List ℕ → Option TaskName
+task_named region name = option_map (λ task. record { tran = task.tran; number = task.number }) (task_of region name)
+
+-- the abend of a turn of this terminal's task with that reply and record, in the region after it
+abbrev pub last_with : RegionState → List ℕ → TurnReply → Option TaskName → AbendRecord → List ℕ → LastAbend
+last_with region name reply task abend_record code =
     record {
       code = code;
+      task = task;
       explanation = Some (explanation_of region abend_record);
       exit = exit_place region name reply;
     }
 
-abbrev pub last_of_turn : RegionState → List ℕ → TurnReply → Option AbendRecord → Option LastAbend
-last_of_turn region name reply abend_record =
-    option_and_then (λ it. option_map (last_with region name reply it) (abend_code_in reply)) abend_record
+abbrev pub last_of_turn : RegionState → List ℕ → TurnReply → Option TaskName → Option AbendRecord → Option LastAbend
+last_of_turn region name reply task abend_record =
+    option_and_then (λ it. option_map (last_with region name reply task it) (abend_code_in reply)) abend_record
 
--- an abend that an operator asked for
-abbrev pub by_operator : LastAbend
-by_operator = record { code = abend_code Xedf; explanation = None; exit = None }
+-- an abend of a task that an operator asked for
+abbrev pub by_operator : Option TaskName → LastAbend
+by_operator task = record { code = abend_code Xedf; task = task; explanation = None; exit = None }

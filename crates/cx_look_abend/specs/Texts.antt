@@ -23,6 +23,7 @@ use Rattle.cx_look_symbols.specs.declared.places.Place.{Place}
 use Rattle.cx_look_abend.specs.Noting.{Abends}
 use Rattle.cx_look_abend.specs.declared.abends.LastAbend.{LastAbend}
 use Rattle.cx_look_abend.specs.declared.abends.Explanation.{Explanation}
+use Rattle.cx_look_abend.specs.declared.abends.TaskName.{TaskName}
 
 -- ---- why
 -- an interruption's code and its name
@@ -91,8 +92,13 @@ abbrev pub exit_line : SourcePlaces → Option Place → Lines
 exit_line sources exit = option_map_or (λ place. look_line (codes "EXIT" ∷ place_word sources place ∷ [])) exit []
 
 -- ---- the look
+-- the task that abended
+abbrev pub task_word : Option TaskName → List ℕ
+task_word task = option_map_or (λ it. codes "TRAN " ++ shown_name it.tran ++ codes " TASK " ++ digits 10 7 it.number) task (codes "TASK --")
+
 abbrev pub head_line : List ℕ → LastAbend → Lines
-head_line name last = look_line (codes "ABEND" ∷ shown_name name ∷ shown_text last.code ∷ why_word last.explanation ∷ [])
+head_line name last =
+    look_line (codes "ABEND" ∷ shown_name name ∷ shown_text last.code ∷ why_word last.explanation ∷ task_word last.task ∷ [])
 
 unfoldable pub last_text : SourcePlaces → List ℕ → LastAbend → Lines
 last_text sources name last = head_line name last ++ exit_line sources last.exit ++ option_map_or (explanation_lines sources) last.explanation []

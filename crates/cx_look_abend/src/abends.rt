@@ -2,7 +2,7 @@
 ghost use Rattle.std.specs.Prelude.{◌≡◌, ◌≤◌, None, Some};
 ghost use Rattle.indexmap.specs.IndexMap.{insert_entry, spare};
 ghost use Rattle.cx_ebcdic.specs.Names.{is_name};
-ghost use Rattle.cx_look_abend.specs.Abends.{abend_code_in, abend_place, by_operator, exit_place, explanation_of, last_of_turn, next_of};
+ghost use Rattle.cx_look_abend.specs.Abends.{abend_code_in, abend_place, by_operator, exit_place, explanation_of, last_of_turn, next_of, task_named};
 
 use cx_base_commands::Abend;
 use cx_ebcdic::Name4;
@@ -21,10 +21,19 @@ pub struct Explanation {
     pub before: Option<Spot>,
 }
 
+/// A task by its transaction and its number.
+#[derive(Clone, Copy, Debug, PartialEq, Eq)]
+pub struct TaskName {
+    pub tran: Name4,
+    pub number: u32,
+}
+
 /// A terminal's last abend.
 #[derive(Clone, Copy, Debug, PartialEq, Eq)]
 pub struct LastAbend {
     pub code: Name4,
+    /// The task that abended.
+    pub task: Option<TaskName>,
     /// Why a turn led to it; None where an operator asked for it.
     pub explanation: Option<Explanation>,
     /// Where the program went on, where an exit took it.
@@ -83,6 +92,18 @@ pub(crate) fn put_none(abends: &mut LastAbends, name: Name4)
     }
 }
 
+/// A terminal's task by its transaction and its number.
+pub(crate) fn task_named<S: Store + Drop>(region: &Region<S>, name: Name4) -> Option<TaskName>
+    ensures { result ≡ task_named region.now name }
+{
+    let terminal = region.terminals().get(&name)?;
+    let task = terminal.task()?;
+    Some(TaskName {
+        tran: task.tran,
+        number: task.number,
+    })
+}
+
 /// The code of an abend, where a turn's reply is one.
 fn abend_code_in(reply: &TurnReply) -> Option<Name4>
     ensures { result ≡ abend_code_in reply.now }
@@ -138,14 +159,15 @@ fn explanation_of<S: Store + Drop>(region: &Region<S>, abend_record: AbendRecord
     }
 }
 
-/// The abend of a turn that was answered so, with that record of an abend, where the region is as it was after the turn.
+/// The abend of a turn of a task that was answered so, with that record of an abend, where the region is as it was after the turn.
 pub(crate) fn last_of_turn<S: Store + Drop>(
     region: &Region<S>,
     name: Name4,
     reply: &TurnReply,
+    task: Option<TaskName>,
     abend_record: &Option<AbendRecord>,
 ) -> Option<LastAbend>
-    ensures { result ≡ last_of_turn region.now name reply.now abend_record.now }
+    ensures { result ≡ last_of_turn region.now name reply.now task abend_record.now }
 {
     let abend_record = (*abend_record)?;
     let code = abend_code_in(reply)?;
@@ -153,17 +175,19 @@ pub(crate) fn last_of_turn<S: Store + Drop>(
     let exit = exit_place(region, name, reply);
     Some(LastAbend {
         code,
+        task,
         explanation,
         exit,
     })
 }
 
-/// An abend that an operator asked for.
-pub(crate) fn by_operator() -> LastAbend
-    ensures { result ≡ by_operator }
+/// An abend of a task that an operator asked for.
+pub(crate) fn by_operator(task: Option<TaskName>) -> LastAbend
+    ensures { result ≡ by_operator task }
 {
     LastAbend {
         code: Abend::Xedf.code(),
+        task,
         explanation: None,
         exit: None,
     }

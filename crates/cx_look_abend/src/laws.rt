@@ -1,7 +1,7 @@
 //! Which abends are kept.
 ghost use Rattle.cx_look_abend.specs.Laws.{AbendsAreKept, NotedDecide};
 
-/// Each turn that is answered as an abend is kept as its terminal's last one, with its code and why it came; any other turn leaves
+/// Each turn that is answered as an abend is kept as its terminal's last one, with its task, its code and why it came; any other turn leaves
 /// what is kept.
 pub fn abends_are_kept()
     ensures { AbendsAreKept }

@@ -5,9 +5,11 @@ ghost use Rattle.indexmap.specs.IndexMap.{spare};
 ghost use Rattle.cx_edf.specs.Runs.{IsAllowedEdf};
 ghost use Rattle.cx_edf.specs.State.{ends_by_key};
 ghost use Rattle.cx_look_abend.specs.Abends.{last_of_turn};
-ghost use Rattle.cx_look_abend.specs.Noting.{AppliesWithAbends, MayTakeNoted, defines_terminal, ends_task, is_defined, kept_after, kept_alter, kept_key, kept_terminal, kept_turn, with_last};
+ghost use Rattle.cx_look_abend.specs.Noting.{AppliesWithAbends, MayTakeNoted, defines_terminal, ends_task, is_defined, kept_after, kept_alter, kept_key, kept_terminal, kept_turn, task_before, with_last};
 
-use crate::abends::{LastAbend, LastAbends, by_operator, last_of_turn, put_none};
+use crate::abends::{
+    LastAbend, LastAbends, TaskName, by_operator, last_of_turn, put_none, task_named,
+};
 use cx_ebcdic::{Aid, Name4};
 use cx_edf::{Answer, Debugged, EdfEvent};
 use cx_region::{AbendRecord, AlterReply, Change, Event, Region, Reply, TurnReply};
@@ -48,42 +50,62 @@ fn keep_turn<S: Store + Drop>(
     abends: &mut LastAbends,
     region: &Region<S>,
     name: Name4,
+    task: Option<TaskName>,
     answer: &Answer,
     abend_record: &Option<AbendRecord>,
 )
-    ensures { abends.new.entries ≡ kept_turn abends.old.entries name answer.now abend_record.now region.now }
+    ensures { abends.new.entries
+        ≡ kept_turn abends.old.entries name task answer.now abend_record.now region.now }
 {
     let Answer::Region(Reply::Turn(reply)) = answer else {
         return;
     };
-    let Some(last) = last_of_turn(region, name, reply, abend_record) else {
+    let Some(last) = last_of_turn(region, name, reply, task, abend_record) else {
         return;
     };
     put(abends, name, last);
 }
 
 /// Keeps an abend that an operator asked for by an alteration.
-fn keep_alter(abends: &mut LastAbends, name: Name4, change: &Change, answer: &Answer)
-    ensures { abends.new.entries ≡ kept_alter abends.old.entries name change.now answer.now }
+fn keep_alter(
+    abends: &mut LastAbends,
+    name: Name4,
+    task: Option<TaskName>,
+    change: &Change,
+    answer: &Answer,
+)
+    ensures { abends.new.entries ≡ kept_alter abends.old.entries name task change.now answer.now }
 {
     if let (Change::Abend, Answer::Region(Reply::Alter(AlterReply::Altered))) = (change, answer) {
-        put(abends, name, by_operator());
+        put(abends, name, by_operator(task));
     }
 }
 
 /// Keeps an abend that an operator asked for by a key.
-fn keep_key(abends: &mut LastAbends, name: Name4, ends: bool)
-    ensures { abends.new.entries ≡ kept_key abends.old.entries name ends }
+fn keep_key(abends: &mut LastAbends, name: Name4, task: Option<TaskName>, ends: bool)
+    ensures { abends.new.entries ≡ kept_key abends.old.entries name task ends }
 {
     if ends {
-        put(abends, name, by_operator());
+        put(abends, name, by_operator(task));
     }
 }
 
-/// Keeps what an event led to that was answered so, where the region is as it was after it.
+/// The task of the terminal that an event names, where the event may lead to an abend.
+fn task_before<S: Store + Drop>(region: &Region<S>, event: &EdfEvent) -> Option<TaskName>
+    ensures { result ≡ task_before region.now event.now }
+{
+    match event {
+        EdfEvent::Plain(Event::Turn(name) | Event::Alter(name, _) | Event::Key(name, _, _)) =>
+            task_named(region, *name),
+        _ => None,
+    }
+}
+
+/// Keeps what an event led to that was answered so, with the task before it, where the region is as it was after it.
 fn keep<S: Store + Drop>(
     abends: &mut LastAbends,
     region: &Region<S>,
+    task: Option<TaskName>,
     event: &EdfEvent,
     answer: &Answer,
     abend_record: &Option<AbendRecord>,
@@ -91,16 +113,16 @@ fn keep<S: Store + Drop>(
 )
     requires { defines_terminal event.now ≡ true → 1 ≤ spare abends.old }
     ensures { abends.new.entries
-        ≡ kept_after abends.old.entries ends event.now answer.now abend_record.now region.now }
+        ≡ kept_after abends.old.entries ends task event.now answer.now abend_record.now region.now }
 {
     let EdfEvent::Plain(plain) = event else {
         return;
     };
     match plain {
         Event::Terminal(name) => keep_terminal(abends, *name, answer),
-        Event::Turn(name) => keep_turn(abends, region, *name, answer, abend_record),
-        Event::Alter(name, change) => keep_alter(abends, *name, change, answer),
-        Event::Key(name, _aid, _bytes) => keep_key(abends, *name, ends),
+        Event::Turn(name) => keep_turn(abends, region, *name, task, answer, abend_record),
+        Event::Alter(name, change) => keep_alter(abends, *name, task, change, answer),
+        Event::Key(name, _aid, _bytes) => keep_key(abends, *name, task, ends),
         _ => (),
     }
 }
@@ -155,7 +177,16 @@ pub fn apply_noted<S: Store + Drop>(
 {
     make_room(abends, event)?;
     let ends = ends_task(state, event);
+    let task = task_before(state.region(), event);
     let (answer, abend_record) = state.apply_with_cause(event)?;
-    keep(abends, state.region(), event, &answer, &abend_record, ends);
+    keep(
+        abends,
+        state.region(),
+        task,
+        event,
+        &answer,
+        &abend_record,
+        ends,
+    );
     Ok(answer)
 }

@@ -2,9 +2,9 @@
 ghost use Rattle.std.specs.Prelude.{◌≡◌, ◌++◌, [], IfOk, OnOk, is_some, take};
 ghost use Rattle.std.specs.Option.{option_map_or};
 ghost use Rattle.std.specs.List.{flat_map, list_all};
-ghost use Rattle.cx_look_abend.specs.Texts.{abend_text, byte_digits, bytes_word, cause_word, code_line, command_lines, command_word, exit_line, explanation_lines, head_line, instruction_word, interruption_word, last_of, last_text, list_word, next_line, none_line, where_lines, why_word};
+ghost use Rattle.cx_look_abend.specs.Texts.{abend_text, byte_digits, bytes_word, cause_word, code_line, command_lines, command_word, exit_line, explanation_lines, head_line, instruction_word, interruption_word, last_of, last_text, list_word, next_line, none_line, task_word, where_lines, why_word};
 
-use crate::abends::{Explanation, LastAbend, LastAbends};
+use crate::abends::{Explanation, LastAbend, LastAbends, TaskName};
 use cx_base_commands::Command;
 use cx_base_text::{decimal, hexadecimal, shown, shown_name};
 use cx_code::instruction_length;
@@ -209,6 +209,20 @@ fn exit_line(
     report.line(&[b"EXIT", &place])
 }
 
+/// The task that abended.
+fn task_word(alloc: Global, task: &Option<TaskName>) -> Result<Vec<u8>, AllocError>
+    ensures { IfOk result (λ text. text.items ≡ task_word task.now) }
+{
+    let Some(task) = task else {
+        return b"TASK --".to_vec(alloc);
+    };
+    let mut text = b"TRAN ".to_vec(alloc)?;
+    text.extend_from_slice(&shown_name(alloc, task.tran)?)?;
+    text.extend_from_slice(b" TASK ")?;
+    text.extend_from_slice(&decimal::<7>(task.number))?;
+    Ok(text)
+}
+
 /// Adds the first line.
 fn head_line(report: &mut Report, name: Name4, last: &LastAbend) -> Result<(), AllocError>
     ensures { OnOk result (report.new ≡ report.old ++ head_line name last.now) }
@@ -216,7 +230,8 @@ fn head_line(report: &mut Report, name: Name4, last: &LastAbend) -> Result<(), A
     let name = shown_name(report.alloc(), name)?;
     let code = shown(report.alloc(), &last.code.bytes())?;
     let why = why_word(report.alloc(), &last.explanation)?;
-    report.line(&[b"ABEND", &name, &code, &why])
+    let task = task_word(report.alloc(), &last.task)?;
+    report.line(&[b"ABEND", &name, &code, &why, &task])
 }
 
 /// Adds the lines of what a turn led to, where it was a turn.

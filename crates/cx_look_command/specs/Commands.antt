@@ -12,7 +12,7 @@ use Rattle.cx_base_commands.specs.declared.options.CommandOption.{CommandOption}
 use Rattle.cx_base_commands.specs.declared.options.ArgumentKind.{ArgumentKind}
 use Rattle.cx_base_commands.specs.declared.options.ArgumentKind.TheVariants as kind
 use Rattle.cx_base_commands.specs.declared.options.OptionName.{OptionName}
-use Rattle.cx_base_commands.specs.declared.options.OptionName.TheVariants.{Length, Rewrite, Set}
+use Rattle.cx_base_commands.specs.declared.options.OptionName.TheVariants.{Commarea, Length, Rewrite, Set}
 use Rattle.cx_region_call.specs.Call.{Call, has_nohandle, place_of, resp_place}
 use Rattle.cx_region_call.specs.Inputs.{bytes_of, halfword_of}
 use Rattle.cx_region_call.specs.Listed.{listed_of}
@@ -91,17 +91,23 @@ is_data kind.BytesOrAddress = true
 is_data kind.Byte = true
 is_data _ = false
 
--- how many bytes the command reads at an option's argument
+-- a COMMAREA is what the program finds there, also that of LINK, which passes its address
+abbrev pub kind_read : OptionName → ArgumentKind → ArgumentKind
+kind_read Commarea own = kind.BytesRead
+kind_read _ own = own
+
+-- how many bytes are read at an option's argument
 abbrev pub count_read : Storage → Call → CommandOption → ℕ
-count_read s call option = input_len option.kind (has_option call.command call.first) (halfword_of s call Length)
+count_read s call option =
+    input_len (kind_read option.name option.kind) (has_option call.command call.first) (halfword_of s call Length)
 
 unfoldable pub input_line : Storage → Call → CommandOption → Lines
 input_line s call option =
     look_line (option_name option.name ∷ bytes_value (bytes_of s call option.name (min 64 (count_read s call option))) ∷ [])
 
--- the data options that are there, of which the command reads some byte
+-- the data options that are there, of which some byte is read
 unfoldable pub is_input : Storage → Call → CommandOption → Bool
-is_input s call option = is_data option.kind && nat_lt 0 (count_read s call option)
+is_input s call option = is_data (kind_read option.name option.kind) && nat_lt 0 (count_read s call option)
 
 unfoldable pub input_lines : Storage → Call → List CommandOption → Lines
 input_lines s call options = flat_map (input_line s call) (filter (is_input s call) (arguments_in options call.first))

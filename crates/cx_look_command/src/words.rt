@@ -5,7 +5,7 @@ ghost use Rattle.std.specs.List.{flat_map};
 ghost use Rattle.cx_base_commands.specs.Arguments.{has_option};
 ghost use Rattle.cx_region_call.specs.Call.{place_of};
 ghost use Rattle.cx_region_call.specs.Inputs.{bytes_of, halfword_of};
-ghost use Rattle.cx_look_command.specs.Commands.{address_value, bytes_value, call_text, command_line, condition_word, count_read, halfword_value, input_line, input_lines, is_data, is_input, labelled_word, name_value, nohandle_words, option_value, option_word, option_words, reads_halfword, resp_words, value_by, with_value};
+ghost use Rattle.cx_look_command.specs.Commands.{address_value, bytes_value, call_text, command_line, condition_word, count_read, halfword_value, input_line, input_lines, is_data, is_input, kind_read, labelled_word, name_value, nohandle_words, option_value, option_word, option_words, reads_halfword, resp_words, value_by, with_value};
 ghost use Rattle.cx_look_words.specs.Words.{with_blanks};
 
 use cx_base_commands::{ArgumentKind, Command, CommandOption, OptionName, has_bit};
@@ -222,21 +222,32 @@ fn is_data(kind: ArgumentKind) -> bool
     )
 }
 
-/// How many bytes the command reads at an option's argument.
+/// How an option's argument is read: a COMMAREA as what the program finds there, also that of LINK, which passes its address.
+fn kind_read(name: OptionName, kind: ArgumentKind) -> ArgumentKind
+    ensures { result ≡ kind_read name kind }
+{
+    match name {
+        OptionName::Commarea => ArgumentKind::BytesRead,
+        _ => kind,
+    }
+}
+
+/// How many bytes are read at an option's argument.
 fn count_read<S: Store>(store: &S, call: &Call, option: &CommandOption) -> usize
     ensures { result ≡ count_read (S.storage store.now) call.now option.now }
 {
     let length = halfword(store, call, OptionName::Length);
-    let count = call.command().input_len(call.first(), option.kind, length);
+    let kind = kind_read(option.name, option.kind);
+    let count = call.command().input_len(call.first(), kind, length);
     usize::from(count)
 }
 
-/// Whether an option is data of which the command reads some byte.
+/// Whether an option is data of which some byte is read.
 #[tactic(auto, unfolding(crate::specs::Commands::is_input))]
 fn is_input<S: Store>(store: &S, call: &Call, option: &CommandOption) -> bool
     ensures { result ≡ is_input (S.storage store.now) call.now option.now }
 {
-    is_data(option.kind) && count_read(store, call, option) > 0
+    is_data(kind_read(option.name, option.kind)) && count_read(store, call, option) > 0
 }
 
 /// The first bytes that the command reads at an option's argument.

@@ -1,5 +1,10 @@
--- The definitions, and what the law states.
+-- The definitions, in reading order, and what the law states.
 pub mod Faults
+pub mod Spans
+pub mod Judging
+pub mod Operands
+pub mod Commands
+pub mod Marks
 pub mod Laws
 pub use Rattle.cx_asm_build.specs.Kinds
 pub use Rattle.cx_asm_build.specs.Prepared

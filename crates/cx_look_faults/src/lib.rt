@@ -1,8 +1,19 @@
-//! Which lines of a source are faulty: those that any stage finds, each on what the one before gives in spite of its faults.
+//! Which lines of a source are faulty: those that any stage finds, each on what the one before gives in spite of its
+//! faults; and where on each line the part is that is at fault.
 #![tactic(auto)]
 
 mod bases;
+mod commands;
 mod faults;
+mod judging;
 pub mod laws;
+mod marks;
+mod operands;
+mod positions;
+mod spans;
 
 pub use faults::{FaultyLine, faults_of};
+pub use marks::{Mark, marks_of};
+pub use operands::OperandPart;
+pub use positions::{Position, Spot};
+pub use spans::{Cell, Cut, Span};

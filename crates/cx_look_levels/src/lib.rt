@@ -1,7 +1,14 @@
-//! A look at what is kept of a task.
+//! Looks at what is kept of a task, and at the fields of its levels.
 #![tactic(auto)]
 
+mod field_texts;
+mod fields;
+pub mod laws;
 mod levels;
+mod standing;
 mod tasks;
 
+pub use field_texts::{field_text, fields_text, program_at};
+pub use fields::Field;
+pub use standing::Standing;
 pub use tasks::task_text;

@@ -96,7 +96,7 @@ fn none_line(report: &mut Report, name: Name4) -> Result<(), AllocError>
 }
 
 /// The task of a terminal.
-fn task_of<S: Store + Drop>(region: &Region<S>, name: Name4) -> Option<&Task>
+pub(crate) fn task_of<S: Store + Drop>(region: &Region<S>, name: Name4) -> Option<&Task>
     ensures { option_copied result ≡ task_of region.now name }
 {
     let terminal = region.terminals().get(&name)?;

@@ -31,6 +31,9 @@ same_lines tasks resources (look.Faults source) state one other p q = p ∙ sym 
 same_lines tasks resources (look.Symbol program name) state one other p q = p ∙ sym q
 same_lines tasks resources (look.Symbols program) state one other p q = p ∙ sym q
 same_lines tasks resources (look.Xref program) state one other p q = p ∙ sym q
+same_lines tasks resources (look.Field term name k) state one other p q = p ∙ sym q
+same_lines tasks resources (look.Fields term k) state one other p q = p ∙ sym q
+same_lines tasks resources (look.Help word) state one other p q = p ∙ sym q
 
 pub looks_are_reported_once : TasksTextsDecide → ResourcesTextsDecide → LooksAreReportedOnce
 looks_are_reported_once tasks resources look state one other p q =

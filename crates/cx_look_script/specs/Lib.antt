@@ -5,6 +5,7 @@ pub mod Reading
 pub mod Allowed
 pub mod Runs
 pub mod Faults
+pub mod Help
 pub mod Looking
 pub mod Laws
 pub mod Parts
@@ -24,6 +25,8 @@ pub use Rattle.cx_look_storage.specs.Areas
 pub use Rattle.cx_look_storage.specs.Bytes
 pub use Rattle.cx_look_levels.specs.Levels
 pub use Rattle.cx_look_levels.specs.Tasks as TasksLookedAt
+pub use Rattle.cx_look_levels.specs.Fields
+pub use Rattle.cx_look_levels.specs.FieldTexts
 pub use Rattle.cx_look_command.specs.Commands
 pub use Rattle.cx_look_command.specs.Looks as LooksAtCommands
 pub use Rattle.cx_look_symbols.specs.Symbols

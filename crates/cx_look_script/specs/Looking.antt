@@ -1,5 +1,6 @@
 -- What an action of a script with looks does, and what is written for it (own).
-use Rattle.std.specs.Prelude.{◌≡◌, ℕ, List}
+use Rattle.std.specs.Prelude.{◌≡◌, ℕ, Option, List, []}
+use Rattle.std.specs.Option.{option_map_or}
 use Rattle.cx_region.specs.Tables.{program_of}
 use Rattle.cx_edf.specs.declared.answers.Answer.{Answer}
 use Rattle.cx_script_actions.specs.Effects.{Performs}
@@ -17,14 +18,20 @@ use Rattle.cx_look_xref.specs.Texts.{xref_text}
 use Rattle.cx_look_storage.specs.Areas.{areas_text, task_areas_text}
 use Rattle.cx_look_storage.specs.Bytes.{storage_text}
 use Rattle.cx_look_levels.specs.Tasks.{task_text}
+use Rattle.cx_look_levels.specs.FieldTexts.{field_text, fields_text, program_at}
 use Rattle.cx_look_tasks.specs.Tasks.{ResourcesText, TasksText}
 use Rattle.cx_look_abend.specs.Texts.{abend_text}
 use Rattle.cx_look_script.specs.State.{LookState}
 use Rattle.cx_look_script.specs.Sources.{source_lines, with_source}
 use Rattle.cx_look_script.specs.Runs.{AppliesAtLooks, RunsOn}
 use Rattle.cx_look_script.specs.Faults.{faults_text}
+use Rattle.cx_look_script.specs.Help.{help_text}
 use Rattle.cx_look_script.specs.declared.action.LookAction.{LookAction}
 use Rattle.cx_look_script.specs.declared.action.LookAction.TheVariants as action
+
+-- the lines of the source of a level's program
+abbrev pub level_lines : LookState → List ℕ → Option ℕ → List (List ℕ)
+level_lines state term k = option_map_or (source_lines state.sources) (program_at state.edf.region term k) []
 
 -- What a look has to say of a state.
 unfoldable pub AreLookLines : Look → LookState → Lines → Type 0
@@ -46,6 +53,9 @@ AreLookLines (look.Symbol program name) state lines =
 AreLookLines (look.Symbols program) state lines =
     lines ≡ symbols_text (program_of state.edf.region program) program (source_lines state.sources program)
 AreLookLines (look.Xref program) state lines = lines ≡ xref_text program (source_lines state.sources program)
+AreLookLines (look.Field term name k) state lines = lines ≡ field_text state.edf.region (level_lines state term k) term name k
+AreLookLines (look.Help word) state lines = lines ≡ help_text word
+AreLookLines (look.Fields term k) state lines = lines ≡ fields_text state.edf.region (level_lines state term k) term k
 
 -- and how it is written
 pub record IsLookText (look : Look) (state : LookState) (text : List ℕ) : Type 0 where

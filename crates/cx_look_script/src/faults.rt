@@ -1,24 +1,61 @@
 //! FAULTS: the faulty lines of a source in a script.
-ghost use Rattle.std.specs.Prelude.{◌≡◌, ◌+◌, ◌++◌, IfOk, OnOk};
+ghost use Rattle.std.specs.Prelude.{◌≡◌, ◌+◌, ◌++◌, IfOk, OnOk, map};
 ghost use Rattle.std.specs.List.{filter, flat_map};
 ghost use Rattle.cx_look_faults.specs.Faults.{faults_of};
-ghost use Rattle.cx_look_script.specs.Faults.{fault_line, fault_lines, faults_text, is_kept, text_at};
+ghost use Rattle.cx_look_script.specs.Faults.{fault_line, fault_lines, fault_word, faults_text, is_kept, place_word, shown_byte, text_at, with_marks};
 
 use cx_base_text::shown_name;
+use cx_ebcdic::to_ebcdic;
 use cx_look::SourceLines;
-use cx_look_faults::{FaultyLine, faults_of};
+use cx_look_faults::{FaultyLine, Mark, Spot, faults_of, marks_of};
 use cx_look_words::{Report, decimal};
 use cx_source::Text;
 use std::alloc::{AllocError, Global};
 
 /// A source's line by its number, counted from 1; after the last comes the block's end.
-fn text_at(alloc: Global, lines: &[Text], number: usize) -> Result<Vec<u8>, AllocError>
-    ensures { IfOk result (λ text. text.items ≡ text_at lines.now number) }
+fn text_at(lines: &[Text], number: usize) -> &[u8]
+    ensures { result.now ≡ text_at lines.now number }
 {
     match lines.get(number.saturating_sub(1)) {
-        Some(line) => line.as_slice().to_vec(alloc),
-        None => b"/*".to_vec(alloc),
+        Some(line) => line.as_slice(),
+        None => b"/*",
     }
+}
+
+/// A byte as it is shown: a period where it has no character.
+fn shown_byte(c: u8) -> u8
+    ensures { result ≡ shown_byte c }
+{
+    if to_ebcdic(char::from(c)).is_some() {
+        c
+    } else {
+        b'.'
+    }
+}
+
+/// A line as it is shown.
+fn shown(alloc: Global, text: &[u8]) -> Result<Vec<u8>, AllocError>
+    ensures { IfOk result (λ found. found.items ≡ map shown_byte text.now) }
+{
+    let mut found = Vec::new(alloc);
+    for c in text {
+        found.push(shown_byte(*c))?;
+    }
+    Ok(found)
+}
+
+/// A text with marks round a part.
+fn with_marks(alloc: Global, spot: Spot, text: &[u8]) -> Result<Vec<u8>, AllocError>
+    ensures { IfOk result (λ found. found.items ≡ with_marks spot text.now) }
+{
+    let (before, from) = text.split_at(text.len().min(spot.column.saturating_sub(1)));
+    let (part, after) = from.split_at(from.len().min(spot.length));
+    let mut found = before.to_vec(alloc)?;
+    found.extend_from_slice(b">>")?;
+    found.extend_from_slice(part)?;
+    found.extend_from_slice(b"<<")?;
+    found.extend_from_slice(after)?;
+    Ok(found)
 }
 
 /// The number in the script of a source's line. No script has too many lines for the sum to fit.
@@ -28,29 +65,51 @@ fn number_in_script(first: usize, line: usize) -> Result<usize, AllocError>
     first.checked_add(line).ok_or(AllocError)
 }
 
-/// Adds the line that reports a faulty line.
-fn fault_line(
-    report: &mut Report,
-    source: &SourceLines,
-    fault: FaultyLine,
-) -> Result<(), AllocError>
-    ensures { OnOk result (report.new ≡ report.old ++ fault_line source.now fault) }
+/// Where a part is in the script.
+fn place_word(alloc: Global, source: &SourceLines, spot: Spot) -> Result<Vec<u8>, AllocError>
+    ensures { IfOk result (λ word. word.items ≡ place_word source.now spot) }
 {
-    let number = decimal(report.alloc(), number_in_script(source.first, fault.line)?)?;
-    let text = text_at(report.alloc(), source.lines.as_slice(), fault.line)?;
-    report.line(&[&number, fault.kind.name().as_bytes(), &text])
+    let mut word = decimal(alloc, number_in_script(source.first, spot.line)?)?;
+    word.extend_from_slice(b":")?;
+    word.extend_from_slice(&decimal(alloc, spot.column)?)?;
+    Ok(word)
+}
+
+/// A fault's name, and the names of what is missing.
+fn fault_word(alloc: Global, mark: &Mark) -> Result<Vec<u8>, AllocError>
+    ensures { IfOk result (λ word. word.items ≡ fault_word mark.now) }
+{
+    let mut word = mark.kind.name().as_bytes().to_vec(alloc)?;
+    let missing = mark.missing.as_slice();
+    if !missing.is_empty() {
+        word.extend_from_slice(b" ")?;
+        word.extend_from_slice(missing)?;
+    }
+    Ok(word)
+}
+
+/// Adds the line that reports a faulty line.
+fn fault_line(report: &mut Report, source: &SourceLines, mark: &Mark) -> Result<(), AllocError>
+    ensures { OnOk result (report.new ≡ report.old ++ fault_line source.now mark.now) }
+{
+    let place = place_word(report.alloc(), source, mark.spot)?;
+    let word = fault_word(report.alloc(), mark)?;
+    let line = text_at(source.lines.as_slice(), mark.spot.line);
+    let shown = shown(report.alloc(), line)?;
+    let text = with_marks(report.alloc(), mark.spot, &shown)?;
+    report.line(&[&place, &word, &text])
 }
 
 /// Adds a line for each of some faulty lines.
 fn lines_of_faults(
     report: &mut Report,
     source: &SourceLines,
-    faults: &[FaultyLine],
+    marks: &[Mark],
 ) -> Result<(), AllocError>
-    ensures { OnOk result (report.new ≡ report.old ++ flat_map (fault_line source.now) faults.now) }
+    ensures { OnOk result (report.new ≡ report.old ++ flat_map (fault_line source.now) marks.now) }
 {
-    for fault in faults {
-        fault_line(report, source, *fault)?;
+    for mark in marks {
+        fault_line(report, source, mark)?;
     }
     Ok(())
 }
@@ -69,7 +128,8 @@ fn fault_lines(
         report.line(&[b"FAULTS", &name, b"NONE"])?;
         return Ok(report);
     }
-    lines_of_faults(&mut report, source, faults)?;
+    let marks = marks_of(alloc, source.lines.as_slice(), faults)?;
+    lines_of_faults(&mut report, source, &marks)?;
     Ok(report)
 }
 

@@ -3,6 +3,7 @@
 
 mod action;
 mod faults;
+mod help;
 pub mod laws;
 mod looks;
 mod performer;

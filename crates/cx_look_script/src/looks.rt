@@ -1,21 +1,34 @@
 //! What is written for a look.
-ghost use Rattle.std.specs.Prelude.{IfOk};
-ghost use Rattle.cx_look_script.specs.Looking.{AreLookLines, IsLookText};
+ghost use Rattle.std.specs.Prelude.{◌≡◌, IfOk};
+ghost use Rattle.cx_look_script.specs.Looking.{AreLookLines, IsLookText, level_lines};
 
 use crate::faults::faults_text;
+use crate::help::help_text;
 use crate::performer::Looking;
+use cx_ebcdic::Name4;
 use cx_look::Look;
 use cx_look_abend::abend_text;
 use cx_look_command::command_text;
-use cx_look_levels::task_text;
+use cx_look_levels::{field_text, fields_text, program_at, task_text};
 use cx_look_storage::{areas_text, storage_text, task_areas_text};
 use cx_look_symbols::{symbol_text, symbols_text};
 use cx_look_tables::{item_text, programs_text, queue_text, queues_text};
 use cx_look_tasks::{resources_text, tasks_text};
 use cx_look_words::Report;
 use cx_look_xref::xref_text;
+use cx_source::Text;
 use cx_storage::Store;
 use std::alloc::{AllocError, Global};
+
+/// The lines of the source of a level's program.
+fn level_lines<S: Store + Drop>(looking: &Looking<S>, term: Name4, k: Option<u8>) -> &[Text]
+    ensures { result.now ≡ level_lines looking.now term k }
+{
+    match program_at(looking.state.region(), term, k) {
+        Some(program) => looking.sources.lines_of(program),
+        None => &[],
+    }
+}
 
 /// What a look has to say.
 #[tactic(auto, unfolding(crate::specs::Looking::AreLookLines))]
@@ -50,6 +63,15 @@ fn look_lines<S: Store + Drop>(
             symbols_text(alloc, region, program, lines)
         }
         Look::Xref(program) => xref_text(alloc, program, looking.sources.lines_of(program)),
+        Look::Help(word) => help_text(alloc, word),
+        Look::Field(term, name, k) => {
+            let lines = level_lines(looking, term, k);
+            field_text(alloc, region, lines, term, name, k)
+        }
+        Look::Fields(term, k) => {
+            let lines = level_lines(looking, term, k);
+            fields_text(alloc, region, lines, term, k)
+        }
     }
 }
 

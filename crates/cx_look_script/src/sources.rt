@@ -1,5 +1,6 @@
 //! What is kept of the sources that programs were defined from.
-ghost use Rattle.std.specs.Prelude.{◌≡◌, ◌&&◌, [], if◌then◌else◌, is_some, not, OnOk};
+ghost use Rattle.std.specs.Prelude.{◌≡◌, ◌≤◌, ◌&&◌, [], if◌then◌else◌, is_some, not, IsOk, OnOk};
+ghost use Rattle.indexmap.specs.IndexMap.{spare};
 ghost use Rattle.cx_region.specs.Tables.{program_of};
 ghost use Rattle.cx_look_symbols.specs.Statements.{statement_places};
 ghost use Rattle.cx_look_script.specs.Sources.{source_lines, with_lines};
@@ -27,6 +28,21 @@ impl Model for Sources {
     ghost Value = { Kept };
 
     ghost view = { λ sources. record { lines = sources.lines.entries; places = sources.places.entries } };
+}
+
+/// Makes room for one more in both tables. An error comes only where one had none.
+fn make_room_in<L: Drop, P: Drop>(
+    lines: &mut IndexMap<Name8, L>,
+    places: &mut IndexMap<Name8, P>,
+) -> Result<(), AllocError>
+    ensures lines { lines.new.entries ≡ lines.old.entries }
+    ensures places { places.new.entries ≡ places.old.entries }
+    ensures room_of_lines { OnOk result (1 ≤ spare lines.new) }
+    ensures room_of_places { OnOk result (1 ≤ spare places.new) }
+    ensures succeeds { 1 ≤ spare lines.old → 1 ≤ spare places.old → IsOk result }
+{
+    lines.reserve(1)?;
+    places.reserve(1)
 }
 
 impl Sources {
@@ -61,8 +77,7 @@ impl Sources {
     pub(crate) fn make_room(&mut self) -> Result<(), AllocError>
         ensures { self.new ≡ self.old }
     {
-        self.lines.reserve(1)?;
-        self.places.reserve(1)
+        make_room_in(&mut self.lines, &mut self.places)
     }
 
     /// Keeps a source's lines, and where its statements are, where it defined its program.

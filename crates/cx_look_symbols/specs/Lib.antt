@@ -7,5 +7,6 @@ pub mod Lines
 pub mod Places
 -- Statements of laws.
 pub mod Laws
+pub mod Facts
 pub mod Parts
 pub use Rattle.cx_look_words.specs.Words

@@ -13,10 +13,11 @@ mod symbols;
 mod texts;
 
 pub use all::in_order;
-pub use lines::SourcePlaces;
+pub use lines::{SourcePlaces, holds};
 pub use looks::{symbol_text, symbols_text};
 pub use places::{Place, Spot, address_word, line_word, place_of, place_word, spot_before};
 pub use reading::translated_in;
 pub use rows::Symbol;
-pub use statements::{StatementPlace, statement_places};
+pub use statements::{StatementPlace, statement_place, statement_places};
 pub use symbols::{Names, names_of_places};
+pub use texts::{is_control, length_word};

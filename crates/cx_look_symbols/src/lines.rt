@@ -12,8 +12,8 @@ use indexmap::IndexMap;
 /// Where the bytes of statements are, by the programs that a source defined.
 pub type SourcePlaces = IndexMap<Name8, List<StatementPlace>>;
 
-/// Whether a statement's bytes hold an offset.
-fn holds(place: &StatementPlace, offset: u32) -> bool
+/// Whether a statement's bytes hold an offset. It takes no memory.
+pub fn holds(place: &StatementPlace, offset: u32) -> bool
     ensures { result ≡ holds offset place.now }
 {
     place.start <= u128::from(offset) && u128::from(offset) < place.end

@@ -29,7 +29,9 @@ pub struct StatementPlace {
 }
 
 /// Where a statement's bytes are; None where it has none in the control section.
-fn place_of(
+///
+/// An error comes only where memory was refused.
+pub fn statement_place(
     alloc: Global,
     control: Option<Name8>,
     statement: &Statement<'_>,
@@ -62,7 +64,7 @@ fn push_place(
     ensures { let more = cons_option (place_of (whole_by places.now).control statement.now) [] in
         OnOk result (found.new.items ≡ found.old.items ++ more) }
 {
-    let Some(place) = place_of(alloc, control_name(places), statement)? else {
+    let Some(place) = statement_place(alloc, control_name(places), statement)? else {
         return Ok(());
     };
     found.push(place)?;

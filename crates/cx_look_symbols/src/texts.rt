@@ -39,14 +39,16 @@ fn section_word(alloc: Global, section: Option<Name8>) -> Result<Vec<u8>, AllocE
 }
 
 /// A length attribute in decimal digits.
-fn length_word(alloc: Global, length: u128) -> Result<Vec<u8>, AllocError>
+///
+/// An error comes only where memory for the text was refused.
+pub fn length_word(alloc: Global, length: u128) -> Result<Vec<u8>, AllocError>
     ensures { IfOk result (λ text. text.items ≡ decimal length) }
 {
     Ok(length.to_string(alloc)?.into_bytes())
 }
 
-/// Whether a section is the control section.
-pub(crate) fn is_control(section: Option<Name8>, control: Option<Name8>) -> bool
+/// Whether a section is the control section. It takes no memory.
+pub fn is_control(section: Option<Name8>, control: Option<Name8>) -> bool
     ensures { result ≡ is_control section control }
 {
     match (section, control) {

@@ -1,5 +1,4 @@
 pub mod NameLemmas
 pub mod PoolLemmas
-pub mod WholeLemmas
 pub mod UseLemmas
 pub mod StepLemmas

@@ -1,5 +1,6 @@
 -- The definitions, in reading order.
 pub mod References
+pub mod Given
 pub mod Literals
 pub mod Usings
 pub mod Texts

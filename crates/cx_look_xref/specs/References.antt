@@ -1,14 +1,17 @@
 -- Which names the statements of a source use (GC33-4010, "Cross-Reference"; that the name is found in the operand's text is own).
-use Rattle.std.specs.Prelude.{ℕ, Bool, ◌&&◌, ◌==◌, if◌then◌else◌, Option, Some, None, List, [], ◌∷◌, ◌++◌, drop, fold, map}
+use Rattle.std.specs.Prelude.{ℕ, Bool, ◌&&◌, ◌==◌, if◌then◌else◌, Option, Some, None, option_and_then, List, [], ◌∷◌, ◌++◌, drop, fold, map, slice_get, take}
 use Rattle.std.specs.BTreeSet.{insert_key}
 use Rattle.std.specs.List.{filter, flat_map, prefix_len}
 use Rattle.std.specs.Option.{option_map_or, option_to_list}
 use Rattle.std.specs.Ordering.{nat_cmp}
 use Rattle.cx_source.specs.Lines.{is_name_character}
-use Rattle.cx_source.specs.Marks.{outside_apostrophes}
+use Rattle.cx_source.specs.Marks.{first_mark, outside_apostrophes}
+use Rattle.cx_source.specs.declared.marks.Delimiter.TheVariants.{Parenthesis}
 use Rattle.cx_source.specs.declared.source.Source.{Source}
 use Rattle.cx_source.specs.declared.source.Stmt.{Stmt}
 use Rattle.cx_asm_expressions.specs.Names.{is_same, symbol_name}
+use Rattle.cx_code.specs.declared.table.Op.{Op}
+use Rattle.cx_code.specs.declared.table.Op.TheVariants as op
 use Rattle.cx_asm_operations.specs.Operations.{operation_named}
 use Rattle.cx_asm_operations.specs.declared.operations.Operation.{Operation}
 use Rattle.cx_asm_operations.specs.declared.operations.Operation.TheVariants as operation
@@ -54,6 +57,33 @@ names_used (Some (operation.Directive directive.End)) parts = flat_map names_of_
 names_used (Some (operation.Directive other)) parts = []
 names_used operation parts = flat_map names_of_part parts
 
+-- ---- the operand into which an instruction stores, counted from 0
+abbrev pub stored_by : Op → Option ℕ
+stored_by op.Sth = Some 1
+stored_by op.Stc = Some 1
+stored_by op.Cvd = Some 1
+stored_by op.St = Some 1
+stored_by op.Stm = Some 2
+stored_by op.Stcm = Some 2
+stored_by op.Mvi = Some 0
+stored_by op.Ni = Some 0
+stored_by op.Oi = Some 0
+stored_by op.Mvc = Some 0
+stored_by op.Xc = Some 0
+stored_by op.Tr = Some 0
+stored_by op.Pack = Some 0
+stored_by op.Unpk = Some 0
+stored_by _ = None
+
+abbrev pub part_stored : Option Operation → Option ℕ
+part_stored (Some (operation.Machine op)) = stored_by op
+part_stored _ = None
+
+-- the names that it has in front of its parentheses
+abbrev pub names_stored : Option Operation → List (List ℕ) → List (List ℕ)
+names_stored operation parts =
+    option_map_or (λ part. names_in (take (first_mark Parenthesis part) part)) (option_and_then (slice_get parts) (part_stored operation)) []
+
 -- ---- a source
 abbrev pub reference : ℕ → List ℕ → Reference
 reference line name = record { name = name; line = line }
@@ -65,6 +95,14 @@ references_on line (Some stmt) = map (reference line) (names_used (operation_nam
 -- The names that are used, each with the line of its statement: of a statement made of an EXEC with that one's line.
 abbrev pub references_of : Source → List Reference
 references_of source = flat_map (λ item. references_on item.line item.stmt) source.items
+
+-- and those into which an instruction stores
+abbrev pub stores_on : ℕ → Option Stmt → List Reference
+stores_on line None = []
+stores_on line (Some stmt) = map (reference line) (names_stored (operation_named stmt.operation) (parts_in stmt))
+
+abbrev pub stores_of : Source → List Reference
+stores_of source = flat_map (λ item. stores_on item.line item.stmt) source.items
 
 -- the numbers of lines, ascending, each once
 abbrev pub each_once : List ℕ → List ℕ

@@ -1,7 +1,7 @@
 -- What a look writes of the cross-reference of a source (own).
-use Rattle.std.specs.Prelude.{ℕ, ◌+◌, ◌%◌, ◌^◌, ◌==◌, if◌then◌else◌, Option, Some, None, List, [], ◌∷◌, ◌++◌, codes, length, map, slice_get, unwrap_or}
+use Rattle.std.specs.Prelude.{ℕ, ◌+◌, ◌%◌, ◌^◌, ◌==◌, ◌&&◌, if◌then◌else◌, Option, Some, None, List, [], ◌∷◌, ◌++◌, codes, length, map, slice_get, unwrap_or}
 use Rattle.std.specs.Fmt.{decimal}
-use Rattle.std.specs.List.{flat_map}
+use Rattle.std.specs.List.{flat_map, list_any}
 use Rattle.std.specs.Result.{result_ok}
 use Rattle.cx_base_text.specs.Digits.{digits, hex_digits}
 use Rattle.cx_source.specs.declared.source.Source.{Source}
@@ -15,22 +15,27 @@ use Rattle.cx_look_words.specs.Words.{look_line, or_none, with_blanks, written_n
 use Rattle.cx_look_symbols.specs.Symbols.{SourceSymbols, named_of, translated_in}
 use Rattle.cx_look_symbols.specs.Texts.{in_order}
 use Rattle.cx_look_symbols.specs.declared.rows.Symbol.{Symbol}
-use Rattle.cx_look_xref.specs.References.{lines_using, references_of}
+use Rattle.cx_look_xref.specs.References.{lines_using, references_of, stores_of}
+use Rattle.cx_look_xref.specs.Given.{is_given, lines_given}
 use Rattle.cx_look_xref.specs.Literals.{lines_with, literal_bytes}
 use Rattle.cx_look_xref.specs.Usings.{base_registers, use_end}
 
--- the numbers of the lines that use something
-abbrev pub line_words : List ℕ → List (List ℕ)
-line_words lines = if length lines == 0 then codes "NONE" ∷ [] else map decimal lines
+-- the numbers of the lines that use something, with an asterisk after those that store into it
+abbrev pub line_word : List ℕ → ℕ → List ℕ
+line_word storing line = decimal line ++ (if list_any (λ other. other == line) storing then codes "*" else [])
 
-abbrev pub used_word : List ℕ → List ℕ
-used_word lines = codes "USED" ++ with_blanks (line_words lines)
+abbrev pub line_words : List ℕ → List ℕ → List (List ℕ)
+line_words storing lines = if length lines == 0 then codes "NONE" ∷ [] else map (line_word storing) lines
+
+abbrev pub used_word : List ℕ → List ℕ → List ℕ
+used_word storing lines = codes "USED" ++ with_blanks (line_words storing lines)
 
 -- ---- symbols
--- a symbol: the line that defines it, and those that use it
-abbrev pub name_line : (List ℕ → List ℕ) → List ℕ × Symbol → Lines
-name_line used (name, symbol) =
-    look_line (codes "XREF" ∷ written_name name ∷ codes "LINE" ∷ decimal symbol.line ∷ used_word (used name) ∷ [])
+-- a symbol: the line that defines it, and those that use it; none for one that is given and unused
+abbrev pub name_line : (List ℕ → List ℕ) → (List ℕ → List ℕ) → List ℕ → List ℕ × Symbol → Lines
+name_line storing used given (name, symbol) =
+    if is_given given symbol && (length (used name) == 0) then []
+    else look_line (codes "XREF" ∷ written_name name ∷ codes "LINE" ∷ decimal symbol.line ∷ used_word (storing name) (used name) ∷ [])
 
 -- ---- literals
 -- bytes in hexadecimal digits; hyphens where there are none
@@ -41,7 +46,7 @@ bytes_word bytes = if length bytes == 0 then codes "--" else hex_digits bytes
 abbrev pub literal_line : List ℕ → (ℕ → List ℕ → List ℕ) → ℕ → List ℕ × Literal → Lines
 literal_line section used pool (text, literal) =
     look_line (codes "XREF" ∷ codes "LITERAL" ∷ digits 16 6 (literal.offset % 2 ^ 24) ∷ (codes "=" ++ text)
-    ∷ bytes_word (literal_bytes section text literal) ∷ used_word (used pool text) ∷ [])
+    ∷ bytes_word (literal_bytes section text literal) ∷ used_word [] (used pool text) ∷ [])
 
 -- those of all pools from the one of a number on
 abbrev pub literals_from : List ℕ → (ℕ → List ℕ → List ℕ) → ℕ → List PlacedLiterals → Lines
@@ -65,7 +70,7 @@ usings_from whole last (s ∷ after) = flat_map (using_line whole last s after) 
 -- registers.
 abbrev pub xref_made : Source → List ℕ → SourceSymbols → Lines
 xref_made source section named =
-    flat_map (name_line (lines_using (references_of source))) (in_order named.rows)
+    flat_map (name_line (lines_using (stores_of source)) (lines_using (references_of source)) (lines_given source)) (in_order named.rows)
     ++ literals_from section (lines_with (statements_of source)) 0 (whole_of source).pools
     ++ usings_from (whole_of source) (last_line source) (statements_of source)
 

@@ -6,8 +6,9 @@ ghost use Rattle.std.specs.Result.{result_ok};
 ghost use Rattle.cx_asm.specs.Assembly.{assembly_of, last_line};
 ghost use Rattle.cx_look_xref.specs.Texts.{xref_among, xref_assembled, xref_named};
 
+use crate::given::lines_given;
 use crate::literals::literal_lines;
-use crate::references::references_of;
+use crate::references::{references_of, stores_of};
 use crate::symbols::symbol_lines;
 use crate::usings::using_lines;
 use cx_asm::{AsmFault, assemble};
@@ -29,7 +30,7 @@ fn last_line(source: &Source) -> usize
 }
 
 /// The lines of a source that is placed, whose control section has this text.
-#[tactic(auto, using(crate::proofs::WholeLemmas::whole_is))]
+#[tactic(auto, using(cx_look_symbols::specs::Facts::Whole::whole_is))]
 fn xref_placed(
     alloc: Global,
     source: &Source,
@@ -46,7 +47,15 @@ fn xref_placed(
     let placed = placed_lines(alloc, source, places.statements.as_slice())?;
     let statements = stated(alloc, placed.as_slice())?;
     let mut report = Report::new(alloc);
-    symbol_lines(&mut report, references.as_slice(), &symbols)?;
+    let stores = stores_of(alloc, source)?;
+    let given = lines_given(alloc, source)?;
+    symbol_lines(
+        &mut report,
+        stores.as_slice(),
+        references.as_slice(),
+        given.as_slice(),
+        &symbols,
+    )?;
     let pools = places.pools.as_slice();
     literal_lines(&mut report, section, statements.as_slice(), pools)?;
     using_lines(

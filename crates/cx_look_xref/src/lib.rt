@@ -2,6 +2,7 @@
 #![tactic(auto)]
 
 mod all;
+mod given;
 mod lines;
 mod literals;
 mod looks;
@@ -14,5 +15,5 @@ mod usings;
 pub use lines::used_word;
 pub use literals::literal_lines;
 pub use looks::xref_text;
-pub use references::{Reference, references_of};
+pub use references::{Reference, references_of, stores_of};
 pub use usings::using_lines;

@@ -164,7 +164,7 @@ fn literal_line(
 {
     let alloc = report.alloc();
     let lines = lines_for(alloc, used, &PoolText { pool, text })?;
-    let used = used_word(alloc, lines.as_slice())?;
+    let used = used_word(alloc, &[], lines.as_slice())?;
     let bytes = bytes_word(alloc, literal_bytes(section, text, literal))?;
     let word = literal_word(alloc, text)?;
     let offset = hexadecimal::<6>((literal.offset % 0x100_0000) as u32);

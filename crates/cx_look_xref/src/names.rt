@@ -1,18 +1,21 @@
 //! The names that operands use.
-ghost use Rattle.std.specs.Prelude.{◌≡◌, ◌++◌, ◌≤◌, [], IfOk, OnOk, length, map};
+ghost use Rattle.std.specs.Prelude.{◌≡◌, ◌++◌, ◌≤◌, [], IfOk, OnOk, length, map, option_and_then, option_map, slice_get, take};
 ghost use Rattle.std.specs.List.{flat_map, prefix_len};
 ghost use Rattle.std.specs.Option.{option_to_list};
 ghost use Rattle.cx_source.specs.Lines.{is_name_character};
+ghost use Rattle.cx_source.specs.Marks.{first_mark};
+ghost use Rattle.cx_source.specs.declared.marks.Delimiter.TheVariants.{Parenthesis};
 ghost use Rattle.cx_asm_expressions.specs.Names.{symbol_name};
 ghost use Rattle.cx_asm_operations.specs.Operations.{operation_named};
 ghost use Rattle.cx_asm_pass1.specs.PassState.{parts_in};
-ghost use Rattle.cx_look_xref.specs.References.{name_ended, names_from, names_in, names_of_constant, names_of_part, names_used};
+ghost use Rattle.cx_look_xref.specs.References.{name_ended, names_from, names_in, names_of_constant, names_of_part, names_stored, names_used, part_stored, stored_by};
 
 use cx_asm_expressions::symbol_name;
 use cx_asm_operations::{Directive, Operation};
 use cx_asm_pools::literal_text;
+use cx_code::Op;
 use cx_ebcdic::Name8;
-use cx_source::{Delimiter, Stmt, cut, is_name_character, outside};
+use cx_source::{Delimiter, Stmt, cut, first_mark, is_name_character, outside};
 use std::alloc::{AllocError, Global};
 
 /// Adds the name that characters are, if they are one.
@@ -169,5 +172,73 @@ pub(crate) fn names_used(alloc: Global, stmt: &Stmt) -> Result<Vec<Name8>, Alloc
     let operation = Operation::from_name(stmt.operation.as_slice());
     let mut names = Vec::new(alloc);
     push_used(alloc, &mut names, operation, parts.as_slice())?;
+    Ok(names)
+}
+
+/// The operand, counted from 0, into which an instruction stores.
+fn stored_by(op: Op) -> Option<usize>
+    ensures { result ≡ stored_by op }
+{
+    match op {
+        Op::Mvi | Op::Ni | Op::Oi | Op::Mvc | Op::Xc | Op::Tr | Op::Pack | Op::Unpk => Some(0),
+        Op::Sth | Op::Stc | Op::Cvd | Op::St => Some(1),
+        Op::Stm | Op::Stcm => Some(2),
+        _ => None,
+    }
+}
+
+/// The operand, counted from 0, into which an operation stores.
+fn part_stored(operation: Option<Operation>) -> Option<usize>
+    ensures { result ≡ part_stored operation }
+{
+    match operation {
+        Some(Operation::Machine(op)) => stored_by(op),
+        _ => None,
+    }
+}
+
+/// What an operand has in front of its parentheses.
+fn before_list(part: &[u8]) -> &[u8]
+    ensures { result.now ≡ take (first_mark Parenthesis part.now) part.now }
+{
+    part.split_at(first_mark(part, Delimiter::Parenthesis)).0
+}
+
+/// The operand into which an operation stores, as far as its parentheses.
+fn stored_text<'a>(operation: Option<Operation>, parts: &[&'a [u8]]) -> Option<&'a [u8]>
+    ensures { let texts = map (λ part. part.now) parts.now in
+        option_map (λ text. text.now) result
+        ≡ option_map (λ part. take (first_mark Parenthesis part) part) (option_and_then (slice_get texts) (part_stored operation)) }
+{
+    let k = part_stored(operation)?;
+    let part = parts.get(k)?;
+    Some(before_list(part))
+}
+
+/// Adds the names of the operand into which an operation stores.
+fn push_stored(
+    alloc: Global,
+    names: &mut Vec<Name8>,
+    operation: Option<Operation>,
+    parts: &[&[u8]],
+) -> Result<(), AllocError>
+    ensures { OnOk result (names.new.items
+        ≡ names.old.items ++ names_stored operation (map (λ part. part.now) parts.now)) }
+{
+    let Some(text) = stored_text(operation, parts) else {
+        return Ok(());
+    };
+    push_names(alloc, names, text)
+}
+
+/// The names of the operand into which a statement's instruction stores, in their order.
+pub(crate) fn names_stored(alloc: Global, stmt: &Stmt) -> Result<Vec<Name8>, AllocError>
+    ensures { let operation = operation_named stmt.now.operation in
+        IfOk result (λ names. names.items ≡ names_stored operation (parts_in stmt.now)) }
+{
+    let parts = cut(alloc, stmt.operand.as_slice(), Delimiter::TopComma)?;
+    let operation = Operation::from_name(stmt.operation.as_slice());
+    let mut names = Vec::new(alloc);
+    push_stored(alloc, &mut names, operation, parts.as_slice())?;
     Ok(names)
 }

@@ -1,10 +1,10 @@
 //! The names that a source uses, with their lines.
 ghost use Rattle.std.specs.Prelude.{◌≡◌, ◌++◌, IfOk, List, OnOk, map, ℕ};
 ghost use Rattle.cx_asm_expressions.specs.Names.{is_same};
-ghost use Rattle.cx_look_xref.specs.References.{lines_using, reference, references_of, references_on};
+ghost use Rattle.cx_look_xref.specs.References.{lines_using, reference, references_of, references_on, stores_of, stores_on};
 ghost use Rattle.cx_look_xref.specs.Parts.Uses.{lines_of_name, with_line};
 
-use crate::names::names_used;
+use crate::names::{names_stored, names_used};
 use crate::uses::put;
 use cx_ebcdic::Name8;
 use cx_source::{Item, Source};
@@ -56,6 +56,35 @@ pub fn references_of(alloc: Global, source: &Source) -> Result<Vec<Reference>, A
     let mut references = Vec::new(alloc);
     for item in source.items.as_slice() {
         push_line(alloc, &mut references, item)?;
+    }
+    Ok(references)
+}
+
+/// Adds the names into which the instruction of a line's statement stores.
+fn push_stores(
+    alloc: Global,
+    references: &mut Vec<Reference>,
+    item: &Item,
+) -> Result<(), AllocError>
+    ensures { OnOk result (references.new.items ≡ references.old.items ++ stores_on item.now.line item.now.stmt) }
+{
+    let Some(stmt) = &item.stmt else {
+        return Ok(());
+    };
+    let names = names_stored(alloc, stmt)?;
+    push_names(references, item.line, names.as_slice())?;
+    Ok(())
+}
+
+/// The names into which a source's instructions store, each with its line, in the source's order.
+///
+/// An error comes only where memory for them was refused.
+pub fn stores_of(alloc: Global, source: &Source) -> Result<Vec<Reference>, AllocError>
+    ensures { IfOk result (λ references. references.items ≡ stores_of source.now) }
+{
+    let mut references = Vec::new(alloc);
+    for item in source.items.as_slice() {
+        push_stores(alloc, &mut references, item)?;
     }
     Ok(references)
 }

@@ -1,2 +1,3 @@
 pub mod HandleLemmas
 pub mod LevelLemmas
+pub mod SnapshotLemmas

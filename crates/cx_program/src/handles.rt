@@ -13,7 +13,7 @@ use std::marker::Model;
 use std::mem;
 
 /// How many PUSH HANDLEs a level keeps.
-const PUSHES: usize = 16;
+pub(crate) const PUSHES: usize = 16;
 
 /// What a level's program has asked to be done for each condition and on an abend, with what its
 /// PUSH HANDLEs keep.
@@ -22,8 +22,8 @@ const PUSHES: usize = 16;
 /// (`kept`), the last kept first.
 #[derive(Debug, Drop)]
 pub struct HandleTable {
-    active: Handling,
-    kept: ArrayVec<Handling, PUSHES>,
+    pub(crate) active: Handling,
+    pub(crate) kept: ArrayVec<Handling, PUSHES>,
 }
 
 impl Model for HandleTable {

@@ -8,6 +8,7 @@ mod faults;
 mod handles;
 pub mod laws;
 mod level;
+mod snapshots;
 mod stack;
 
 pub use choice::Choice;
@@ -16,4 +17,5 @@ pub use entries::{Entries, Exit, Handler, Handling};
 pub use faults::ProgramFault;
 pub use handles::HandleTable;
 pub use level::Level;
+pub use snapshots::LevelsSnapshot;
 pub use stack::LevelStack;

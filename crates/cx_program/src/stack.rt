@@ -12,7 +12,7 @@ use std::marker::Model;
 use std::mem;
 
 /// How many levels the current one can have above it.
-const CALLERS: usize = 15;
+pub(crate) const CALLERS: usize = 15;
 
 /// The levels of one task, 1 to 16: that of the transaction's program is the highest, each calls the next
 /// by LINK, and the last is the current one.
@@ -21,8 +21,8 @@ const CALLERS: usize = 15;
 /// current level (`current`).
 #[derive(Debug, Drop)]
 pub struct LevelStack {
-    callers: ArrayVec<Level, CALLERS>,
-    current: Level,
+    pub(crate) callers: ArrayVec<Level, CALLERS>,
+    pub(crate) current: Level,
 }
 
 impl Model for LevelStack {

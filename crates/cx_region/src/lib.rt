@@ -8,6 +8,7 @@ mod changes;
 mod defining;
 mod events;
 mod looking;
+mod parts;
 mod replies;
 mod state;
 mod turn;
@@ -21,6 +22,8 @@ pub use cx_region_state::TurnReply;
 pub use cx_region_state::{Following, Input, Shared, Task, TerminalEntry};
 pub use cx_region_task::{AbendRecord, Cause};
 pub use looking::command_name;
+#[doc(hidden)]
+pub use parts::RegionParts;
 pub use replies::{DefineFault, Event, KeyReply, Reply, RunStop, TaskInfo};
 pub use state::Region;
 #[doc(hidden)]

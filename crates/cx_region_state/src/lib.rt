@@ -1,6 +1,7 @@
 //! What a half-turn of a task can reach, and how a command is judged, as data.
 #![tactic(auto)]
 
+mod replicas;
 mod replies;
 mod state;
 mod verdict;

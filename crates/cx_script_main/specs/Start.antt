@@ -42,8 +42,8 @@ RunsScript opens runs_file takes_input runs_input old (Some path) answer new =
     RunsFile opens runs_file old path answer new
 RunsScript opens runs_file takes_input runs_input old None answer new = RunsInput takes_input runs_input old answer new
 
--- What is done for words, by the file that they name: Usage exactly where they are refused, and nothing is asked of the
--- host then; nor is where memory ran out before the run.
+-- What is done for words, by the file that they name. Usage is answered only where they are refused; Memory may be, also
+-- for these, since taking words apart takes memory. Nothing more is asked of the host then.
 abbrev pub Obeys : {H : Type 0} → (H → Option (List ℕ) → Result Summary RunFault → H → Type 0)
     → Option (Option (List ℕ)) → H → Result (Result Summary RunFault) Refusal → H → Type 0
 Obeys runs (Some file) old (Ok answer) new = runs old file answer new

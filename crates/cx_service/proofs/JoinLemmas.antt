@@ -1,8 +1,8 @@
 -- The lines of a text, joined, are its parts.
-use Rattle.std.proofs.Common.{◌≡◌, ℕ, zero, suc, ◌+◌, ◌<◌, ◌≤◌, ◌⊎◌, Bool, true, false, Option, Some, None, List, [], ◌∷◌, ◌++◌, length, take, drop, slice_get, refl, sym, ◌∙◌, ap, subst, inl, inr, ⊎_elim, arith, length-take, nat_le}
+use Rattle.std.proofs.Common.{◌≡◌, ℕ, zero, suc, ◌+◌, ◌<◌, Option, Some, None, List, [], ◌∷◌, ◌++◌, length, take, drop, slice_get, refl, sym, ap, inl, inr, arith, length-take, nat_le}
 use Rattle.std.proofs.lemmas.Bool.{cases_Bool, leb-false, MatchBool-at_true, MatchBool-at_false}
 use Rattle.std.proofs.lemmas.List.{take-append-drop}
-use Rattle.cx_service.specs.Lines.{blank, columns, parts_of, IsLastBreak, line_before, left_after, Breaks, ArePartLines, AreLines, AreLinesOf}
+use Rattle.cx_service.specs.Lines.{blank, columns, parts_of, IsLastBreak, line_before, left_after, Breaks, ArePartLines, AreLines}
 use Rattle.cx_service.specs.Laws.Lines.{IsBrokenOff, JoinTo, AllJoinTo, LinesJoin}
 
 -- a part around one of its bytes

@@ -19,7 +19,7 @@ const MOST_RESOURCES: usize = 256;
 /// The resources that tasks have enqueued upon: at most 256. Each has one owner, with a count of 1 to 65,535.
 #[derive(Drop)]
 pub struct Enqueues {
-    resources: IndexMap<ResourceName, Hold>,
+    pub(crate) resources: IndexMap<ResourceName, Hold>,
 }
 
 impl Model for Enqueues {

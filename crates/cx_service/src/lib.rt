@@ -5,6 +5,7 @@ mod enqueues;
 mod faults;
 pub mod laws;
 mod queues;
+mod replicas;
 mod resources;
 mod screen;
 

@@ -29,8 +29,8 @@ pub type Item = List<u8>;
 /// A queue: its items, and the number of the item last read, counted from 1; 0 where none was.
 #[derive(Drop)]
 pub struct Queue {
-    items: Vec<Item>,
-    last_read: usize,
+    pub(crate) items: Vec<Item>,
+    pub(crate) last_read: usize,
 }
 
 impl Model for Queue {
@@ -117,9 +117,9 @@ impl Queue {
 /// most 4,194,304 bytes in all. Items are numbered from 1. One number last read stands for all tasks.
 #[derive(Drop)]
 pub struct Queues {
-    alloc: Global,
-    queues: IndexMap<Name8, Queue>,
-    item_bytes: usize,
+    pub(crate) alloc: Global,
+    pub(crate) queues: IndexMap<Name8, Queue>,
+    pub(crate) item_bytes: usize,
 }
 
 impl Model for Queues {

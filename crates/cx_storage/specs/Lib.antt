@@ -1,6 +1,7 @@
 -- The definitions, in reading order.
 pub mod Address
 pub mod Storage
+pub mod Aligned
 pub mod Place
 pub mod Word
 -- The laws that the module `laws` promises.

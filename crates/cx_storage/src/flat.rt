@@ -3,6 +3,8 @@
 ghost use Rattle.std.specs.Prelude.{◌≡◌, ℕ, ◌+◌, ◌-◌, ◌^◌, ◌<◌, ◌≤◌, [], length, vec_len, slice_get, slice_range, MatchOption, IfSome, OnSome, IsSome, IfOk, OnOk, OnErr, is_some};
 ghost use Rattle.cx_storage.specs.Storage.{byte_at, area_at, next_area, span, with_byte, put_held, with_area, with_areas_kept, starts_elsewhere, is_of_other_slot, IsTogether, IsSound};
 ghost use Rattle.cx_storage.specs.Place.{IsLeastPlace};
+ghost use Rattle.cx_storage.specs.Aligned.{AreAligned};
+ghost use Rattle.cx_storage.specs.Facts.Aligned.{AreAligned-prop};
 ghost use Rattle.cx_storage.specs.Facts.Sound.{IsSound-prop};
 ghost use Rattle.cx_storage.specs.Parts.Flat.{walk, spot};
 
@@ -265,11 +267,12 @@ pub struct FlatStore {
     blocks: Vec<StorageBlock>,
     alloc: Global,
     ghost ordered: { IsSound blocks.items } by { IsSound-prop blocks.items },
+    ghost at_multiples: { AreAligned blocks.items } by { AreAligned-prop blocks.items },
 }
 
 impl FlatStore {
     /// An empty store. It takes no memory; `get_area` takes what it needs from `alloc`.
-    #[tactic(auto, using(crate::specs::Facts::Sound::sound_nil))]
+    #[tactic(auto, using(crate::specs::Facts::Sound::sound_nil, crate::specs::Facts::Aligned::aligned_nil))]
     pub fn new(alloc: Global) -> Self
         ensures { ⟦<FlatStore as Store>⟧.storage result ≡ [] }
     {
@@ -284,6 +287,8 @@ impl Store for FlatStore {
     ghost storage = { λ s. s.blocks.items };
 
     ghost sound = { λ s. s.ordered };
+
+    ghost aligned = { λ s. s.at_multiples };
 
     fn byte(&self, a: u32) -> Option<u8> {
         byte_in(&self.blocks, a)
@@ -327,5 +332,9 @@ impl Store for FlatStore {
 
     fn free_slot(&mut self, slot: u8) {
         drop_slot(&mut self.blocks, slot);
+    }
+
+    fn emptied(&self) -> Self {
+        FlatStore::new(self.alloc)
     }
 }

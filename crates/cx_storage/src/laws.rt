@@ -7,12 +7,18 @@ ghost use Rattle.cx_storage.specs.Laws.Places.{PlaceIsFree, PlaceDecides};
 ghost use Rattle.cx_storage.specs.Laws.Sound.{SoundKept};
 ghost use Rattle.cx_storage.specs.Laws.Words.{WordAfterWrite};
 ghost use Rattle.cx_storage.specs.Storage.{IsSound};
+ghost use Rattle.cx_storage.specs.Aligned.{AreAligned};
 
 use crate::stores::Store;
 
 /// Every store is sound: its areas don't meet, are below 2^24 and have their bytes.
 pub fn store_is_sound<S: Store>(_store: &S)
     ensures { IsSound (S.storage _store.now) }
+{}
+
+/// Every area of a store starts at a multiple of 16.
+pub fn store_is_aligned<S: Store>(_store: &S)
+    ensures { AreAligned (S.storage _store.now) }
 {}
 
 /// No two areas meet.

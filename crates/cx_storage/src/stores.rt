@@ -1,6 +1,6 @@
 //! The trait `Store`: what each call does, over the storage that a store is seen as.
 
-ghost use Rattle.std.specs.Prelude.{◌≡◌, ℕ, ◌+◌, ◌^◌, ◌<◌, ◌≤◌, ◌%◌, IsTrue, length, is_some, unwrap_or, IfSome, IsSome, OnSome, IfOk, OnErr, false};
+ghost use Rattle.std.specs.Prelude.{◌≡◌, ℕ, ◌+◌, ◌^◌, ◌<◌, ◌≤◌, ◌%◌, IsTrue, length, replicate, is_some, unwrap_or, IfSome, IsSome, OnSome, IfOk, OnErr, true, false, []};
 ghost use Rattle.cx_storage.specs.Storage.{span};
 
 use crate::address::next_address;
@@ -14,6 +14,7 @@ use std::alloc::AllocError;
 pub trait Store {
     ghost use Rattle.cx_storage.specs.Storage.{Storage, byte_at, span, with_byte, after_write, area_at, next_area, with_area, with_areas_kept, starts_elsewhere, is_of_other_slot, IsTogether, IsSound};
     ghost use Rattle.cx_storage.specs.Place.{IsLeastPlace};
+    ghost use Rattle.cx_storage.specs.Aligned.{AreAligned};
 
     ghost storage: { Self → Storage };
 
@@ -119,6 +120,32 @@ pub trait Store {
         true
     }
 
+    /// Writes the bytes (at most 65,536) from `a` (below 2^24) on, where all of them are at hand. False, and no
+    /// change, elsewhere, even with all addresses in areas: then `write` writes them.
+    fn write_at_hand(&mut self, a: u32, bytes: &[u8]) -> bool
+        requires address { a < 2 ^ 24 }
+        requires size { length bytes.now ≤ 65536 }
+        ensures present { result ≡ true → is_some (span (storage self.old) a (length bytes.now)) ≡ true }
+        ensures after { result ≡ true → storage self.new ≡ after_write (storage self.old) a bytes.now }
+        ensures same { result ≡ false → storage self.new ≡ storage self.old }
+    {
+        let _span = (a, bytes.len());
+        false
+    }
+
+    /// Writes a byte `n` times (at most 65,536) from `a` (below 2^24) on, where all of the addresses are at hand. False,
+    /// and no change, elsewhere, even with all of them in areas: then `write` writes the bytes.
+    fn fill_at_hand(&mut self, a: u32, n: usize, value: u8) -> bool
+        requires address { a < 2 ^ 24 }
+        requires size { n ≤ 65536 }
+        ensures present { result ≡ true → is_some (span (storage self.old) a n) ≡ true }
+        ensures after { result ≡ true → storage self.new ≡ after_write (storage self.old) a (replicate n value) }
+        ensures same { result ≡ false → storage self.new ≡ storage self.old }
+    {
+        let _span = (a, n, value);
+        false
+    }
+
     /// The area that starts at the address `start` (below 2^24), where one does.
     fn area_at(&self, start: u32) -> Option<Area>
         requires { start < 2 ^ 24 }
@@ -164,5 +191,11 @@ pub trait Store {
     fn free_slot(&mut self, slot: u8)
         ensures { storage self.new ≡ with_areas_kept (is_of_other_slot slot) (storage self.old) };
 
+    /// An empty store of the same kind, which takes its memory where this one does. It takes none itself.
+    fn emptied(&self) -> Self
+        ensures { storage result ≡ [] };
+
     ghost sound: { (s : Self) → IsSound (storage s) };
+
+    ghost aligned: { (s : Self) → AreAligned (storage s) };
 }

@@ -94,6 +94,8 @@ impl<S: Store + Drop> Store for KeepingStore<S> {
 
     ghost sound = { λ s. S.sound s.store };
 
+    ghost aligned = { λ s. S.aligned s.store };
+
     #[inline(always)]
     fn byte(&self, a: u32) -> Option<u8> {
         self.store.byte(a)
@@ -139,6 +141,26 @@ impl<S: Store + Drop> Store for KeepingStore<S> {
         self.store.write(a, bytes)
     }
 
+    #[tactic(auto, using(crate::proofs::SlotLemmas::stored_after_write))]
+    #[inline(always)]
+    fn write_at_hand(&mut self, a: u32, bytes: &[u8]) -> bool {
+        span_after_write();
+        if !is_aside(&self.slots, self.first, self.end, a, bytes.len()) {
+            return false;
+        }
+        self.store.write_at_hand(a, bytes)
+    }
+
+    #[tactic(auto, using(crate::proofs::SlotLemmas::stored_after_write))]
+    #[inline(always)]
+    fn fill_at_hand(&mut self, a: u32, n: usize, value: u8) -> bool {
+        span_after_write();
+        if !is_aside(&self.slots, self.first, self.end, a, n) {
+            return false;
+        }
+        self.store.fill_at_hand(a, n, value)
+    }
+
     fn area_at(&self, start: u32) -> Option<Area> {
         self.store.area_at(start)
     }
@@ -170,5 +192,9 @@ impl<S: Store + Drop> Store for KeepingStore<S> {
     fn free_slot(&mut self, slot: u8) {
         self.forget_all();
         self.store.free_slot(slot);
+    }
+
+    fn emptied(&self) -> Self {
+        KeepingStore::new(self.store.emptied())
     }
 }

@@ -1,7 +1,8 @@
 -- What a directory has after one of its pages changed.
-use Rattle.std.proofs.Common.{◌≡◌, ◌≢◌, ℕ, zero, suc, ◌+◌, ◌-◌, ◌*◌, ◌/◌, ◌%◌, ◌<◌, ◌≤◌, ◌==◌, true, false, refl, sym, ap, ◌∙◌, arith, inl, inr, List, [], ◌∷◌, ◌++◌, length, slice_set, slice_get, Option, Some, None, nat_lt, if◌then◌else◌, get_or, min, ◌⊎◌, Bool}
+use Rattle.std.proofs.Common.{◌≡◌, ◌≢◌, ℕ, zero, suc, ◌+◌, ◌-◌, ◌*◌, ◌/◌, ◌%◌, ◌<◌, ◌≤◌, ◌==◌, true, false, refl, sym, ap, ◌∙◌, arith, inl, inr, replicate, List, [], ◌∷◌, ◌++◌, length, slice_set, slice_get, Option, Some, None, nat_lt, if◌then◌else◌, get_or, min, ◌⊎◌, Bool}
 use Rattle.std.specs.Prelude.{IfSome, OnSome}
 use Rattle.std.proofs.lemmas.Option.{slice_get_read}
+use Rattle.std.proofs.lemmas.List.{length-replicate}
 use Rattle.std.proofs.lemmas.Bool.{cases_Bool, cases_eq, eq-eqb, ne_eqb, le-ltb, lt-ltb, le-leb, lt-leb, cases_lt}
 use Rattle.cx_storage_pages.specs.declared.page.Page.{Page}
 use Rattle.cx_storage_pages.specs.Parts.Change.{is_within, Changes, Writes, Fills, zero_to, Holds}
@@ -266,6 +267,13 @@ page_written ps a p q bytes fits h e each =
       within_moved a (a + length bytes) x (a % 4096) (a % 4096 + length bytes) (x % 4096) (a / 4096 * 4096) (omega arith) (omega arith) (omega (arith, same)),
       let place : x - a ≡ x % 4096 - a % 4096 = omega (arith, same) in rw place refl,
     )) (λ x ne. within_none a (a + length bytes) x (elim (cases_lt x a) [ inl before ↦ inl before | inr from ↦ inr (omega (arith, from, ne, fits)) ])) each
+
+-- a page that was filled
+pub page_filled : (ps : List Page) (a n value : ℕ) (p q : Page) → a % 4096 + n ≤ 4096 → a / 4096 < length ps → p ≡ get_or ps (a / 4096) p
+    → Writes (a % 4096) (replicate n value) (page_byte p) (page_byte q) → Writes a (replicate n value) (byte_in_pages ps) (byte_in_pages (slice_set ps (a / 4096) q))
+page_filled ps a n value p q fits h e each =
+    let long : length (replicate n value) ≡ n = length-replicate n value in
+    page_written ps a p q (replicate n value) (omega (arith, fits, long)) h e each
 
 -- what is known of a page's free granules, by addresses
 pub skips_in : (ps : List Page) (i need tail : ℕ) (p : Page) → i < length ps → p ≡ get_or ps i p → Skips (page_byte p) need tail → Skips (λ k. byte_in_pages ps (i * 4096 + k)) need tail

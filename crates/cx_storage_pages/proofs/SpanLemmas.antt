@@ -1,8 +1,8 @@
 -- Spans of pages: what is read, tested and written piece by piece.
-use Rattle.std.proofs.Common.{◌≡◌, ℕ, zero, suc, ◌+◌, ◌-◌, ◌%◌, ◌<◌, ◌≤◌, ◌^◌, true, false, refl, sym, ap, ◌∙◌, arith, inl, inr, List, [], ◌∷◌, length, slice_index, drop, Option, Some, None, is_some, unwrap_or}
+use Rattle.std.proofs.Common.{◌≡◌, ℕ, zero, suc, ◌+◌, ◌-◌, ◌%◌, ◌<◌, ◌≤◌, ◌^◌, true, false, refl, sym, ap, ◌∙◌, arith, inl, inr, replicate, List, [], ◌∷◌, length, slice_index, drop, Option, Some, None, is_some, unwrap_or}
 use Rattle.std.proofs.lemmas.Bool.{cases_Bool, cases_lt, lt-ltb, le-ltb, lt-leb, le-leb}
 use Rattle.std.proofs.lemmas.Option.{slice_get-get_or}
-use Rattle.std.proofs.lemmas.List.{drop_more, drop_all}
+use Rattle.std.proofs.lemmas.List.{drop_more, drop_all, get_or-replicate, length-replicate}
 use Rattle.std.specs.Prelude.{IfSome, OnSome}
 use Rattle.std.specs.List.{AllByRecursion}
 use Rattle.cx_storage.specs.Address.{address_after, distance}
@@ -150,6 +150,12 @@ pub write_shows : (areas : List Area) (old new : List Page) (a : ℕ) (bytes : L
 write_shows areas old new a bytes shown small la fits present each =
     shows (after_write (storage_of areas old) a bytes) areas new (written_sound areas old a bytes shown small present) (areas_after_write (storage_of areas old) a bytes ∙ areas_shown areas old)
     (shown_aligned areas old shown) (write_bytes areas old new a bytes shown la fits present each)
+
+pub fill_shows : (areas : List Area) (old new : List Page) (a n value : ℕ) → IsShown areas old → value < 256 → a < 2 ^ 24 → a + n ≤ 2 ^ 24
+    → is_some (span (storage_of areas old) a n) ≡ true → Writes a (replicate n value) (byte_in_pages old) (byte_in_pages new) → Shows (after_write (storage_of areas old) a (replicate n value)) areas new
+fill_shows areas old new a n value shown small la fits present each =
+    let long : length (replicate n value) ≡ n = length-replicate n value in
+    write_shows areas old new a (replicate n value) shown (λ k h. rw (get_or-replicate n k value 0 (omega (arith, h, long))) small) la (omega (arith, fits, long)) (rw long present) each
 
 -- what three facts of a value give
 pub some_three : {X : Type 0} (r : Option X) (P Q R : X → Type 0) (T : Type 0) → ((x : X) → P x → Q x → T → R x) → IfSome r P → IfSome r Q → OnSome r T → IfSome r R

@@ -1,6 +1,6 @@
 //! The directory: the pages, by their addresses divided by 4,096.
 
-ghost use Rattle.std.specs.Prelude.{◌≡◌, ◌≢◌, ℕ, ◌+◌, ◌-◌, ◌*◌, ◌/◌, ◌%◌, ◌<◌, ◌≤◌, ◌^◌, ◌==◌, ◌&&◌, ◌⊎◌, true, false, length, Some, None, is_some, nat_le, nat_lt, slice_get, if◌then◌else◌, IsSome, IfSome, OnSome, OnOk};
+ghost use Rattle.std.specs.Prelude.{◌≡◌, ◌≢◌, ℕ, ◌+◌, ◌-◌, ◌*◌, ◌/◌, ◌%◌, ◌<◌, ◌≤◌, ◌^◌, ◌==◌, ◌&&◌, ◌⊎◌, true, false, length, replicate, Some, None, is_some, nat_le, nat_lt, slice_get, if◌then◌else◌, IsSome, IfSome, OnSome, OnOk};
 ghost use Rattle.cx_storage_pages.specs.Parts.Change.{Sets, Marks, Writes, Fills, zero_to, Holds};
 ghost use Rattle.cx_storage_pages.specs.Parts.Frame.{HasAll, Skips};
 ghost use Rattle.cx_storage_pages.specs.Parts.Directory.{has_page};
@@ -126,6 +126,25 @@ pub(crate) fn write_in(pages: &mut Vec<Page>, a: u32, source: &[u8]) -> bool
     if i < pages.len() {
         let page = &mut pages[i];
         page.write(a as usize % 4096, source)
+    } else {
+        false
+    }
+}
+
+/// Writes a byte `n` times from `a` on, where all of the addresses are in one page and present; else it changes nothing.
+#[inline(always)]
+pub(crate) fn fill_in(pages: &mut Vec<Page>, a: u32, n: usize, value: u8) -> bool
+    ensures gap { result ≡ false → (x : ℕ)
+        → byte_in_pages pages.new.items x ≡ byte_in_pages pages.old.items x }
+    ensures after { result ≡ true
+        → Writes a (replicate n value) (byte_in_pages pages.old.items) (byte_in_pages pages.new.items) }
+    ensures present { result ≡ true → HasAll (byte_in_pages pages.old.items) a (a + n) }
+    ensures together { result ≡ true → a % 4096 + n ≤ 4096 }
+{
+    let i = a as usize / 4096;
+    if i < pages.len() {
+        let page = &mut pages[i];
+        page.fill(a as usize % 4096, n, value)
     } else {
         false
     }

@@ -1,7 +1,7 @@
 //! Frames: the 4,096 bytes of a page, in granules of 16 bytes. Areas start at multiples
 //! of 16, so the bytes of a granule that are present are its first ones, and their number says which.
 
-ghost use Rattle.std.specs.Prelude.{◌≡◌, ℕ, ◌+◌, ◌-◌, ◌*◌, ◌/◌, ◌%◌, ◌<◌, ◌≤◌, ◌==◌, ◌&&◌, ◌⊎◌, true, false, length, Some, None, is_some, nat_le, nat_lt, slice_get, slice_index, slice_range, min, max, if◌then◌else◌, MatchOption, IsSome, IfSome, OnSome};
+ghost use Rattle.std.specs.Prelude.{◌≡◌, ℕ, ◌+◌, ◌-◌, ◌*◌, ◌/◌, ◌%◌, ◌<◌, ◌≤◌, ◌==◌, ◌&&◌, ◌⊎◌, true, false, length, replicate, Some, None, is_some, nat_le, nat_lt, slice_get, slice_index, slice_range, min, max, if◌then◌else◌, MatchOption, IsSome, IfSome, OnSome};
 ghost use Rattle.cx_storage_pages.specs.Facts.Reach.{Reaches-prop};
 ghost use Rattle.cx_storage_pages.specs.Facts.Runs.{AllFree-prop, RunsAre-prop};
 ghost use Rattle.cx_storage_pages.specs.Parts.Change.{is_within, Changes, Recounts, Sets, Writes, Fills, zero_to, Holds};
@@ -122,6 +122,15 @@ fn copy_bytes(bytes: &mut [u8], from: usize, source: &[u8])
     ensures { Writes from source.now (slice_get bytes.old) (slice_get bytes.new) }
 {
     bytes[from..from + source.len()].copy_from_slice(source);
+}
+
+/// Makes the `n` bytes from `from` on a byte.
+#[inline(always)]
+fn fill_bytes(bytes: &mut [u8], from: usize, n: usize, value: u8)
+    requires { from + n ≤ length bytes.old }
+    ensures { Writes from (replicate n value) (slice_get bytes.old) (slice_get bytes.new) }
+{
+    bytes[from..from + n].fill(value);
 }
 
 impl Frame {
@@ -289,6 +298,24 @@ impl Frame {
             return false;
         }
         copy_bytes(&mut self.bytes, from, source);
+        true
+    }
+
+    /// Writes a byte `n` times from the place `from` on. False, and no change, where one has no place there or isn't present.
+    #[tactic(auto, unfolding(crate::specs::Pages::frame_byte))]
+    #[inline(always)]
+    pub(crate) fn fill(&mut self, from: usize, n: usize, value: u8) -> bool
+        requires { from < 4096 }
+        ensures gap { result ≡ false → self.new ≡ self.old }
+        ensures counts { self.new.counts ≡ self.old.counts }
+        ensures fits { result ≡ true → from + n ≤ 4096 }
+        ensures after { result ≡ true → Writes from (replicate n value) (frame_byte self.old) (frame_byte self.new) }
+        ensures present { result ≡ true → HasAll (frame_byte self.old) from (from + n) }
+    {
+        if !self.holds(from, n) {
+            return false;
+        }
+        fill_bytes(&mut self.bytes, from, n, value);
         true
     }
 

@@ -1,6 +1,6 @@
 //! Pages: each has its frame from the first area on that touches it.
 
-ghost use Rattle.std.specs.Prelude.{◌≡◌, ℕ, ◌+◌, ◌-◌, ◌/◌, ◌%◌, ◌<◌, ◌≤◌, ◌*◌, ◌==◌, ◌&&◌, ◌⊎◌, true, false, length, Some, None, is_some, nat_le, nat_lt, slice_get, if◌then◌else◌, IsSome, IfSome, OnSome, OnOk, OnErr};
+ghost use Rattle.std.specs.Prelude.{◌≡◌, ℕ, ◌+◌, ◌-◌, ◌/◌, ◌%◌, ◌<◌, ◌≤◌, ◌*◌, ◌==◌, ◌&&◌, ◌⊎◌, true, false, length, replicate, Some, None, is_some, nat_le, nat_lt, slice_get, if◌then◌else◌, IsSome, IfSome, OnSome, OnOk, OnErr};
 ghost use Rattle.cx_storage_pages.specs.Parts.Change.{Sets, Marks, Writes, Holds};
 ghost use Rattle.cx_storage_pages.specs.Parts.Frame.{HasAll, Skips};
 ghost use Rattle.cx_storage_pages.specs.Parts.Page.{is_made};
@@ -120,6 +120,22 @@ impl Page {
     {
         match &mut self.frame {
             Some(frame) => frame.write(from, source),
+            None => false,
+        }
+    }
+
+    /// Writes a byte `n` times from the place `from` on. False, and no change, where one has no place there or isn't present.
+    #[tactic(auto, unfolding(crate::specs::Pages::page_byte))]
+    #[inline(always)]
+    pub(crate) fn fill(&mut self, from: usize, n: usize, value: u8) -> bool
+        requires { from < 4096 }
+        ensures gap { result ≡ false → (k : ℕ) → page_byte self.new k ≡ page_byte self.old k }
+        ensures fits { result ≡ true → from + n ≤ 4096 }
+        ensures after { result ≡ true → Writes from (replicate n value) (page_byte self.old) (page_byte self.new) }
+        ensures present { result ≡ true → HasAll (page_byte self.old) from (from + n) }
+    {
+        match &mut self.frame {
+            Some(frame) => frame.fill(from, n, value),
             None => false,
         }
     }

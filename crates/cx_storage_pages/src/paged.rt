@@ -1,14 +1,14 @@
 //! `PagedStore`: a byte is found by its address alone, however many areas there are.
 
 ghost use Rattle.std.specs.Prelude.{◌≡◌, []};
-ghost use Rattle.cx_storage_pages.specs.Facts.Shown.{IsShown-prop, IsShown-sound};
+ghost use Rattle.cx_storage_pages.specs.Facts.Shown.{IsShown-prop, IsShown-sound, shown_at_multiples};
 ghost use Rattle.cx_storage_pages.specs.Parts.Shown.{IsShown};
 ghost use Rattle.cx_storage_pages.specs.Pages.{storage_of};
 
 use crate::page::Page;
 use crate::store::{
-    byte_of, free_area_of, free_slot_of, get_of, has_span_of, place_of, read_of, set_of, slice_of,
-    write_of,
+    byte_of, fill_at_hand_of, free_area_of, free_slot_of, get_of, has_span_of, place_of, read_of,
+    set_of, slice_of, write_at_hand_of, write_of,
 };
 use crate::table::{area_of, next_of};
 use cx_storage::{Area, Owner, Store};
@@ -44,6 +44,8 @@ impl Store for PagedStore {
 
     ghost sound = { λ s. IsShown-sound s.areas.items s.pages.items s.shown };
 
+    ghost aligned = { λ s. shown_at_multiples s.areas.items s.pages.items s.shown };
+
     #[inline(always)]
     fn byte(&self, a: u32) -> Option<u8> {
         byte_of(&self.areas, &self.pages, a)
@@ -70,6 +72,16 @@ impl Store for PagedStore {
     #[inline(always)]
     fn write(&mut self, a: u32, bytes: &[u8]) -> bool {
         write_of(&self.areas, &mut self.pages, a, bytes)
+    }
+
+    #[inline(always)]
+    fn write_at_hand(&mut self, a: u32, bytes: &[u8]) -> bool {
+        write_at_hand_of(&self.areas, &mut self.pages, a, bytes)
+    }
+
+    #[inline(always)]
+    fn fill_at_hand(&mut self, a: u32, n: usize, value: u8) -> bool {
+        fill_at_hand_of(&self.areas, &mut self.pages, a, n, value)
     }
 
     fn area_at(&self, start: u32) -> Option<Area> {
@@ -108,5 +120,9 @@ impl Store for PagedStore {
 
     fn free_slot(&mut self, slot: u8) {
         free_slot_of(&mut self.areas, &mut self.pages, slot);
+    }
+
+    fn emptied(&self) -> Self {
+        PagedStore::new(self.alloc)
     }
 }

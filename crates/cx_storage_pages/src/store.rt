@@ -1,14 +1,14 @@
 //! What each call does to the table of areas and the pages, which show one storage.
 
-ghost use Rattle.std.specs.Prelude.{◌≡◌, ℕ, ◌+◌, ◌/◌, ◌%◌, ◌^◌, ◌<◌, ◌≤◌, [], length, Ok, Some, None, is_some, unwrap_or, IfSome, IsSome, OnSome, IfOk, OnErr};
+ghost use Rattle.std.specs.Prelude.{◌≡◌, true, false, ℕ, ◌+◌, ◌/◌, ◌%◌, ◌^◌, ◌<◌, ◌≤◌, [], length, replicate, Ok, Some, None, is_some, unwrap_or, IfSome, IsSome, OnSome, IfOk, OnErr};
 ghost use Rattle.cx_storage.specs.Storage.{byte_at, span, with_byte, with_bytes, after_write, area_at, with_area, with_areas_kept, starts_elsewhere, is_of_other_slot, IsTogether};
 ghost use Rattle.cx_storage.specs.Place.{IsLeastPlace};
 ghost use Rattle.cx_storage_pages.specs.Parts.Directory.{has_page};
 ghost use Rattle.cx_storage_pages.specs.Parts.Shown.{stored, IsShown};
 
 use crate::directory::{
-    byte_in, clear_in, free_in, has_in, make_in, part_in, set_in, sum_in, tail_in, used_in,
-    write_in, zero_in,
+    byte_in, clear_in, fill_in, free_in, has_in, make_in, part_in, set_in, sum_in, tail_in,
+    used_in, write_in, zero_in,
 };
 use crate::page::Page;
 use crate::table::spot_of;
@@ -255,6 +255,48 @@ fn write_apart(areas: &Vec<Area>, pages: &mut Vec<Page>, a: u32, bytes: &[u8]) -
     }
     write_each(areas, pages, a, bytes);
     true
+}
+
+/// Writes a span, where one page has all of it.
+#[inline(always)]
+pub(crate) fn write_at_hand_of(
+    areas: &Vec<Area>,
+    pages: &mut Vec<Page>,
+    a: u32,
+    bytes: &[u8],
+) -> bool
+    requires shown { IsShown areas.now.items pages.old.items }
+    requires address { a < 2 ^ 24 }
+    requires size { length bytes.now ≤ 65536 }
+    ensures present { result ≡ true → is_some (span (stored areas.now pages.old) a (length bytes.now)) ≡ true }
+    ensures after { result ≡ true → stored areas.now pages.new ≡ after_write (stored areas.now pages.old) a bytes.now }
+    ensures same { result ≡ false → stored areas.now pages.new ≡ stored areas.now pages.old }
+    ensures shown { IsShown areas.now.items pages.new.items }
+{
+    let _areas = areas;
+    write_in(pages, a, bytes)
+}
+
+/// Fills a span with a byte, where one page has all of it.
+#[inline(always)]
+pub(crate) fn fill_at_hand_of(
+    areas: &Vec<Area>,
+    pages: &mut Vec<Page>,
+    a: u32,
+    n: usize,
+    value: u8,
+) -> bool
+    requires shown { IsShown areas.now.items pages.old.items }
+    requires address { a < 2 ^ 24 }
+    requires size { n ≤ 65536 }
+    ensures present { result ≡ true → is_some (span (stored areas.now pages.old) a n) ≡ true }
+    ensures after { result ≡ true
+        → stored areas.now pages.new ≡ after_write (stored areas.now pages.old) a (replicate n value) }
+    ensures same { result ≡ false → stored areas.now pages.new ≡ stored areas.now pages.old }
+    ensures shown { IsShown areas.now.items pages.new.items }
+{
+    let _areas = areas;
+    fill_in(pages, a, n, value)
 }
 
 /// Writes a span.

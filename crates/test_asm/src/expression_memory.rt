@@ -1,5 +1,5 @@
 //! Calls that take memory: with ample memory each is answered as it should be; a failed allocation is answered as one,
-//! and no other answer takes its place. `examples/refuse-tests` refuses each allocation in turn.
+//! and no other answer takes its place. `checks/refuse-tests` refuses each allocation in turn.
 use crate::symbols::{name, table};
 use cx_asm_expressions::{Constant, FaultKind, SymbolTable, TermFault, Value, value_of};
 use std::alloc::{AllocError, Global};

@@ -92,7 +92,7 @@ fn expect_answers<R: Abort + AllocGlobal>(rt: &R) -> Result<(), AllocError> {
     Ok(())
 }
 
-/// No other answer takes the place of a refusal; `examples/refuse-tests` refuses each allocation in turn.
+/// No other answer takes the place of a refusal; `checks/refuse-tests` refuses each allocation in turn.
 #[test]
 fn a_refused_allocation_is_no_other_answer(rt: HostRuntime) {
     let _answer = expect_answers(&rt);

@@ -1,4 +1,4 @@
-//! Tests of the assembler, over public calls: of its parts, and of whole sources. `examples/refuse-places` refuses each allocation of the
+//! Tests of the assembler, over public calls: of its parts, and of whole sources. `checks/refuse-places` refuses each allocation of the
 //! first pass in turn.
 #![tactic(auto)]
 

@@ -1,5 +1,5 @@
 //! Calls that take memory: with ample memory each is answered as it should be; a failed allocation is answered as one,
-//! and no other answer takes its place. `examples/refuse-tests` refuses each allocation in turn.
+//! and no other answer takes its place. `checks/refuse-tests` refuses each allocation in turn.
 use crate::operand_tables::{assembled, end_use, put_in_use, table};
 use cx_asm_expressions::{FaultKind, SymbolTable, TermFault};
 use cx_asm_operands::Bases;

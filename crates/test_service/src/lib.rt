@@ -4,6 +4,8 @@
 #[cfg(test)]
 mod program;
 #[cfg(test)]
+mod replicas;
+#[cfg(test)]
 mod service;
 #[cfg(test)]
 mod source;

@@ -9,4 +9,6 @@ mod rows;
 #[cfg(test)]
 mod runs;
 #[cfg(test)]
+mod snapshots;
+#[cfg(test)]
 mod stores;

@@ -3,7 +3,7 @@
 //! begins a list, with a region of its own. Storage is in pages; with a line `FLAT` before all lists it is the plain store. Answers are printed as in a transcript; at the end of a list also
 //! each terminal's task and screen, and all pages of the displays that EDF keeps of it.
 //!
-//! `examples/refused-events` runs it with each allocation refused in turn: what is printed must be as without a refusal.
+//! `checks/refused-events` runs it with each allocation refused in turn: what is printed must be as without a refusal.
 #![tactic(auto)]
 
 mod answers;

@@ -1,4 +1,4 @@
-//! The programs of the lists, as `examples/assembling.py` makes them of EXEC CICS statements.
+//! The programs of the lists, as `checks/assembling.py` makes them of EXEC CICS statements.
 
 use cx_code::{Bytes, Image, Offsets};
 use cx_load::{CheckedImage, Loaded, check};

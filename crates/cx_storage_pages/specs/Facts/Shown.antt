@@ -1,7 +1,8 @@
 -- What areas and pages show is a proposition, and sound.
-use Rattle.std.specs.Prelude.{◌≡◌, ℕ, ◌%◌, List}
+use Rattle.std.specs.Prelude.{◌≡◌, ℕ, ◌%◌, List, [], ◌∷◌}
 use Rattle.std.specs.Coded.{Π_prop, coded_option, coded_ℕ, Coded-set}
-use Rattle.std.specs.List.{AllByRecursion-prop}
+use Rattle.std.specs.List.{AllByRecursion, AllByRecursion-prop}
+use Rattle.cx_storage.specs.Aligned.{AreAligned}
 use Rattle.cx_storage.specs.Storage.{byte_at, IsSound}
 use Rattle.cx_storage.specs.Facts.Sound.{IsSound-prop}
 use Rattle.cx_storage.specs.declared.areas.Area.{Area}
@@ -20,3 +21,12 @@ IsShown-prop areas pages =
 pub IsShown-sound : (areas : List Area) (pages : List Page) → IsShown areas pages → IsSound (storage_of areas pages)
 unfolding IsShown
 IsShown-sound areas pages shown = shown.0
+
+IsShown-aligned : (areas : List Area) (pages : List Page) → AllByRecursion IsAligned areas → AreAligned (storage_of areas pages)
+unfolding AreAligned storage_of
+IsShown-aligned [] pages all = tt
+IsShown-aligned (area ∷ areas) pages all = (all.0, IsShown-aligned areas pages all.1)
+
+pub shown_at_multiples : (areas : List Area) (pages : List Page) → IsShown areas pages → AreAligned (storage_of areas pages)
+unfolding IsShown
+shown_at_multiples areas pages shown = IsShown-aligned areas pages shown.1

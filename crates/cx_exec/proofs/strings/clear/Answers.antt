@@ -1,10 +1,12 @@
-use Rattle.std.proofs.Common.{rules, sym, ap}
+use Rattle.std.proofs.Common.{rules, sym, ap, ◌∙◌}
+use Rattle.std.proofs.lemmas.List.{take-replicate}
 use Rattle.cx_exec.specs.Logic.{logical_code}
 use Rattle.cx_exec.proofs.BlockLemmas.{joined}
-use Rattle.cx_exec.proofs.FillLemmas.{zeros_are_joined, number_of_zeros}
+use Rattle.cx_exec.proofs.FillLemmas.{zeros_are_joined, zero_number}
 use Rattle.cx_exec.proofs.strings.clear.Goals as goal
 
-pub returns : goal.returns
-returns g c =
-    joined _ _ _ _ _ _ _ _ _ (search rules) (zeros_are_joined _ _ _ c.requires.operand c.requires.count (search rules))
-    (ap logical_code (sym (number_of_zeros _ c.requires.count))) c.put_coded.ensures
+pub returns-then-fill_at_hand : goal.returns-then-fill_at_hand
+returns-then-fill_at_hand g c =
+    let there = c.fill_at_hand.ensures.present (search rules) in
+    joined _ _ _ _ _ _ _ _ _ (search rules) (sym (take-replicate _ _ _ c.requires.count) ∙ zeros_are_joined _ _ _ c.requires.operand c.requires.count there)
+    (ap logical_code (sym (zero_number _))) (c.fill_at_hand.ensures.done (search rules))

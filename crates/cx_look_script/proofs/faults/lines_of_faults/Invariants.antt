@@ -3,5 +3,5 @@ use Rattle.std.specs.List.{flat_map}
 use Rattle.cx_look_script.specs.Faults.{fault_line}
 use Rattle.cx_look_script.proofs.faults.lines_of_faults.Given as goal
 
-abbrev pub invariant-loop-fault : goal.invariant-loop-fault
-invariant-loop-fault l = l.report ≡ l.initial.report ++ flat_map (fault_line l.source) (take l.fault-index l.faults)
+abbrev pub invariant-loop-mark : goal.invariant-loop-mark
+invariant-loop-mark l = l.report ≡ l.initial.report ++ flat_map (fault_line l.source) (take l.mark-index l.marks)

@@ -6,5 +6,5 @@ use Rattle.cx_look_xref.proofs.symbols.name_lines.Given as goal
 
 abbrev pub invariant-loop-name : goal.invariant-loop-name
 invariant-loop-name l =
-    l.report ++ flat_map (name_line (lines_of_name l.used.entries)) l.name-iterator
-    ≡ l.initial.report ++ flat_map (name_line (lines_of_name l.used.entries)) l.symbols.entries
+    l.report ++ flat_map (name_line (lines_of_name l.stored.entries) (lines_of_name l.used.entries) l.given) l.name-iterator
+    ≡ l.initial.report ++ flat_map (name_line (lines_of_name l.stored.entries) (lines_of_name l.used.entries) l.given) l.symbols.entries

@@ -1,0 +1,2 @@
+pub mod SharedLemmas
+pub mod TableLemmas

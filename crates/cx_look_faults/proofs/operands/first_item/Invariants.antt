@@ -1,0 +1,10 @@
+use Rattle.std.proofs.Common.{◌≡◌, drop}
+use Rattle.std.specs.List.{find}
+use Rattle.cx_asm_pass2.specs.Whole.{whole_by}
+use Rattle.cx_look_faults.specs.Operands.{is_item}
+use Rattle.cx_look_faults.proofs.operands.first_item.Given as goal
+
+abbrev pub invariant-loop-part : goal.invariant-loop-part
+invariant-loop-part l =
+    find (is_item (whole_by l.places) l.bases l.statement l.kind) (drop l.part-index l.parts)
+    ≡ find (is_item (whole_by l.places) l.bases l.statement l.kind) l.parts

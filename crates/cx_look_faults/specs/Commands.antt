@@ -1,0 +1,136 @@
+-- The part of an EXEC statement that is at fault, and what it lacks (own).
+use Rattle.std.specs.Prelude.{ℕ, ◌+◌, Bool, ◌&&◌, not, ◌==◌, if◌then◌else◌, Option, Some, None, List, [], ◌∷◌, ◌++◌, codes, drop, length, option_map, slice_get, take}
+use Rattle.std.specs.List.{find, list_any}
+use Rattle.std.specs.Option.{option_map_or, option_or, option_zip}
+use Rattle.std.specs.Str.{bytes_eq}
+use Rattle.cx_base_commands.specs.Commands.{command_named, row_of}
+use Rattle.cx_base_commands.specs.Legal.{lists_conditions}
+use Rattle.cx_base_commands.specs.Options.{option_name}
+use Rattle.cx_base_commands.specs.declared.commands.Command.{Command}
+use Rattle.cx_base_commands.specs.declared.options.CommandOption.{CommandOption}
+use Rattle.cx_base_commands.specs.declared.options.Rule.{Rule}
+use Rattle.cx_base_commands.specs.declared.options.Rule.TheVariants.{Together, NotBoth, Needs, OneOfTwo, OneOfThree}
+use Rattle.cx_source.specs.Lines.{trim_blanks}
+use Rattle.cx_asm_build.specs.declared.faults.SourceKind.{SourceKind}
+use Rattle.cx_asm_build.specs.declared.faults.SourceKind.TheVariants as kind
+use Rattle.cx_look_faults.specs.Judging.{has_exec_fault}
+use Rattle.cx_look_faults.specs.Spans.{cells_of, span, spans_of, text_in}
+use Rattle.cx_look_faults.specs.declared.spans.Cut.TheVariants.{Words}
+use Rattle.cx_look_faults.specs.declared.spans.Span.{Span}
+
+abbrev pub words_of : List ℕ → List Span
+words_of operand = spans_of (cells_of Words operand)
+
+abbrev pub word_at : List ℕ → List Span → ℕ → List ℕ
+word_at operand words k = option_map_or (λ word. text_in word operand) (slice_get words k) []
+
+-- the command that the words after CICS name, and how many words its name takes
+abbrev pub command_of : List ℕ → List Span → Option (Command × ℕ)
+command_of operand words =
+    if bytes_eq (word_at operand words 0) (codes "CICS")
+    then command_named (word_at operand words 1) (word_at operand words 2) else None
+
+-- ---- the word at fault
+-- a word goes on to the next, with its argument
+abbrev pub unit : List ℕ → Span → List Span → Span
+unit operand word more = span word.start (option_map_or (λ next. next.start) (slice_get more 0) (length operand))
+
+-- An unknown option and a bad argument are judged alone after the command, all else with what precedes it.
+abbrev pub tried : SourceKind → List ℕ → List ℕ → Span → List ℕ
+tried kind.UnknownOption operand head unit = head ++ codes " " ++ text_in unit operand
+tried kind.BadArgument operand head unit = head ++ codes " " ++ text_in unit operand
+tried kind operand head unit = take unit.end operand
+
+-- a bad argument with its word, else the word alone
+abbrev pub marked : SourceKind → List ℕ → Span → Span → Span
+marked kind.BadArgument operand unit word = span unit.start (unit.start + length (trim_blanks (text_in unit operand)))
+marked kind operand unit word = word
+
+-- the first word by which the statement has the fault
+abbrev pub word_from : SourceKind → List ℕ → List ℕ → List Span → Option Span
+word_from kind operand head [] = None
+word_from kind operand head (word ∷ more) =
+    if has_exec_fault kind (tried kind operand head (unit operand word more))
+    then Some (marked kind operand (unit operand word more) word)
+    else word_from kind operand head more
+
+-- the words after the one at a place
+abbrev pub words_after : List Span → ℕ → List Span
+words_after words place = drop 1 (drop place words)
+
+-- what there is up to the first of some words
+abbrev pub head_before : List ℕ → List Span → List ℕ
+head_before operand more =
+    trim_blanks (take (option_map_or (λ next. next.start) (slice_get more 0) (length operand)) operand)
+
+-- the words of a command's name, of which this is the last one's place
+abbrev pub name_part : List Span → ℕ → Option Span
+name_part words last =
+    option_map (λ both. span both.0.start both.1.end) (option_zip (slice_get words 1) (slice_get words last))
+
+-- the command's name itself, or one of the words after it; where there is no command, the word after the first
+abbrev pub word_by : SourceKind → List ℕ → List Span → Option (Command × ℕ) → Option Span
+word_by kind operand words None = option_or (slice_get words 1) (slice_get words 0)
+word_by kind operand words (Some found) =
+    let more = words_after words found.1 in let head = head_before operand more in
+    if has_exec_fault kind head then name_part words found.1 else word_from kind operand head more
+
+unfoldable pub word_at_fault : SourceKind → List ℕ → Option Span
+word_at_fault kind operand = word_by kind operand (words_of operand) (command_of operand (words_of operand))
+
+-- ---- what is missing
+-- an option is given
+abbrev pub is_word : List ℕ → List Span → List ℕ → Bool
+is_word operand words name = list_any (λ word. bytes_eq (text_in word operand) name) words
+
+abbrev pub has_option : List CommandOption → List ℕ → List Span → ℕ → Bool
+has_option options operand words bit =
+    list_any (λ option. option.bit == bit && is_word operand words (option_name option.name)) options
+
+abbrev pub name_of_bit : List CommandOption → ℕ → List ℕ
+name_of_bit options bit =
+    option_map_or (λ option. option_name option.name) (find (λ option. option.bit == bit) options) []
+
+-- what a rule asks for and isn't there
+abbrev pub lacking : List CommandOption → List ℕ → List Span → Rule → List ℕ
+lacking options operand words (Together a b) =
+    let has = has_option options operand words in
+    if has a && not (has b) then name_of_bit options b else (if has b && not (has a) then name_of_bit options a else [])
+lacking options operand words (NotBoth a b) = []
+lacking options operand words (Needs a b) =
+    let has = has_option options operand words in
+    if has a && not (has b) then name_of_bit options b else []
+lacking options operand words (OneOfTwo a b) =
+    let has = has_option options operand words in
+    if not (has a) && not (has b) then name_of_bit options a ++ codes " OR " ++ name_of_bit options b else []
+lacking options operand words (OneOfThree a b c) =
+    let has = has_option options operand words in
+    if not (has a) && not (has b) && not (has c)
+    then name_of_bit options a ++ codes " OR " ++ name_of_bit options b ++ codes " OR " ++ name_of_bit options c else []
+
+-- of the first rule that lacks anything
+abbrev pub lacking_first : List CommandOption → List ℕ → List Span → List Rule → List ℕ
+lacking_first options operand words [] = []
+lacking_first options operand words (rule ∷ rules) =
+    let names = lacking options operand words rule in
+    if length names == 0 then lacking_first options operand words rules else names
+
+-- a required option that isn't there
+abbrev pub is_lacking : List ℕ → List Span → CommandOption → Bool
+is_lacking operand words option = option.required && not (is_word operand words (option_name option.name))
+
+-- a condition, where the command lists conditions; the first required option, or else what the first rule lacks
+abbrev pub missing_in : Command → List ℕ → List Span → List ℕ
+missing_in command operand words =
+    let options = (row_of command).options in
+    if lists_conditions command then codes "CONDITION"
+    else option_map_or (λ option. option_name option.name) (find (is_lacking operand words) options)
+    (lacking_first options operand words (row_of command).rules)
+
+-- the names of what an EXEC statement lacks
+abbrev pub missing_by : List ℕ → List Span → Option (Command × ℕ) → List ℕ
+missing_by operand words None = []
+missing_by operand words (Some found) = missing_in found.0 operand (words_after words found.1)
+
+unfoldable pub missing : List ℕ → List ℕ
+missing operand = missing_by operand (words_of operand) (command_of operand (words_of operand))

@@ -1,0 +1,104 @@
+-- The part of an operand that is at fault (own).
+use Rattle.std.specs.Prelude.{ℕ, ◌-◌, Bool, ◌&&◌, ◌||◌, not, ◌==◌, if◌then◌else◌, Option, Some, None, option_map, List, [], ◌∷◌, ◌++◌, length, slice_get, unwrap_or}
+use Rattle.std.specs.List.{find}
+use Rattle.std.specs.Option.{option_or, option_to_list}
+use Rattle.std.specs.Result.{result_err}
+use Rattle.std.specs.Str.{byte}
+use Rattle.cx_asm_expressions.specs.Expressions.{value_of}
+use Rattle.cx_asm_operations.specs.declared.operations.Operation.{Operation}
+use Rattle.cx_asm_operations.specs.declared.operations.Operation.TheVariants as operation
+use Rattle.cx_asm_operations.specs.declared.operations.Directive.TheVariants as directive
+use Rattle.cx_asm_operands.specs.Bases.{Bases}
+use Rattle.cx_asm_operands.specs.Forms.{literal_in}
+use Rattle.cx_asm_pass2.specs.SecondFaults.{bases_after}
+use Rattle.cx_asm_pass2.specs.Statements.{PlacedStatement, operation_of}
+use Rattle.cx_asm_pass2.specs.Whole.{Whole, counter_of}
+use Rattle.cx_asm_build.specs.declared.faults.SourceKind.{SourceKind}
+use Rattle.cx_asm_build.specs.declared.faults.SourceKind.TheVariants as kind
+use Rattle.cx_look_faults.specs.Judging.{has_fault, is_kind}
+use Rattle.cx_look_faults.specs.Spans.{cells_of, span, spans_of, text_in, with_zeros}
+use Rattle.cx_look_faults.specs.declared.faults.FaultyLine.{FaultyLine}
+use Rattle.cx_look_faults.specs.declared.operands.OperandPart.{OperandPart}
+use Rattle.cx_look_faults.specs.declared.spans.Cell.{Cell}
+use Rattle.cx_look_faults.specs.declared.spans.Cut.TheVariants.{Operands, Subfields, Terms}
+use Rattle.cx_look_faults.specs.declared.spans.Span.{Span}
+
+-- ---- instructions and directives
+-- A part has the fault alone: the operand has it where all others are 0.
+abbrev pub is_alone : Whole → Bases → PlacedStatement → SourceKind → List Cell → Span → Bool
+is_alone whole bases s kind cells part = has_fault whole bases s kind (with_zeros part cells)
+
+-- the first part that has it alone; None where the operand has it without any
+abbrev pub alone_in : Whole → Bases → PlacedStatement → SourceKind → List Cell → Option Span
+alone_in whole bases s kind cells =
+    if is_alone whole bases s kind cells (span 0 0)
+    then None else find (is_alone whole bases s kind cells) (spans_of cells)
+
+-- all of the operand, where it has the fault
+abbrev pub whole_part : Whole → Bases → PlacedStatement → SourceKind → Option Span
+whole_part whole bases s kind =
+    let operand = s.stmt.operand in
+    if not (length operand == 0) && has_fault whole bases s kind operand then Some (span 0 (length operand)) else None
+
+-- the smallest part: a term, or else a subfield, or else an operand, or else all
+abbrev pub smallest_part : Whole → Bases → PlacedStatement → SourceKind → Option Span
+smallest_part whole bases s kind =
+    let operand = s.stmt.operand in
+    option_or (alone_in whole bases s kind (cells_of Terms operand))
+    (option_or (alone_in whole bases s kind (cells_of Subfields operand))
+    (option_or (alone_in whole bases s kind (cells_of Operands operand)) (whole_part whole bases s kind)))
+
+-- Without one: a literal that no base reaches, which is the last operand; an EQU's symbol that isn't known yet.
+abbrev pub last_part : PlacedStatement → Option Operation → SourceKind → Option Span
+last_part s operation kind.NoAddressability =
+    option_map (λ literal. span (length s.stmt.operand - length literal) (length s.stmt.operand))
+    (literal_in s.stmt.operand)
+last_part s (Some (operation.Directive directive.Equ)) kind.UndefinedSymbol = Some (span 0 (length s.stmt.operand))
+last_part s operation kind = None
+
+-- ---- DC and DS
+-- an item that has the fault
+abbrev pub is_item : Whole → Bases → PlacedStatement → SourceKind → Span → Bool
+is_item whole bases s kind part = has_fault whole bases s kind (text_in part s.stmt.operand)
+
+abbrev pub item_part : Whole → Bases → PlacedStatement → SourceKind → Option Span
+item_part whole bases s kind = find (is_item whole bases s kind) (spans_of (cells_of Operands s.stmt.operand))
+
+-- a term of an address whose value has it
+abbrev pub begins_term : ℕ → Bool
+begins_term c = c == byte "(" || c == byte "+" || c == byte "-"
+
+abbrev pub is_term : Whole → PlacedStatement → SourceKind → Span → Bool
+is_term whole s kind part =
+    begins_term (unwrap_or (slice_get s.stmt.operand (part.start - 1)) 0)
+    && is_kind (result_err (value_of whole.find (counter_of s) (text_in part s.stmt.operand))) kind
+
+abbrev pub term_part : Whole → PlacedStatement → SourceKind → Option Span
+term_part whole s kind = find (is_term whole s kind) (spans_of (cells_of Terms s.stmt.operand))
+
+-- ---- the part of a statement's operand that has a fault
+abbrev pub part_by : Whole → Bases → PlacedStatement → SourceKind → Option Operation → Option Span
+part_by whole bases s kind (Some (operation.Directive directive.Dc)) =
+    option_or (term_part whole s kind) (item_part whole bases s kind)
+part_by whole bases s kind (Some (operation.Directive directive.Ds)) =
+    option_or (term_part whole s kind) (item_part whole bases s kind)
+part_by whole bases s kind operation = option_or (smallest_part whole bases s kind) (last_part s operation kind)
+
+unfoldable pub operand_part : Whole → Bases → PlacedStatement → SourceKind → Option Span
+operand_part whole bases s kind = part_by whole bases s kind (operation_of s)
+
+-- the fault of a line
+abbrev pub kind_on : List FaultyLine → ℕ → Option SourceKind
+kind_on faults line = option_map (λ fault. fault.kind) (find (λ fault. fault.line == line) faults)
+
+abbrev pub part_on : Whole → Bases → PlacedStatement → Option SourceKind → List OperandPart
+part_on whole bases s None = []
+part_on whole bases s (Some kind) =
+    option_to_list
+    (option_map (λ part. record { line = s.line; operand = s.stmt.operand; part = part }) (operand_part whole bases s kind))
+
+-- those of the statements on faulty lines, where these bases are in use before the first
+abbrev pub parts_along : Whole → List FaultyLine → Bases → List PlacedStatement → List OperandPart
+parts_along whole faults bases [] = []
+parts_along whole faults bases (s ∷ more) =
+    part_on whole bases s (kind_on faults s.line) ++ parts_along whole faults (bases_after whole bases s) more

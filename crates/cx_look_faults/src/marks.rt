@@ -1,0 +1,397 @@
+//! Where on its line the part is that is at fault.
+
+ghost use Rattle.std.specs.Prelude.{◌≡◌, ◌==◌, ◌-◌, [], IfOk, Some, is_none, map, option_map, slice_get, unwrap_or};
+ghost use Rattle.std.specs.List.{find, position};
+ghost use Rattle.cx_ebcdic.specs.Characters.{code_of};
+ghost use Rattle.cx_source.specs.Lines.{is_blank, is_written};
+ghost use Rattle.cx_look_faults.specs.Marks.{
+  assembler_spot,
+  bad_character,
+  bad_continuation,
+  bad_name,
+  is_border,
+  mark_of,
+  marks_of,
+  missing_by_kind,
+  missing_in_stmt,
+  part_found,
+  part_in,
+  place_from,
+  spot_by,
+  stands_at,
+  statement_spot,
+  stmt_spot,
+  too_long,
+};
+
+use crate::commands::{missing, word_at_fault};
+use crate::faults::FaultyLine;
+use crate::operands::{OperandPart, operand_parts};
+use crate::positions::{Spot, columns, name_spot, operation_spot, part_or_operation};
+use crate::spans::{Span, sum_of, text_in};
+use cx_asm_build::SourceKind;
+use cx_ebcdic::to_ebcdic;
+use cx_source::{Item, Stmt, Text, is_name_character, source_with_faults, trimmed};
+use cx_translate::translate_with_faults;
+use std::alloc::{AllocError, Global};
+
+/// How many columns a line may have.
+const COLUMNS: usize = 80;
+
+/// The columns that are blank on a line that continues a statement.
+const MARGIN: usize = 15;
+
+/// The part of a line that is at fault.
+#[derive(Debug, Drop)]
+pub struct Mark {
+    /// Its fault.
+    pub kind: SourceKind,
+    /// Where it is.
+    pub spot: Spot,
+    /// The names of what is missing, empty where nothing is.
+    pub missing: Text,
+}
+
+/// The place of the first character without a code.
+fn first_uncoded(line: &[u8]) -> Option<usize>
+    ensures { result ≡ position (λ c. is_none (code_of c)) line.now }
+{
+    line.iter()
+        .position(|c| to_ebcdic(char::from(*c)).is_none())
+}
+
+/// The place of the first character that isn't blank.
+fn first_written(line: &[u8]) -> Option<usize>
+    ensures { result ≡ position is_written line.now }
+{
+    line.iter().position(|c| *c != b' ')
+}
+
+/// The place of the first blank.
+fn first_blank(line: &[u8]) -> Option<usize>
+    ensures { result ≡ position is_blank line.now }
+{
+    line.iter().position(|c| *c == b' ')
+}
+
+/// The first character without a code.
+fn bad_character(number: usize, line: &[u8]) -> Result<Spot, AllocError>
+    ensures { IfOk result (λ spot. spot ≡ bad_character number line.now) }
+{
+    let at = first_uncoded(line).unwrap_or(line.len());
+    Ok(Spot {
+        line: number,
+        column: sum_of(at, 1)?,
+        length: 1,
+    })
+}
+
+/// What isn't blank in the margin.
+fn bad_continuation(number: usize, line: &[u8]) -> Result<Spot, AllocError>
+    ensures { IfOk result (λ spot. spot ≡ bad_continuation number line.now) }
+{
+    let at = first_written(line).unwrap_or(line.len());
+    Ok(Spot {
+        line: number,
+        column: sum_of(at, 1)?,
+        length: trimmed(columns(line, 1, MARGIN)).len().saturating_sub(at),
+    })
+}
+
+/// What begins in column 1.
+fn bad_name(number: usize, line: &[u8]) -> Spot
+    ensures { result ≡ bad_name number line.now }
+{
+    Spot {
+        line: number,
+        column: 1,
+        length: first_blank(line).unwrap_or(line.len()),
+    }
+}
+
+/// What is past column 80, or else all of a line.
+fn too_long(number: usize, line: &[u8]) -> Spot
+    ensures { result ≡ too_long number line.now }
+{
+    if line.len() > COLUMNS {
+        return Spot {
+            line: number,
+            column: COLUMNS + 1,
+            length: line.len() - COLUMNS,
+        };
+    }
+    Spot {
+        line: number,
+        column: 1,
+        length: line.len(),
+    }
+}
+
+/// Whether an argument's text may begin after a character.
+fn is_border(c: u8) -> bool
+    ensures { result ≡ is_border c }
+{
+    matches!(c, b'(' | b')' | b',' | b'+' | b'-')
+}
+
+/// The character at a place; 0 past the end.
+fn byte_at(text: &[u8], place: usize) -> u8
+    ensures { result ≡ unwrap_or (slice_get text.now place) 0 }
+{
+    match text.get(place) {
+        Some(c) => *c,
+        None => 0,
+    }
+}
+
+/// Whether a text stands at the front of another after a character, and no name goes on.
+fn stands_at(text: &[u8], before: u8, rest: &[u8]) -> bool
+    ensures { result ≡ stands_at text.now before rest.now }
+{
+    let (front, _) = rest.split_at(rest.len().min(text.len()));
+    is_border(before) && front == text && !is_name_character(byte_at(rest, text.len()))
+}
+
+/// The first place of a text in an argument.
+#[tactic(auto, using(crate::proofs::MarkLemmas::found_here))]
+fn place_in(text: &[u8], operand: &[u8]) -> Option<usize>
+    ensures { result ≡ place_from text.now 0 0 operand.now }
+{
+    let mut before = 0;
+    for (i, c) in operand.iter().enumerate() {
+        let (_, rest) = operand.split_at(i);
+        if stands_at(text, before, rest) {
+            return Some(i);
+        }
+        before = *c;
+    }
+    None
+}
+
+/// The part of a made statement in the operand that it was made of.
+fn part_in(operand: &[u8], found: &OperandPart) -> Result<Option<Span>, AllocError>
+    ensures { IfOk result (λ part. part ≡ part_in operand.now found.now) }
+{
+    if operand == found.operand.as_slice() {
+        return Ok(Some(found.part));
+    }
+    let text = text_in(found.part, found.operand.as_slice());
+    let Some(start) = place_in(text, operand) else {
+        return Ok(None);
+    };
+    let end = sum_of(start, text.len())?;
+    Ok(Some(Span { start, end }))
+}
+
+/// The part that was found on a line.
+fn found_on(parts: &[OperandPart], line: usize) -> Option<&OperandPart>
+    ensures { option_map (λ found. found.now) result ≡ find (λ found. found.line == line) parts.now }
+{
+    parts.iter().find(|found| found.line == line)
+}
+
+/// The part of the operand of a line's statement.
+fn part_found(
+    parts: &[OperandPart],
+    line: usize,
+    operand: &[u8],
+) -> Result<Option<Span>, AllocError>
+    ensures { IfOk result (λ part. part ≡ part_found parts.now line operand.now) }
+{
+    match found_on(parts, line) {
+        Some(found) => part_in(operand, found),
+        None => Ok(None),
+    }
+}
+
+/// Where a fault of the assembler is.
+fn assembler_spot(
+    alloc: Global,
+    items: &[Item],
+    parts: &[OperandPart],
+    kind: SourceKind,
+    item: &Item,
+    stmt: &Stmt,
+) -> Result<Spot, AllocError>
+    ensures { IfOk result (λ spot. spot ≡ assembler_spot items.now parts.now kind item.now stmt.now) }
+{
+    if kind != SourceKind::DuplicateSymbol {
+        let part = part_found(parts, item.line, stmt.operand.as_slice())?;
+        return part_or_operation(alloc, items, item, stmt, part);
+    }
+    if stmt.name.as_slice().is_empty() {
+        return Ok(operation_spot(item, stmt));
+    }
+    Ok(name_spot(item, stmt))
+}
+
+/// Where the fault of a statement is.
+fn stmt_spot(
+    alloc: Global,
+    items: &[Item],
+    parts: &[OperandPart],
+    kind: SourceKind,
+    item: &Item,
+    stmt: &Stmt,
+) -> Result<Spot, AllocError>
+    ensures { IfOk result (λ spot. spot ≡ stmt_spot items.now parts.now kind item.now stmt.now) }
+{
+    match kind {
+        SourceKind::UnknownCommand
+        | SourceKind::UnknownOption
+        | SourceKind::MissingOption
+        | SourceKind::Conflict
+        | SourceKind::TooManyConditions
+        | SourceKind::BadArgument => {
+            let part = word_at_fault(alloc, kind, stmt.operand.as_slice())?;
+            part_or_operation(alloc, items, item, stmt, part)
+        }
+        _ => assembler_spot(alloc, items, parts, kind, item, stmt),
+    }
+}
+
+/// Where the fault of a line's statement is; without one the line's beginning.
+fn statement_spot(
+    alloc: Global,
+    items: &[Item],
+    parts: &[OperandPart],
+    kind: SourceKind,
+    number: usize,
+) -> Result<Spot, AllocError>
+    ensures { let item = slice_get items.now (number - 1) in
+        IfOk result (λ spot. spot ≡ statement_spot items.now parts.now kind number item) }
+{
+    let beginning = Spot {
+        line: number,
+        column: 1,
+        length: 0,
+    };
+    let Some(item) = items.get(number.saturating_sub(1)) else {
+        return Ok(beginning);
+    };
+    match &item.stmt {
+        Some(stmt) => stmt_spot(alloc, items, parts, kind, item, stmt),
+        None => Ok(beginning),
+    }
+}
+
+/// A line by its number, empty past the end.
+fn line_at(lines: &[Text], number: usize) -> &[u8]
+    ensures { result.now ≡ unwrap_or (slice_get lines.now (number - 1)) [] }
+{
+    match lines.get(number.saturating_sub(1)) {
+        Some(line) => line.as_slice(),
+        None => &[],
+    }
+}
+
+/// Where a fault is.
+fn spot_by(
+    alloc: Global,
+    items: &[Item],
+    parts: &[OperandPart],
+    line: &[u8],
+    number: usize,
+    kind: SourceKind,
+) -> Result<Spot, AllocError>
+    ensures { IfOk result (λ spot. spot ≡ spot_by items.now parts.now line.now number kind) }
+{
+    match kind {
+        SourceKind::BadCharacter => bad_character(number, line),
+        SourceKind::BadName => Ok(bad_name(number, line)),
+        SourceKind::BadContinuation => bad_continuation(number, line),
+        SourceKind::TooLong => Ok(too_long(number, line)),
+        SourceKind::NoEnd => Ok(Spot {
+            line: number,
+            column: 1,
+            length: 2,
+        }),
+        _ => statement_spot(alloc, items, parts, kind, number),
+    }
+}
+
+/// What the statement of a line lacks.
+fn missing_in_item(alloc: Global, item: &Item) -> Result<Vec<u8>, AllocError>
+    ensures { IfOk result (λ text. text.items ≡ missing_in_stmt (Some item.now)) }
+{
+    match &item.stmt {
+        Some(stmt) => missing(alloc, stmt.operand.as_slice()),
+        None => Ok(Vec::new(alloc)),
+    }
+}
+
+/// What the statement of a line lacks, where that is its fault.
+fn missing_by_kind(
+    alloc: Global,
+    kind: SourceKind,
+    items: &[Item],
+    number: usize,
+) -> Result<Vec<u8>, AllocError>
+    ensures { let item = slice_get items.now (number - 1) in
+        IfOk result (λ text. text.items ≡ missing_by_kind kind item) }
+{
+    match (kind, items.get(number.saturating_sub(1))) {
+        (SourceKind::MissingOption, Some(item)) => missing_in_item(alloc, item),
+        _ => Ok(Vec::new(alloc)),
+    }
+}
+
+/// The part of a faulty line that is at fault.
+#[tactic(auto, unfolding(crate::specs::Marks::mark_of))]
+fn mark_of(
+    alloc: Global,
+    lines: &[Text],
+    items: &[Item],
+    parts: &[OperandPart],
+    fault: FaultyLine,
+) -> Result<Mark, AllocError>
+    ensures { IfOk result (λ mark. mark ≡ mark_of lines.now items.now parts.now fault) }
+{
+    let line = line_at(lines, fault.line);
+    let missing = missing_by_kind(alloc, fault.kind, items, fault.line)?;
+    Ok(Mark {
+        kind: fault.kind,
+        spot: spot_by(alloc, items, parts, line, fault.line, fault.kind)?,
+        missing: Text::from_vec(missing),
+    })
+}
+
+/// The marks of faulty lines.
+fn marks_in(
+    alloc: Global,
+    lines: &[Text],
+    items: &[Item],
+    parts: &[OperandPart],
+    faults: &[FaultyLine],
+) -> Result<Vec<Mark>, AllocError>
+    ensures { IfOk result (λ marks. marks.items ≡ map (mark_of lines.now items.now parts.now) faults.now) }
+{
+    let mut marks = Vec::new(alloc);
+    for fault in faults {
+        marks.push(mark_of(alloc, lines, items, parts, *fault)?)?;
+    }
+    Ok(marks)
+}
+
+/// Where on its line the part is that is at fault, for each faulty line of the source that lines make, given without
+/// their ends; and the names of what is missing there.
+///
+/// Of a line that can't be read it is the character without a code, what is in the margin of a continuation line, what
+/// begins in column 1, what is past column 80, or all of a line that comes after too many. Of an EXEC statement it is
+/// the word by which it has the fault, of BadArgument with its argument, and of MissingOption mostly the command's. Of
+/// other statements it is the smallest of these that has the fault by itself: a term, a subfield, an operand; where none
+/// has, all of the operand; else the operation, or of DuplicateSymbol the name. A part that goes on over several lines
+/// counts as far as its first. An error comes only where an allocation failed.
+#[tactic(auto, unfolding(crate::specs::Marks::marks_of))]
+pub fn marks_of(
+    alloc: Global,
+    lines: &[Text],
+    faults: &[FaultyLine],
+) -> Result<Vec<Mark>, AllocError>
+    ensures { IfOk result (λ marks. marks.items ≡ marks_of lines.now faults.now) }
+{
+    let (read, _) = source_with_faults(alloc, lines)?;
+    let (made, _) = translate_with_faults(alloc, &read)?;
+    let parts = operand_parts(alloc, &made, faults)?;
+    marks_in(alloc, lines, read.items.as_slice(), &parts, faults)
+}

@@ -1,0 +1,314 @@
+//! FIELD and FIELDS.
+ghost use Rattle.std.specs.Prelude.{◌≡◌, ◌<◌, ◌^◌, ◌++◌, [], IfOk, IfSome, OnOk, None, min, option_and_then, codes};
+ghost use Rattle.std.specs.List.{flat_map};
+ghost use Rattle.cx_asm_pass1.specs.Locations.{IsPlaced, final_state};
+ghost use Rattle.cx_storage.specs.Storage.{span};
+ghost use Rattle.cx_base_text.specs.Texts.{shown_name};
+ghost use Rattle.cx_look_levels.specs.FieldTexts.{bytes_word, field_line, field_text, field_there, fields_text, fields_there, no_field, program_at, row_line, source_lines, standing_at};
+
+use crate::fields::{Field, bases_in, field_by, field_in, is_field};
+use crate::standing::{Standing, standing_of};
+use crate::tasks::task_of;
+use cx_asm_operands::Bases;
+use cx_asm_pass1::{Places, place_all};
+use cx_base_text::{hexadecimal, shown, shown_name};
+use cx_ebcdic::{Name4, Name8};
+use cx_look_symbols::{Names, Symbol, length_word, names_of_places, translated_in};
+use cx_look_words::{Report, in_apostrophes, spelled, written_name};
+use cx_region::Region;
+use cx_source::{Source, Text};
+use cx_storage::Store;
+use std::alloc::{AllocError, Global};
+
+/// The most bytes of a field that are written.
+const MOST_BYTES: usize = 32;
+
+/// How many bytes of a field are written.
+fn count_of(length: u128) -> usize
+    ensures { result ≡ min 32 length }
+{
+    if length < 32 {
+        length as usize
+    } else {
+        MOST_BYTES
+    }
+}
+
+/// A field's first bytes in hexadecimal digits and in characters.
+fn bytes_word<S: Store>(alloc: Global, store: &S, field: Field) -> Result<Vec<u8>, AllocError>
+    requires { field.address < 2 ^ 24 }
+    ensures { let bytes = span (S.storage store.now) field.address (min 32 field.length) in
+        IfOk result (λ word. word.items ≡ bytes_word bytes) }
+{
+    let mut buffer = [0; MOST_BYTES];
+    let count = count_of(field.length);
+    let bytes = &mut buffer[..count];
+    if !store.read(field.address, bytes) {
+        return b"--".to_vec(alloc);
+    }
+    let characters = in_apostrophes(alloc, &shown(alloc, bytes)?)?;
+    let mut word = spelled(alloc, bytes)?;
+    word.push(b' ')?;
+    word.extend_from_slice(&characters)?;
+    Ok(word)
+}
+
+/// Adds the line of a field.
+#[tactic(auto, unfolding(crate::specs::FieldTexts::field_line))]
+fn field_line<S: Store>(
+    report: &mut Report,
+    store: &S,
+    term: Name4,
+    name: Name8,
+    field: Field,
+) -> Result<(), AllocError>
+    requires { field.address < 2 ^ 24 }
+    ensures { OnOk result (report.new ≡ report.old ++ field_line (S.storage store.now) term name field) }
+{
+    let alloc = report.alloc();
+    let bytes = bytes_word(alloc, store, field)?;
+    let length = length_word(alloc, field.length)?;
+    let term = shown_name(alloc, term)?;
+    let name = written_name(alloc, &name.bytes())?;
+    report.line(&[
+        b"FIELD",
+        &term,
+        &name,
+        b"AT",
+        &hexadecimal::<6>(field.address),
+        b"LENGTH",
+        &length,
+        &bytes,
+    ])
+}
+
+/// The report of a name that is no field there.
+fn no_field(alloc: Global, term: Name4, name: Name8) -> Result<Report, AllocError>
+    ensures { IfOk result (λ report. report ≡ no_field term name) }
+{
+    let mut report = Report::new(alloc);
+    let term = shown_name(alloc, term)?;
+    let name = written_name(alloc, &name.bytes())?;
+    report.line(&[b"FIELD", &term, &name, b"NONE"])?;
+    Ok(report)
+}
+
+/// Where a level of a terminal's task stands.
+fn standing_at<S: Store + Drop>(region: &Region<S>, term: Name4, k: Option<u8>) -> Option<Standing>
+    ensures { result ≡ standing_at region.now term k }
+{
+    let task = task_of(region, term)?;
+    standing_of(&region.shared().programs, task, k)
+}
+
+/// The program of a level of a terminal's task: of its number, 1 being the highest, or without one of the current level; None where there is
+/// no such level. It takes no memory.
+pub fn program_at<S: Store + Drop>(region: &Region<S>, term: Name4, k: Option<u8>) -> Option<Name8>
+    ensures { result ≡ program_at region.now term k }
+{
+    let standing = standing_at(region, term, k)?;
+    Some(standing.program)
+}
+
+/// The field of a name, where a level stands at a statement of its source.
+fn field_there(
+    alloc: Global,
+    lines: &[Text],
+    name: Name8,
+    standing: &Standing,
+) -> Result<Option<Field>, AllocError>
+    ensures value { IfOk result (λ field. field ≡ field_there lines.now name standing.now) }
+    ensures short { IfOk result (λ field. IfSome field (λ it. it.address < 2 ^ 24)) }
+{
+    let Some(offset) = standing.offset() else {
+        return Ok(None);
+    };
+    let Some(source) = translated_in(alloc, lines)? else {
+        return Ok(None);
+    };
+    field_in(alloc, &source, &standing.regs, offset, name)
+}
+
+/// The field of a name, where there is such a level and it stands at a statement of its source.
+fn field_at(
+    alloc: Global,
+    lines: &[Text],
+    name: Name8,
+    standing: Option<Standing>,
+) -> Result<Option<Field>, AllocError>
+    ensures value { IfOk result (λ field. field ≡ option_and_then (field_there lines.now name) standing) }
+    ensures short { IfOk result (λ field. IfSome field (λ it. it.address < 2 ^ 24)) }
+{
+    match standing {
+        Some(standing) => field_there(alloc, lines, name, &standing),
+        None => Ok(None),
+    }
+}
+
+/// Looks at a field of a level of a terminal's task: the level of a number, 1 being the highest, or without one the current level, whose
+/// program's source has these lines. A line with the field's address, by the base that the assembler would choose for it at the level's
+/// statement, its length attribute and its first bytes; NONE where there is no such level, it isn't at a statement of its source, no base
+/// in use reaches the field, or the source has no such symbol.
+///
+/// An error comes only where memory was refused.
+#[tactic(auto, unfolding(crate::specs::FieldTexts::field_text))]
+pub fn field_text<S: Store + Drop>(
+    alloc: Global,
+    region: &Region<S>,
+    lines: &[Text],
+    term: Name4,
+    name: Name8,
+    k: Option<u8>,
+) -> Result<Report, AllocError>
+    ensures { IfOk result (λ report. report ≡ field_text region.now lines.now term name k) }
+{
+    let standing = standing_at(region, term, k);
+    let Some(field) = field_at(alloc, lines, name, standing)? else {
+        return no_field(alloc, term, name);
+    };
+    let mut report = Report::new(alloc);
+    field_line(&mut report, &region.shared().store, term, name, field)?;
+    Ok(report)
+}
+
+/// Adds the line of a symbol, where it is a field that a base reaches.
+fn row_line<S: Store>(
+    report: &mut Report,
+    store: &S,
+    term: Name4,
+    regs: &[u32; 16],
+    bases: &Bases,
+    control: Option<Name8>,
+    name: Name8,
+    symbol: &Symbol,
+) -> Result<(), AllocError>
+    ensures { let line = row_line (S.storage store.now) term regs.now bases.now control (name, symbol.now) in
+        OnOk result (report.new ≡ report.old ++ line) }
+{
+    if !is_field(control, &symbol.value) {
+        return Ok(());
+    }
+    let Some(field) = field_by(regs, bases, symbol.value) else {
+        return Ok(());
+    };
+    field_line(report, store, term, name, field)
+}
+
+/// Adds the lines of symbols that are fields which a base reaches.
+fn rows_lines<S: Store>(
+    report: &mut Report,
+    store: &S,
+    term: Name4,
+    regs: &[u32; 16],
+    bases: &Bases,
+    names: &Names,
+) -> Result<(), AllocError>
+    ensures { let line = row_line (S.storage store.now) term regs.now bases.now names.now.control in
+        OnOk result (report.new ≡ report.old ++ flat_map line names.now.symbols.entries) }
+{
+    for (name, symbol) in names.symbols.iter() {
+        row_line(
+            report,
+            store,
+            term,
+            regs,
+            bases,
+            names.control,
+            *name,
+            symbol,
+        )?;
+    }
+    Ok(())
+}
+
+/// Adds the lines of the fields of a source that is placed.
+fn placed_fields<S: Store>(
+    report: &mut Report,
+    store: &S,
+    term: Name4,
+    standing: &Standing,
+    offset: u32,
+    source: &Source,
+    places: &Places<'_>,
+) -> Result<(), AllocError>
+    requires fault { (final_state source.now).fault ≡ None }
+    requires placed { IsPlaced (final_state source.now) places.now }
+    ensures { let more = source_lines (S.storage store.now) term standing.now.regs offset source.now in
+        OnOk result (report.new ≡ report.old ++ more) }
+{
+    let alloc = report.alloc();
+    let Some(bases) = bases_in(alloc, source, places, offset)? else {
+        return Ok(());
+    };
+    let names = names_of_places(alloc, source, places)?;
+    rows_lines(report, store, term, &standing.regs, &bases, &names)
+}
+
+/// Adds the lines of the fields of a source.
+fn source_lines<S: Store>(
+    report: &mut Report,
+    store: &S,
+    term: Name4,
+    standing: &Standing,
+    offset: u32,
+    source: &Source,
+) -> Result<(), AllocError>
+    ensures { let more = source_lines (S.storage store.now) term standing.now.regs offset source.now in
+        OnOk result (report.new ≡ report.old ++ more) }
+{
+    match place_all(report.alloc(), source)? {
+        Ok(places) => placed_fields(report, store, term, standing, offset, source, &places),
+        Err(_) => Ok(()),
+    }
+}
+
+/// Adds the lines of the fields, where a level stands at a statement of its source.
+fn fields_there<S: Store>(
+    report: &mut Report,
+    store: &S,
+    lines: &[Text],
+    term: Name4,
+    standing: &Standing,
+) -> Result<(), AllocError>
+    ensures { let more = fields_there (S.storage store.now) lines.now term standing.now in
+        OnOk result (report.new ≡ report.old ++ more) }
+{
+    let Some(offset) = standing.offset() else {
+        return Ok(());
+    };
+    let Some(source) = translated_in(report.alloc(), lines)? else {
+        return Ok(());
+    };
+    source_lines(report, store, term, standing, offset, &source)
+}
+
+/// The words that a look at all fields begins with.
+fn fields_word(alloc: Global, term: Name4) -> Result<Vec<u8>, AllocError>
+    ensures { IfOk result (λ word. word.items ≡ codes "FIELDS " ++ shown_name term) }
+{
+    let term = shown_name(alloc, term)?;
+    let mut word = b"FIELDS ".to_vec(alloc)?;
+    word.extend_from_slice(&term)?;
+    Ok(word)
+}
+
+/// Looks at all fields of a level of a terminal's task, as `field_text` does at one: those of the source's dummy sections that a base reaches,
+/// in the order of the source; NONE where there is none.
+///
+/// An error comes only where memory was refused.
+#[tactic(auto, unfolding(crate::specs::FieldTexts::fields_text))]
+pub fn fields_text<S: Store + Drop>(
+    alloc: Global,
+    region: &Region<S>,
+    lines: &[Text],
+    term: Name4,
+    k: Option<u8>,
+) -> Result<Report, AllocError>
+    ensures { IfOk result (λ report. report ≡ fields_text region.now lines.now term k) }
+{
+    let mut report = Report::new(alloc);
+    if let Some(standing) = standing_at(region, term, k) {
+        fields_there(&mut report, &region.shared().store, lines, term, &standing)?;
+    }
+    report.or_none(&fields_word(alloc, term)?)
+}

@@ -1,0 +1,105 @@
+//! Where a level stands.
+ghost use Rattle.std.specs.Prelude.{◌≡◌, ◌-◌, ◌≤◌, slice_get, option_map};
+ghost use Rattle.cx_program.specs.Levels.{all_levels};
+ghost use Rattle.cx_look_levels.specs.Fields.{calling, current, level_numbered, offset_of, spot_now, standing_of};
+
+use cx_ebcdic::Name8;
+use cx_load::Loaded;
+use cx_look_symbols::{Spot, place_of, spot_before};
+use cx_program::{Level, LevelStack};
+use cx_region_state::Task;
+use cx_storage::address_in;
+use indexmap::IndexMap;
+
+/// Where a level stands: its program, its registers, and a byte of the statement that it is at, if a program has that byte.
+#[derive(Clone, Copy, Debug, PartialEq, Eq)]
+pub struct Standing {
+    pub program: Name8,
+    pub regs: [u32; 16],
+    pub spot: Option<Spot>,
+}
+
+impl Standing {
+    /// The offset in the level's own program.
+    pub(crate) fn offset(&self) -> Option<u32>
+        ensures { result ≡ offset_of self.now }
+    {
+        let spot = self.spot?;
+        if spot.program == self.program {
+            Some(spot.offset)
+        } else {
+            None
+        }
+    }
+}
+
+/// Where a level stands that has called another.
+fn calling(programs: &IndexMap<Name8, Loaded>, level: &Level) -> Standing
+    ensures { result ≡ calling programs.now.entries level.now }
+{
+    Standing {
+        program: level.program,
+        regs: level.regs,
+        spot: spot_before(programs, address_in(level.regs[14])),
+    }
+}
+
+/// A byte of the statement that the current level is at.
+fn spot_now(programs: &IndexMap<Name8, Loaded>, task: &Task) -> Option<Spot>
+    ensures { result ≡ spot_now programs.now.entries task.now }
+{
+    if task.due {
+        spot_before(programs, address_in(task.cpu.regs[14]))
+    } else {
+        place_of(programs, task.cpu.next).spot
+    }
+}
+
+/// Where the current level stands.
+fn current(programs: &IndexMap<Name8, Loaded>, task: &Task) -> Standing
+    ensures { result ≡ current programs.now.entries task.now }
+{
+    Standing {
+        program: task.levels.current().program,
+        regs: task.cpu.regs,
+        spot: spot_now(programs, task),
+    }
+}
+
+/// Where the level at an index stands that has called another.
+fn calling_at(
+    programs: &IndexMap<Name8, Loaded>,
+    levels: &LevelStack,
+    index: usize,
+) -> Option<Standing>
+    ensures { result ≡ option_map (calling programs.now.entries) (slice_get (all_levels levels.now) index) }
+{
+    let level = levels.get(index)?;
+    Some(calling(programs, level))
+}
+
+/// Where the level of a number stands, 1 being the highest.
+fn level_numbered(programs: &IndexMap<Name8, Loaded>, task: &Task, k: u8) -> Option<Standing>
+    ensures { result ≡ level_numbered programs.now.entries task.now k }
+{
+    let k = usize::from(k);
+    if k == task.levels.len() {
+        return Some(current(programs, task));
+    }
+    calling_at(programs, &task.levels, k.saturating_sub(1))
+}
+
+/// Where the level of a number stands, or without one the current level.
+#[tactic(auto, unfolding(crate::specs::Fields::standing_of))]
+pub(crate) fn standing_of(
+    programs: &IndexMap<Name8, Loaded>,
+    task: &Task,
+    k: Option<u8>,
+) -> Option<Standing>
+    ensures { result ≡ standing_of programs.now.entries task.now k }
+{
+    match k {
+        Some(k) => level_numbered(programs, task, k),
+        None => Some(current(programs, task)),
+    }
+}

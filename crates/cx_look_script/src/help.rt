@@ -1,0 +1,82 @@
+//! HELP: the table of lines.
+ghost use Rattle.std.specs.Prelude.{◌≡◌, ◌++◌, IfOk, OnOk};
+ghost use Rattle.cx_look_script.specs.Help.{form_lines, form_of, help_text};
+
+use cx_look::Subject;
+use cx_look_words::Report;
+use std::alloc::{AllocError, Global};
+
+/// The words in the order of the table.
+const TABLE: [Subject; 18] = [
+    Subject::Run,
+    Subject::Queues,
+    Subject::Queue,
+    Subject::Programs,
+    Subject::Tasks,
+    Subject::Resources,
+    Subject::Command,
+    Subject::Task,
+    Subject::Field,
+    Subject::Fields,
+    Subject::Areas,
+    Subject::Storage,
+    Subject::Abend,
+    Subject::Symbol,
+    Subject::Symbols,
+    Subject::Xref,
+    Subject::Faults,
+    Subject::Help,
+];
+
+/// The line of a word: its form, and what it does.
+fn form_of(subject: Subject) -> &'static [u8]
+    ensures { result.now ≡ form_of subject }
+{
+    match subject {
+        Subject::Run => b"RUN term [n]         turns of the terminal, at most n of them",
+        Subject::Queues => b"QUEUES               the temporary storage queues",
+        Subject::Queue => b"QUEUE name [k]       a queue with its items, or its item k as a whole",
+        Subject::Programs => b"PROGRAMS             the programs",
+        Subject::Tasks => b"TASKS                each terminal, and what its task is doing",
+        Subject::Resources =>
+            b"RESOURCES            the resources that are owned, and who waits for them",
+        Subject::Command => b"COMMAND term         the command that is due at the terminal",
+        Subject::Task => b"TASK term            the terminal's task, and each of its levels",
+        Subject::Field => b"FIELD term name [k]  a field of the current level, or of level k",
+        Subject::Fields => b"FIELDS term [k]      all fields of that level",
+        Subject::Areas =>
+            b"AREAS [term]         all areas of storage, or those of the terminal's task",
+        Subject::Storage => b"STORAGE aaaaaa n     n bytes of storage from an address on",
+        Subject::Abend => b"ABEND term           the terminal's last abend",
+        Subject::Symbol => b"SYMBOL program name  a symbol of the program's source",
+        Subject::Symbols => b"SYMBOLS program      all symbols of the program's source",
+        Subject::Xref =>
+            b"XREF program         which lines use its symbols, literals and base registers",
+        Subject::Faults =>
+            b"FAULTS name          and the lines of a source, and /*: its faulty lines",
+        Subject::Help => b"HELP [word]          this table, or the line of a word in it",
+    }
+}
+
+/// Adds the lines of words.
+fn form_lines(report: &mut Report, subjects: &[Subject]) -> Result<(), AllocError>
+    ensures { OnOk result (report.new ≡ report.old ++ form_lines subjects.now) }
+{
+    for subject in subjects {
+        report.line(&[form_of(*subject)])?;
+    }
+    Ok(())
+}
+
+/// What HELP writes: the table, or the line of a word in it.
+#[tactic(auto, unfolding(crate::specs::Help::help_text))]
+pub(crate) fn help_text(alloc: Global, subject: Option<Subject>) -> Result<Report, AllocError>
+    ensures { IfOk result (λ report. report ≡ help_text subject) }
+{
+    let mut report = Report::new(alloc);
+    match subject {
+        Some(subject) => form_lines(&mut report, &[subject])?,
+        None => form_lines(&mut report, &TABLE)?,
+    }
+    Ok(report)
+}

@@ -1,0 +1,105 @@
+//! All that a region keeps, read and put in its place.
+ghost use Rattle.std.specs.Prelude.{◌≡◌};
+ghost use Rattle.cx_region.specs.Sound.{IsSound};
+ghost use Rattle.cx_region.specs.State.{terminal_with};
+
+use crate::state::{Region, Terminal};
+use cx_ebcdic::{Name4, Name8};
+use cx_region_state::{Shared, Task, TerminalEntry};
+use cx_storage::Store;
+use indexmap::IndexMap;
+use std::marker::Model;
+
+/// All that a region keeps.
+#[derive(Drop)]
+pub struct RegionParts<S: Store + Drop> {
+    /// What tasks share.
+    pub shared: Shared<S>,
+    /// The transactions, each with its program's name.
+    pub transactions: IndexMap<Name4, Name8>,
+    /// The terminals with their names.
+    pub terminals: IndexMap<Name4, Terminal>,
+    /// The time, hhmmss.
+    pub time: u32,
+    /// The date, yyddd.
+    pub date: u32,
+    /// The last task's number.
+    pub counter: u32,
+}
+
+impl<S: Store + Drop> Model for RegionParts<S> {
+    ghost use Rattle.cx_region.specs.State.{RegionState};
+
+    ghost Value = { RegionState };
+
+    ghost view = { λ parts.
+        record {
+          storage = parts.shared.storage;
+          time = parts.time;
+          date = parts.date;
+          programs = parts.shared.programs;
+          transactions = parts.transactions.entries;
+          terminals = parts.terminals.entries;
+          queues = parts.shared.queues;
+          resources = parts.shared.resources;
+          counter = parts.counter;
+        } };
+}
+
+impl Terminal {
+    /// A terminal with this task.
+    pub fn with_task(terminal_entry: TerminalEntry, task: Option<Task>) -> Terminal
+        ensures { result ≡ terminal_with terminal_entry task }
+    {
+        Terminal {
+            terminal_entry,
+            task,
+        }
+    }
+}
+
+impl<S: Store + Drop> Region<S> {
+    /// The time that tasks attached later are given, hhmmss.
+    pub fn time(&self) -> u32
+        ensures { result ≡ self.now.time }
+    {
+        self.time
+    }
+
+    /// The date that tasks attached later are given, yyddd.
+    pub fn date(&self) -> u32
+        ensures { result ≡ self.now.date }
+    {
+        self.date
+    }
+
+    /// The number of the last task that was attached; 0 before the first.
+    pub fn counter(&self) -> u32
+        ensures value { result ≡ self.now.counter }
+        ensures sound { IsSound self.now }
+    {
+        self.counter
+    }
+
+    /// Puts these parts in the place of all that the region keeps. It takes no memory.
+    #[doc(hidden)]
+    pub fn put(&mut self, parts: RegionParts<S>)
+        requires { IsSound parts }
+        ensures { self.new ≡ parts }
+    {
+        let RegionParts {
+            shared,
+            transactions,
+            terminals,
+            time,
+            date,
+            counter,
+        } = parts;
+        self.shared = shared;
+        self.transactions = transactions;
+        self.terminals = terminals;
+        self.time = time;
+        self.date = date;
+        self.counter = counter;
+    }
+}

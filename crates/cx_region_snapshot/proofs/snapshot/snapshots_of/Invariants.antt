@@ -1,0 +1,6 @@
+use Rattle.std.proofs.Common.{◌≡◌, take}
+use Rattle.cx_region_snapshot.proofs.snapshot.snapshots_of.Given as goal
+
+-- those so far
+abbrev pub invariant-loop-i : goal.invariant-loop-i
+invariant-loop-i l = l.snapshots.items ≡ take l.i l.terminals.entries

@@ -1,0 +1,15 @@
+//! `RegionSnapshot`: all that a region keeps, kept apart from it, to be compared and put back.
+#![tactic(auto)]
+
+mod snapshot;
+mod task;
+mod terminal;
+
+pub use snapshot::RegionSnapshot;
+// A crate can name the snapshot in a contract only if the types of its fields are exported.
+#[doc(hidden)]
+pub use snapshot::Defined;
+#[doc(hidden)]
+pub use task::TaskSnapshot;
+#[doc(hidden)]
+pub use terminal::TerminalSnapshot;

@@ -1,0 +1,285 @@
+//! `RegionSnapshot`: all that a region keeps.
+ghost use Rattle.std.specs.Prelude.{◌≡◌, ◌↔◌, IsTrue, IfOk, OnOk, OnErr, ◌+◌, ◌<◌, fold, length, take};
+ghost use Rattle.std.specs.List.{IsDistinct};
+ghost use Rattle.std.specs.Map.{keys_of};
+ghost use Rattle.cx_base_hash.specs.Hash.{hash_with};
+ghost use Rattle.cx_ebcdic.specs.Names.{is_name};
+ghost use Rattle.cx_region.specs.State.{shared_of};
+ghost use Rattle.cx_region_snapshot.specs.Hash.{region_hash, hash_with_task};
+
+use crate::terminal::TerminalSnapshot;
+use cx_base_copies::{
+    Replica, Same, are_same_items, are_same_tables, replica_of_table, share_replica,
+};
+use cx_base_hash::hash_with;
+use cx_ebcdic::{Name4, Name8};
+use cx_load::Loaded;
+use cx_region::{Region, RegionParts, Shared, Terminal};
+use cx_service::{Enqueues, Queue, Queues};
+use cx_storage::Store;
+use cx_storage_snapshot::StorageSnapshot;
+use indexmap::IndexMap;
+use std::alloc::{AllocError, Global};
+use std::marker::Model;
+use std::rc::Rc;
+
+/// What is defined: programs and transactions.
+#[derive(Drop)]
+pub struct Defined {
+    pub(crate) programs: IndexMap<Name8, Loaded>,
+    pub(crate) transactions: IndexMap<Name4, Name8>,
+}
+
+/// All that a region keeps, as it was when the snapshot was taken. What is the same in two snapshots can be shared by them.
+#[derive(Drop)]
+pub struct RegionSnapshot {
+    storage: StorageSnapshot,
+    time: u32,
+    date: u32,
+    counter: u32,
+    defined: Rc<Defined>,
+    terminals: Vec<TerminalSnapshot>,
+    queues: Rc<Queues>,
+    resources: Rc<Enqueues>,
+}
+
+impl Model for RegionSnapshot {
+    ghost use Rattle.cx_region.specs.State.{RegionState};
+    ghost use Rattle.cx_region.specs.Sound.{IsSound};
+
+    ghost Value = { RegionState };
+
+    ghost view = { λ r.
+        record {
+          storage = r.storage;
+          time = r.time;
+          date = r.date;
+          programs = r.defined.value.programs.entries;
+          transactions = r.defined.value.transactions.entries;
+          terminals = r.terminals.items;
+          queues = r.queues.value;
+          resources = r.resources.value;
+          counter = r.counter;
+        } };
+
+    ghost invariant = { λ r.
+        IsSound (record {
+          storage = r.storage;
+          time = r.time;
+          date = r.date;
+          programs = r.defined.value.programs.entries;
+          transactions = r.defined.value.transactions.entries;
+          terminals = r.terminals.items;
+          queues = r.queues.value;
+          resources = r.resources.value;
+          counter = r.counter;
+        }) };
+}
+
+/// Programs and transactions: the earlier ones where they are the same.
+fn defined_of(
+    alloc: Global,
+    programs: &IndexMap<Name8, Loaded>,
+    transactions: &IndexMap<Name4, Name8>,
+    before: Option<&RegionSnapshot>,
+) -> Result<Rc<Defined>, AllocError>
+    requires programs { IsDistinct is_name (keys_of programs.now.entries) }
+    requires transactions { IsDistinct is_name (keys_of transactions.now.entries) }
+    ensures programs { IfOk result (λ defined. defined.value.programs.entries ≡ programs.now.entries) }
+    ensures transactions { IfOk result (λ defined. defined.value.transactions.entries ≡ transactions.now.entries) }
+{
+    if let Some(before) = before {
+        let defined = &before.defined;
+        if are_same_tables(programs, &defined.programs)
+            && are_same_tables(transactions, &defined.transactions)
+        {
+            return defined.clone();
+        }
+    }
+    let programs = replica_of_table(alloc, programs)?;
+    let transactions = replica_of_table(alloc, transactions)?;
+    Ok(Rc::new(
+        alloc,
+        Defined {
+            programs,
+            transactions,
+        },
+    )?)
+}
+
+/// The terminals, each kept apart.
+#[tactic(auto, using(crate::proofs::TableLemmas::entry_more))]
+fn snapshots_of(
+    alloc: Global,
+    terminals: &IndexMap<Name4, Terminal>,
+    before: Option<&RegionSnapshot>,
+) -> Result<Vec<TerminalSnapshot>, AllocError>
+    ensures { IfOk result (λ snapshots. snapshots.items ≡ terminals.now.entries) }
+{
+    let mut snapshots = Vec::with_capacity(alloc, terminals.len())?;
+    for i in 0..terminals.len() {
+        let (name, terminal) = terminals.get_index(i).unwrap();
+        let earlier = match before {
+            Some(before) => before.terminals.get(i),
+            None => None,
+        };
+        snapshots.push(TerminalSnapshot::take(alloc, *name, terminal, earlier)?)?;
+    }
+    Ok(snapshots)
+}
+
+/// The terminals that were kept, with their names.
+fn terminals_of(
+    alloc: Global,
+    snapshots: &[TerminalSnapshot],
+) -> Result<IndexMap<Name4, Terminal>, AllocError>
+    requires { IsDistinct is_name (keys_of snapshots.now) }
+    ensures { IfOk result (λ terminals. terminals.entries ≡ snapshots.now) }
+{
+    let mut terminals = IndexMap::with_capacity(alloc, snapshots.len())?;
+    for i in 0..snapshots.len() {
+        put_terminal(alloc, &mut terminals, snapshots, i)?;
+    }
+    Ok(terminals)
+}
+
+/// Puts one more terminal into the table.
+fn put_terminal(
+    alloc: Global,
+    terminals: &mut IndexMap<Name4, Terminal>,
+    snapshots: &[TerminalSnapshot],
+    i: usize,
+) -> Result<(), AllocError>
+    requires distinct { IsDistinct is_name (keys_of snapshots.now) }
+    requires so_far { terminals.old.entries ≡ take i snapshots.now }
+    requires within { i < length snapshots.now }
+    ensures { OnOk result (terminals.new.entries ≡ take (i + 1) snapshots.now) }
+{
+    let snapshot = &snapshots[i];
+    let terminal = snapshot.terminal(alloc)?;
+    terminals.insert(snapshot.name(), terminal)?;
+    Ok(())
+}
+
+impl RegionSnapshot {
+    /// The state of a region. What is the same as in an earlier snapshot, `before`, is shared with it, so that a snapshot of
+    /// what is like one before takes little memory; `before` changes nothing else.
+    ///
+    /// An error comes only where an allocation failed.
+    pub fn take<S: Store + Drop>(
+        alloc: Global,
+        region: &Region<S>,
+        before: Option<&RegionSnapshot>,
+    ) -> Result<RegionSnapshot, AllocError>
+        ensures { IfOk result (λ snapshot. snapshot ≡ region.now) }
+    {
+        let counter = region.counter();
+        let shared = region.shared();
+        let storage = StorageSnapshot::take(
+            alloc,
+            &shared.store,
+            before.map(|before| &before.storage),
+        )?;
+        let defined = defined_of(alloc, &shared.programs, region.transactions(), before)?;
+        let terminals = snapshots_of(alloc, region.terminals(), before)?;
+        let queues = share_replica(alloc, &shared.queues, before.map(|before| &before.queues))?;
+        let resources = share_replica(
+            alloc,
+            &shared.enqueues,
+            before.map(|before| &before.resources),
+        )?;
+        Ok(RegionSnapshot {
+            storage,
+            time: region.time(),
+            date: region.date(),
+            counter,
+            defined,
+            terminals,
+            queues,
+            resources,
+        })
+    }
+
+    /// What tasks share, as it was, in memory from where a region takes its own.
+    fn shared_like<S: Store + Drop>(&self, shared: &Shared<S>) -> Result<Shared<S>, AllocError>
+        ensures { IfOk result (λ made. made ≡ shared_of self.now) }
+    {
+        let alloc = shared.alloc;
+        Ok(Shared {
+            alloc,
+            store: self.storage.store_like(&shared.store)?,
+            programs: replica_of_table(alloc, &self.defined.programs)?,
+            queues: self.queues.replica(alloc)?,
+            enqueues: self.resources.replica(alloc)?,
+        })
+    }
+
+    /// Gives a region this state in place of its own.
+    ///
+    /// An error comes only where an allocation failed; then the region is as before.
+    pub fn restore<S: Store + Drop>(&self, region: &mut Region<S>) -> Result<(), AllocError>
+        ensures ok { OnOk result (region.new ≡ self.now) }
+        ensures err { OnErr result (region.new ≡ region.old) }
+    {
+        let shared = self.shared_like(region.shared())?;
+        let alloc = shared.alloc;
+        let transactions = replica_of_table(alloc, &self.defined.transactions)?;
+        let terminals = terminals_of(alloc, self.terminals.as_slice())?;
+        region.put(RegionParts {
+            shared,
+            transactions,
+            terminals,
+            time: self.time,
+            date: self.date,
+            counter: self.counter,
+        });
+        Ok(())
+    }
+
+    /// Whether two are the same state.
+    pub fn is_same(&self, other: &RegionSnapshot) -> bool
+        ensures { IsTrue result ↔ (self.now ≡ other.now) }
+    {
+        self.counter == other.counter
+            && self.time == other.time
+            && self.date == other.date
+            && are_same_items(self.terminals.as_slice(), other.terminals.as_slice())
+            && self.storage.is_same(&other.storage)
+            && self.queues.is_same(&other.queues)
+            && self.resources.is_same(&other.resources)
+            && are_same_tables(&self.defined.programs, &other.defined.programs)
+            && are_same_tables(&self.defined.transactions, &other.defined.transactions)
+    }
+
+    /// Its hash: that of storage, of tasks' registers and next addresses, and of how many items queues have. Equal states have
+    /// equal hashes.
+    #[tactic(auto, unfolding(crate::specs::Hash::region_hash))]
+    pub fn hash(&self) -> u64
+        ensures { result ≡ region_hash self.now }
+    {
+        let tasks = hash_of_tasks(self.storage.hash(), self.terminals.as_slice());
+        hash_of_queues(tasks, self.queues.all())
+    }
+}
+
+/// The hash with the tasks of terminals.
+fn hash_of_tasks(before: u64, terminals: &[TerminalSnapshot]) -> u64
+    ensures { result ≡ fold (λ hash entry. hash_with_task hash entry.1.task) before terminals.now }
+{
+    let mut hash = before;
+    for terminal in terminals {
+        hash = terminal.hash(hash);
+    }
+    hash
+}
+
+/// The hash with how many items queues have.
+fn hash_of_queues(before: u64, queues: &IndexMap<Name8, Queue>) -> u64
+    ensures { result ≡ fold (λ hash entry. hash_with hash (length entry.1.items)) before queues.now.entries }
+{
+    let mut hash = before;
+    for (_, queue) in queues.iter() {
+        hash = hash_with(hash, queue.count() as u64);
+    }
+    hash
+}

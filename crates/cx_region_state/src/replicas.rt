@@ -1,0 +1,38 @@
+//! Equal inputs and next transactions of their own memory, and whether two are equal.
+ghost use Rattle.std.specs.Prelude.{◌≡◌, ◌↔◌, IsTrue, IfOk};
+
+use crate::state::{Following, Input};
+use cx_base_copies::{Replica, Same};
+use std::alloc::{AllocError, Global};
+
+impl Same for Input {
+    fn is_same(&self, other: &Self) -> bool {
+        self.aid == other.aid && self.bytes.is_same(&other.bytes)
+    }
+}
+
+impl Replica for Input {
+    fn replica(&self, alloc: Global) -> Result<Self, AllocError> {
+        let bytes = self.bytes.replica(alloc)?;
+        Ok(Input {
+            aid: self.aid,
+            bytes,
+        })
+    }
+}
+
+impl Same for Following {
+    fn is_same(&self, other: &Self) -> bool {
+        self.tran.is_same(&other.tran) && self.commarea.is_same(&other.commarea)
+    }
+}
+
+impl Replica for Following {
+    fn replica(&self, alloc: Global) -> Result<Self, AllocError> {
+        let commarea = self.commarea.replica(alloc)?;
+        Ok(Following {
+            tran: self.tran,
+            commarea,
+        })
+    }
+}

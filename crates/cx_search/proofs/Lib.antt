@@ -1,0 +1,9 @@
+mod ForeverLemmas
+mod ListLemmas
+mod LoopLemmas
+mod MarkLemmas
+mod NextLemmas
+mod OrderLemmas
+mod PathLemmas
+mod PlaceLemmas
+mod SearchLemmas

@@ -1,0 +1,7 @@
+pub mod Moves
+pub mod Found
+pub mod Nexts
+pub mod Finds
+pub mod Forever
+pub mod Laws
+pub mod Marks

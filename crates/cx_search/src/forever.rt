@@ -1,0 +1,132 @@
+//! States from which moves go on without an end, and states from which no rest can be come to.
+
+ghost use Rattle.std.specs.Prelude.{◌≡◌, ◌<◌, ◌≤◌, ℕ, true, false, IfOk, IfSome, IfNone, MatchOption, List as Items, find, length, slice_get, slice_set};
+ghost use Rattle.std.specs.Option.{option_copied};
+ghost use Rattle.cx_search.specs.Finds.{Finds, IsWhole};
+ghost use Rattle.cx_search.specs.Forever.{CanRest, IsBounded, IsPlaceOf, Loops};
+ghost use Rattle.cx_search.specs.Found.{IsAt};
+ghost use Rattle.cx_search.specs.Marks.{AreStable, is_free, is_marked};
+ghost use Rattle.cx_search.specs.Moves.{Leads};
+ghost use Rattle.cx_search.specs.Nexts.{AreLinked};
+ghost use Rattle.cx_search.specs.declared.marks.Rule.TheVariants.{All};
+
+use crate::found::Found;
+use crate::marks::{Rule, is_marked, no_marks};
+use crate::space::Space;
+use cx_base_lists::List;
+use std::alloc::AllocError;
+
+/// The first place that isn't marked, below a limit.
+fn first_unmarked(marks: &[bool], most: usize) -> Option<usize>
+    ensures some { IfSome result (λ place. (place < most) × (is_marked marks.now place ≡ false)) }
+    ensures none { IfNone result ((place : ℕ) → place < most → is_marked marks.now place ≡ true) }
+{
+    for place in 0..most {
+        if !is_marked(marks, place) {
+            return Some(place);
+        }
+    }
+    None
+}
+
+/// Whether a place is marked.
+fn has_mark(marks: &Vec<bool>, place: usize) -> bool
+    ensures { result ≡ is_marked marks.now.items place }
+{
+    is_marked(marks.as_slice(), place)
+}
+
+/// Marks a place.
+fn mark(marks: &mut Vec<bool>, place: usize)
+    requires { place < length marks.old.items }
+    ensures long { length marks.new.items ≡ length marks.old.items }
+    ensures set { marks.new.items ≡ slice_set marks.old.items place true }
+{
+    marks[place] = true;
+}
+
+/// A place below a limit that isn't marked, of some places.
+fn unmarked_of(places: &List<usize>, marks: &Vec<bool>, most: usize) -> Option<usize>
+    ensures { result ≡ find (is_free marks.now.items most) places.now }
+{
+    places
+        .as_slice()
+        .iter()
+        .copied()
+        .find(|place| *place < most && !has_mark(marks, *place))
+}
+
+impl<T: Space> Found<T> {
+    /// How many places have links.
+    fn many_links(&self) -> usize
+        ensures { result ≡ length self.now.links.items }
+    {
+        self.links.len()
+    }
+
+    /// The places that moves from a place lead to.
+    fn nexts_of(&self, place: usize) -> Option<&List<usize>>
+        ensures { option_copied result ≡ slice_get self.now.links.items place }
+    {
+        self.links.get(place)
+    }
+
+    /// The first place that is come to twice, from the first one on by places that aren't marked.
+    ///
+    /// An error comes only where an allocation failed.
+    fn repeated(&self, marks: &Vec<bool>) -> Result<usize, AllocError>
+        requires stable { AreStable self.now.links.items All marks.now.items }
+        requires unmarked { is_marked marks.now.items 0 ≡ false }
+        ensures { (space : T) (done : ℕ) (state : T.State)
+            → AreLinked (T.goes space) self.now.states.entries self.now.links.items done
+            → length self.now.states.entries ≤ done → IsAt self.now.states.entries 0 state
+            → IfOk result (IsPlaceOf (Loops (T.goes space)) self.now.states.entries) }
+    {
+        let many = self.many_links();
+        let mut seen = no_marks(self.alloc, many)?;
+        let mut at = 0;
+        'walk: while !has_mark(&seen, at) {
+            let Some(nexts) = self.nexts_of(at) else {
+                return Ok(at);
+            };
+            mark(&mut seen, at);
+            let Some(next) = unmarked_of(nexts, marks, many) else {
+                return Ok(at);
+            };
+            at = next;
+        }
+        Ok(at)
+    }
+
+    /// The place of a state that is come to again from itself by moves; `None` where there is none, and no list of
+    /// moves is longer than some number. After a whole search.
+    ///
+    /// An error comes only where an allocation failed.
+    pub fn looping(&self) -> Result<Option<usize>, AllocError>
+        ensures { (space : T) (start : T.State) → Finds (T.goes space) start self.now.states.entries
+            → IsWhole (T.goes space) start self.now.states.entries self.now.links.items
+            → IfOk result (λ place. MatchOption place (IsBounded (T.goes space) start)
+            (IsPlaceOf (Loops (T.goes space)) self.now.states.entries)) }
+    {
+        let marks = self.marks(Rule::All)?;
+        if has_mark(&marks, 0) {
+            return Ok(None);
+        }
+        let place = self.repeated(&marks)?;
+        Ok(Some(place))
+    }
+
+    /// The place of a state from which no list of moves leads to one at rest; `None` where one does from each. After
+    /// a whole search.
+    ///
+    /// An error comes only where an allocation failed.
+    pub fn restless(&self) -> Result<Option<usize>, AllocError>
+        ensures { (space : T) (start : T.State) → IsWhole (T.goes space) start self.now.states.entries self.now.links.items
+            → IfOk result (λ place. MatchOption place
+            ((moves : Items ℕ) (to : T.State) → Leads (T.goes space) start moves to → CanRest (T.goes space) to)
+            (IsPlaceOf (λ state. CanRest (T.goes space) state → ⊥) self.now.states.entries)) }
+    {
+        let marks = self.marks(Rule::Any)?;
+        Ok(first_unmarked(marks.as_slice(), self.states.len()))
+    }
+}

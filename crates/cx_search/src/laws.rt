@@ -1,0 +1,21 @@
+//! What holds of lists of moves.
+ghost use Rattle.cx_search.specs.Laws.{BoundedNeverLoop, FirstIsOne, LoopsLeadOn, SoonerOrders};
+
+use crate::space::Space;
+
+/// Of two lists of moves one is sooner than the other, or they are equal; none is sooner than itself, and what is sooner
+/// than a sooner one is sooner.
+pub fn one_list_is_sooner()
+    ensures { SoonerOrders }
+{}
+
+/// One list leads first to a state.
+pub fn one_list_leads_first<T: Space>()
+    ensures { (space : T) → FirstIsOne (T.goes space) }
+{}
+
+/// Where a list leads to a state that is come to again from itself, lists have any length, and no number bounds them.
+pub fn a_loop_leads_on<T: Space>()
+    ensures on { (space : T) → LoopsLeadOn (T.goes space) }
+    ensures bounded { (space : T) → BoundedNeverLoop (T.goes space) }
+{}

@@ -1,0 +1,13 @@
+//! A search over the states of a space: which states moves can lead to, each once, by the soonest list of moves.
+#![tactic(auto)]
+
+mod forever;
+mod found;
+pub mod laws;
+mod marks;
+mod space;
+
+pub use found::{Found, Origin, Outcome, search};
+#[doc(hidden)]
+pub use marks::Rule;
+pub use space::Space;
