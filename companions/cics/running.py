@@ -76,12 +76,15 @@ def wanted(name: str) -> Ended:
 
 
 def plain(name: str) -> tuple[bytes, Ended]:
-    """The script of an example as `cicsedf` runs it, without looks and with the turns of each RUN in its place, and how that run ends."""
+    """The script of an example as `cicsedf` runs it, without looks, bad ones too, and with the turns of each RUN in its place, and how that
+    run ends."""
     due = wanted(name)
     if not has_looks(name):
         return read(f"{name}.script"), due
     script, transcript, numbers = plain_of(lines_in(name), due.lines())
     fault = FAULT.fullmatch(due.reported)
+    if fault and fault[3].startswith(b": BadLook"):
+        return text_of(script), Ended(0, text_of(transcript), b"")
     reported = b"%s%d%s" % (fault[1], numbers[int(fault[2]) - 1], fault[3]) if fault else due.reported
     return text_of(script), Ended(due.status, text_of(transcript), reported)
 

@@ -4,13 +4,16 @@ What RUN did is read from the transcript: each of its turns wrote a TURN line. I
 Waiting, Held, Ended, Abended or NoSuchTerminal; at one after which EDF stopped the task, so that a further turn would be answered Held; or
 where it says that the task is still running.
 """
+import re
 from dataclasses import dataclass, field
 
 from cics.child import is_of_page
 
 OF_CICSLOOK = {"RUN", "QUEUES", "QUEUE", "PROGRAMS", "TASKS", "RESOURCES", "COMMAND", "TASK", "AREAS", "STORAGE", "ABEND", "SYMBOL", "SYMBOLS",
-               "XREF", "FAULTS", "HELP", "FIELD", "FIELDS"}
+               "XREF", "FAULTS", "HELP", "TERMINALS", "AHEAD", "FIELD", "FIELDS"}
 BLOCKS = ("IMAGE", "SOURCE", "FAULTS")
+RUN = re.compile(r"RUN [A-Z0-9@#$]{1,4}(?: ([0-9]{1,5}))?")
+MOST_TURNS = 4096
 PAGED = ("SCREEN", "DISPLAY")
 ENDS = ("Idle", "Waiting", "Held", "Ended", "Abended", "NoSuchTerminal")
 
@@ -29,14 +32,18 @@ class Action:
     answer: list[str] = field(default_factory=list)
 
     def words(self) -> list[str]:
-        return self.lines[0].split(" ")
+        """Its words: the lines of `cicslook` alone may be in lower case."""
+        words = self.lines[0].split(" ")
+        return [word.upper() for word in words] if words[0].upper() in OF_CICSLOOK else words
 
     def is_silent(self) -> bool:
         """Whether it is an empty line or a comment."""
         return not self.lines[0] or self.lines[0].startswith("*")
 
     def is_run(self) -> bool:
-        return self.words()[0] == "RUN"
+        """Whether it is a RUN, and no bad look that begins with this word."""
+        found = RUN.fullmatch(" ".join(self.words()))
+        return bool(found and 0 < int(found[1] or 1) <= MOST_TURNS)
 
     def is_look(self) -> bool:
         return self.words()[0] in OF_CICSLOOK and not self.is_run()

@@ -6,6 +6,7 @@ from dataclasses import dataclass, field
 
 BLOCKS = ("IMAGE", "SOURCE", "FAULTS", "ORDERS")
 EVENTS = ("IMAGE", "SOURCE", "TRANSACTION", "TERMINAL", "CLOCK", "KEY", "TURN", "EDF", "ALTER", "RUN")
+ANY_CASE = ("RUN", "FAULTS", "ORDERS")  # words of `cicslook` that may be in lower case, and their operands with them
 RUN = re.compile(r"RUN ([A-Z0-9@#$]{1,4})(?: ([1-9][0-9]{0,3}))?")
 SOURCE = re.compile(r"SOURCE ([A-Z0-9@#$]{1,8})( DISASM)?")  # without LIST
 RUN_TURNS = 1_000  # of a RUN without a number
@@ -22,7 +23,8 @@ class Action:
 
     @property
     def text(self) -> str:
-        return self.lines[0].removesuffix("\r")
+        text = self.lines[0].removesuffix("\r")
+        return text.upper() if text.split(" ")[0].upper() in ANY_CASE else text
 
     @property
     def word(self) -> str:
@@ -36,7 +38,8 @@ class Action:
 
     @property
     def is_event(self) -> bool:
-        return self.word in EVENTS
+        """Whether it is filmed: a RUN that can't be read is a bad look, and left out as looks are."""
+        return self.word in EVENTS and (self.word != "RUN" or self.turns is not None)
 
     @property
     def is_open(self) -> bool:
@@ -45,7 +48,7 @@ class Action:
 
     @property
     def turns(self) -> int | None:
-        """How many turns a RUN asks at the most; None for any other line, and for a RUN that is a bad line."""
+        """How many turns a RUN asks at the most; None for any other line, and for a RUN that is a bad look."""
         found = RUN.fullmatch(self.text)
         turns = int(found[2] or RUN_TURNS) if found else 0
         return turns if 0 < turns <= MOST_TURNS else None

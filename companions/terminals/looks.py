@@ -14,6 +14,7 @@ LOOKS: dict[str, list[str]] = {
     "TASKS": ["CEMT INQUIRE TASK", "CEMT INQUIRE TERMINAL"],
     "RESOURCES": ["CEMT INQUIRE ENQ"],
     "COMMAND term": [],
+    "AHEAD term": [],
     "TASK term": [],
     "AREAS": [],
     "AREAS term": [],
@@ -22,6 +23,7 @@ LOOKS: dict[str, list[str]] = {
     "SYMBOL program program": [],
     "SYMBOLS program": [],
     "XREF program": [],
+    "TERMINALS": [],
     "HELP": [],
     "HELP word": [],
     "FIELD term program": [],
@@ -35,7 +37,7 @@ OPERANDS = {
     "queue": "(?:[A-Z0-9@#$]{1,8}|[0-9A-F]{16})",
     "address": "[0-9A-F]{6}",
     "level": "(?:[1-9]|1[0-6])",
-    "word": "(?:RUN|QUEUES?|PROGRAMS|TASKS?|RESOURCES|COMMAND|FIELDS?|AREAS|STORAGE|ABEND|SYMBOLS?|XREF|FAULTS|HELP)",
+    "word": "(?:RUN|QUEUES?|PROGRAMS|TASKS?|RESOURCES|TERMINALS|COMMAND|AHEAD|FIELDS?|AREAS|STORAGE|ABEND|SYMBOLS?|XREF|FAULTS|HELP)",
     "number": "(?:[1-9][0-9]{0,3}|[12][0-9]{4}|3[01][0-9]{3}|32[0-6][0-9]{2}|327[0-5][0-9]|3276[0-7])",  # to 32767
     "length": "(?:[1-9][0-9]{0,2}|[1-3][0-9]{3}|40[0-8][0-9]|409[0-6])",  # to 4096
 }

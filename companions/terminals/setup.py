@@ -9,6 +9,7 @@ from terminals.region import Answer, Fault, Region, Request, Work
 
 REFUSED = {"EDF", "ALTER", "SCREEN", "DISPLAY"}  # lines that a set-up hasn't: the session makes them
 ANSWER = re.compile(r"(?:PROGRAM|TRANSACTION|TERMINAL|KEY|TURN|EDF|ALTER|SCREEN|DISPLAY) \S+.*|CLOCK SET")
+BAD_LOOK = re.compile(r"> \? line (\d+): .*")  # what is written in place of a look that can't be read
 RUN = re.compile(f"RUN ({OPERANDS['term']})(?: ({OPERANDS['length']}))?")
 TURNS = 1000  # of a RUN that doesn't say
 ENDS_RUN = {"Idle", "Waiting", "Held", "Ended", "Abended", "NoSuchTerminal"}
@@ -85,6 +86,8 @@ class SetUp:
                 continue
             self.sent, run = region.lines_sent, RUN.fullmatch(action.line)
             answers = yield Request("\n".join([*self.lines[self.first : action.number - 1], ""]), Answer.LINES)
+            for bad in filter(None, map(BAD_LOOK.fullmatch, answers)):
+                raise Fault(f"cicsedf: line {bad[1]}: BadLook")
             for it, answer in zip(piece, filter(ANSWER.fullmatch, answers)):
                 self.report(it, answer)
                 done.append((it.line, answer))

@@ -49,14 +49,24 @@ def film_of(path: str) -> Data:
     return data
 
 
+def reported_of(path: str) -> str:
+    """What is reported of an example's script on standard error."""
+    name = f"{path.removesuffix('.script')}.stderr"
+    return text_of(name) if os.path.exists(name) else ""
+
+
+def ends_it(reported: str) -> bool:
+    """Whether what is reported is a fault that ended the script: a bad look, which films leave out as they do looks, doesn't."""
+    return bool(reported) and not reported.endswith(": BadLook\n")
+
+
 def data_is_what_looks_write() -> None:
     """Of events drawn of all examples and lessons, what the page has is what the looks write there; of terminals without an event too."""
     generator, films = random.Random(78), []
     paths = scripts()
     with ThreadPoolExecutor(2) as pool:
         for path, data in zip(paths, pool.map(film_of, paths)):
-            has_fault = os.path.exists(f"{path.removesuffix('.script')}.stderr")
-            expect(f"{path} has a fault, or none", bool(data["fault"]) == has_fault, data["fault"])
+            expect(f"{path} has a fault, or none", bool(data["fault"]) == ends_it(reported_of(path)), data["fault"])
             expect(f"{path} has events", data["events"] or data["fault"] or not [it for it in data["script"] if it.strip()], data["script"][:9])
             films += [(path, data, at) for at in range(len(data["events"]))]
     for path, data, at in generator.sample(films, DRAWN):
@@ -108,8 +118,8 @@ def tried(text: str) -> tuple[str, object, object]:
     made, fault = page_or_line(text)
     assert made.startswith("<!DOCTYPE html>") or made.startswith("a script has a terminal of each"), made[:200]
     ran = subprocess.run([PROGRAM], input=encoded(text), capture_output=True, timeout=60, check=False)
-    said = re.search(rb"line (\d+): ", ran.stderr)
-    return text, fault, int(said[1]) if said else None
+    said = re.search(r"line (\d+): ", reported := ran.stderr.decode())
+    return text, fault, int(said[1]) if said and ends_it(reported) else None
 
 
 def changed_lines_give_pages() -> None:

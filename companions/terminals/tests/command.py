@@ -33,7 +33,7 @@ def faulty_set_ups() -> None:
         (RETURN + "* none\nHELLO\n", "8: BadLine"),
         (RETURN.replace("RETURN", "RETERN"), "3: UnknownCommand"),
         (RETURN + "TERMINAL T001 \n", "7: BadLine"),
-        (RETURN + "TERMINAL T001\nKEY T001 ENTER RET1\nRUN T001\n\nTASKS X\n", "11: BadLine"),
+        (RETURN + "TERMINAL T001\nKEY T001 ENTER RET1\nRUN T001\n\nTASKS X\n", "11: BadLook"),
         (RETURN + "RUN T001 4097\n", "7: RUN, a terminal, and perhaps how many turns, at most 4096"),
         ("RUN T001 \n", "1: RUN, a terminal, and perhaps how many turns, at most 4096"),
         ("*\n" * (8 << 20), "THE SESSION IS FULL: A SCRIPT HAS AT MOST 16 MIB"),

@@ -12,6 +12,7 @@ use Rattle.cx_asm_image.specs.Laws.Cover.{IsTextOf, StandsIn}
 use Rattle.cx_asm_image.specs.Resolved.{AreApart, bytes_of, end_of, size_of}
 use Rattle.cx_asm_image.specs.Text.{text_of}
 use Rattle.cx_load.specs.Fault.{IsFit, are_inside}
+use Rattle.cx_load.specs.Facts.Faults.{facts_of_fit}
 use Rattle.cx_load.specs.Laws.Words.{is_of_word}
 use Rattle.cx_load.specs.Program.{IsLoaded, text_at}
 use Rattle.cx_load.specs.Relocation.{relocated_text}
@@ -69,7 +70,7 @@ one_loaded known storage after parts loaded line is fit done stands inside clear
           let k : line.at + j < n = omega (arith, less, inside) in
           let none = of_none parts.image.relocs line (line.at + j) clear (omega arith) (omega (arith, less)) in
           ap (byte_at after) (along_twice loaded.at line.at j) ∙ whole.1 (line.at + j) k
-          ∙ ap Some (known.others loaded.at (line.at + j) parts.image.relocs text fit.inside none ∙ byte_in_text text line j stands less),
+          ∙ ap Some (known.others loaded.at (line.at + j) parts.image.relocs text (facts_of_fit parts.image fit).inside none ∙ byte_in_text text line j stands less),
     )
 
 every : Known → (storage after : Storage) (parts : AssembledParts) (loaded : Loaded) (lines : List Line) (from : ℕ) → HasText parts → IsFit parts.image → IsLoaded storage parts.image loaded after

@@ -1,9 +1,10 @@
 -- Words that share no byte are no fault of an image.
 use Rattle.std.specs.Prelude.{IsTrue, ◌&&◌, nat_le, not}
-use Rattle.std.proofs.Common.{◌≡◌, ◌≤◌, ℕ, ◌+◌, Bool, true, false, List, [], ◌∷◌, length, refl, arith}
+use Rattle.std.proofs.Common.{◌≡◌, ◌≤◌, ℕ, ◌+◌, Bool, true, false, List, [], ◌∷◌, length, Some, refl, ap, arith}
 use Rattle.std.proofs.lemmas.Bool.Decides.{nat_tests}
 use Rattle.cx_code.specs.declared.image.Image.{Image}
-use Rattle.cx_load.specs.Fault.{IsLowestFault, are_inside, has_length}
+use Rattle.cx_load.specs.Fault.{are_inside, fault_of, has_length}
+use Rattle.cx_load.specs.Facts.Faults.{refused_length}
 use Rattle.cx_load.specs.Laws.Words.{are_in_order}
 use Rattle.cx_load.specs.declared.fault.ImageFault.TheVariants.{BadLength}
 use Rattle.cx_asm.specs.Laws.SectionLines.{WordsApart}
@@ -32,6 +33,6 @@ inside from (word ∷ words) end apart = both_true _ _ (at_most (word + 4) end (
 lengths : (n : ℕ) → n ≤ 65536 → IsTrue (not (nat_le 1 n && nat_le n 65536)) → n ≡ 0
 lengths n le refused = grind (arith, nat_tests)
 
-pub no_length : (image : Image) → length image.text ≤ 65536 → IsLowestFault image BadLength → length image.text ≡ 0
+pub no_length : (image : Image) → length image.text ≤ 65536 → fault_of image ≡ Some BadLength → length image.text ≡ 0
 unfolding has_length
-no_length image le lowest = lengths (length image.text) le lowest.met
+no_length image le is = lengths (length image.text) le (ap not (refused_length image is))

@@ -1,8 +1,8 @@
 //! What follows from the definitions of assembling, on functions that do nothing.
 
-ghost use Rattle.std.specs.Prelude.{◌≡◌, ◌≢◌, IsTrue, Ok, length};
+ghost use Rattle.std.specs.Prelude.{◌≡◌, ◌≢◌, IsTrue, Ok, Some, length};
 ghost use Rattle.cx_source.specs.declared.source.Source.{Source};
-ghost use Rattle.cx_load.specs.Fault.{IsLowestFault, all_apart, are_inside};
+ghost use Rattle.cx_load.specs.Fault.{all_apart, are_inside, fault_of};
 ghost use Rattle.cx_load.specs.declared.fault.ImageFault.{ImageFault};
 ghost use Rattle.cx_load.specs.declared.fault.ImageFault.TheVariants.{BadLength, Overlap, RelocOutside};
 ghost use Rattle.cx_asm.specs.Assembly.{AssemblyParts, assembly_of, size_of};
@@ -18,10 +18,9 @@ pub fn an_assembled_image_is_refused_for_little()
     ensures apart { (source : Source) (made : AssemblyParts) → assembly_of source ≡ Ok made
         → IsTrue (all_apart made.section.image.relocs) }
     ensures refused { (source : Source) (made : AssemblyParts) (fault : ImageFault) → assembly_of source ≡ Ok made
-        → IsLowestFault made.section.image fault → (fault ≢ RelocOutside) × (fault ≢ Overlap) }
+        → fault_of made.section.image ≡ Some fault → (fault ≢ RelocOutside) × (fault ≢ Overlap) }
     ensures length { (source : Source) (made : AssemblyParts) → assembly_of source ≡ Ok made
-        → IsLowestFault made.section.image BadLength
-        → size_of source ≡ 0 }
+        → fault_of made.section.image ≡ Some BadLength → size_of source ≡ 0 }
 {
     cx_asm::laws::an_assembly_stands_apart();
     cx_load::laws::words_in_order();

@@ -4,7 +4,7 @@ use Rattle.std.specs.Prelude.{⊤, Result, Ok, Err, IfOk, drop, take}
 use Rattle.std.specs.declared.alloc.AllocError.{AllocError}
 use Rattle.std.proofs.lemmas.List.{take-append-drop}
 use Rattle.cx_edf_display.specs.Displays.{display_of}
-use Rattle.cx_region.specs.Events.{IsAllowed}
+use Rattle.cx_region.specs.Events.{IsAllowed, IsDone}
 use Rattle.cx_region.specs.Sound.{IsSound}
 use Rattle.cx_region.specs.declared.replies.Event.{Event}
 use Rattle.cx_region_laws.specs.Laws.Sound.{ArePartsSound, IsChecked, SoundIsKept}
@@ -12,7 +12,7 @@ use Rattle.cx_edf.specs.declared.answers.EdfEvent.{EdfEvent}
 use Rattle.cx_edf.specs.declared.answers.Answer.{Answer}
 use Rattle.cx_edf.specs.State.{EdfState}
 use Rattle.cx_edf.specs.Steps.{AppliesBy, DisplayMaker, DoorAnswers, Door, EdfApplies, Keeps, Passes, door_of}
-use Rattle.cx_edf.specs.Runs.{EdfRun, IsAllowedEdf, IsDoneEdf, Trace, last_state}
+use Rattle.cx_edf.specs.Runs.{EdfRun, IsAllowedEdf, MayTakeEdf, Trace, last_state}
 use Rattle.cx_edf.specs.Laws.Edf.{EdfEventsDecide}
 use Rattle.cx_edf.specs.Laws.Memory.{EdfSoundIsKept, IsCheckedEdf, RefusedEdfEventsAreNone, StoppedEdfRunsGoOn}
 use Rattle.cx_edf.proofs.DoorLemmas.{Fits, fits}
@@ -49,7 +49,7 @@ same_answer decide old new after e (Err fault) other h k = tt
 
 pub refused_events_are_none : EdfEventsDecide → RefusedEdfEventsAreNone
 refused_events_are_none decide old mid new refused next fault result first second =
-    let done : IsDoneEdf old next result new = subst (λ (s : EdfState). IsDoneEdf s next result new) first.err second in
+    let done : IsDone EdfApplies MayTakeEdf old next result new = subst (λ (s : EdfState). IsDone EdfApplies MayTakeEdf s next result new) first.err second in
     record { done = done; answer = λ other after h. same_answer decide old new after next result other done.applies h }
 
 -- ---- runs
@@ -79,5 +79,5 @@ runs_join old mid new events more answers others first second =
 
 pub stopped_runs_go_on : StoppedEdfRunsGoOn
 stopped_runs_go_on old mid new events done others stopped rest =
-    subst (λ (es : List EdfEvent). EdfRun old es (stopped.answers ++ others) new) (take-append-drop done events)
-    (runs_join old mid new (take done events) (drop done events) stopped.answers others stopped.run rest)
+    subst (λ (es : List EdfEvent). EdfRun old es (stopped.replies ++ others) new) (take-append-drop done events)
+    (runs_join old mid new (take done events) (drop done events) stopped.replies others stopped.run rest)

@@ -1,12 +1,13 @@
 -- A run under EDF goes on by one event.
-use Rattle.std.proofs.Common.{◌≡◌, ℕ, Some, ap, sym, zero, suc, ◌+◌, ◌<◌, List, [], ◌∷◌, ◌++◌, length, take, get_or, refl, ◌∙◌, subst, arith}
+use Rattle.std.proofs.Common.{◌≡◌, ℕ, Some, ap, sym, inl, inr, zero, suc, ◌+◌, ◌<◌, List, [], ◌∷◌, ◌++◌, length, take, get_or, refl, ◌∙◌, subst, arith}
 use Rattle.std.specs.Prelude.{slice_get}
 use Rattle.std.proofs.lemmas.Option.{slice_get-get_or}
+use Rattle.cx_region.specs.Events.{RunStopped}
 use Rattle.cx_edf.specs.declared.answers.EdfEvent.{EdfEvent}
 use Rattle.cx_edf.specs.declared.answers.Answer.{Answer}
 use Rattle.cx_edf.specs.State.{EdfState}
 use Rattle.cx_edf.specs.Steps.{EdfApplies}
-use Rattle.cx_edf.specs.Runs.{EdfRun, EdfRunStopped, MayTakeEdf}
+use Rattle.cx_edf.specs.Runs.{EdfRun, MayTakeEdf}
 use Rattle.cx_edf.proofs.TraceLemmas.{run_empty, run_last}
 
 -- no event
@@ -29,17 +30,17 @@ pub run_all : (old new : EdfState) (events : List EdfEvent) (k : ℕ) (answers :
 run_all old new events k answers all run = subst (λ (es : List EdfEvent). EdfRun old es answers new) all run
 
 -- in front of the first event
-pub run_unbegun : (s : EdfState) (events : List EdfEvent) → (length events ≡ 0 → ⊥) → EdfRunStopped s events 0 s
-run_unbegun s events some = record { within = omega (arith, some); answers = []; run = run_none s events; due = λ begun. absurd (begun refl) }
+pub run_unbegun : (s : EdfState) (events : List EdfEvent) → (length events ≡ 0 → ⊥) → RunStopped EdfRun MayTakeEdf s events 0 s
+run_unbegun s events some = record { within = omega (arith, some); replies = []; run = run_none s events; due = inl refl }
 
 -- at an event that may take memory
 pub run_stopped : (old mid new : EdfState) (events : List EdfEvent) (k : ℕ) (event : EdfEvent) (answers : List Answer) → k < length events → event ≡ get_or events k event
-    → EdfRun old (take k events) answers mid → new ≡ mid → MayTakeEdf mid event → EdfRunStopped old events k new
+    → EdfRun old (take k events) answers mid → new ≡ mid → MayTakeEdf mid event → RunStopped EdfRun MayTakeEdf old events k new
 run_stopped old mid new events k event answers within is run same grows =
     let there : slice_get events k ≡ Some event = slice_get-get_or events k event within ∙ ap Some (sym is) in
     record {
       within = within;
-      answers = answers;
+      replies = answers;
       run = subst (λ (s : EdfState). EdfRun old (take k events) answers s) (sym same) run;
-      due = λ begun. rw there (subst (λ (s : EdfState). MayTakeEdf s event) (sym same) grows);
+      due = inr (rw there (subst (λ (s : EdfState). MayTakeEdf s event) (sym same) grows));
     }

@@ -1,6 +1,5 @@
 -- Runs under EDF (own).
-use Rattle.std.specs.Prelude.{◌≡◌, ◌≢◌, ℕ, ◌<◌, ⊤, List, [], ◌∷◌, IsSomeAnd, length, take, slice_get, Result, IfOk, OnErr}
-use Rattle.std.specs.declared.alloc.AllocError.{AllocError}
+use Rattle.std.specs.Prelude.{◌≡◌, ⊤, List, [], ◌∷◌}
 use Rattle.cx_edf_display.specs.Displays.{display_of}
 use Rattle.cx_region.specs.State.{RegionState}
 use Rattle.cx_region.specs.Events.{IsAllowed, MayTakeMemory}
@@ -10,7 +9,7 @@ use Rattle.cx_edf.specs.declared.answers.EdfReply.TheVariants as edf
 use Rattle.cx_edf.specs.declared.answers.Answer.{Answer}
 use Rattle.cx_edf.specs.declared.answers.Answer.TheVariants as answer
 use Rattle.cx_edf.specs.State.{EdfState}
-use Rattle.cx_edf.specs.Steps.{AppliesBy, DisplayMaker, Door, EdfApplies, Keeps, Passes, door_of}
+use Rattle.cx_edf.specs.Steps.{AppliesBy, DisplayMaker, Door, Keeps, Passes, door_of}
 
 -- events one after another, with their answers and the state after each, where displays are made so
 unfoldable pub Trace : DisplayMaker → EdfState → List EdfEvent → List Answer → List EdfState → Type 0
@@ -38,20 +37,6 @@ MayTake region (Passes event own) = MayTakeMemory region event
 
 unfoldable pub MayTakeEdf : EdfState → EdfEvent → Type 0
 MayTakeEdf old e = MayTake old.region (door_of old e)
-
--- What the one door for events promises: it is answered; or it was refused memory that it may take, and all is as before.
-pub record IsDoneEdf (old : EdfState) (e : EdfEvent) (result : Result Answer AllocError) (new : EdfState) : Type 0 where
-  pub applies : IfOk result (λ given. EdfApplies old e given new)
-  pub memory : OnErr result (MayTakeEdf old e)
-  pub err : OnErr result (new ≡ old)
-
--- A run that stopped after `done` events, and left the state as these did: at an event that may take memory, or in front
--- of all of them, where there was no room for their answers.
-pub record EdfRunStopped (old : EdfState) (events : List EdfEvent) (done : ℕ) (new : EdfState) : Type 0 where
-  pub within : done < length events
-  pub answers : List Answer
-  pub run : EdfRun old (take done events) answers new
-  pub due : done ≢ 0 → IsSomeAnd (slice_get events done) (MayTakeEdf new)
 
 -- what the calls take, of an event
 abbrev pub IsAllowedEdf : EdfEvent → Type 0

@@ -116,7 +116,8 @@ impl<S: Store + Drop> Debugged<S> {
 
     /// Ends the task of a terminal by an abend that no exit takes.
     fn end_task(&mut self, name: Name4)
-        ensures ended { PassesOn display_of self.old (event.Alter name change.Abend) (Some answer.ToEdf) answer.ToEdf self.new }
+        ensures ended { let end = event.Alter name change.Abend in
+            PassesOn display_of self.old end (Some answer.ToEdf) answer.ToEdf self.new }
         ensures sound { IsSound self.new.region }
     {
         let reply = self.region.alter(name, Change::Abend);
@@ -342,6 +343,13 @@ impl<S: Store + Drop> Debugged<S> {
         ensures { result ≡ byte_at self.now.region.storage address }
     {
         self.region.byte(address)
+    }
+
+    /// The session of a terminal; None where EDF is Off there, or there is no such terminal. It takes no memory.
+    pub fn session(&self, name: Name4) -> Option<&Session>
+        ensures { option_copied result ≡ session_at self.now name }
+    {
+        self.sessions.get(&name)
     }
 
     /// In Stopped the display that is shown, and which of its pages; None in any other mode. It takes no memory.

@@ -14,6 +14,5 @@ pub use answers::{AlterAnswer, Answer, EdfEvent, EdfReply, KeyAnswer, TurnAnswer
 pub use cx_edf_display::{Display, Ending, StopPoint};
 pub use debugged::Debugged;
 pub use modes::{Mode, PageName, View};
-#[doc(hidden)]
 pub use sessions::Session;
 pub use stop_words::{StopWord, Stops};

@@ -1,11 +1,11 @@
 //! Events under EDF, and runs of them.
 ghost use Rattle.std.specs.Prelude.{◌≡◌, IfOk, IfErr, OnErr};
 ghost use Rattle.std.specs.List.{AllByRecursion};
-ghost use Rattle.cx_region.specs.Events.{IsAllowed};
+ghost use Rattle.cx_region.specs.Events.{IsAllowed, IsDone, RunStopped};
 ghost use Rattle.cx_region.specs.Sound.{IsSound};
 ghost use Rattle.cx_edf.specs.Answers.{alter_answer, key_answer, turn_answer};
 ghost use Rattle.cx_edf.specs.Steps.{EdfApplies, EdfHasAbendRecord};
-ghost use Rattle.cx_edf.specs.Runs.{EdfRun, EdfRunStopped, IsAllowedEdf, IsDoneEdf, MayTakeEdf};
+ghost use Rattle.cx_edf.specs.Runs.{EdfRun, IsAllowedEdf, MayTakeEdf};
 ghost use Rattle.cx_edf.specs.declared.answers.EdfEvent.TheVariants as edf_event;
 
 use crate::answers::{AlterAnswer, Answer, EdfEvent, KeyAnswer, TurnAnswer};
@@ -52,7 +52,7 @@ impl<S: Store + Drop> Debugged<S> {
     /// before.
     pub fn apply(&mut self, event: &EdfEvent) -> Result<Answer, AllocError>
         requires { IsAllowedEdf event.now }
-        ensures done { IsDoneEdf self.old event.now result self.new }
+        ensures done { IsDone EdfApplies MayTakeEdf self.old event.now result self.new }
         ensures sound { IsSound self.new.region }
     {
         let (answer, _abend_record) = self.apply_with_cause(event)?;
@@ -129,7 +129,7 @@ impl<S: Store + Drop> Debugged<S> {
     pub fn run(&mut self, events: &[EdfEvent]) -> Result<Vec<Answer>, RunStop>
         requires { AllByRecursion IsAllowedEdf events.now }
         ensures ok { IfOk result (λ answers. EdfRun self.old events.now answers.items self.new) }
-        ensures stopped { IfErr result (λ stop. EdfRunStopped self.old events.now stop.done self.new) }
+        ensures stopped { IfErr result (λ stop. RunStopped EdfRun MayTakeEdf self.old events.now stop.done self.new) }
         ensures sound { IsSound self.new.region }
     {
         let alloc = self.alloc;

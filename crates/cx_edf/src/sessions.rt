@@ -55,6 +55,20 @@ impl Session {
         })
     }
 
+    /// Its mode.
+    pub fn mode(&self) -> Mode
+        ensures { result ≡ self.now.mode }
+    {
+        self.mode
+    }
+
+    /// Its stop conditions.
+    pub fn stops(&self) -> Stops
+        ensures { result ≡ self.now.stops }
+    {
+        self.stops
+    }
+
     /// Whether it is in Stopped.
     pub(crate) fn is_stopped(&self) -> bool
         ensures { result ≡ is_stopped self.now.mode }

@@ -1,5 +1,5 @@
 -- What was done of a script that ran.
-use Rattle.std.proofs.Common.{◌≡◌, ℕ, false, List, length, take, take_all, le_refl, None, Result, Ok, Err, refl, sym}
+use Rattle.std.proofs.Common.{◌≡◌, ℕ, false, List, ◌++◌, length, take, take_all, le_refl, Result, Ok, Err, refl, sym}
 use Rattle.std.specs.List.{flat_map}
 use Rattle.cx_edf.specs.declared.answers.Answer.{Answer}
 use Rattle.cx_edf.specs.declared.answers.EdfEvent.{EdfEvent}
@@ -7,13 +7,13 @@ use Rattle.cx_edf.specs.State.{EdfState}
 use Rattle.cx_script_actions.specs.Effects.{Performs, fresh_state}
 use Rattle.cx_script_actions.specs.Language.{Language, edf_language}
 use Rattle.cx_script_blocks.specs.declared.faults.RunFault.{RunFault}
-use Rattle.cx_script_blocks.specs.declared.faults.RunFault.TheVariants.{BadLine, Source, Read, Write, Memory, ReadBound}
+use Rattle.cx_script_blocks.specs.declared.faults.RunFault.TheVariants.{BadLine, BadLook, Source, Read, Write, Memory, ReadBound}
 use Rattle.cx_script_blocks.specs.declared.faults.Summary.{Summary}
 use Rattle.cx_script_io.specs.Calls.{taken}
 use Rattle.cx_script_io.specs.Lines.{lines_met}
 use Rattle.cx_script_io.specs.declared.input.Ending.{Ending}
-use Rattle.cx_script.specs.Facts.Fronts.{first_actions}
-use Rattle.cx_script.specs.Script.{Script, script_in}
+use Rattle.cx_script.specs.Facts.Fronts.{part_first}
+use Rattle.cx_script.specs.Script.{Script, first_place, script_in}
 use Rattle.cx_script.specs.Transcript.{Ends, Runs, Wrote, front_of}
 use Rattle.cx_script.specs.Laws.Events.{ScriptsRunTheirEvents, events_of}
 use Rattle.cx_script.specs.Laws.Inputs.{was_stopped}
@@ -55,16 +55,17 @@ done_in : {A S : Type 0} (language : Language A) (performs : S → A → List �
 unfolding Ends script_in
 done_in language performs begin ending bytes (Ok summary) wrote e = of_whole performs begin (script_in language ending bytes) (Ok summary) wrote e.2 e.2.written
 done_in language performs begin ending bytes (Err (BadLine n)) wrote e = of_whole performs begin (script_in language ending bytes) (Err (BadLine n)) wrote e.1 e.1.written
+done_in language performs begin ending bytes (Err (BadLook n)) wrote e = of_whole performs begin (script_in language ending bytes) (Err (BadLook n)) wrote e.1 e.1.written
 done_in language performs begin ending bytes (Err (Source n which)) wrote e =
     of_whole performs begin (script_in language ending bytes) (Err (Source n which)) wrote e.1 e.1.written
 done_in language performs begin ending bytes (Err Read) wrote e = of_whole performs begin (script_in language ending bytes) (Err Read) wrote e.1 e.1.written
 done_in language performs begin ending bytes (Err ReadBound) wrote e = of_whole performs begin (script_in language ending bytes) (Err ReadBound) wrote e.1 e.1.written
 done_in {A} language performs begin ending bytes (Err Memory) wrote e =
-    let actions : List A = (front_of language (lines_met ending bytes) e.line).actions in
+    let actions : List A = (front_of language (lines_met ending bytes) e.line).actions ++ e.own in
     record {
       count = length actions;
       actions = actions;
-      first = sym (first_actions language ending 1 None (lines_met ending bytes) e.line);
+      first = sym (part_first language ending 1 first_place (lines_met ending bytes) e.line e.own e.left e.asked);
       all = λ stopped. cc;
       text = e.done.text;
       written = e.done.written;

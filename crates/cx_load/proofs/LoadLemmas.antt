@@ -15,6 +15,7 @@ use Rattle.cx_storage.specs.Place.{IsLeastPlace, CanPlace}
 use Rattle.cx_code.specs.declared.image.Image.{Image}
 use Rattle.cx_load.specs.declared.program.Loaded.{Loaded}
 use Rattle.cx_load.specs.Fault.{IsFit}
+use Rattle.cx_load.specs.Facts.Faults.{facts_of_fit}
 use Rattle.cx_load.specs.Program.{IsLoaded, IsProgramPlace, program_owner, text_at}
 use Rattle.cx_load.proofs.RelocateLemmas.{length-relocated}
 
@@ -61,8 +62,9 @@ pub loaded_from : (before after : Storage) (image : Image) (at : ℕ) → IsFit 
     → after ≡ after_write (with_area before (Some at) (length image.text) program_owner) at (text_at at image)
     → IsLoaded before image (record { at = at; len = length image.text; entry = at + image.entry; stg_len = image.stg_len }) after
 loaded_from before after image at fit place wrote =
-    let size = length-relocated at image.relocs image.text fit.inside in
-    let holds = fresh_holds before (length image.text) at program_owner (text_at at image) place fit.short size in
+    let facts = facts_of_fit image fit in
+    let size = length-relocated at image.relocs image.text facts.inside in
+    let holds = fresh_holds before (length image.text) at program_owner (text_at at image) place facts.short size in
     record {
       place = place;
       stands = rw wrote holds;

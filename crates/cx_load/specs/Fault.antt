@@ -1,5 +1,5 @@
 -- What makes an image fit to be loaded (this product's own).
-use Rattle.std.specs.Prelude.{◌≡◌, ℕ, ◌+◌, ◌<◌, ◌≤◌, IsTrue, Bool, true, false, ◌&&◌, ◌||◌, not, nat_le, nat_lt, List, [], ◌∷◌, length, codes, Option, Some, None, if◌then◌else◌}
+use Rattle.std.specs.Prelude.{◌≡◌, ℕ, ◌+◌, Bool, true, ◌&&◌, ◌||◌, not, nat_le, nat_lt, List, [], ◌∷◌, length, codes, find, Option, None, option_map}
 use Rattle.std.specs.List.{list_all}
 use Rattle.cx_code.specs.declared.image.Image.{Image}
 use Rattle.cx_load.specs.declared.fault.ImageFault.{ImageFault}
@@ -42,42 +42,17 @@ fault_name RelocOutside = codes "RelocOutside"
 fault_name Overlap = codes "Overlap"
 fault_name StgLength = codes "StgLength"
 
--- whether a fault applies
-abbrev pub applies : ImageFault → Image → Bool
-applies BadLength image = not (has_length image)
-applies EntryOutside image = not (has_entry image)
-applies RelocOutside image = not (are_inside (length image.text) image.relocs)
-applies Overlap image = not (all_apart image.relocs)
-applies StgLength image = not (has_stg_length image)
+-- the faults in the order of their numbers, each with whether it applies
+abbrev pub faults_of : Image → List (ImageFault × Bool)
+faults_of image =
+    (BadLength, not (has_length image)) ∷ (EntryOutside, not (has_entry image))
+    ∷ (RelocOutside, not (are_inside (length image.text) image.relocs)) ∷ (Overlap, not (all_apart image.relocs))
+    ∷ (StgLength, not (has_stg_length image)) ∷ []
 
--- the number of a fault
-abbrev pub fault_number : ImageFault → ℕ
-fault_number BadLength = 1
-fault_number EntryOutside = 2
-fault_number RelocOutside = 3
-fault_number Overlap = 4
-fault_number StgLength = 5
-
--- a fault that applies where none of a lower number does
-pub record IsLowestFault (image : Image) (fault : ImageFault) : Type 0 where
-  pub met : IsTrue (applies fault image)
-  pub lowest : (other : ImageFault) → fault_number other < fault_number fault → applies other image ≡ false
-
--- the first of the faults that applies, or none
+-- the first that applies, or none
 unfoldable pub fault_of : Image → Option ImageFault
-fault_of image =
-    if not (has_length image) then Some BadLength
-    else (if not (has_entry image) then Some EntryOutside
-    else (if not (are_inside (length image.text) image.relocs) then Some RelocOutside
-    else (if not (all_apart image.relocs) then Some Overlap
-    else (if not (has_stg_length image) then Some StgLength else None))))
+fault_of image = option_map (λ row. row.0) (find (λ row. row.1) (faults_of image))
 
--- what holds of an image without a fault
+-- an image without a fault
 pub record IsFit (image : Image) : Type 0 where
-  pub nonempty : 0 < length image.text
-  pub short : length image.text ≤ 65536
-  pub entry : image.entry < length image.text
-  pub inside : IsTrue (are_inside (length image.text) image.relocs)
-  pub apart : IsTrue (all_apart image.relocs)
-  pub stg_low : 80 ≤ image.stg_len
-  pub stg_high : image.stg_len ≤ 65520
+  pub none : fault_of image ≡ None

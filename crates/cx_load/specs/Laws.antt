@@ -1,2 +1,3 @@
 -- Words that the laws of the module `laws` use.
 pub mod Words
+pub mod Fit

@@ -1,7 +1,8 @@
 //! Checking an image.
 
-ghost use Rattle.std.specs.Prelude.{◌≡◌, MatchOption, MatchResult, Some};
-ghost use Rattle.cx_load.specs.Fault.{IsFit, IsLowestFault, all_apart, are_apart, are_inside, fault_name, is_apart, fault_of};
+ghost use Rattle.std.specs.Prelude.{◌≡◌, MatchResult, Some};
+ghost use Rattle.cx_load.specs.Fault.{IsFit, all_apart, are_apart, are_inside, fault_name, is_apart, fault_of};
+ghost use Rattle.cx_load.specs.Laws.Fit.{FitFacts};
 ghost use Rattle.cx_load.specs.Laws.Words.{are_in_order};
 
 use cx_code::Image;
@@ -69,6 +70,7 @@ impl CheckedImage {
     pub fn image(&self) -> &Image
         ensures value { result.now ≡ self.now }
         ensures fit { IsFit self.now }
+        ensures facts { FitFacts self.now }
     {
         &self.image
     }
@@ -79,7 +81,7 @@ impl CheckedImage {
 pub fn check(image: Image) -> Result<CheckedImage, (Image, ImageFault)>
     ensures { MatchResult result
         (λ checked. (checked ≡ image) × IsFit image)
-        (λ refused. (refused.0 ≡ image) × IsLowestFault image refused.1) }
+        (λ refused. (refused.0 ≡ image) × (fault_of image ≡ Some refused.1)) }
 {
     match fault_of(&image) {
         Some(fault) => Err((image, fault)),
@@ -87,17 +89,9 @@ pub fn check(image: Image) -> Result<CheckedImage, (Image, ImageFault)>
     }
 }
 
-/// The lowest fault of an image.
-#[tactic(auto, using(crate::specs::Facts::Faults::fit_without_fault, crate::specs::Facts::Faults::lowest_of_answered))]
-fn fault_of(image: &Image) -> Option<ImageFault>
-    ensures { MatchOption result (IsFit image.now) (IsLowestFault image.now) }
-{
-    first_fault(image)
-}
-
-/// The fault of the first test that fails.
+/// The lowest fault of an image: that of the first test that fails.
 #[tactic(auto, unfolding(crate::specs::Fault::fault_of, crate::specs::Fault::has_length, crate::specs::Fault::has_entry, crate::specs::Fault::has_stg_length))]
-fn first_fault(image: &Image) -> Option<ImageFault>
+fn fault_of(image: &Image) -> Option<ImageFault>
     ensures { result ≡ fault_of image.now }
 {
     let size = image.text.as_slice().len();

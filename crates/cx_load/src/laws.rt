@@ -1,28 +1,22 @@
 //! What the facts of a checked image, relocation and loading mean, on functions that do nothing.
 
-ghost use Rattle.std.specs.Prelude.{◌≡◌, ◌≢◌, ◌+◌, ◌%◌, ◌^◌, ◌<◌, ◌≤◌, ◌↔◌, ℕ, List, IsTrue, false, length, slice_index};
+ghost use Rattle.std.specs.Prelude.{◌≡◌, ◌≢◌, ◌+◌, ◌%◌, ◌^◌, ◌<◌, ◌≤◌, ◌↔◌, ℕ, List, IsTrue, Some, false, length, slice_index};
 ghost use Rattle.std.specs.List.{list_any};
 ghost use Rattle.cx_code.specs.declared.image.Image.{Image};
 ghost use Rattle.cx_storage.specs.Storage.{Storage};
 ghost use Rattle.cx_load.specs.declared.fault.ImageFault.{ImageFault};
 ghost use Rattle.cx_load.specs.declared.fault.ImageFault.TheVariants.{Overlap, RelocOutside};
 ghost use Rattle.cx_load.specs.declared.program.Loaded.{Loaded};
-ghost use Rattle.cx_load.specs.Fault.{IsFit, IsLowestFault, all_apart, applies, are_inside};
+ghost use Rattle.cx_load.specs.Fault.{IsFit, all_apart, are_inside, fault_of};
+ghost use Rattle.cx_load.specs.Laws.Fit.{FitFacts};
 ghost use Rattle.cx_load.specs.Laws.Words.{SharesNoByte, are_in_order, is_of_word};
 ghost use Rattle.cx_load.specs.Program.{IsLoaded};
 ghost use Rattle.cx_load.specs.Relocation.{relocated_text, word_in};
 
-/// An image has one lowest fault at most, and none exactly where it is fit.
-pub fn the_lowest_fault()
-    ensures decides { (image : Image) (one other : ImageFault)
-        → IsLowestFault image one → IsLowestFault image other → one ≡ other }
-    ensures none { (image : Image) (fault : ImageFault) → IsFit image → IsLowestFault image fault → ⊥ }
-{}
-
-/// No fault applies exactly to an image with each of the facts of a fit one: among them that each
-/// relocated word ends in the text, and that no two of them, at any two places of the list, share a byte.
+/// An image is fit exactly where each of the facts of a fit one holds: among them that each relocated word ends in the
+/// text, and that no two of them, at any two places of the list, share a byte.
 pub fn facts_of_checked()
-    ensures none { (image : Image) → ((fault : ImageFault) → applies fault image ≡ false) ↔ IsFit image }
+    ensures fit { (image : Image) → IsFit image ↔ FitFacts image }
     ensures inside { (size : ℕ) (relocs : List ℕ) → IsTrue (are_inside size relocs)
         ↔ ((i : ℕ) → i < length relocs → slice_index relocs i + 4 ≤ size) }
     ensures apart { (relocs : List ℕ) → IsTrue (all_apart relocs)
@@ -34,7 +28,7 @@ pub fn facts_of_checked()
 pub fn words_in_order()
     ensures apart { (relocs : List ℕ) → IsTrue (are_in_order 0 relocs) → IsTrue (all_apart relocs) }
     ensures refused { (image : Image) (fault : ImageFault) → IsTrue (are_in_order 0 image.relocs)
-        → IsTrue (are_inside (length image.text) image.relocs) → IsLowestFault image fault
+        → IsTrue (are_inside (length image.text) image.relocs) → fault_of image ≡ Some fault
         → (fault ≢ RelocOutside) × (fault ≢ Overlap) }
 {}
 

@@ -23,9 +23,11 @@ subject_name subject.Queue = codes "QUEUE"
 subject_name subject.Resources = codes "RESOURCES"
 subject_name subject.Programs = codes "PROGRAMS"
 subject_name subject.Command = codes "COMMAND"
+subject_name subject.Ahead = codes "AHEAD"
 subject_name subject.Symbol = codes "SYMBOL"
 subject_name subject.Symbols = codes "SYMBOLS"
 subject_name subject.Xref = codes "XREF"
+subject_name subject.Terminals = codes "TERMINALS"
 subject_name subject.Field = codes "FIELD"
 subject_name subject.Fields = codes "FIELDS"
 subject_name subject.Run = codes "RUN"
@@ -35,8 +37,8 @@ subject_name subject.Help = codes "HELP"
 abbrev pub subjects : List Subject
 subjects =
     subject.Storage ∷ subject.Areas ∷ subject.Task ∷ subject.Tasks ∷ subject.Abend ∷ subject.Queues ∷ subject.Queue ∷ subject.Resources
-    ∷ subject.Programs ∷ subject.Command ∷ subject.Symbol ∷ subject.Symbols ∷ subject.Xref ∷ subject.Field ∷ subject.Fields
-    ∷ subject.Run ∷ subject.Faults ∷ subject.Help ∷ []
+    ∷ subject.Programs ∷ subject.Command ∷ subject.Ahead ∷ subject.Symbol ∷ subject.Symbols ∷ subject.Xref ∷ subject.Terminals
+    ∷ subject.Field ∷ subject.Fields ∷ subject.Run ∷ subject.Faults ∷ subject.Help ∷ []
 
 unfoldable pub subject_of : List ℕ → Option Subject
 subject_of text = find (λ s. bytes_eq (subject_name s) text) subjects
@@ -82,9 +84,11 @@ look_by_word subject.Queue (Some text) = option_and_then (λ name. queue_look na
 look_by_word subject.Resources None = Some look.Resources
 look_by_word subject.Programs None = Some look.Programs
 look_by_word subject.Command (Some text) = option_map (λ name. look.Command name) (padded_name 4 text)
+look_by_word subject.Ahead (Some text) = option_map (λ name. look.Ahead name) (padded_name 4 text)
 look_by_word subject.Symbol (Some text) = two_words look.Symbol (padded_name 8) (padded_name 8) text
 look_by_word subject.Symbols (Some text) = option_map (λ name. look.Symbols name) (padded_name 8 text)
 look_by_word subject.Xref (Some text) = option_map (λ name. look.Xref name) (padded_name 8 text)
+look_by_word subject.Terminals None = Some look.Terminals
 look_by_word subject.Field (Some text) = option_and_then (λ term. option_and_then (field_look term) (after_first_blank text)) (padded_name 4 (word text))
 look_by_word subject.Fields (Some text) = option_and_then (λ term. fields_look term (after_first_blank text)) (padded_name 4 (word text))
 look_by_word subject.Help None = Some (look.Help None)

@@ -3,4 +3,4 @@
 
 mod look;
 
-pub use look::{Look, SourceLines, Subject, look_of};
+pub use look::{Look, SourceLines, Subject, look_of, subject_of};

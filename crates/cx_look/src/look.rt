@@ -62,12 +62,16 @@ pub enum Look {
     Programs,
     /// The command that is due at a terminal.
     Command(Name4),
+    /// What the next turn of a terminal will do.
+    Ahead(Name4),
     /// A symbol of a program's source: the program and the symbol.
     Symbol(Name8, Name8),
     /// All symbols of a program's source.
     Symbols(Name8),
     /// Where a program's source uses its names, its literals and its base registers.
     Xref(Name8),
+    /// The clock, and of each terminal what its next key attaches, the input that is held, and EDF there.
+    Terminals,
     /// A field of a level of a terminal's task: the terminal, the symbol, and the level's number, 1 to 16; without one the current level.
     Field(Name4, Name8, Option<u8>),
     /// All fields of a level of a terminal's task: the terminal, and the level's number.
@@ -91,9 +95,11 @@ pub enum Subject {
     Resources,
     Programs,
     Command,
+    Ahead,
     Symbol,
     Symbols,
     Xref,
+    Terminals,
     Field,
     Fields,
     Run,
@@ -103,7 +109,7 @@ pub enum Subject {
 
 impl Subject {
     /// All of these words.
-    pub const ALL: [Subject; 18] = [
+    pub const ALL: [Subject; 20] = [
         Subject::Storage,
         Subject::Areas,
         Subject::Task,
@@ -114,9 +120,11 @@ impl Subject {
         Subject::Resources,
         Subject::Programs,
         Subject::Command,
+        Subject::Ahead,
         Subject::Symbol,
         Subject::Symbols,
         Subject::Xref,
+        Subject::Terminals,
         Subject::Field,
         Subject::Fields,
         Subject::Run,
@@ -139,9 +147,11 @@ impl Subject {
             Subject::Resources => b"RESOURCES",
             Subject::Programs => b"PROGRAMS",
             Subject::Command => b"COMMAND",
+            Subject::Ahead => b"AHEAD",
             Subject::Symbol => b"SYMBOL",
             Subject::Symbols => b"SYMBOLS",
             Subject::Xref => b"XREF",
+            Subject::Terminals => b"TERMINALS",
             Subject::Field => b"FIELD",
             Subject::Fields => b"FIELDS",
             Subject::Run => b"RUN",
@@ -161,9 +171,9 @@ fn subject_in(subjects: &[Subject], word: &[u8]) -> Option<Subject>
         .find(|subject| subject.name() == word)
 }
 
-/// The word that begins a look, where it is one of these.
+/// The word that begins a look, where it is one of these, in upper case. It takes no memory.
 #[tactic(auto, unfolding(crate::specs::Looks::subject_of))]
-fn subject_of(word: &[u8]) -> Option<Subject>
+pub fn subject_of(word: &[u8]) -> Option<Subject>
     ensures { result ≡ subject_of word.now }
 {
     subject_in(&Subject::ALL, word)
@@ -322,6 +332,7 @@ fn alone(subject: Subject) -> Option<Look>
         Subject::Queues => Some(Look::Queues),
         Subject::Resources => Some(Look::Resources),
         Subject::Programs => Some(Look::Programs),
+        Subject::Terminals => Some(Look::Terminals),
         Subject::Help => Some(Look::Help(None)),
         _ => None,
     }
@@ -339,6 +350,7 @@ fn at(subject: Subject, text: &[u8]) -> Option<Look>
         Subject::Abend => name4(text).map(|name| Look::Abend(name)),
         Subject::Queue => queue(text),
         Subject::Command => name4(text).map(|name| Look::Command(name)),
+        Subject::Ahead => name4(text).map(|name| Look::Ahead(name)),
         Subject::Symbol => symbol(text),
         Subject::Symbols => name8(text).map(|name| Look::Symbols(name)),
         Subject::Xref => name8(text).map(|name| Look::Xref(name)),

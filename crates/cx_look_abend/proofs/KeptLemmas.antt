@@ -21,8 +21,8 @@ use Rattle.cx_edf.specs.Steps.{AppliesBy, DisplayMaker, DoorAnswers, EdfHasAbend
 use Rattle.cx_edf.specs.declared.answers.Answer.TheVariants as answer
 use Rattle.cx_edf.specs.declared.answers.EdfEvent.{EdfEvent}
 use Rattle.cx_edf.specs.declared.answers.EdfEvent.TheVariants as edf_event
-use Rattle.cx_look_abend.specs.Abends.{last_of_turn, task_named}
-use Rattle.cx_look_abend.specs.declared.abends.TaskName.{TaskName}
+use Rattle.cx_look_abend.specs.Abends.{last_of_turn, kept_task}
+use Rattle.cx_look_abend.specs.declared.abends.KeptTask.{KeptTask}
 use Rattle.cx_look_abend.specs.Laws.{AbendsAreKept, KeepsTurn, NotedDecide}
 use Rattle.cx_look_abend.specs.Noting.{Abends, with_last}
 
@@ -62,7 +62,7 @@ event_explains law make old new name given abend_record applies recorded = by_he
         let same : reply.Turn given ≡ it.reply = cc in
         passed_explains law old.region new.region name given it.reply abend_record same it.applies that
 
-kept_by : (before : Abends) (region : RegionState) (name : List ℕ) (task : Option TaskName) (given : TurnReply) (abend_record : Option AbendRecord) → Explains abend_record given
+kept_by : (before : Abends) (region : RegionState) (name : List ℕ) (task : Option KeptTask) (given : TurnReply) (abend_record : Option AbendRecord) → Explains abend_record given
     → KeepsTurn before name task given (option_map_or (with_last before name) (last_of_turn region name given task abend_record) before)
 kept_by before region name task turn.Idle None is = refl
 kept_by before region name task turn.NoSuchTerminal None is = refl
@@ -89,7 +89,7 @@ kept_by before region name task turn.Ended (Some abend_record) is = absurd is
 
 pub abends_are_kept : AbendRecordsExplain → AbendsAreKept
 abends_are_kept law old new before after name given it =
-    rw it.kept (kept_by before new.region name (task_named old.region name) given it.abend_record (event_explains law _ old new name given it.abend_record it.applies it.recorded))
+    rw it.kept (kept_by before new.region name (kept_task old.region name) given it.abend_record (event_explains law _ old new name given it.abend_record it.applies it.recorded))
 
 -- ---- what is kept is decided
 turn_abend_records_decide : AbendRecordsDecide → (old : RegionState) (name : List ℕ) (one other : Option AbendRecord) → TurnHasAbendRecord old name one → TurnHasAbendRecord old name other → one ≡ other

@@ -10,12 +10,12 @@ use Rattle.cx_edf.specs.declared.answers.Answer.TheVariants as answer
 use Rattle.cx_edf.specs.declared.answers.EdfEvent.{EdfEvent}
 use Rattle.cx_edf.specs.declared.answers.EdfEvent.TheVariants as edf_event
 use Rattle.cx_look_abend.specs.Noting.{Abends, AppliesWithAbends, with_last}
-use Rattle.cx_look_abend.specs.Abends.{task_named}
+use Rattle.cx_look_abend.specs.Abends.{kept_task}
 use Rattle.cx_look_abend.specs.declared.abends.LastAbend.{LastAbend}
-use Rattle.cx_look_abend.specs.declared.abends.TaskName.{TaskName}
+use Rattle.cx_look_abend.specs.declared.abends.KeptTask.{KeptTask}
 
 -- an abend of this task with this code, to which a turn led, is the terminal's last one
-pub record IsLast (before : Abends) (name : List ℕ) (task : Option TaskName) (code : List ℕ) (after : Abends) : Type 0 where
+pub record IsLast (before : Abends) (name : List ℕ) (task : Option KeptTask) (code : List ℕ) (after : Abends) : Type 0 where
   pub last : LastAbend
   pub kept : after ≡ with_last before name last
   pub of_task : last.task ≡ task
@@ -23,7 +23,7 @@ pub record IsLast (before : Abends) (name : List ℕ) (task : Option TaskName) (
   pub explained : is_some last.explanation ≡ true
 
 -- a turn that was answered as an abend, whether an exit took it or not, is kept; any other leaves what is kept
-abbrev pub KeepsTurn : Abends → List ℕ → Option TaskName → TurnReply → Abends → Type 0
+abbrev pub KeepsTurn : Abends → List ℕ → Option KeptTask → TurnReply → Abends → Type 0
 KeepsTurn before name task (turn.TookExit code) after = IsLast before name task code after
 KeepsTurn before name task (turn.Abended code) after = IsLast before name task code after
 KeepsTurn before name task _ after = after ≡ before
@@ -31,7 +31,7 @@ KeepsTurn before name task _ after = after ≡ before
 abbrev pub AbendsAreKept : Type 0
 AbendsAreKept = (old new : EdfState) (before after : Abends) (name : List ℕ) (given : TurnReply)
     → AppliesWithAbends old before (edf_event.Plain (event.Turn name)) (answer.Region (reply.Turn given)) new after
-    → KeepsTurn before name (task_named old.region name) given after
+    → KeepsTurn before name (kept_task old.region name) given after
 
 -- the state and what is kept before an event decide its answer, the state after it, and what is kept then
 abbrev pub NotedDecide : Type 0

@@ -3,3 +3,4 @@ pub mod Abends
 pub mod Noting
 pub mod Texts
 pub mod Laws
+pub mod Parts

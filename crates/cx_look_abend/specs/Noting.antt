@@ -18,9 +18,9 @@ use Rattle.cx_edf.specs.declared.answers.Answer.{Answer}
 use Rattle.cx_edf.specs.declared.answers.Answer.TheVariants as answer
 use Rattle.cx_edf.specs.declared.answers.EdfEvent.{EdfEvent}
 use Rattle.cx_edf.specs.declared.answers.EdfEvent.TheVariants as edf_event
-use Rattle.cx_look_abend.specs.Abends.{by_operator, last_of_turn, task_named}
+use Rattle.cx_look_abend.specs.Abends.{by_operator, last_of_turn, kept_task}
 use Rattle.cx_look_abend.specs.declared.abends.LastAbend.{LastAbend}
-use Rattle.cx_look_abend.specs.declared.abends.TaskName.{TaskName}
+use Rattle.cx_look_abend.specs.declared.abends.KeptTask.{KeptTask}
 
 -- the terminals that are defined, each with its last abend, where it has had one
 abbrev pub Abends : Type 0
@@ -39,29 +39,29 @@ abbrev pub kept_terminal : Abends → List ℕ → Answer → Abends
 kept_terminal abends name given = if is_defined given then insert_entry is_name abends name None else abends
 
 -- an abend to which a turn led, in the region after it
-abbrev pub kept_turn : Abends → List ℕ → Option TaskName → Answer → Option AbendRecord → RegionState → Abends
+abbrev pub kept_turn : Abends → List ℕ → Option KeptTask → Answer → Option AbendRecord → RegionState → Abends
 kept_turn abends name task (answer.Region (reply.Turn given)) abend_record region =
     option_map_or (with_last abends name) (last_of_turn region name given task abend_record) abends
 kept_turn abends name task _ abend_record region = abends
 
 -- an abend that an operator asked for, by ALTER, or by PF12 that ends a task
-abbrev pub kept_alter : Abends → List ℕ → Option TaskName → Change → Answer → Abends
+abbrev pub kept_alter : Abends → List ℕ → Option KeptTask → Change → Answer → Abends
 kept_alter abends name task change.Abend (answer.Region (reply.Alter alter.Altered)) = with_last abends name (by_operator task)
 kept_alter abends name task _ _ = abends
 
-abbrev pub kept_key : Abends → List ℕ → Option TaskName → Bool → Abends
+abbrev pub kept_key : Abends → List ℕ → Option KeptTask → Bool → Abends
 kept_key abends name task ends = if ends then with_last abends name (by_operator task) else abends
 
 -- the task of the terminal that an event names
-abbrev pub task_before : RegionState → EdfEvent → Option TaskName
-task_before region (edf_event.Plain (event.Turn name)) = task_named region name
-task_before region (edf_event.Plain (event.Alter name c)) = task_named region name
-task_before region (edf_event.Plain (event.Key name aid bytes)) = task_named region name
+abbrev pub task_before : RegionState → EdfEvent → Option KeptTask
+task_before region (edf_event.Plain (event.Turn name)) = kept_task region name
+task_before region (edf_event.Plain (event.Alter name c)) = kept_task region name
+task_before region (edf_event.Plain (event.Key name aid bytes)) = kept_task region name
 task_before region _ = None
 
 -- What is kept after an event with that task that was answered so, with that record of an abend, in the region after it; the flag says
 -- that it was PF12 that ends a task.
-abbrev pub kept_after : Abends → Bool → Option TaskName → EdfEvent → Answer → Option AbendRecord → RegionState → Abends
+abbrev pub kept_after : Abends → Bool → Option KeptTask → EdfEvent → Answer → Option AbendRecord → RegionState → Abends
 kept_after abends ends task (edf_event.Plain (event.Terminal name)) given abend_record region = kept_terminal abends name given
 kept_after abends ends task (edf_event.Plain (event.Turn name)) given abend_record region = kept_turn abends name task given abend_record region
 kept_after abends ends task (edf_event.Plain (event.Alter name c)) given abend_record region = kept_alter abends name task c given

@@ -9,6 +9,7 @@ use Rattle.cx_base_commands.specs.Commands.{row_of}
 use Rattle.cx_base_commands.specs.Conditions.{entry_of}
 use Rattle.cx_exec.specs.declared.machine.Interruption.{Interruption}
 use Rattle.cx_exec.specs.declared.machine.Interruption.TheVariants as interruption
+use Rattle.cx_load.specs.declared.program.Loaded.{Loaded}
 use Rattle.cx_storage.specs.Address.{address_in}
 use Rattle.cx_region_task.specs.declared.cause.Cause.{Cause}
 use Rattle.cx_region_task.specs.declared.cause.Cause.TheVariants as cause
@@ -18,12 +19,13 @@ use Rattle.cx_base_text.specs.Texts.{shown_text, shown_name}
 use Rattle.cx_look_words.specs.Registers.{register_lines}
 use Rattle.cx_look_words.specs.Words.{Lines, look_line}
 use Rattle.cx_look_symbols.specs.Lines.{SourcePlaces}
-use Rattle.cx_look_symbols.specs.Places.{address_word, line_word, place_word}
+use Rattle.cx_look_symbols.specs.Places.{address_word, line_word, place_of, place_word, spot_before}
 use Rattle.cx_look_symbols.specs.declared.places.Place.{Place}
 use Rattle.cx_look_abend.specs.Noting.{Abends}
+use Rattle.cx_look_abend.specs.declared.abends.Caller.{Caller}
 use Rattle.cx_look_abend.specs.declared.abends.LastAbend.{LastAbend}
 use Rattle.cx_look_abend.specs.declared.abends.Explanation.{Explanation}
-use Rattle.cx_look_abend.specs.declared.abends.TaskName.{TaskName}
+use Rattle.cx_look_abend.specs.declared.abends.KeptTask.{KeptTask}
 
 -- ---- why
 -- an interruption's code and its name
@@ -91,17 +93,32 @@ explanation_lines sources it =
 abbrev pub exit_line : SourcePlaces → Option Place → Lines
 exit_line sources exit = option_map_or (λ place. look_line (codes "EXIT" ∷ place_word sources place ∷ [])) exit []
 
+-- where a level that had called another goes on, and the line of the byte before that, the last of its command's EXEC
+abbrev pub goes_on_word : SourcePlaces → List (List ℕ × Loaded) → ℕ → List ℕ
+goes_on_word sources programs next =
+    address_word (place_of programs next) ++ line_word (codes " COMMAND LINE ") sources (spot_before programs next)
+
+abbrev pub caller_line : SourcePlaces → List (List ℕ × Loaded) → Caller → Lines
+caller_line sources programs caller =
+    look_line (codes "CALLER" ∷ shown_name caller.program ∷ codes "R14" ∷ goes_on_word sources programs caller.next ∷ [])
+
+-- the levels that had called the one that abended
+abbrev pub caller_lines : SourcePlaces → List (List ℕ × Loaded) → Option KeptTask → Lines
+caller_lines sources programs task = option_map_or (λ it. flat_map (caller_line sources programs) it.callers) task []
+
 -- ---- the look
 -- the task that abended
-abbrev pub task_word : Option TaskName → List ℕ
+abbrev pub task_word : Option KeptTask → List ℕ
 task_word task = option_map_or (λ it. codes "TRAN " ++ shown_name it.tran ++ codes " TASK " ++ digits 10 7 it.number) task (codes "TASK --")
 
 abbrev pub head_line : List ℕ → LastAbend → Lines
 head_line name last =
     look_line (codes "ABEND" ∷ shown_name name ∷ shown_text last.code ∷ why_word last.explanation ∷ task_word last.task ∷ [])
 
-unfoldable pub last_text : SourcePlaces → List ℕ → LastAbend → Lines
-last_text sources name last = head_line name last ++ exit_line sources last.exit ++ option_map_or (explanation_lines sources) last.explanation []
+unfoldable pub last_text : SourcePlaces → List (List ℕ × Loaded) → List ℕ → LastAbend → Lines
+last_text sources programs name last =
+    head_line name last ++ exit_line sources last.exit ++ option_map_or (explanation_lines sources) last.explanation []
+    ++ caller_lines sources programs last.task
 
 abbrev pub none_line : List ℕ → Lines
 none_line name = look_line (codes "ABEND" ∷ shown_name name ∷ codes "NONE" ∷ [])
@@ -109,5 +126,5 @@ none_line name = look_line (codes "ABEND" ∷ shown_name name ∷ codes "NONE" �
 abbrev pub last_of : Abends → List ℕ → Option LastAbend
 last_of abends name = option_and_then (λ last. last) (lookup (is_name name) abends)
 
-unfoldable pub abend_text : SourcePlaces → Abends → List ℕ → Lines
-abend_text sources abends name = option_map_or (last_text sources name) (last_of abends name) (none_line name)
+unfoldable pub abend_text : SourcePlaces → List (List ℕ × Loaded) → Abends → List ℕ → Lines
+abend_text sources programs abends name = option_map_or (last_text sources programs name) (last_of abends name) (none_line name)

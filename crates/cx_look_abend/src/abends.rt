@@ -1,12 +1,17 @@
 //! What is kept of a terminal's last abend.
-ghost use Rattle.std.specs.Prelude.{◌≡◌, ◌≤◌, None, Some};
+ghost use Rattle.std.specs.Prelude.{◌≡◌, ◌+◌, ◌<◌, ◌≤◌, ◌++◌, [], None, Some, length, slice_get};
+ghost use Rattle.std.specs.Option.{option_copied};
 ghost use Rattle.indexmap.specs.IndexMap.{insert_entry, spare};
 ghost use Rattle.cx_ebcdic.specs.Names.{is_name};
-ghost use Rattle.cx_look_abend.specs.Abends.{abend_code_in, abend_place, by_operator, exit_place, explanation_of, last_of_turn, next_of, task_named};
+ghost use Rattle.cx_program.specs.Levels.{all_levels};
+ghost use Rattle.cx_look_abend.specs.Parts.Callers.{caller_at};
+ghost use Rattle.cx_look_abend.specs.Abends.{abend_code_in, abend_place, by_operator, caller_of, callers_of, exit_place, explanation_of, kept_task, last_of_turn, next_of};
 
+use arrayvec::ArrayVec;
 use cx_base_commands::Abend;
-use cx_ebcdic::Name4;
+use cx_ebcdic::{Name4, Name8};
 use cx_look_symbols::{Place, Spot, place_of, spot_before};
+use cx_program::{Level, LevelStack};
 use cx_region::{AbendRecord, Cause, Region, TurnReply};
 use cx_storage::{Store, address_in};
 use indexmap::IndexMap;
@@ -21,19 +26,79 @@ pub struct Explanation {
     pub before: Option<Spot>,
 }
 
-/// A task by its transaction and its number.
+/// How many levels the one that abended can have above it.
+const CALLERS: usize = 15;
+
+/// A level that has called another.
 #[derive(Clone, Copy, Debug, PartialEq, Eq)]
-pub struct TaskName {
+pub struct Caller {
+    pub program: Name8,
+    /// The address where it goes on after its command.
+    pub next: u32,
+}
+
+impl Default for Caller {
+    ghost use Rattle.std.specs.Prelude.{◌≡◌, replicate};
+
+    ghost is_default = { λ caller. caller ≡ record { program = replicate 8 0x40; next = 0 } };
+
+    /// What is in an unused place: a level of no program.
+    fn default() -> Caller {
+        Caller {
+            program: Name8::from_bytes([0x40; 8]),
+            next: 0,
+        }
+    }
+}
+
+/// The levels that have called another, the highest first.
+#[derive(Debug, Drop)]
+pub struct Callers {
+    of: ArrayVec<Caller, CALLERS>,
+}
+
+impl Model for Callers {
+    ghost use Rattle.std.specs.Prelude.{List};
+    ghost use Rattle.cx_look_abend.specs.declared.abends.Caller.{Caller as TheCaller};
+
+    ghost Value = { List TheCaller };
+
+    ghost view = { λ callers. callers.of.items };
+}
+
+impl Callers {
+    /// None.
+    fn none() -> Callers
+        ensures { result ≡ [] }
+    {
+        Callers {
+            of: ArrayVec::new(),
+        }
+    }
+
+    /// These levels.
+    pub(crate) fn as_slice(&self) -> &[Caller]
+        ensures { result.now ≡ self.now }
+    {
+        self.of.as_slice()
+    }
+}
+
+/// What is kept of a task.
+#[derive(Debug, Drop)]
+pub struct KeptTask {
     pub tran: Name4,
     pub number: u32,
+    /// The levels that have called the current one.
+    pub callers: Callers,
 }
 
 /// A terminal's last abend.
-#[derive(Clone, Copy, Debug, PartialEq, Eq)]
+#[derive(Debug, Drop)]
 pub struct LastAbend {
     pub code: Name4,
     /// The task that abended.
-    pub task: Option<TaskName>,
+    pub task: Option<KeptTask>,
     /// Why a turn led to it; None where an operator asked for it.
     pub explanation: Option<Explanation>,
     /// Where the program went on, where an exit took it.
@@ -64,10 +129,10 @@ impl Kept {
     }
 
     /// The abend, where there is one.
-    pub(crate) fn last(&self) -> Option<LastAbend>
-        ensures { result ≡ self.now }
+    pub(crate) fn last(&self) -> Option<&LastAbend>
+        ensures { option_copied result ≡ self.now }
     {
-        self.last
+        self.last.as_ref()
     }
 
     /// Keeps an abend.
@@ -92,15 +157,50 @@ pub(crate) fn put_none(abends: &mut LastAbends, name: Name4)
     }
 }
 
-/// A terminal's task by its transaction and its number.
-pub(crate) fn task_named<S: Store + Drop>(region: &Region<S>, name: Name4) -> Option<TaskName>
-    ensures { result ≡ task_named region.now name }
+/// A level that has called another.
+fn caller_of(level: &Level) -> Caller
+    ensures { result ≡ caller_of level.now }
+{
+    Caller {
+        program: level.program,
+        next: address_in(level.regs[14]),
+    }
+}
+
+/// Adds the level at an index, counted from 0, where there is one.
+fn push_caller(callers: &mut Callers, levels: &LevelStack, index: usize)
+    requires { length callers.old < CALLERS }
+    ensures value { callers.new ≡ callers.old ++ caller_at (slice_get (all_levels levels.now) index) }
+    ensures one { length callers.new ≤ length callers.old + 1 }
+{
+    let Some(level) = levels.get(index) else {
+        return;
+    };
+    callers.of.push(caller_of(level));
+}
+
+/// The levels that have called the current one.
+#[tactic(auto, using(crate::proofs::CallerLemmas::callers_done))]
+fn callers_of(levels: &LevelStack) -> Callers
+    ensures { result ≡ callers_of levels.now }
+{
+    let mut callers = Callers::none();
+    for index in 0..levels.len() - 1 {
+        push_caller(&mut callers, levels, index);
+    }
+    callers
+}
+
+/// What is kept of a terminal's task.
+pub(crate) fn kept_task<S: Store + Drop>(region: &Region<S>, name: Name4) -> Option<KeptTask>
+    ensures { result ≡ kept_task region.now name }
 {
     let terminal = region.terminals().get(&name)?;
     let task = terminal.task()?;
-    Some(TaskName {
+    Some(KeptTask {
         tran: task.tran,
         number: task.number,
+        callers: callers_of(&task.levels),
     })
 }
 
@@ -164,7 +264,7 @@ pub(crate) fn last_of_turn<S: Store + Drop>(
     region: &Region<S>,
     name: Name4,
     reply: &TurnReply,
-    task: Option<TaskName>,
+    task: Option<KeptTask>,
     abend_record: &Option<AbendRecord>,
 ) -> Option<LastAbend>
     ensures { result ≡ last_of_turn region.now name reply.now task abend_record.now }
@@ -182,7 +282,7 @@ pub(crate) fn last_of_turn<S: Store + Drop>(
 }
 
 /// An abend of a task that an operator asked for.
-pub(crate) fn by_operator(task: Option<TaskName>) -> LastAbend
+pub(crate) fn by_operator(task: Option<KeptTask>) -> LastAbend
     ensures { result ≡ by_operator task }
 {
     LastAbend {

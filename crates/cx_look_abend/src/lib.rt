@@ -6,6 +6,6 @@ pub mod laws;
 mod noting;
 mod texts;
 
-pub use abends::{Explanation, Kept, LastAbend, LastAbends, TaskName};
+pub use abends::{Caller, Callers, Explanation, Kept, KeptTask, LastAbend, LastAbends};
 pub use noting::apply_noted;
 pub use texts::abend_text;

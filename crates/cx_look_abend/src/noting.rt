@@ -8,7 +8,7 @@ ghost use Rattle.cx_look_abend.specs.Abends.{last_of_turn};
 ghost use Rattle.cx_look_abend.specs.Noting.{AppliesWithAbends, MayTakeNoted, defines_terminal, ends_task, is_defined, kept_after, kept_alter, kept_key, kept_terminal, kept_turn, task_before, with_last};
 
 use crate::abends::{
-    LastAbend, LastAbends, TaskName, by_operator, last_of_turn, put_none, task_named,
+    KeptTask, LastAbend, LastAbends, by_operator, kept_task, last_of_turn, put_none,
 };
 use cx_ebcdic::{Aid, Name4};
 use cx_edf::{Answer, Debugged, EdfEvent};
@@ -50,7 +50,7 @@ fn keep_turn<S: Store + Drop>(
     abends: &mut LastAbends,
     region: &Region<S>,
     name: Name4,
-    task: Option<TaskName>,
+    task: Option<KeptTask>,
     answer: &Answer,
     abend_record: &Option<AbendRecord>,
 )
@@ -70,7 +70,7 @@ fn keep_turn<S: Store + Drop>(
 fn keep_alter(
     abends: &mut LastAbends,
     name: Name4,
-    task: Option<TaskName>,
+    task: Option<KeptTask>,
     change: &Change,
     answer: &Answer,
 )
@@ -82,7 +82,7 @@ fn keep_alter(
 }
 
 /// Keeps an abend that an operator asked for by a key.
-fn keep_key(abends: &mut LastAbends, name: Name4, task: Option<TaskName>, ends: bool)
+fn keep_key(abends: &mut LastAbends, name: Name4, task: Option<KeptTask>, ends: bool)
     ensures { abends.new.entries ≡ kept_key abends.old.entries name task ends }
 {
     if ends {
@@ -91,12 +91,12 @@ fn keep_key(abends: &mut LastAbends, name: Name4, task: Option<TaskName>, ends: 
 }
 
 /// The task of the terminal that an event names, where the event may lead to an abend.
-fn task_before<S: Store + Drop>(region: &Region<S>, event: &EdfEvent) -> Option<TaskName>
+fn task_before<S: Store + Drop>(region: &Region<S>, event: &EdfEvent) -> Option<KeptTask>
     ensures { result ≡ task_before region.now event.now }
 {
     match event {
         EdfEvent::Plain(Event::Turn(name) | Event::Alter(name, _) | Event::Key(name, _, _)) =>
-            task_named(region, *name),
+            kept_task(region, *name),
         _ => None,
     }
 }
@@ -105,7 +105,7 @@ fn task_before<S: Store + Drop>(region: &Region<S>, event: &EdfEvent) -> Option<
 fn keep<S: Store + Drop>(
     abends: &mut LastAbends,
     region: &Region<S>,
-    task: Option<TaskName>,
+    task: Option<KeptTask>,
     event: &EdfEvent,
     answer: &Answer,
     abend_record: &Option<AbendRecord>,

@@ -1,19 +1,23 @@
 //! The lines of a last abend.
 ghost use Rattle.std.specs.Prelude.{◌≡◌, ◌++◌, [], IfOk, OnOk, is_some, take};
-ghost use Rattle.std.specs.Option.{option_map_or};
+ghost use Rattle.std.specs.Option.{option_copied, option_map_or};
 ghost use Rattle.std.specs.List.{flat_map, list_all};
-ghost use Rattle.cx_look_abend.specs.Texts.{abend_text, byte_digits, bytes_word, cause_word, code_line, command_lines, command_word, exit_line, explanation_lines, head_line, instruction_word, interruption_word, last_of, last_text, list_word, next_line, none_line, task_word, where_lines, why_word};
+ghost use Rattle.cx_look_abend.specs.Texts.{abend_text, byte_digits, bytes_word, caller_line, caller_lines, cause_word, code_line, command_lines, command_word, exit_line, explanation_lines, goes_on_word, head_line, instruction_word, interruption_word, last_of, last_text, list_word, next_line, none_line, task_word, where_lines, why_word};
 
-use crate::abends::{Explanation, LastAbend, LastAbends, TaskName};
+use crate::abends::{Caller, Explanation, KeptTask, LastAbend, LastAbends};
 use cx_base_commands::Command;
 use cx_base_text::{decimal, hexadecimal, shown, shown_name};
 use cx_code::instruction_length;
-use cx_ebcdic::Name4;
+use cx_ebcdic::{Name4, Name8};
 use cx_exec::Interruption;
-use cx_look_symbols::{Place, SourcePlaces, address_word, line_word, place_word};
+use cx_load::Loaded;
+use cx_look_symbols::{
+    Place, SourcePlaces, address_word, line_word, place_of, place_word, spot_before,
+};
 use cx_look_words::{Report, register_lines};
 use cx_region::{AbendRecord, Cause};
 use cx_storage::address_in;
+use indexmap::IndexMap;
 use std::alloc::{AllocError, Global};
 
 /// An interruption's code and its name.
@@ -209,8 +213,71 @@ fn exit_line(
     report.line(&[b"EXIT", &place])
 }
 
+/// Where a level that had called another goes on, with the line of its command: that of the byte before it, the last of the command's
+/// EXEC.
+fn goes_on_word(
+    alloc: Global,
+    sources: &SourcePlaces,
+    programs: &IndexMap<Name8, Loaded>,
+    next: u32,
+) -> Result<Vec<u8>, AllocError>
+    ensures { IfOk result (λ word. word.items ≡ goes_on_word sources.now.entries programs.now.entries next) }
+{
+    let mut word = address_word(alloc, &place_of(programs, next))?;
+    let before = spot_before(programs, next);
+    word.extend_from_slice(&line_word(alloc, b" COMMAND LINE ", sources, &before)?)?;
+    Ok(word)
+}
+
+/// Adds the line of a level that had called another.
+fn caller_line(
+    report: &mut Report,
+    sources: &SourcePlaces,
+    programs: &IndexMap<Name8, Loaded>,
+    caller: &Caller,
+) -> Result<(), AllocError>
+    ensures { let line = caller_line sources.now.entries programs.now.entries caller.now in
+        OnOk result (report.new ≡ report.old ++ line) }
+{
+    let program = shown_name(report.alloc(), caller.program)?;
+    let place = goes_on_word(report.alloc(), sources, programs, caller.next)?;
+    report.line(&[b"CALLER", &program, b"R14", &place])
+}
+
+/// Adds the lines of some of them.
+fn lines_of_callers(
+    report: &mut Report,
+    sources: &SourcePlaces,
+    programs: &IndexMap<Name8, Loaded>,
+    callers: &[Caller],
+) -> Result<(), AllocError>
+    ensures { let more = flat_map (caller_line sources.now.entries programs.now.entries) callers.now in
+        OnOk result (report.new ≡ report.old ++ more) }
+{
+    for caller in callers {
+        caller_line(report, sources, programs, caller)?;
+    }
+    Ok(())
+}
+
+/// Adds the lines of the levels that had called the one that abended.
+fn caller_lines(
+    report: &mut Report,
+    sources: &SourcePlaces,
+    programs: &IndexMap<Name8, Loaded>,
+    task: &Option<KeptTask>,
+) -> Result<(), AllocError>
+    ensures { let more = caller_lines sources.now.entries programs.now.entries task.now in
+        OnOk result (report.new ≡ report.old ++ more) }
+{
+    match task {
+        Some(task) => lines_of_callers(report, sources, programs, task.callers.as_slice()),
+        None => Ok(()),
+    }
+}
+
 /// The task that abended.
-fn task_word(alloc: Global, task: &Option<TaskName>) -> Result<Vec<u8>, AllocError>
+fn task_word(alloc: Global, task: &Option<KeptTask>) -> Result<Vec<u8>, AllocError>
     ensures { IfOk result (λ text. text.items ≡ task_word task.now) }
 {
     let Some(task) = task else {
@@ -254,14 +321,17 @@ fn if_explained(
 fn last_text(
     report: &mut Report,
     sources: &SourcePlaces,
+    programs: &IndexMap<Name8, Loaded>,
     name: Name4,
     last: &LastAbend,
 ) -> Result<(), AllocError>
-    ensures { OnOk result (report.new ≡ report.old ++ last_text sources.now.entries name last.now) }
+    ensures { let more = last_text sources.now.entries programs.now.entries name last.now in
+        OnOk result (report.new ≡ report.old ++ more) }
 {
     head_line(report, name, last)?;
     exit_line(report, sources, &last.exit)?;
-    if_explained(report, sources, &last.explanation)
+    if_explained(report, sources, &last.explanation)?;
+    caller_lines(report, sources, programs, &last.task)
 }
 
 /// Adds the line of a terminal without an abend.
@@ -273,8 +343,8 @@ fn none_line(report: &mut Report, name: Name4) -> Result<(), AllocError>
 }
 
 /// A terminal's last abend.
-fn last_of(abends: &LastAbends, name: Name4) -> Option<LastAbend>
-    ensures { result ≡ last_of abends.now.entries name }
+fn last_of(abends: &LastAbends, name: Name4) -> Option<&LastAbend>
+    ensures { option_copied result ≡ last_of abends.now.entries name }
 {
     let kept = abends.get(&name)?;
     kept.last()
@@ -288,14 +358,16 @@ fn last_of(abends: &LastAbends, name: Name4) -> Option<LastAbend>
 pub fn abend_text(
     alloc: Global,
     sources: &SourcePlaces,
+    programs: &IndexMap<Name8, Loaded>,
     abends: &LastAbends,
     name: Name4,
 ) -> Result<Report, AllocError>
-    ensures { IfOk result (λ report. report ≡ abend_text sources.now.entries abends.now.entries name) }
+    ensures { let text = abend_text sources.now.entries programs.now.entries abends.now.entries name in
+        IfOk result (λ report. report ≡ text) }
 {
     let mut report = Report::new(alloc);
     match last_of(abends, name) {
-        Some(last) => last_text(&mut report, sources, name, &last)?,
+        Some(last) => last_text(&mut report, sources, programs, name, last)?,
         None => none_line(&mut report, name)?,
     }
     Ok(report)

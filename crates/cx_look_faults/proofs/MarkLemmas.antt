@@ -1,13 +1,19 @@
--- A place that is found.
-use Rattle.std.proofs.Common.{◌≡◌, ◌<◌, ℕ, ◌+◌, true, Option, Some, List, [], ◌∷◌, drop, length, sym, ◌∙◌, ap, arith, length-drop}
+-- The first of a range that passes, and how many columns a line has.
+use Rattle.std.proofs.Common.{◌≡◌, ◌<◌, ◌≤◌, ℕ, ◌+◌, ◌-◌, Bool, Some, None, List, length, take, suc, ap, arith, length-drop}
+use Rattle.std.proofs.Math.Nat.{min-le_left}
+use Rattle.std.proofs.lemmas.List.{length-take}
 use Rattle.std.specs.Prelude.{if◌then◌else◌}
-use Rattle.cx_look_faults.specs.Marks.{place_from, stands_at}
+use Rattle.std.specs.List.{find, range_with_len}
+use Rattle.cx_source.specs.Lines.{columns}
 
-at_front : (text rest : List ℕ) (before i : ℕ) → 0 < length rest → stands_at text before rest ≡ true → Some i ≡ place_from text before i rest
-at_front text [] before i some is = absurd (omega (arith, some))
-at_front text (c ∷ cs) before i some is = ap (λ b. if b then Some i else place_from text c (i + 1) cs) (sym is)
+pub find_next : (p : ℕ → Bool) (at end : ℕ) → at < end
+    → find p (range_with_len at (end - at)) ≡ (if p at then Some at else find p (range_with_len (at + 1) (end - (at + 1))))
+find_next p at end within =
+    let e : end - at ≡ suc (end - (at + 1)) = omega arith in ap (λ (n : ℕ). find p (range_with_len at n)) e
 
-pub found_here : (text operand : List ℕ) (before i : ℕ) (whole : Option ℕ) → i < length operand → stands_at text before (drop i operand) ≡ true
-    → place_from text before i (drop i operand) ≡ whole → Some i ≡ whole
-found_here text operand before i whole within is so_far =
-    at_front text (drop i operand) before i (rw (length-drop i operand) (omega (arith, within))) is ∙ so_far
+pub find_end : (p : ℕ → Bool) (at end : ℕ) → end ≤ at → find p (range_with_len at (end - at)) ≡ None
+find_end p at end over = let e : end - at ≡ 0 = omega arith in ap (λ (n : ℕ). find p (range_with_len at n)) e
+
+pub columns_len : (first last : ℕ) (text : List ℕ) → length (columns first last text) ≤ last + 1 - first
+columns_len first last text =
+    rw (length-drop (first - 1) (take last text), length-take last text) (omega (arith, min-le_left last (length text)))

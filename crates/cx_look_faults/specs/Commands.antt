@@ -1,5 +1,5 @@
 -- The part of an EXEC statement that is at fault, and what it lacks (own).
-use Rattle.std.specs.Prelude.{ℕ, ◌+◌, Bool, ◌&&◌, not, ◌==◌, if◌then◌else◌, Option, Some, None, List, [], ◌∷◌, ◌++◌, codes, drop, length, option_map, slice_get, take}
+use Rattle.std.specs.Prelude.{ℕ, Bool, ◌&&◌, not, ◌==◌, if◌then◌else◌, Option, Some, None, List, [], ◌∷◌, ◌++◌, codes, drop, length, option_map, slice_get, take}
 use Rattle.std.specs.List.{find, list_any}
 use Rattle.std.specs.Option.{option_map_or, option_or, option_zip}
 use Rattle.std.specs.Str.{bytes_eq}
@@ -15,6 +15,7 @@ use Rattle.cx_asm_build.specs.declared.faults.SourceKind.{SourceKind}
 use Rattle.cx_asm_build.specs.declared.faults.SourceKind.TheVariants as kind
 use Rattle.cx_look_faults.specs.Judging.{has_exec_fault}
 use Rattle.cx_look_faults.specs.Spans.{cells_of, span, spans_of, text_in}
+use Rattle.cx_look_faults.specs.declared.commands.Phrase.{Phrase}
 use Rattle.cx_look_faults.specs.declared.spans.Cut.TheVariants.{Words}
 use Rattle.cx_look_faults.specs.declared.spans.Span.{Span}
 
@@ -30,29 +31,34 @@ command_of operand words =
     if bytes_eq (word_at operand words 0) (codes "CICS")
     then command_named (word_at operand words 1) (word_at operand words 2) else None
 
--- ---- the word at fault
--- a word goes on to the next, with its argument
-abbrev pub unit : List ℕ → Span → List Span → Span
-unit operand word more = span word.start (option_map_or (λ next. next.start) (slice_get more 0) (length operand))
+-- ---- words with their arguments
+-- each word goes on to where the next begins, and the last to the operand's end
+abbrev pub phrase : Span → ℕ → Phrase
+phrase word end = record { word = word; full = span word.start end }
 
+abbrev pub phrases : List ℕ → List Span → List Phrase
+phrases operand [] = []
+phrases operand (word ∷ more) =
+    phrase word (option_map_or (λ next. next.start) (slice_get more 0) (length operand)) ∷ phrases operand more
+
+-- without the blanks at its end
+abbrev pub written_phrase : List ℕ → Phrase → Span
+written_phrase operand phrase = span phrase.full.start (length (trim_blanks (take phrase.full.end operand)))
+
+-- ---- the word at fault
 -- An unknown option and a bad argument are judged alone after the command, all else with what precedes it.
 abbrev pub tried : SourceKind → List ℕ → List ℕ → Span → List ℕ
-tried kind.UnknownOption operand head unit = head ++ codes " " ++ text_in unit operand
-tried kind.BadArgument operand head unit = head ++ codes " " ++ text_in unit operand
-tried kind operand head unit = take unit.end operand
+tried kind.UnknownOption operand head full = head ++ codes " " ++ text_in full operand
+tried kind.BadArgument operand head full = head ++ codes " " ++ text_in full operand
+tried kind operand head full = take full.end operand
+
+abbrev pub is_at_fault : SourceKind → List ℕ → List ℕ → Phrase → Bool
+is_at_fault kind operand head phrase = has_exec_fault kind (tried kind operand head phrase.full)
 
 -- a bad argument with its word, else the word alone
-abbrev pub marked : SourceKind → List ℕ → Span → Span → Span
-marked kind.BadArgument operand unit word = span unit.start (unit.start + length (trim_blanks (text_in unit operand)))
-marked kind operand unit word = word
-
--- the first word by which the statement has the fault
-abbrev pub word_from : SourceKind → List ℕ → List ℕ → List Span → Option Span
-word_from kind operand head [] = None
-word_from kind operand head (word ∷ more) =
-    if has_exec_fault kind (tried kind operand head (unit operand word more))
-    then Some (marked kind operand (unit operand word more) word)
-    else word_from kind operand head more
+abbrev pub marked : SourceKind → List ℕ → Phrase → Span
+marked kind.BadArgument operand phrase = written_phrase operand phrase
+marked kind operand phrase = phrase.word
 
 -- the words after the one at a place
 abbrev pub words_after : List Span → ℕ → List Span
@@ -68,12 +74,14 @@ abbrev pub name_part : List Span → ℕ → Option Span
 name_part words last =
     option_map (λ both. span both.0.start both.1.end) (option_zip (slice_get words 1) (slice_get words last))
 
--- the command's name itself, or one of the words after it; where there is no command, the word after the first
+-- the command's name itself, or the first of the words after it by which the statement has the fault; where there is no
+-- command, the word after the first
 abbrev pub word_by : SourceKind → List ℕ → List Span → Option (Command × ℕ) → Option Span
 word_by kind operand words None = option_or (slice_get words 1) (slice_get words 0)
 word_by kind operand words (Some found) =
     let more = words_after words found.1 in let head = head_before operand more in
-    if has_exec_fault kind head then name_part words found.1 else word_from kind operand head more
+    if has_exec_fault kind head then name_part words found.1
+    else option_map (marked kind operand) (find (is_at_fault kind operand head) (phrases operand more))
 
 unfoldable pub word_at_fault : SourceKind → List ℕ → Option Span
 word_at_fault kind operand = word_by kind operand (words_of operand) (command_of operand (words_of operand))
@@ -109,11 +117,12 @@ lacking options operand words (OneOfThree a b c) =
     then name_of_bit options a ++ codes " OR " ++ name_of_bit options b ++ codes " OR " ++ name_of_bit options c else []
 
 -- of the first rule that lacks anything
+abbrev pub lacks : List CommandOption → List ℕ → List Span → Rule → Bool
+lacks options operand words rule = not (length (lacking options operand words rule) == 0)
+
 abbrev pub lacking_first : List CommandOption → List ℕ → List Span → List Rule → List ℕ
-lacking_first options operand words [] = []
-lacking_first options operand words (rule ∷ rules) =
-    let names = lacking options operand words rule in
-    if length names == 0 then lacking_first options operand words rules else names
+lacking_first options operand words rules =
+    option_map_or (lacking options operand words) (find (lacks options operand words) rules) []
 
 -- a required option that isn't there
 abbrev pub is_lacking : List ℕ → List Span → CommandOption → Bool

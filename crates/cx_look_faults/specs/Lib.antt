@@ -5,6 +5,7 @@ pub mod Judging
 pub mod Operands
 pub mod Commands
 pub mod Marks
+pub mod Notes
 pub mod Laws
 pub use Rattle.cx_asm_build.specs.Kinds
 pub use Rattle.cx_asm_build.specs.Prepared

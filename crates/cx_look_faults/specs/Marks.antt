@@ -1,7 +1,7 @@
 -- Where on its line the part is that is at fault (own; the columns are those of GC33-4010, "Assembler Language Coding
 -- Conventions").
-use Rattle.std.specs.Prelude.{ℕ, ◌+◌, ◌-◌, Bool, true, ◌&&◌, ◌||◌, not, ◌==◌, count_by, nat_lt, if◌then◌else◌, is_none, Option, Some, None, option_and_then, option_map, List, [], ◌∷◌, ◌++◌, drop, length, map, slice_get, take, unwrap_or}
-use Rattle.std.specs.List.{find, position}
+use Rattle.std.specs.Prelude.{ℕ, ◌+◌, ◌-◌, Bool, true, ◌&&◌, ◌||◌, not, ◌==◌, count_by, nat_lt, if◌then◌else◌, is_none, Option, Some, option_and_then, option_map, List, [], ◌∷◌, ◌++◌, drop, length, map, slice_get, take, unwrap_or}
+use Rattle.std.specs.List.{enumerate_from, find, flat_map, position, prefix_len, range_with_len}
 use Rattle.std.specs.Option.{option_map_or}
 use Rattle.std.specs.Str.{byte, bytes_eq}
 use Rattle.cx_ebcdic.specs.Characters.{code_of}
@@ -49,18 +49,19 @@ too_long number line =
     if nat_lt 80 (length line) then spot number 81 (length line - 80) else spot number 1 (length line)
 
 -- ---- statements
--- the characters of columns 16 to 71 of a line, or from another column on, and where they stand
-abbrev pub positions_on : ℕ → ℕ → List ℕ → List Position
-positions_on line column [] = []
-positions_on line column (c ∷ cs) =
-    record { line = line; column = column; byte = c } ∷ positions_on line (column + 1) cs
+-- the characters of a line from a column to column 71, each with where it stands
+abbrev pub position_of : ℕ → ℕ × ℕ → Position
+position_of line character = record { line = line; column = character.0; byte = character.1 }
 
--- those of what is written from a column on, on the first line and on those that continue it
-abbrev pub positions_from : ℕ → List Item → List Position
-positions_from column [] = []
-positions_from column (item ∷ more) =
-    positions_on item.line column (columns column 71 item.text)
-    ++ (if is_continued true item.text then positions_from 16 more else [])
+unfoldable pub written_on : ℕ → Item → List Position
+written_on column item = map (position_of item.line) (enumerate_from column (columns column 71 item.text))
+
+-- the lines that continue a line, of those after it
+abbrev pub is_continued_on : Item → Bool
+is_continued_on item = is_continued true item.text
+
+abbrev pub continuations : Item → List Item → List Item
+continuations item after = take (prefix_len is_continued_on (item ∷ after)) after
 
 abbrev pub name_spot : Item → Stmt → Spot
 name_spot item stmt = spot item.line 1 (length stmt.name)
@@ -76,10 +77,15 @@ operation_spot item stmt =
     if length stmt.operation == 0
     then name_spot item stmt else spot item.line (operation_column item stmt) (length stmt.operation)
 
--- where the characters of the operand stand
+-- where the characters after the operation stand, and those of the operand
+unfoldable pub positions_after : List Item → Item → Stmt → List Position
+positions_after items item stmt =
+    written_on (operation_column item stmt + length stmt.operation) item
+    ++ flat_map (written_on 16) (continuations item (drop item.line items))
+
 abbrev pub operand_positions : List Item → Item → Stmt → List Position
 operand_positions items item stmt =
-    let all = positions_from (operation_column item stmt + length stmt.operation) (drop (item.line - 1) items) in
+    let all = positions_after items item stmt in
     drop (unwrap_or (position (λ p. is_written p.byte) all) (length all)) all
 
 -- a part of the operand, as far as it is on one line; the operation, where the part is empty
@@ -103,21 +109,24 @@ part_or_operation items item stmt part = option_map_or (part_spot items item stm
 abbrev pub is_border : ℕ → Bool
 is_border c = is_bracket c || c == byte "," || c == byte "+" || c == byte "-"
 
-abbrev pub stands_at : List ℕ → ℕ → List ℕ → Bool
-stands_at text before rest =
-    is_border before && bytes_eq (take (length text) rest) text
-    && not (is_name_character (unwrap_or (slice_get rest (length text)) 0))
+abbrev pub byte_at : List ℕ → ℕ → ℕ
+byte_at text at = unwrap_or (slice_get text at) 0
 
-abbrev pub place_from : List ℕ → ℕ → ℕ → List ℕ → Option ℕ
-place_from text before at [] = None
-place_from text before at (c ∷ cs) = if stands_at text before (c ∷ cs) then Some at else place_from text c (at + 1) cs
+abbrev pub stands_at : List ℕ → List ℕ → ℕ → Bool
+stands_at text operand at =
+    let rest = drop at operand in
+    is_border (byte_at operand (at - 1)) && bytes_eq (take (length text) rest) text
+    && not (is_name_character (byte_at rest (length text)))
+
+abbrev pub place_in : List ℕ → List ℕ → Option ℕ
+place_in text operand = find (stands_at text operand) (range_with_len 1 (length operand - 1))
 
 -- the part of a made statement in the operand that it was made of
 abbrev pub part_in : List ℕ → OperandPart → Option Span
 part_in operand found =
     let text = text_in found.part found.operand in
     if bytes_eq operand found.operand then Some found.part
-    else option_map (λ at. span at (at + length text)) (place_from text 0 0 operand)
+    else option_map (λ at. span at (at + length text)) (place_in text operand)
 
 abbrev pub part_found : List OperandPart → ℕ → List ℕ → Option Span
 part_found parts line operand = option_and_then (part_in operand) (find (λ found. found.line == line) parts)

@@ -1,39 +1,52 @@
 //! The part of an EXEC statement that is at fault, and what it lacks.
 
-ghost use Rattle.std.specs.Prelude.{◌≡◌, ◌==◌, ◌++◌, IfOk, codes, option_map, slice_get};
+ghost use Rattle.std.specs.Prelude.{◌≡◌, ◌==◌, ◌++◌, IfOk, codes, length, option_map, slice_get};
+ghost use Rattle.std.specs.Option.{option_map_or};
 ghost use Rattle.std.specs.List.{find};
 ghost use Rattle.cx_look_faults.specs.Commands.{
   command_of,
   has_option,
   head_before,
+  is_at_fault,
   is_lacking,
   is_word,
   lacking,
   lacking_first,
+  lacks,
   marked,
   missing,
   missing_in,
   name_of_bit,
   name_part,
+  phrases,
   tried,
-  unit,
   word_at,
   word_at_fault,
   word_by,
-  word_from,
   words_after,
   words_of,
+  written_phrase,
 };
+ghost use Rattle.cx_look_faults.specs.Spans.{span};
 
 use crate::judging::has_exec_fault;
-use crate::spans::{Cut, Span, cells_of, spans_of, sum_of, text_in};
+use crate::spans::{Cut, Span, cells_of, spans_of, text_in};
 use cx_asm_build::SourceKind;
 use cx_base_commands::{Command, CommandOption, Rule};
 use cx_source::trimmed;
 use std::alloc::{AllocError, Global};
 
+/// A word of an EXEC statement.
+#[derive(Clone, Copy, Debug, PartialEq, Eq)]
+pub struct Phrase {
+    /// The word.
+    pub word: Span,
+    /// The word and what follows it, as far as the next word.
+    pub full: Span,
+}
+
 /// The words of an operand.
-fn words_of(alloc: Global, operand: &[u8]) -> Result<Vec<Span>, AllocError>
+pub(crate) fn words_of(alloc: Global, operand: &[u8]) -> Result<Vec<Span>, AllocError>
     ensures { IfOk result (λ words. words.items ≡ words_of operand.now) }
 {
     let cells = cells_of(alloc, Cut::Words, operand)?;
@@ -51,7 +64,7 @@ fn word_at<'a>(operand: &'a [u8], words: &[Span], place: usize) -> &'a [u8]
 }
 
 /// The command that the words after CICS name, and how many words its name takes.
-fn command_of(operand: &[u8], words: &[Span]) -> Option<(Command, usize)>
+pub(crate) fn command_of(operand: &[u8], words: &[Span]) -> Option<(Command, usize)>
     ensures { result ≡ command_of operand.now words.now }
 {
     if word_at(operand, words, 0) != b"CICS".as_slice() {
@@ -60,9 +73,10 @@ fn command_of(operand: &[u8], words: &[Span]) -> Option<(Command, usize)>
     Command::named(word_at(operand, words, 1), word_at(operand, words, 2))
 }
 
-/// A word, up to the next.
-fn unit(operand: &[u8], word: Span, more: &[Span]) -> Span
-    ensures { result ≡ unit operand.now word more.now }
+/// A word, and what follows it up to the next of the operand's.
+fn full(operand: &[u8], word: Span, more: &[Span]) -> Span
+    ensures { let end = option_map_or (λ next. next.start) (slice_get more.now 0) (length operand.now) in
+        result ≡ span word.start end }
 {
     let end = match more.first() {
         Some(next) => next.start,
@@ -74,63 +88,101 @@ fn unit(operand: &[u8], word: Span, more: &[Span]) -> Span
     }
 }
 
+/// Words, each with what follows it.
+pub(crate) fn phrases(
+    alloc: Global,
+    operand: &[u8],
+    words: &[Span],
+) -> Result<Vec<Phrase>, AllocError>
+    ensures { IfOk result (λ found. found.items ≡ phrases operand.now words.now) }
+{
+    let mut phrases = Vec::new(alloc);
+    for (i, word) in words.iter().enumerate() {
+        let (_, more) = words.split_at(i + 1);
+        phrases.push(Phrase {
+            word: *word,
+            full: full(operand, *word, more),
+        })?;
+    }
+    Ok(phrases)
+}
+
+/// A word with what follows it, without the blanks at its end.
+pub(crate) fn written_phrase(operand: &[u8], phrase: Phrase) -> Span
+    ensures { result ≡ written_phrase operand.now phrase }
+{
+    let (front, _) = operand.split_at(operand.len().min(phrase.full.end));
+    Span {
+        start: phrase.full.start,
+        end: trimmed(front).len(),
+    }
+}
+
 /// The operand by which a word is judged.
 fn tried(
     alloc: Global,
     kind: SourceKind,
     operand: &[u8],
     head: &[u8],
-    unit: Span,
+    full: Span,
 ) -> Result<Vec<u8>, AllocError>
-    ensures { IfOk result (λ text. text.items ≡ tried kind operand.now head.now unit) }
+    ensures { IfOk result (λ text. text.items ≡ tried kind operand.now head.now full) }
 {
     if matches!(kind, SourceKind::UnknownOption | SourceKind::BadArgument) {
         let mut text = head.to_vec(alloc)?;
         text.push(b' ')?;
-        text.extend_from_slice(text_in(unit, operand))?;
+        text.extend_from_slice(text_in(full, operand))?;
         return Ok(text);
     }
-    let (front, _) = operand.split_at(operand.len().min(unit.end));
+    let (front, _) = operand.split_at(operand.len().min(full.end));
     front.to_vec(alloc)
 }
 
 /// The part that is shown of a word at fault.
-fn marked(kind: SourceKind, operand: &[u8], unit: Span, word: Span) -> Result<Span, AllocError>
-    ensures { IfOk result (λ part. part ≡ marked kind operand.now unit word) }
+fn marked(kind: SourceKind, operand: &[u8], phrase: Phrase) -> Span
+    ensures { result ≡ marked kind operand.now phrase }
 {
-    if kind != SourceKind::BadArgument {
-        return Ok(word);
+    if kind == SourceKind::BadArgument {
+        written_phrase(operand, phrase)
+    } else {
+        phrase.word
     }
-    let length = trimmed(text_in(unit, operand)).len();
-    Ok(Span {
-        start: unit.start,
-        end: sum_of(unit.start, length)?,
-    })
 }
 
-/// The first of some words by which a statement has a fault.
-fn word_from(
+/// Whether a statement has a fault by a word.
+fn is_at_fault(
     alloc: Global,
     kind: SourceKind,
     operand: &[u8],
     head: &[u8],
-    words: &[Span],
-) -> Result<Option<Span>, AllocError>
-    ensures { IfOk result (λ found. found ≡ word_from kind operand.now head.now words.now) }
+    phrase: Phrase,
+) -> Result<bool, AllocError>
+    ensures { IfOk result (λ is. is ≡ is_at_fault kind operand.now head.now phrase) }
 {
-    for (i, word) in words.iter().enumerate() {
-        let (_, more) = words.split_at(i + 1);
-        let unit = unit(operand, *word, more);
-        let text = tried(alloc, kind, operand, head, unit)?;
-        if has_exec_fault(alloc, kind, &text)? {
-            return Ok(Some(marked(kind, operand, unit, *word)?));
+    let text = tried(alloc, kind, operand, head, phrase.full)?;
+    has_exec_fault(alloc, kind, &text)
+}
+
+/// The first of some words by which a statement has a fault.
+fn first_at_fault(
+    alloc: Global,
+    kind: SourceKind,
+    operand: &[u8],
+    head: &[u8],
+    phrases: &[Phrase],
+) -> Result<Option<Phrase>, AllocError>
+    ensures { IfOk result (λ found. found ≡ find (is_at_fault kind operand.now head.now) phrases.now) }
+{
+    for phrase in phrases {
+        if is_at_fault(alloc, kind, operand, head, *phrase)? {
+            return Ok(Some(*phrase));
         }
     }
     Ok(None)
 }
 
 /// The words after the one at a place.
-fn words_after(words: &[Span], place: usize) -> &[Span]
+pub(crate) fn words_after(words: &[Span], place: usize) -> &[Span]
     ensures { result.now ≡ words_after words.now place }
 {
     let (_, from) = words.split_at(words.len().min(place));
@@ -190,7 +242,11 @@ fn word_by(
     if has_exec_fault(alloc, kind, head)? {
         return Ok(name_part(words, last));
     }
-    word_from(alloc, kind, operand, head, more)
+    let phrases = phrases(alloc, operand, more)?;
+    match first_at_fault(alloc, kind, operand, head, &phrases)? {
+        Some(phrase) => Ok(Some(marked(kind, operand, phrase))),
+        None => Ok(None),
+    }
 }
 
 /// The word of an EXEC statement's operand by which it has a fault of a kind.
@@ -208,7 +264,7 @@ pub(crate) fn word_at_fault(
 }
 
 /// Whether a name is one of some words.
-fn is_word(operand: &[u8], words: &[Span], name: &[u8]) -> bool
+pub(crate) fn is_word(operand: &[u8], words: &[Span], name: &[u8]) -> bool
     ensures { result ≡ is_word operand.now words.now name.now }
 {
     words.iter().any(|word| text_in(*word, operand) == name)

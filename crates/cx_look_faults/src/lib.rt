@@ -8,12 +8,15 @@ mod faults;
 mod judging;
 pub mod laws;
 mod marks;
+mod notes;
 mod operands;
 mod positions;
 mod spans;
 
+pub use commands::Phrase;
 pub use faults::{FaultyLine, faults_of};
 pub use marks::{Mark, marks_of};
+pub use notes::{Note, notes_of};
 pub use operands::OperandPart;
 pub use positions::{Position, Spot};
 pub use spans::{Cell, Cut, Span};

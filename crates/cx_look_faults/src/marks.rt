@@ -1,6 +1,6 @@
 //! Where on its line the part is that is at fault.
 
-ghost use Rattle.std.specs.Prelude.{◌≡◌, ◌==◌, ◌-◌, [], IfOk, Some, is_none, map, option_map, slice_get, unwrap_or};
+ghost use Rattle.std.specs.Prelude.{◌≡◌, ◌<◌, ◌==◌, ◌-◌, [], IfOk, IfSome, Some, is_none, length, map, option_map, slice_get, unwrap_or};
 ghost use Rattle.std.specs.List.{find, position};
 ghost use Rattle.cx_ebcdic.specs.Characters.{code_of};
 ghost use Rattle.cx_source.specs.Lines.{is_blank, is_written};
@@ -9,6 +9,7 @@ ghost use Rattle.cx_look_faults.specs.Marks.{
   bad_character,
   bad_continuation,
   bad_name,
+  byte_at,
   is_border,
   mark_of,
   marks_of,
@@ -16,7 +17,7 @@ ghost use Rattle.cx_look_faults.specs.Marks.{
   missing_in_stmt,
   part_found,
   part_in,
-  place_from,
+  place_in,
   spot_by,
   stands_at,
   statement_spot,
@@ -28,7 +29,7 @@ use crate::commands::{missing, word_at_fault};
 use crate::faults::FaultyLine;
 use crate::operands::{OperandPart, operand_parts};
 use crate::positions::{Spot, columns, name_spot, operation_spot, part_or_operation};
-use crate::spans::{Span, sum_of, text_in};
+use crate::spans::{Span, text_in};
 use cx_asm_build::SourceKind;
 use cx_ebcdic::to_ebcdic;
 use cx_source::{Item, Stmt, Text, is_name_character, source_with_faults, trimmed};
@@ -75,27 +76,27 @@ fn first_blank(line: &[u8]) -> Option<usize>
 }
 
 /// The first character without a code.
-fn bad_character(number: usize, line: &[u8]) -> Result<Spot, AllocError>
-    ensures { IfOk result (λ spot. spot ≡ bad_character number line.now) }
+fn bad_character(number: usize, line: &[u8]) -> Spot
+    ensures { result ≡ bad_character number line.now }
 {
     let at = first_uncoded(line).unwrap_or(line.len());
-    Ok(Spot {
+    Spot {
         line: number,
-        column: sum_of(at, 1)?,
+        column: at + 1,
         length: 1,
-    })
+    }
 }
 
 /// What isn't blank in the margin.
-fn bad_continuation(number: usize, line: &[u8]) -> Result<Spot, AllocError>
-    ensures { IfOk result (λ spot. spot ≡ bad_continuation number line.now) }
+fn bad_continuation(number: usize, line: &[u8]) -> Spot
+    ensures { result ≡ bad_continuation number line.now }
 {
     let at = first_written(line).unwrap_or(line.len());
-    Ok(Spot {
+    Spot {
         line: number,
-        column: sum_of(at, 1)?,
+        column: at + 1,
         length: trimmed(columns(line, 1, MARGIN)).len().saturating_sub(at),
-    })
+    }
 }
 
 /// What begins in column 1.
@@ -136,7 +137,7 @@ fn is_border(c: u8) -> bool
 
 /// The character at a place; 0 past the end.
 fn byte_at(text: &[u8], place: usize) -> u8
-    ensures { result ≡ unwrap_or (slice_get text.now place) 0 }
+    ensures { result ≡ byte_at text.now place }
 {
     match text.get(place) {
         Some(c) => *c,
@@ -144,43 +145,44 @@ fn byte_at(text: &[u8], place: usize) -> u8
     }
 }
 
-/// Whether a text stands at the front of another after a character, and no name goes on.
-fn stands_at(text: &[u8], before: u8, rest: &[u8]) -> bool
-    ensures { result ≡ stands_at text.now before rest.now }
+/// Whether a text stands at a place of an operand as an argument, or a part of one.
+fn stands_at(text: &[u8], operand: &[u8], at: usize) -> bool
+    ensures { result ≡ stands_at text.now operand.now at }
 {
+    let (_, rest) = operand.split_at(operand.len().min(at));
     let (front, _) = rest.split_at(rest.len().min(text.len()));
-    is_border(before) && front == text && !is_name_character(byte_at(rest, text.len()))
+    is_border(byte_at(operand, at.saturating_sub(1)))
+        && front == text
+        && !is_name_character(byte_at(rest, text.len()))
 }
 
 /// The first place of a text in an argument.
-#[tactic(auto, using(crate::proofs::MarkLemmas::found_here))]
+#[tactic(auto, using(crate::proofs::MarkLemmas::find_next, crate::proofs::MarkLemmas::find_end))]
 fn place_in(text: &[u8], operand: &[u8]) -> Option<usize>
-    ensures { result ≡ place_from text.now 0 0 operand.now }
+    ensures value { result ≡ place_in text.now operand.now }
+    ensures within { IfSome result (λ at. at < length operand.now) }
 {
-    let mut before = 0;
-    for (i, c) in operand.iter().enumerate() {
-        let (_, rest) = operand.split_at(i);
-        if stands_at(text, before, rest) {
-            return Some(i);
+    for at in 1..operand.len() {
+        if stands_at(text, operand, at) {
+            return Some(at);
         }
-        before = *c;
     }
     None
 }
 
 /// The part of a made statement in the operand that it was made of.
-fn part_in(operand: &[u8], found: &OperandPart) -> Result<Option<Span>, AllocError>
-    ensures { IfOk result (λ part. part ≡ part_in operand.now found.now) }
+fn part_in(operand: &[u8], found: &OperandPart) -> Option<Span>
+    ensures { result ≡ part_in operand.now found.now }
 {
     if operand == found.operand.as_slice() {
-        return Ok(Some(found.part));
+        return Some(found.part);
     }
     let text = text_in(found.part, found.operand.as_slice());
-    let Some(start) = place_in(text, operand) else {
-        return Ok(None);
-    };
-    let end = sum_of(start, text.len())?;
-    Ok(Some(Span { start, end }))
+    let start = place_in(text, operand)?;
+    Some(Span {
+        start,
+        end: start + text.len(),
+    })
 }
 
 /// The part that was found on a line.
@@ -191,16 +193,12 @@ fn found_on(parts: &[OperandPart], line: usize) -> Option<&OperandPart>
 }
 
 /// The part of the operand of a line's statement.
-fn part_found(
-    parts: &[OperandPart],
-    line: usize,
-    operand: &[u8],
-) -> Result<Option<Span>, AllocError>
-    ensures { IfOk result (λ part. part ≡ part_found parts.now line operand.now) }
+fn part_found(parts: &[OperandPart], line: usize, operand: &[u8]) -> Option<Span>
+    ensures { result ≡ part_found parts.now line operand.now }
 {
     match found_on(parts, line) {
         Some(found) => part_in(operand, found),
-        None => Ok(None),
+        None => None,
     }
 }
 
@@ -216,7 +214,7 @@ fn assembler_spot(
     ensures { IfOk result (λ spot. spot ≡ assembler_spot items.now parts.now kind item.now stmt.now) }
 {
     if kind != SourceKind::DuplicateSymbol {
-        let part = part_found(parts, item.line, stmt.operand.as_slice())?;
+        let part = part_found(parts, item.line, stmt.operand.as_slice());
         return part_or_operation(alloc, items, item, stmt, part);
     }
     if stmt.name.as_slice().is_empty() {
@@ -297,9 +295,9 @@ fn spot_by(
     ensures { IfOk result (λ spot. spot ≡ spot_by items.now parts.now line.now number kind) }
 {
     match kind {
-        SourceKind::BadCharacter => bad_character(number, line),
+        SourceKind::BadCharacter => Ok(bad_character(number, line)),
         SourceKind::BadName => Ok(bad_name(number, line)),
-        SourceKind::BadContinuation => bad_continuation(number, line),
+        SourceKind::BadContinuation => Ok(bad_continuation(number, line)),
         SourceKind::TooLong => Ok(too_long(number, line)),
         SourceKind::NoEnd => Ok(Spot {
             line: number,

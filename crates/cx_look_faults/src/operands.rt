@@ -336,7 +336,7 @@ fn operand_part(
 }
 
 /// The fault of a line.
-fn kind_on(faults: &[FaultyLine], line: usize) -> Option<SourceKind>
+pub(crate) fn kind_on(faults: &[FaultyLine], line: usize) -> Option<SourceKind>
     ensures { result ≡ kind_on faults.now line }
 {
     match faults.iter().find(|fault| fault.line == line) {

@@ -1,11 +1,11 @@
 //! Where the parts of a statement stand.
 
-ghost use Rattle.std.specs.Prelude.{◌≡◌, ◌++◌, IfOk, OnOk, drop, take};
-ghost use Rattle.std.specs.List.{position};
+ghost use Rattle.std.specs.Prelude.{◌≡◌, ◌≤◌, ◌+◌, ◌-◌, ◌++◌, IfOk, OnOk, drop, length, take};
+ghost use Rattle.std.specs.List.{flat_map, position, prefix_len};
 ghost use Rattle.cx_source.specs.Lines.{columns, is_written};
-ghost use Rattle.cx_look_faults.specs.Marks.{name_spot, operand_positions, operation_column, operation_spot, part_or_operation, part_spot, positions_from, positions_on, spot, spot_at};
+ghost use Rattle.cx_look_faults.specs.Marks.{continuations, is_continued_on, name_spot, operand_positions, operation_column, operation_spot, part_or_operation, part_spot, positions_after, spot, spot_at, written_on};
 
-use crate::spans::{Span, sum_of};
+use crate::spans::Span;
 use cx_source::{Item, Stmt, is_continued, skip_blanks};
 use std::alloc::{AllocError, Global};
 
@@ -38,55 +38,68 @@ pub struct Position {
 }
 
 /// The columns from `first` to `last`, counted from 1, as far as a text goes.
+#[tactic(auto, using(crate::proofs::MarkLemmas::columns_len))]
 pub(crate) fn columns(text: &[u8], first: usize, last: usize) -> &[u8]
-    ensures { result.now ≡ columns first last text.now }
+    ensures value { result.now ≡ columns first last text.now }
+    ensures bound { length result.now ≤ last + 1 - first }
 {
     let (front, _) = text.split_at(text.len().min(last));
     let (_, columns) = front.split_at(front.len().min(first.saturating_sub(1)));
     columns
 }
 
-/// Adds the characters of a text that begins in a column of a line.
-fn push_positions(
-    positions: &mut Vec<Position>,
-    line: usize,
-    first: usize,
-    text: &[u8],
-) -> Result<(), AllocError>
-    ensures { OnOk result (positions.new.items ≡ positions.old.items ++ positions_on line first text.now) }
+/// Adds the characters of a line from a column on.
+#[tactic(auto, unfolding(crate::specs::Marks::written_on))]
+fn push_written(positions: &mut Vec<Position>, first: usize, item: &Item) -> Result<(), AllocError>
+    ensures { OnOk result (positions.new.items ≡ positions.old.items ++ written_on first item.now) }
 {
+    let text = columns(item.text.as_slice(), first, LAST);
     let mut column = first;
     for c in text {
         positions.push(Position {
-            line,
+            line: item.line,
             column,
             byte: *c,
         })?;
-        column = sum_of(column, 1)?;
+        column += 1;
     }
     Ok(())
 }
 
-/// The characters of what is written from a column on, on the first of some lines and on those that continue it.
-fn positions_from(alloc: Global, first: usize, items: &[Item]) -> Result<Vec<Position>, AllocError>
-    ensures { IfOk result (λ positions. positions.items ≡ positions_from first items.now) }
+/// How many lines there are before the first that isn't continued.
+fn continued_count(items: &[Item]) -> usize
+    ensures count { result ≡ prefix_len is_continued_on items.now }
+    ensures bound { result ≤ length items.now }
 {
-    let mut positions = Vec::new(alloc);
-    let mut column = first;
-    for item in items {
-        let text = item.text.as_slice();
-        push_positions(
-            &mut positions,
-            item.line,
-            column,
-            columns(text, column, LAST),
-        )?;
-        if !is_continued(true, text) {
-            return Ok(positions);
+    for (i, item) in items.iter().enumerate() {
+        if !is_continued(true, item.text.as_slice()) {
+            return i;
         }
-        column = CONTINUED;
     }
-    Ok(positions)
+    items.len()
+}
+
+/// The lines that continue a line, of those after it.
+fn continuations<'a>(item: &Item, after: &'a [Item]) -> &'a [Item]
+    ensures { result.now ≡ continuations item.now after.now }
+{
+    let count = if is_continued(true, item.text.as_slice()) {
+        continued_count(after) + 1
+    } else {
+        0
+    };
+    let (lines, _) = after.split_at(after.len().min(count));
+    lines
+}
+
+/// Adds the characters of lines that continue one.
+fn push_continued(positions: &mut Vec<Position>, items: &[Item]) -> Result<(), AllocError>
+    ensures { OnOk result (positions.new.items ≡ positions.old.items ++ flat_map (written_on 16) items.now) }
+{
+    for item in items {
+        push_written(positions, CONTINUED, item)?;
+    }
+    Ok(())
 }
 
 /// The name of a statement.
@@ -102,7 +115,8 @@ pub(crate) fn name_spot(item: &Item, stmt: &Stmt) -> Spot
 
 /// The column of a statement's operation.
 fn operation_column(item: &Item, stmt: &Stmt) -> usize
-    ensures { result ≡ operation_column item.now stmt.now }
+    ensures value { result ≡ operation_column item.now stmt.now }
+    ensures bound { result ≤ 72 }
 {
     let body = columns(item.text.as_slice(), 1, LAST);
     let (_, after) = body.split_at(body.len().min(stmt.name.as_slice().len()));
@@ -157,8 +171,26 @@ fn spot_at(here: &[Position], otherwise: Spot) -> Spot
     }
 }
 
+/// The characters after a statement's operation.
+#[tactic(auto, unfolding(crate::specs::Marks::positions_after))]
+fn positions_after(
+    alloc: Global,
+    items: &[Item],
+    item: &Item,
+    stmt: &Stmt,
+) -> Result<Vec<Position>, AllocError>
+    ensures { IfOk result (λ all. all.items ≡ positions_after items.now item.now stmt.now) }
+{
+    let first = operation_column(item, stmt) + stmt.operation.as_slice().len();
+    let (_, after) = items.split_at(items.len().min(item.line));
+    let mut all = Vec::new(alloc);
+    push_written(&mut all, first, item)?;
+    push_continued(&mut all, continuations(item, after))?;
+    Ok(all)
+}
+
 /// A part of a statement's operand.
-fn part_spot(
+pub(crate) fn part_spot(
     alloc: Global,
     items: &[Item],
     item: &Item,
@@ -167,10 +199,7 @@ fn part_spot(
 ) -> Result<Spot, AllocError>
     ensures { IfOk result (λ spot. spot ≡ part_spot items.now item.now stmt.now part) }
 {
-    let length = stmt.operation.as_slice().len();
-    let first = sum_of(operation_column(item, stmt), length)?;
-    let (_, more) = items.split_at(items.len().min(item.line.saturating_sub(1)));
-    let all = positions_from(alloc, first, more)?;
+    let all = positions_after(alloc, items, item, stmt)?;
     let blanks = first_written(&all).unwrap_or(all.len());
     let (_, operand) = all.split_at(all.len().min(blanks));
     Ok(spot_at(among(operand, part), operation_spot(item, stmt)))

@@ -39,13 +39,6 @@ pub struct Cell {
     pub separates: bool,
 }
 
-/// The sum of a column, or of a place in a text, and a length. Where no number has it, which no source reaches, memory counts as refused.
-pub(crate) fn sum_of(place: usize, length: usize) -> Result<usize, AllocError>
-    ensures { IfOk result (λ sum. sum ≡ place + length) }
-{
-    place.checked_add(length).ok_or(AllocError)
-}
-
 /// How many parentheses are open after a character.
 #[tactic(auto, unfolding(cx_translate::specs::Pieces::depth_after))]
 fn depth_after(depth: usize, is_outside: bool, c: u8) -> usize

@@ -1,5 +1,5 @@
 -- Where a field is.
-use Rattle.std.proofs.Common.{◌≡◌, ℕ, Bool, true, false, Option, Some, None, is_none, option_and_then, Result, Ok, Err, List, [], ◌∷◌, ◌++◌, reverse, refl, sym, ap, ◌∙◌, append_assoc, append-nil}
+use Rattle.std.proofs.Common.{◌≡◌, ℕ, true, false, Option, Some, None, is_none, option_and_then, Ok, Err, List, [], ◌∷◌, ◌++◌, reverse, refl, sym, ap, ◌∙◌, append_assoc, append-nil}
 use Rattle.std.specs.Prelude.{if◌then◌else◌}
 use Rattle.std.specs.List.{AllByRecursion}
 use Rattle.std.specs.Option.{option_map_or}
@@ -18,7 +18,6 @@ use Rattle.cx_asm_pass2.specs.Statements.{PlacedStatement}
 use Rattle.cx_asm_pass2.specs.Whole.{Whole, whole_of}
 use Rattle.cx_look_levels.specs.Fields.{bases_at, bases_in, field_by, stands_at}
 use Rattle.cx_look_levels.specs.Laws.{FieldsAreOperands, context_at}
-use Rattle.cx_look_levels.specs.declared.fields.Field.{Field}
 
 -- ---- bases, statement by statement
 passed : Whole → Bases → List PlacedStatement → Bases

@@ -1,5 +1,5 @@
 -- FIELD and FIELDS: what is written of a level's fields (own).
-use Rattle.std.specs.Prelude.{ℕ, ◌+◌, min, if◌then◌else◌, Option, Some, None, option_and_then, option_map, List, [], ◌∷◌, ◌++◌, codes}
+use Rattle.std.specs.Prelude.{ℕ, min, if◌then◌else◌, Option, Some, option_and_then, option_map, List, [], ◌∷◌, ◌++◌, codes}
 use Rattle.std.specs.Fmt.{decimal}
 use Rattle.std.specs.List.{flat_map}
 use Rattle.std.specs.Option.{option_map_or}
@@ -13,28 +13,40 @@ use Rattle.cx_asm_operands.specs.Bases.{Bases}
 use Rattle.cx_look_words.specs.Words.{in_apostrophes, look_line, or_none, written_name, Lines}
 use Rattle.cx_look_symbols.specs.Symbols.{SourceSymbols, named_of, translated_in}
 use Rattle.cx_look_symbols.specs.declared.rows.Symbol.{Symbol}
+use Rattle.cx_look_values.specs.Readings.{reading_named, readings_of}
+use Rattle.cx_look_values.specs.Texts.{value_text}
+use Rattle.cx_look_values.specs.declared.readings.NamedReading.{NamedReading}
+use Rattle.cx_look_values.specs.declared.readings.Reading.{Reading}
 use Rattle.cx_look_levels.specs.Fields.{bases_in, field_by, field_in, is_field, offset_of, standing_of}
 use Rattle.cx_look_levels.specs.declared.fields.Field.{Field}
+use Rattle.cx_look_levels.specs.declared.fields.TypedField.{TypedField}
 use Rattle.cx_look_levels.specs.declared.standing.Standing.{Standing}
 
--- ---- a field: its address, its length, and its first 32 bytes in hexadecimal digits and in characters; hyphens where one of them isn't in
--- storage
-abbrev pub bytes_word : Option (List ℕ) → List ℕ
-bytes_word bytes = option_map_or (λ it. hex_digits it ++ codes " " ++ in_apostrophes (shown_text it)) bytes (codes "--")
+-- ---- a field: its address, its length, its first 32 bytes in hexadecimal digits and in characters, and the number that they are; hyphens
+-- where one of them isn't in storage
+abbrev pub bytes_word : Option Reading → Option (List ℕ) → List ℕ
+bytes_word reading bytes =
+    option_map_or (λ it. hex_digits it ++ codes " " ++ in_apostrophes (shown_text it) ++ value_text reading it) bytes (codes "--")
 
-unfoldable pub field_line : Storage → List ℕ → List ℕ → Field → Lines
-field_line storage term name field =
-    look_line (codes "FIELD" ∷ shown_name term ∷ written_name name ∷ codes "AT" ∷ digits 16 6 field.address ∷ codes "LENGTH" ∷ decimal field.length
-    ∷ bytes_word (span storage field.address (min 32 field.length)) ∷ [])
+abbrev pub typed : List NamedReading → List ℕ → Field → TypedField
+typed readings name field = record { field = field; reading = reading_named readings name }
+
+unfoldable pub field_line : Storage → List ℕ → List ℕ → TypedField → Lines
+field_line storage term name it =
+    look_line (codes "FIELD" ∷ shown_name term ∷ written_name name ∷ codes "AT" ∷ digits 16 6 it.field.address
+    ∷ codes "LENGTH" ∷ decimal it.field.length ∷ bytes_word it.reading (span storage it.field.address (min 32 it.field.length)) ∷ [])
 
 abbrev pub no_field : List ℕ → List ℕ → Lines
 no_field term name = look_line (codes "FIELD" ∷ shown_name term ∷ written_name name ∷ codes "NONE" ∷ [])
 
 -- ---- one field
 -- where the level is at a statement of its source
-abbrev pub field_there : List (List ℕ) → List ℕ → Standing → Option Field
+abbrev pub typed_in : Source → List ℕ → ℕ → List ℕ → Option TypedField
+typed_in source regs offset name = option_map (typed (readings_of source) name) (field_in source regs offset name)
+
+abbrev pub field_there : List (List ℕ) → List ℕ → Standing → Option TypedField
 field_there lines name standing =
-    option_and_then (λ offset. option_and_then (λ source. field_in source standing.regs offset name) (translated_in lines)) (offset_of standing)
+    option_and_then (λ offset. option_and_then (λ source. typed_in source standing.regs offset name) (translated_in lines)) (offset_of standing)
 
 abbrev pub standing_at : RegionState → List ℕ → Option ℕ → Option Standing
 standing_at region term k = option_and_then (λ task. standing_of region.programs task k) (task_of region term)
@@ -48,16 +60,19 @@ field_text region lines term name k =
     option_map_or (field_line region.storage term name) (option_and_then (field_there lines name) (standing_at region term k)) (no_field term name)
 
 -- ---- all fields of dummy sections that a base reaches, in the source's order
-abbrev pub row_line : Storage → List ℕ → List ℕ → Bases → Option (List ℕ) → List ℕ × Symbol → Lines
-row_line storage term regs bases control (name, symbol) =
-    if is_field control symbol.value then option_map_or (field_line storage term name) (field_by regs bases symbol.value) [] else []
+abbrev pub row_line : Storage → List ℕ → List NamedReading → List ℕ → Bases → Option (List ℕ) → List ℕ × Symbol → Lines
+row_line storage term readings regs bases control (name, symbol) =
+    if is_field control symbol.value
+    then option_map_or (λ field. field_line storage term name (typed readings name field)) (field_by regs bases symbol.value) [] else []
 
-abbrev pub rows_lines : Storage → List ℕ → List ℕ → Option Bases → Option SourceSymbols → Lines
-rows_lines storage term regs (Some bases) (Some named) = flat_map (row_line storage term regs bases named.control) named.rows
-rows_lines storage term regs _ _ = []
+abbrev pub rows_lines : Storage → List ℕ → List NamedReading → List ℕ → Option Bases → Option SourceSymbols → Lines
+rows_lines storage term readings regs (Some bases) (Some named) =
+    flat_map (row_line storage term readings regs bases named.control) named.rows
+rows_lines storage term readings regs _ _ = []
 
 abbrev pub source_lines : Storage → List ℕ → List ℕ → ℕ → Source → Lines
-source_lines storage term regs offset source = rows_lines storage term regs (bases_in source offset) (named_of source)
+source_lines storage term regs offset source =
+    rows_lines storage term (readings_of source) regs (bases_in source offset) (named_of source)
 
 abbrev pub fields_there : Storage → List (List ℕ) → List ℕ → Standing → Lines
 fields_there storage lines term standing =

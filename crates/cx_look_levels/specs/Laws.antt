@@ -1,5 +1,5 @@
 -- Where a field is.
-use Rattle.std.specs.Prelude.{◌≡◌, ℕ, Bool, true, false, Option, Some, None, Ok, List, [], ◌∷◌, ◌++◌, reverse}
+use Rattle.std.specs.Prelude.{◌≡◌, ℕ, true, false, Some, None, Ok, List, [], ◌∷◌, ◌++◌, reverse}
 use Rattle.std.specs.List.{AllByRecursion}
 use Rattle.cx_exec.specs.Machine.{effective}
 use Rattle.cx_source.specs.declared.source.Source.{Source}
@@ -12,7 +12,6 @@ use Rattle.cx_asm_pass2.specs.SecondFaults.{bases_after_all}
 use Rattle.cx_asm_pass2.specs.Statements.{PlacedStatement, statements_of}
 use Rattle.cx_asm_pass2.specs.Whole.{instruction_context, whole_of}
 use Rattle.cx_look_levels.specs.Fields.{field_in, stands_at}
-use Rattle.cx_look_levels.specs.declared.fields.Field.{Field}
 
 -- the statement that has the byte at an offset: none in front of it has the byte
 pub record IsStatementAt (source : Source) (offset : ℕ) (before : List PlacedStatement) (s : PlacedStatement) (after : List PlacedStatement) : Type 0 where

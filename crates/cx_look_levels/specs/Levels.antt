@@ -1,5 +1,5 @@
 -- TASK: what is kept of a level (own).
-use Rattle.std.specs.Prelude.{ℕ, ◌+◌, List, [], ◌∷◌, ◌++◌, length, slice_index, codes}
+use Rattle.std.specs.Prelude.{ℕ, ◌+◌, List, [], ◌∷◌, ◌++◌, length, reverse, slice_index, codes}
 use Rattle.std.specs.List.{flat_map}
 use Rattle.std.specs.Option.{option_map_or}
 use Rattle.cx_base_commands.specs.Conditions.{entry_of, handled_conditions}
@@ -14,6 +14,7 @@ use Rattle.cx_program.specs.Entries.{entry_for}
 use Rattle.cx_program.specs.declared.entries.Entries.{Entries}
 use Rattle.cx_program.specs.declared.entries.Handler.{Handler}
 use Rattle.cx_program.specs.declared.entries.Handler.TheVariants as entry
+use Rattle.cx_program.specs.declared.entries.Handling.{Handling}
 use Rattle.cx_program.specs.declared.entries.Exit.{Exit}
 use Rattle.cx_program.specs.declared.entries.Exit.TheVariants as exit
 use Rattle.cx_program.specs.declared.level.Level.{Level}
@@ -24,9 +25,16 @@ use Rattle.cx_look_words.specs.Words.{look_line, Lines}
 use Rattle.cx_look_symbols.specs.Lines.{SourcePlaces}
 use Rattle.cx_look_symbols.specs.Places.{address_word, line_word, place_of, place_word, spot_before}
 
--- a line of the level number k
-abbrev pub level_words : ℕ → List (List ℕ) → Lines
-level_words k words = look_line (codes "LEVEL" ∷ digits 10 2 k ∷ words)
+-- a line of a level, with its number
+abbrev pub level_words : List ℕ → List (List ℕ) → Lines
+level_words number words = look_line (codes "LEVEL" ∷ number ∷ words)
+
+-- the number of a level, and that of what its PUSH HANDLE number n keeps
+abbrev pub level_number : ℕ → List ℕ
+level_number k = digits 10 2 k
+
+abbrev pub pushed_number : ℕ → ℕ → List ℕ
+pushed_number k n = level_number k ++ codes " PUSHED " ++ digits 10 2 n
 
 -- ---- its program, where it goes on, the line of its last command, its DFHEISTG, the word at DFHEICAP, EIBCALEN, how many PUSH HANDLEs
 -- keep something
@@ -44,42 +52,53 @@ cap_word s level = option_map_or (digits 16 8) (word_at s (address_after level.s
 
 unfoldable pub level_line : SourcePlaces → SharedState → ℕ → Level → Lines
 level_line sources shared k level =
-    level_words k
+    level_words (level_number k)
     (codes "PROGRAM" ∷ shown_name level.program ∷ codes "R14" ∷ goes_on_word sources shared.programs (goes_on level)
     ∷ codes "DFHEISTG" ∷ digits 16 6 level.stg ∷ codes "LENGTH" ∷ digits 16 6 level.stg_len ∷ codes "DFHEICAP" ∷ cap_word shared.storage level
     ∷ codes "EIBCALEN" ∷ digits 16 4 level.calen ∷ codes "PUSHED" ∷ digits 10 2 (length level.handles.kept) ∷ [])
 
--- ---- the handles in force: a condition that is ignored, and one with a label
-abbrev pub ignore_line : ℕ → Condition → Lines
-ignore_line k condition = level_words k (codes "IGNORE" ∷ (entry_of condition).name ∷ [])
+-- ---- handles, with the number of their level: a condition that is ignored, and one with a label
+abbrev pub ignore_line : List ℕ → Condition → Lines
+ignore_line number condition = level_words number (codes "IGNORE" ∷ (entry_of condition).name ∷ [])
 
-abbrev pub label_line : SourcePlaces → List (List ℕ × Loaded) → ℕ → Condition → ℕ → Lines
-label_line sources programs k condition label =
-    level_words k (codes "HANDLE" ∷ (entry_of condition).name ∷ place_word sources (place_of programs label) ∷ [])
+abbrev pub label_line : SourcePlaces → List (List ℕ × Loaded) → List ℕ → Condition → ℕ → Lines
+label_line sources programs number condition label =
+    level_words number (codes "HANDLE" ∷ (entry_of condition).name ∷ place_word sources (place_of programs label) ∷ [])
 
-abbrev pub handle_line : SourcePlaces → List (List ℕ × Loaded) → ℕ → Condition → Handler → Lines
-handle_line sources programs k condition entry.NoEntry = []
-handle_line sources programs k condition entry.Ignored = ignore_line k condition
-handle_line sources programs k condition (entry.Label label) = label_line sources programs k condition label
+abbrev pub handle_line : SourcePlaces → List (List ℕ × Loaded) → List ℕ → Condition → Handler → Lines
+handle_line sources programs number condition entry.NoEntry = []
+handle_line sources programs number condition entry.Ignored = ignore_line number condition
+handle_line sources programs number condition (entry.Label label) = label_line sources programs number condition label
 
-abbrev pub handle_lines : SourcePlaces → List (List ℕ × Loaded) → ℕ → Entries → List Condition → Lines
-handle_lines sources programs k entries conditions =
-    flat_map (λ condition. handle_line sources programs k condition (entry_for entries condition)) conditions
+abbrev pub handle_lines : SourcePlaces → List (List ℕ × Loaded) → List ℕ → Entries → List Condition → Lines
+handle_lines sources programs number entries conditions =
+    flat_map (λ condition. handle_line sources programs number condition (entry_for entries condition)) conditions
 
 -- ---- the exit, and whether it is on
-abbrev pub exit_words : SourcePlaces → List (List ℕ × Loaded) → ℕ → ℕ → List ℕ → Lines
-exit_words sources programs k label state = level_words k (codes "EXIT" ∷ place_word sources (place_of programs label) ∷ state ∷ [])
+abbrev pub exit_words : SourcePlaces → List (List ℕ × Loaded) → List ℕ → ℕ → List ℕ → Lines
+exit_words sources programs number label state =
+    level_words number (codes "EXIT" ∷ place_word sources (place_of programs label) ∷ state ∷ [])
 
-abbrev pub exit_line : SourcePlaces → List (List ℕ × Loaded) → ℕ → Exit → Lines
-exit_line sources programs k exit.NoExit = []
-exit_line sources programs k (exit.On label) = exit_words sources programs k label (codes "ON")
-exit_line sources programs k (exit.Off label) = exit_words sources programs k label (codes "OFF")
+abbrev pub exit_line : SourcePlaces → List (List ℕ × Loaded) → List ℕ → Exit → Lines
+exit_line sources programs number exit.NoExit = []
+exit_line sources programs number (exit.On label) = exit_words sources programs number label (codes "ON")
+exit_line sources programs number (exit.Off label) = exit_words sources programs number label (codes "OFF")
 
--- ---- a level, and levels from the number k on
+-- ---- what is asked for, and what PUSH HANDLEs from the number n on keep
+unfoldable pub handling_lines : SourcePlaces → List (List ℕ × Loaded) → List ℕ → Handling → Lines
+handling_lines sources programs number handling =
+    handle_lines sources programs number handling.entries handled_conditions ++ exit_line sources programs number handling.exit
+
+unfoldable pub pushed_lines : SourcePlaces → List (List ℕ × Loaded) → ℕ → ℕ → List Handling → Lines
+pushed_lines sources programs k n [] = []
+pushed_lines sources programs k n (handling ∷ more) =
+    handling_lines sources programs (pushed_number k n) handling ++ pushed_lines sources programs k (n + 1) more
+
+-- ---- a level: its line, what it asks for at present, and what its PUSH HANDLEs keep, the first first; and levels from the number k on
 unfoldable pub level_text : SourcePlaces → SharedState → ℕ → Level → Lines
 level_text sources shared k level =
-    level_line sources shared k level ++ handle_lines sources shared.programs k level.handles.active.entries handled_conditions
-    ++ exit_line sources shared.programs k level.handles.active.exit
+    level_line sources shared k level ++ handling_lines sources shared.programs (level_number k) level.handles.active
+    ++ pushed_lines sources shared.programs k 1 (reverse level.handles.kept)
 
 unfoldable pub levels_text : SourcePlaces → SharedState → ℕ → List Level → Lines
 levels_text sources shared k [] = []

@@ -4,9 +4,9 @@ ghost use Rattle.std.specs.List.{flat_map};
 ghost use Rattle.cx_asm_pass1.specs.Locations.{IsPlaced, final_state};
 ghost use Rattle.cx_storage.specs.Storage.{span};
 ghost use Rattle.cx_base_text.specs.Texts.{shown_name};
-ghost use Rattle.cx_look_levels.specs.FieldTexts.{bytes_word, field_line, field_text, field_there, fields_text, fields_there, no_field, program_at, row_line, source_lines, standing_at};
+ghost use Rattle.cx_look_levels.specs.FieldTexts.{bytes_word, field_line, field_text, field_there, fields_text, fields_there, no_field, program_at, row_line, source_lines, standing_at, typed_in};
 
-use crate::fields::{Field, bases_in, field_by, field_in, is_field};
+use crate::fields::{Field, TypedField, bases_in, field_by, field_in, is_field};
 use crate::standing::{Standing, standing_of};
 use crate::tasks::task_of;
 use cx_asm_operands::Bases;
@@ -14,6 +14,7 @@ use cx_asm_pass1::{Places, place_all};
 use cx_base_text::{hexadecimal, shown, shown_name};
 use cx_ebcdic::{Name4, Name8};
 use cx_look_symbols::{Names, Symbol, length_word, names_of_places, translated_in};
+use cx_look_values::{NamedReading, Reading, reading_named, readings_of, value_text};
 use cx_look_words::{Report, in_apostrophes, spelled, written_name};
 use cx_region::Region;
 use cx_source::{Source, Text};
@@ -34,11 +35,16 @@ fn count_of(length: u128) -> usize
     }
 }
 
-/// A field's first bytes in hexadecimal digits and in characters.
-fn bytes_word<S: Store>(alloc: Global, store: &S, field: Field) -> Result<Vec<u8>, AllocError>
+/// A field's first bytes in hexadecimal digits and in characters, and the number that they are.
+fn bytes_word<S: Store>(
+    alloc: Global,
+    store: &S,
+    field: Field,
+    reading: Option<Reading>,
+) -> Result<Vec<u8>, AllocError>
     requires { field.address < 2 ^ 24 }
     ensures { let bytes = span (S.storage store.now) field.address (min 32 field.length) in
-        IfOk result (λ word. word.items ≡ bytes_word bytes) }
+        IfOk result (λ word. word.items ≡ bytes_word reading bytes) }
 {
     let mut buffer = [0; MOST_BYTES];
     let count = count_of(field.length);
@@ -50,6 +56,7 @@ fn bytes_word<S: Store>(alloc: Global, store: &S, field: Field) -> Result<Vec<u8
     let mut word = spelled(alloc, bytes)?;
     word.push(b' ')?;
     word.extend_from_slice(&characters)?;
+    word.extend_from_slice(&value_text(alloc, reading, bytes)?)?;
     Ok(word)
 }
 
@@ -60,13 +67,14 @@ fn field_line<S: Store>(
     store: &S,
     term: Name4,
     name: Name8,
-    field: Field,
+    typed: TypedField,
 ) -> Result<(), AllocError>
-    requires { field.address < 2 ^ 24 }
-    ensures { OnOk result (report.new ≡ report.old ++ field_line (S.storage store.now) term name field) }
+    requires { typed.field.address < 2 ^ 24 }
+    ensures { OnOk result (report.new ≡ report.old ++ field_line (S.storage store.now) term name typed) }
 {
     let alloc = report.alloc();
-    let bytes = bytes_word(alloc, store, field)?;
+    let field = typed.field;
+    let bytes = bytes_word(alloc, store, field, typed.reading)?;
     let length = length_word(alloc, field.length)?;
     let term = shown_name(alloc, term)?;
     let name = written_name(alloc, &name.bytes())?;
@@ -110,15 +118,34 @@ pub fn program_at<S: Store + Drop>(region: &Region<S>, term: Name4, k: Option<u8
     Some(standing.program)
 }
 
+/// The field of a name of a source, and how it is read.
+fn typed_in(
+    alloc: Global,
+    source: &Source,
+    regs: &[u32; 16],
+    offset: u32,
+    name: Name8,
+) -> Result<Option<TypedField>, AllocError>
+    ensures value { IfOk result (λ field. field ≡ typed_in source.now regs.now offset name) }
+    ensures short { IfOk result (λ field. IfSome field (λ it. it.field.address < 2 ^ 24)) }
+{
+    let Some(field) = field_in(alloc, source, regs, offset, name)? else {
+        return Ok(None);
+    };
+    let readings = readings_of(alloc, source)?;
+    let reading = reading_named(readings.as_slice(), name);
+    Ok(Some(TypedField { field, reading }))
+}
+
 /// The field of a name, where a level stands at a statement of its source.
 fn field_there(
     alloc: Global,
     lines: &[Text],
     name: Name8,
     standing: &Standing,
-) -> Result<Option<Field>, AllocError>
+) -> Result<Option<TypedField>, AllocError>
     ensures value { IfOk result (λ field. field ≡ field_there lines.now name standing.now) }
-    ensures short { IfOk result (λ field. IfSome field (λ it. it.address < 2 ^ 24)) }
+    ensures short { IfOk result (λ field. IfSome field (λ it. it.field.address < 2 ^ 24)) }
 {
     let Some(offset) = standing.offset() else {
         return Ok(None);
@@ -126,7 +153,7 @@ fn field_there(
     let Some(source) = translated_in(alloc, lines)? else {
         return Ok(None);
     };
-    field_in(alloc, &source, &standing.regs, offset, name)
+    typed_in(alloc, &source, &standing.regs, offset, name)
 }
 
 /// The field of a name, where there is such a level and it stands at a statement of its source.
@@ -135,9 +162,9 @@ fn field_at(
     lines: &[Text],
     name: Name8,
     standing: Option<Standing>,
-) -> Result<Option<Field>, AllocError>
+) -> Result<Option<TypedField>, AllocError>
     ensures value { IfOk result (λ field. field ≡ option_and_then (field_there lines.now name) standing) }
-    ensures short { IfOk result (λ field. IfSome field (λ it. it.address < 2 ^ 24)) }
+    ensures short { IfOk result (λ field. IfSome field (λ it. it.field.address < 2 ^ 24)) }
 {
     match standing {
         Some(standing) => field_there(alloc, lines, name, &standing),
@@ -147,7 +174,7 @@ fn field_at(
 
 /// Looks at a field of a level of a terminal's task: the level of a number, 1 being the highest, or without one the current level, whose
 /// program's source has these lines. A line with the field's address, by the base that the assembler would choose for it at the level's
-/// statement, its length attribute and its first bytes; NONE where there is no such level, it isn't at a statement of its source, no base
+/// statement, its length attribute, its first bytes, and the number that they are; NONE where there is no such level, it isn't at a statement of its source, no base
 /// in use reaches the field, or the source has no such symbol.
 ///
 /// An error comes only where memory was refused.
@@ -176,13 +203,14 @@ fn row_line<S: Store>(
     report: &mut Report,
     store: &S,
     term: Name4,
+    readings: &[NamedReading],
     regs: &[u32; 16],
     bases: &Bases,
     control: Option<Name8>,
     name: Name8,
     symbol: &Symbol,
 ) -> Result<(), AllocError>
-    ensures { let line = row_line (S.storage store.now) term regs.now bases.now control (name, symbol.now) in
+    ensures { let line = row_line (S.storage store.now) term readings.now regs.now bases.now control (name, symbol.now) in
         OnOk result (report.new ≡ report.old ++ line) }
 {
     if !is_field(control, &symbol.value) {
@@ -191,7 +219,8 @@ fn row_line<S: Store>(
     let Some(field) = field_by(regs, bases, symbol.value) else {
         return Ok(());
     };
-    field_line(report, store, term, name, field)
+    let reading = reading_named(readings, name);
+    field_line(report, store, term, name, TypedField { field, reading })
 }
 
 /// Adds the lines of symbols that are fields which a base reaches.
@@ -199,11 +228,12 @@ fn rows_lines<S: Store>(
     report: &mut Report,
     store: &S,
     term: Name4,
+    readings: &[NamedReading],
     regs: &[u32; 16],
     bases: &Bases,
     names: &Names,
 ) -> Result<(), AllocError>
-    ensures { let line = row_line (S.storage store.now) term regs.now bases.now names.now.control in
+    ensures { let line = row_line (S.storage store.now) term readings.now regs.now bases.now names.now.control in
         OnOk result (report.new ≡ report.old ++ flat_map line names.now.symbols.entries) }
 {
     for (name, symbol) in names.symbols.iter() {
@@ -211,6 +241,7 @@ fn rows_lines<S: Store>(
             report,
             store,
             term,
+            readings,
             regs,
             bases,
             names.control,
@@ -241,7 +272,16 @@ fn placed_fields<S: Store>(
         return Ok(());
     };
     let names = names_of_places(alloc, source, places)?;
-    rows_lines(report, store, term, &standing.regs, &bases, &names)
+    let readings = readings_of(alloc, source)?;
+    rows_lines(
+        report,
+        store,
+        term,
+        readings.as_slice(),
+        &standing.regs,
+        &bases,
+        &names,
+    )
 }
 
 /// Adds the lines of the fields of a source.

@@ -12,6 +12,7 @@ use cx_asm_pass1::{Places, place_all};
 use cx_asm_pass2::{Statement, control_name, pass_bases, placed_lines, stated};
 use cx_ebcdic::Name8;
 use cx_look_symbols::{holds, is_control, statement_place};
+use cx_look_values::Reading;
 use cx_source::Source;
 use std::alloc::{AllocError, Global};
 
@@ -20,6 +21,13 @@ use std::alloc::{AllocError, Global};
 pub struct Field {
     pub address: u32,
     pub length: u128,
+}
+
+/// A field, and how its bytes are read as a number, if they may be one.
+#[derive(Clone, Copy, Debug, PartialEq, Eq)]
+pub struct TypedField {
+    pub field: Field,
+    pub reading: Option<Reading>,
 }
 
 /// Whether a statement has the byte at an offset of the control section.
@@ -57,9 +65,12 @@ fn bases_at(
     Ok(None)
 }
 
-/// The bases in use in a source at an offset of its control section.
+/// The bases in use in a source in front of the statement that has the byte at an offset of its control section; None where no statement has
+/// it. `places` is where everything of the source is.
+///
+/// An error comes only where memory was refused.
 #[tactic(auto, using(cx_look_symbols::specs::Facts::Whole::whole_is))]
-pub(crate) fn bases_in(
+pub fn bases_in(
     alloc: Global,
     source: &Source,
     places: &Places<'_>,
@@ -93,9 +104,9 @@ fn effective(regs: &[u32; 16], at: Address) -> u32
     base.wrapping_add(u32::from(at.displacement)) % 0x100_0000
 }
 
-/// A value's address by the base that the assembler chooses for it, and its length.
+/// A value's address by the base that the assembler chooses for it, and its length; None where no base in use reaches it. It takes no memory.
 #[tactic(auto, unfolding(crate::specs::Fields::field_by))]
-pub(crate) fn field_by(regs: &[u32; 16], bases: &Bases, value: Value) -> Option<Field>
+pub fn field_by(regs: &[u32; 16], bases: &Bases, value: Value) -> Option<Field>
     ensures value { result ≡ field_by regs.now bases.now value }
     ensures short { IfSome result (λ field. field.address < 2 ^ 24) }
 {
@@ -150,7 +161,7 @@ pub(crate) fn field_in(
 }
 
 /// Whether a value is that of a field: a place in a dummy section.
-pub(crate) fn is_field(control: Option<Name8>, value: &Value) -> bool
+pub fn is_field(control: Option<Name8>, value: &Value) -> bool
     ensures { result ≡ is_field control value.now }
 {
     value.section.is_some() && !is_control(value.section, control)

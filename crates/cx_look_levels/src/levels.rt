@@ -1,8 +1,9 @@
 //! The levels of a task.
-ghost use Rattle.std.specs.Prelude.{◌≡◌, ◌++◌, ◌+◌, ◌∷◌, ◌≤◌, IfOk, OnOk, map, codes, slice_get};
+ghost use Rattle.std.specs.Prelude.{◌≡◌, ◌++◌, ◌+◌, ◌∷◌, ◌≤◌, IfOk, OnOk, map, codes, length, slice_get};
 ghost use Rattle.cx_program.specs.Levels.{all_levels};
-ghost use Rattle.cx_look_levels.specs.Parts.Levels.{level_at};
-ghost use Rattle.cx_look_levels.specs.Levels.{cap_word, exit_line, exit_words, goes_on_word, handle_line, handle_lines, ignore_line, label_line, level_line, level_text, levels_text};
+ghost use Rattle.cx_look_levels.specs.Parts.Levels.{level_at, number_of};
+ghost use Rattle.cx_look_levels.specs.Levels.{cap_word, exit_line, exit_words, goes_on_word, handle_line, handle_lines, handling_lines, ignore_line, label_line, level_line, level_text, levels_text, pushed_lines};
+ghost use Rattle.cx_look_levels.specs.declared.levels.Handles.TheVariants as handles;
 
 use cx_base_commands::{Condition, EistgField};
 use cx_base_text::{decimal, hexadecimal, shown_name};
@@ -10,7 +11,7 @@ use cx_ebcdic::Name8;
 use cx_load::Loaded;
 use cx_look_symbols::{SourcePlaces, address_word, line_word, place_of, place_word, spot_before};
 use cx_look_words::Report;
-use cx_program::{Entries, Exit, Handler, Level, LevelStack};
+use cx_program::{Entries, Exit, Handler, Handling, Level, LevelStack};
 use cx_region_state::Shared;
 use cx_storage::{Store, address_in, along, word_at};
 use indexmap::IndexMap;
@@ -82,11 +83,33 @@ fn level_line<S: Store + Drop>(
     ])
 }
 
-/// Adds the line of a condition that is ignored.
-fn ignore_line(report: &mut Report, k: u32, condition: Condition) -> Result<(), AllocError>
-    ensures { OnOk result (report.new ≡ report.old ++ ignore_line k condition) }
+/// Which handles of the level of a number: those in force, or what its PUSH HANDLE of a number keeps.
+#[derive(Clone, Copy, Debug, PartialEq, Eq)]
+pub(crate) enum Handles {
+    InForce(u32),
+    Pushed(u32, u32),
+}
+
+/// The number of the level that has them.
+fn number_of(alloc: Global, of: Handles) -> Result<Vec<u8>, AllocError>
+    ensures { IfOk result (λ number. number.items ≡ number_of of) }
 {
-    let number = decimal::<2>(k);
+    match of {
+        Handles::InForce(k) => decimal::<2>(k).to_vec(alloc),
+        Handles::Pushed(k, n) => {
+            let mut number = decimal::<2>(k).to_vec(alloc)?;
+            number.extend_from_slice(b" PUSHED ")?;
+            number.extend_from_slice(&decimal::<2>(n))?;
+            Ok(number)
+        }
+    }
+}
+
+/// Adds the line of a condition that is ignored.
+fn ignore_line(report: &mut Report, of: Handles, condition: Condition) -> Result<(), AllocError>
+    ensures { OnOk result (report.new ≡ report.old ++ ignore_line (number_of of) condition) }
+{
+    let number = number_of(report.alloc(), of)?;
     let name = condition.name().as_bytes();
     report.line(&[b"LEVEL", &number, b"IGNORE", name])
 }
@@ -96,14 +119,14 @@ fn label_line(
     report: &mut Report,
     sources: &SourcePlaces,
     programs: &IndexMap<Name8, Loaded>,
-    k: u32,
+    of: Handles,
     condition: Condition,
     label: u32,
 ) -> Result<(), AllocError>
-    ensures { let line = label_line sources.now.entries programs.now.entries k condition label in
+    ensures { let line = label_line sources.now.entries programs.now.entries (number_of of) condition label in
         OnOk result (report.new ≡ report.old ++ line) }
 {
-    let number = decimal::<2>(k);
+    let number = number_of(report.alloc(), of)?;
     let name = condition.name().as_bytes();
     let place = place_word(report.alloc(), sources, &place_of(programs, label))?;
     report.line(&[b"LEVEL", &number, b"HANDLE", name, &place])
@@ -114,17 +137,17 @@ fn handle_line(
     report: &mut Report,
     sources: &SourcePlaces,
     programs: &IndexMap<Name8, Loaded>,
-    k: u32,
+    of: Handles,
     condition: Condition,
     entry: Handler,
 ) -> Result<(), AllocError>
-    ensures { let more = handle_line sources.now.entries programs.now.entries k condition entry in
+    ensures { let more = handle_line sources.now.entries programs.now.entries (number_of of) condition entry in
         OnOk result (report.new ≡ report.old ++ more) }
 {
     match entry {
         Handler::NoEntry => Ok(()),
-        Handler::Ignored => ignore_line(report, k, condition),
-        Handler::Label(label) => label_line(report, sources, programs, k, condition, label),
+        Handler::Ignored => ignore_line(report, of, condition),
+        Handler::Label(label) => label_line(report, sources, programs, of, condition, label),
     }
 }
 
@@ -133,16 +156,17 @@ fn handle_lines(
     report: &mut Report,
     sources: &SourcePlaces,
     programs: &IndexMap<Name8, Loaded>,
-    k: u32,
+    of: Handles,
     entries: &Entries,
     conditions: &[Condition],
 ) -> Result<(), AllocError>
-    ensures { let more = handle_lines sources.now.entries programs.now.entries k entries.now conditions.now in
+    ensures { let number = number_of of in
+        let more = handle_lines sources.now.entries programs.now.entries number entries.now conditions.now in
         OnOk result (report.new ≡ report.old ++ more) }
 {
     for condition in conditions {
         let entry = entries.entry_for(*condition);
-        handle_line(report, sources, programs, k, *condition, entry)?;
+        handle_line(report, sources, programs, of, *condition, entry)?;
     }
     Ok(())
 }
@@ -152,14 +176,14 @@ fn exit_words(
     report: &mut Report,
     sources: &SourcePlaces,
     programs: &IndexMap<Name8, Loaded>,
-    k: u32,
+    of: Handles,
     label: u32,
     state: &[u8],
 ) -> Result<(), AllocError>
-    ensures { let line = exit_words sources.now.entries programs.now.entries k label state.now in
+    ensures { let line = exit_words sources.now.entries programs.now.entries (number_of of) label state.now in
         OnOk result (report.new ≡ report.old ++ line) }
 {
-    let number = decimal::<2>(k);
+    let number = number_of(report.alloc(), of)?;
     let place = place_word(report.alloc(), sources, &place_of(programs, label))?;
     report.line(&[b"LEVEL", &number, b"EXIT", &place, state])
 }
@@ -169,17 +193,54 @@ fn exit_line(
     report: &mut Report,
     sources: &SourcePlaces,
     programs: &IndexMap<Name8, Loaded>,
-    k: u32,
+    of: Handles,
     exit: Exit,
 ) -> Result<(), AllocError>
-    ensures { let more = exit_line sources.now.entries programs.now.entries k exit in
+    ensures { let more = exit_line sources.now.entries programs.now.entries (number_of of) exit in
         OnOk result (report.new ≡ report.old ++ more) }
 {
     match exit {
         Exit::NoExit => Ok(()),
-        Exit::On(label) => exit_words(report, sources, programs, k, label, b"ON"),
-        Exit::Off(label) => exit_words(report, sources, programs, k, label, b"OFF"),
+        Exit::On(label) => exit_words(report, sources, programs, of, label, b"ON"),
+        Exit::Off(label) => exit_words(report, sources, programs, of, label, b"OFF"),
     }
+}
+
+/// Adds the lines of what is asked for.
+#[tactic(auto, unfolding(crate::specs::Levels::handling_lines))]
+fn handling_lines(
+    report: &mut Report,
+    sources: &SourcePlaces,
+    programs: &IndexMap<Name8, Loaded>,
+    of: Handles,
+    handling: &Handling,
+) -> Result<(), AllocError>
+    ensures { let more = handling_lines sources.now.entries programs.now.entries (number_of of) handling.now in
+        OnOk result (report.new ≡ report.old ++ more) }
+{
+    let conditions = Condition::handled();
+    handle_lines(report, sources, programs, of, &handling.entries, conditions)?;
+    exit_line(report, sources, programs, of, handling.exit)
+}
+
+/// Adds the lines of what PUSH HANDLEs keep, the first kept first.
+#[tactic(auto, unfolding(crate::specs::Levels::pushed_lines))]
+fn pushed_lines(
+    report: &mut Report,
+    sources: &SourcePlaces,
+    programs: &IndexMap<Name8, Loaded>,
+    k: u32,
+    kept: &[Handling],
+) -> Result<(), AllocError>
+    requires { length kept.now ≤ 16 }
+    ensures { let more = pushed_lines sources.now.entries programs.now.entries k 1 kept.now in
+        OnOk result (report.new ≡ report.old ++ more) }
+{
+    for (index, handling) in kept.iter().enumerate() {
+        let of = Handles::Pushed(k, index as u32 + 1);
+        handling_lines(report, sources, programs, of, handling)?;
+    }
+    Ok(())
 }
 
 /// Adds the lines of a level.
@@ -195,10 +256,9 @@ fn level_text<S: Store + Drop>(
 {
     let programs = &shared.programs;
     let active = level.handles.active();
-    let conditions = Condition::handled();
     level_line(report, sources, shared, k, level)?;
-    handle_lines(report, sources, programs, k, &active.entries, conditions)?;
-    exit_line(report, sources, programs, k, active.exit)
+    handling_lines(report, sources, programs, Handles::InForce(k), active)?;
+    pushed_lines(report, sources, programs, k, level.handles.kept())
 }
 
 /// Adds the lines of the level at an index, counted from 0, where there is one.

@@ -9,6 +9,6 @@ mod standing;
 mod tasks;
 
 pub use field_texts::{field_text, fields_text, program_at};
-pub use fields::Field;
-pub use standing::Standing;
+pub use fields::{Field, TypedField, bases_in, field_by, is_field};
+pub use standing::{Standing, standing_of};
 pub use tasks::task_text;

@@ -20,8 +20,8 @@ pub struct Standing {
 }
 
 impl Standing {
-    /// The offset in the level's own program.
-    pub(crate) fn offset(&self) -> Option<u32>
+    /// The offset in the level's own program; None where it is in no program or another one.
+    pub fn offset(&self) -> Option<u32>
         ensures { result ≡ offset_of self.now }
     {
         let spot = self.spot?;
@@ -89,9 +89,10 @@ fn level_numbered(programs: &IndexMap<Name8, Loaded>, task: &Task, k: u8) -> Opt
     calling_at(programs, &task.levels, k.saturating_sub(1))
 }
 
-/// Where the level of a number stands, or without one the current level.
+/// Where the level of a number stands, 1 being the highest, or without one the current level; None where there is no such level. It takes no
+/// memory.
 #[tactic(auto, unfolding(crate::specs::Fields::standing_of))]
-pub(crate) fn standing_of(
+pub fn standing_of(
     programs: &IndexMap<Name8, Loaded>,
     task: &Task,
     k: Option<u8>,

@@ -1,17 +1,15 @@
 -- A look changes nothing.
-use Rattle.std.proofs.Common.{◌≡◌, ◌⊎◌, inl, inr, ℕ, zero, suc, ◌≤◌, Bool, true, false, MatchBool, List, [], ◌∷◌, ◌++◌, replicate, refl, sym, ap, ◌∙◌, subst, append-nil, append_assoc, arith}
+use Rattle.std.proofs.Common.{◌≡◌, ℕ, zero, suc, Bool, true, false, MatchBool, cond, List, [], ◌∷◌, ◌++◌, refl, sym, ap, ◌∙◌, subst, append-nil, append_assoc}
 use Rattle.std.specs.List.{flat_map}
-use Rattle.cx_edf.specs.declared.answers.Answer.{Answer}
 use Rattle.cx_edf.specs.State.{EdfState}
 use Rattle.cx_script_actions.specs.Effects.{Performs, Replies}
-use Rattle.cx_script_actions.specs.Texts.{answer_text}
 use Rattle.cx_script_actions.specs.declared.actions.Action.{Action}
 use Rattle.cx_script_actions.specs.declared.actions.Action.TheVariants as edf_action
 use Rattle.cx_script.specs.Transcript.{Runs}
-use Rattle.cx_look_script.specs.Looking.{LookPerforms, NotedPerforms}
-use Rattle.cx_look_script.specs.Runs.{AppliesAtLooks, RunsOn, goes_on, still_running, turn_of}
+use Rattle.cx_look_script.specs.Looking.{LookPerforms, NotedPerforms, TakesOneMore}
+use Rattle.cx_look_script.specs.Runs.{still_running}
 use Rattle.cx_look_script.specs.State.{LookState}
-use Rattle.cx_look_script.specs.Laws.Looks.{ArePartsOf, ChangesNothing, IsPart, LooksChangeNothing, Part, kept_after, plain_of, text_of, written_of}
+use Rattle.cx_look_script.specs.Laws.Looks.{ArePartsOf, ChangesNothing, IsPart, LooksChangeNothing, Part, kept_after, plain_of, text_of, turn_action, written_of}
 use Rattle.cx_look_script.specs.declared.action.LookAction.{LookAction}
 use Rattle.cx_look_script.specs.declared.action.LookAction.TheVariants as action
 
@@ -29,59 +27,6 @@ performs old (edf_action.Screen name) text new p = p.0
 performs old (edf_action.Display name) text new p = p.0
 performs old (edf_action.Previous name k) text new p = p.0
 
--- ---- turns
--- what RUN did as turns
-record RanTurns (old : LookState) (name : List ℕ) (n : ℕ) (text : List ℕ) (new : LookState) : Type 0 where
-  turns : ℕ
-  written : List ℕ
-  looked : List ℕ
-  runs : Runs NotedPerforms old (replicate turns (edf_action.Event (turn_of name))) written new
-  ended : ((turns ≤ n) × (looked ≡ [])) ⊎ ((turns ≡ n) × (looked ≡ still_running name))
-  whole : text ≡ written ++ looked
-
-turned : (old : LookState) (name : List ℕ) (given : Answer) (between : LookState) → AppliesAtLooks old (turn_of name) given between
-    → NotedPerforms old (edf_action.Event (turn_of name)) (answer_text (turn_of name) given) between
-unfolding NotedPerforms
-turned old name given between h = (given, h, refl)
-
-one_more : (name : List ℕ) (turns n : ℕ) (looked : List ℕ) → ((turns ≤ n) × (looked ≡ [])) ⊎ ((turns ≡ n) × (looked ≡ still_running name))
-    → ((suc turns ≤ suc n) × (looked ≡ [])) ⊎ ((suc turns ≡ suc n) × (looked ≡ still_running name))
-one_more name turns n looked (inl p) = inl (omega (arith, p.0), p.1)
-one_more name turns n looked (inr p) = inr (ap suc p.0, p.1)
-
-turn_first : (old : LookState) (name : List ℕ) (n : ℕ) (given : Answer) (between : LookState) (rest text : List ℕ) (new : LookState) (on : Bool)
-    → AppliesAtLooks old (turn_of name) given between → MatchBool on (RunsOn between name n rest new) ((rest ≡ []) × (new ≡ between))
-    → (RunsOn between name n rest new → RanTurns between name n rest new) → text ≡ answer_text (turn_of name) given ++ rest → RanTurns old name (suc n) text new
-unfolding Runs
-turn_first old name n given between rest text new true applies after later e =
-    let r = later after in
-    let a = answer_text (turn_of name) given in
-    record {
-      turns = suc r.turns;
-      written = a ++ r.written;
-      looked = r.looked;
-      runs = (between, a, r.written, turned old name given between applies, r.runs, refl);
-      ended = one_more name r.turns n r.looked r.ended;
-      whole = e ∙ ap (λ l. a ++ l) r.whole ∙ sym (append_assoc a r.written r.looked);
-    }
-turn_first old name n given between rest text new false applies after later e =
-    let a = answer_text (turn_of name) given in
-    record {
-      turns = 1;
-      written = a;
-      looked = [];
-      runs = (between, a, [], turned old name given between applies, (refl, after.1), sym (append-nil a));
-      ended = inl (omega arith, refl);
-      whole = e ∙ ap (λ l. a ++ l) after.0;
-    }
-
-ran_turns : (old : LookState) (name : List ℕ) (n : ℕ) (text : List ℕ) (new : LookState) → RunsOn old name n text new → RanTurns old name n text new
-unfolding RunsOn Runs
-ran_turns old name zero text new p =
-    record { turns = 0; written = []; looked = still_running name; runs = (refl, p.1); ended = inr (refl, refl); whole = p.0 }
-ran_turns old name (suc n) text new p =
-    turn_first old name n p.0 p.1 p.2 text new (goes_on p.1.edf name p.0) p.3 p.4 (λ h. ran_turns p.1 name n p.2 new h) p.5
-
 -- ---- parts
 record Did (old : LookState) (a : LookAction) (text : List ℕ) (new : LookState) : Type 0 where
   part : Part
@@ -91,17 +36,41 @@ record Did (old : LookState) (a : LookAction) (text : List ℕ) (new : LookState
   kept : new ≡ kept_after old a done
   whole : text ≡ text_of part
 
-did : (old : LookState) (a : LookAction) (text : List ℕ) (new : LookState) → LookPerforms old a text new → Did old a text new
-unfolding LookPerforms Runs
-did old (action.Script a) text new p =
+-- an action that is done as one of `cicsedf`
+did_action : (old : LookState) (a : LookAction) (done : Action) (text : List ℕ) (new : LookState) → IsPart old a (let part : Part = record { plain = done ∷ []; written = text; looked = [] } in part)
+    → new ≡ kept_after old a new → NotedPerforms old done text new → Did old a text new
+did_action old a done text new is kept p =
     record {
-      part = record { plain = a ∷ []; written = text; looked = [] };
-      is = (refl, refl);
+      part = record { plain = done ∷ []; written = text; looked = [] };
+      is = is;
       done = new;
-      runs = runs_one old a text new p;
-      kept = refl;
+      runs = runs_one old done text new p;
+      kept = kept;
       whole = sym (append-nil text);
     }
+
+-- an action that changes nothing
+did_nothing : (old : LookState) (a : LookAction) (text : List ℕ) (new : LookState) → IsPart old a (let part : Part = record { plain = []; written = []; looked = text } in part)
+    → new ≡ kept_after old a new → new ≡ old → Did old a text new
+unfolding Runs
+did_nothing old a text new is kept same =
+    record { part = record { plain = []; written = []; looked = text }; is = is; done = new; runs = (refl, same); kept = kept; whole = refl }
+
+-- one more turn of RUN, or its last line
+did_more : (old : LookState) (name : List ℕ) (n : ℕ) (text : List ℕ) (new : LookState) (on : Bool) → old.goes_on ≡ on
+    → MatchBool on (TakesOneMore old name n text new) ((text ≡ []) × (new ≡ old)) → Did old (action.RunOn name n) text new
+did_more old name zero text new true e p =
+    did_nothing old (action.RunOn name zero) text new (refl, p.0 ∙ ap (λ b. cond b (still_running name) []) (sym e)) refl p.1
+did_more old name (suc n) text new true e p =
+    did_action old (action.RunOn name (suc n)) (turn_action name) text new (ap (λ (b : Bool). let l : List Action = cond b (turn_action name ∷ []) [] in l) (sym e), refl) refl p
+did_more old name zero text new false e p =
+    did_nothing old (action.RunOn name zero) text new (refl, p.0 ∙ ap (λ b. cond b (still_running name) []) (sym e)) refl p.1
+did_more old name (suc n) text new false e p =
+    did_nothing old (action.RunOn name (suc n)) text new (ap (λ (b : Bool). let l : List Action = cond b (turn_action name ∷ []) [] in l) (sym e), p.0) refl p.1
+
+did : (old : LookState) (a : LookAction) (text : List ℕ) (new : LookState) → LookPerforms old a text new → Did old a text new
+unfolding LookPerforms Runs
+did old (action.Script a) text new p = did_action old (action.Script a) a text new (refl, refl) refl p
 did old (action.Source name lines a) text new p =
     record {
       part = record { plain = a ∷ []; written = text; looked = [] };
@@ -111,25 +80,10 @@ did old (action.Source name lines a) text new p =
       kept = p.keeps;
       whole = sym (append-nil text);
     }
-did old (action.Run name n) text new p =
-    let r = ran_turns old name n text new p in
-    record {
-      part = record { plain = replicate r.turns (edf_action.Event (turn_of name)); written = r.written; looked = r.looked };
-      is = record { turns = r.turns; plain = refl; ended = r.ended };
-      done = new;
-      runs = r.runs;
-      kept = refl;
-      whole = r.whole;
-    }
-did old (action.Look l) text new p =
-    record {
-      part = record { plain = []; written = []; looked = text };
-      is = (refl, p.0);
-      done = new;
-      runs = (refl, p.1);
-      kept = refl;
-      whole = refl;
-    }
+did old (action.Run name n) text new p = did_action old (action.Run name n) (turn_action name) text new (refl, refl) refl p
+did old (action.RunOn name n) text new p = did_more old name n text new old.goes_on refl p
+did old (action.Look l) text new p = did_nothing old (action.Look l) text new (refl, p.0) refl p.1
+did old (action.BadLook number s) text new p = did_nothing old (action.BadLook number s) text new (refl, p.0) refl p.1
 
 append_plain : (old : LookState) (xs : List Action) (s : List ℕ) (mid : LookState) (ys : List Action) (t : List ℕ) (new : LookState)
     → Runs NotedPerforms old xs s mid → Runs Performs mid.edf ys t new.edf → Runs Performs old.edf (xs ++ ys) (s ++ t) new.edf
@@ -144,6 +98,8 @@ kept_same : (old : LookState) (a : LookAction) (done : LookState) → (kept_afte
 kept_same old (action.Script a) done = refl
 kept_same old (action.Source name lines a) done = refl
 kept_same old (action.Run name n) done = refl
+kept_same old (action.RunOn name n) done = refl
+kept_same old (action.BadLook number s) done = refl
 kept_same old (action.Look l) done = refl
 
 in_front : (old : LookState) (a : LookAction) (first : List ℕ) (between : LookState) (actions : List LookAction) (rest text : List ℕ) (new : LookState)

@@ -1,5 +1,6 @@
 mod TurnLemmas
 mod LawLemmas
 mod MarkLemmas
+mod NoteLemmas
 mod PlainLemmas
 mod SameLemmas

@@ -5,6 +5,7 @@ use Rattle.cx_look.specs.declared.look.Look.TheVariants as look
 use Rattle.cx_look_words.specs.Facts.Marked.{marked_is_of_looks}
 use Rattle.cx_look_words.specs.Marked.{IsOfLooks}
 use Rattle.cx_look_words.specs.Words.{Lines, marked}
+use Rattle.cx_look_ahead.specs.Laws.{AheadDecides}
 use Rattle.cx_look_tasks.specs.Laws.{ResourcesTextsDecide, TasksTextsDecide}
 use Rattle.cx_look_script.specs.Looking.{AreLookLines}
 use Rattle.cx_look_script.specs.Laws.Looks.{LooksAreMarked, LooksAreReportedOnce}
@@ -13,28 +14,30 @@ use Rattle.cx_look_script.specs.State.{LookState}
 pub looks_are_marked : LooksAreMarked
 looks_are_marked look state text it = subst IsOfLooks (sym it.is) (marked_is_of_looks it.lines)
 
-same_lines : TasksTextsDecide → ResourcesTextsDecide → (look : Look) (state : LookState) (one other : Lines) → AreLookLines look state one → AreLookLines look state other → one ≡ other
+same_lines : TasksTextsDecide → ResourcesTextsDecide → AheadDecides → (look : Look) (state : LookState) (one other : Lines) → AreLookLines look state one → AreLookLines look state other → one ≡ other
 unfolding AreLookLines
-same_lines tasks resources look.Queues state one other p q = p ∙ sym q
-same_lines tasks resources (look.Queue name) state one other p q = p ∙ sym q
-same_lines tasks resources (look.Item name n) state one other p q = p ∙ sym q
-same_lines tasks resources look.Programs state one other p q = p ∙ sym q
-same_lines tasks resources look.Tasks state one other p q = tasks state.edf.region one other p q
-same_lines tasks resources look.Resources state one other p q = resources state.edf.region one other p q
-same_lines tasks resources (look.Command name) state one other p q = p ∙ sym q
-same_lines tasks resources (look.Storage at n) state one other p q = p ∙ sym q
-same_lines tasks resources look.Areas state one other p q = p ∙ sym q
-same_lines tasks resources (look.AreasOf name) state one other p q = p ∙ sym q
-same_lines tasks resources (look.Task name) state one other p q = p ∙ sym q
-same_lines tasks resources (look.Abend name) state one other p q = p ∙ sym q
-same_lines tasks resources (look.Faults source) state one other p q = p ∙ sym q
-same_lines tasks resources (look.Symbol program name) state one other p q = p ∙ sym q
-same_lines tasks resources (look.Symbols program) state one other p q = p ∙ sym q
-same_lines tasks resources (look.Xref program) state one other p q = p ∙ sym q
-same_lines tasks resources (look.Field term name k) state one other p q = p ∙ sym q
-same_lines tasks resources (look.Fields term k) state one other p q = p ∙ sym q
-same_lines tasks resources (look.Help word) state one other p q = p ∙ sym q
+same_lines tasks resources ahead look.Queues state one other p q = p ∙ sym q
+same_lines tasks resources ahead (look.Queue name) state one other p q = p ∙ sym q
+same_lines tasks resources ahead (look.Item name n) state one other p q = p ∙ sym q
+same_lines tasks resources ahead look.Programs state one other p q = p ∙ sym q
+same_lines tasks resources ahead look.Tasks state one other p q = tasks state.edf.region one other p q
+same_lines tasks resources ahead look.Resources state one other p q = resources state.edf.region one other p q
+same_lines tasks resources ahead (look.Command name) state one other p q = p ∙ sym q
+same_lines tasks resources ahead (look.Ahead name) state one other p q = ahead state.edf.region name one other p q
+same_lines tasks resources ahead (look.Storage at n) state one other p q = p ∙ sym q
+same_lines tasks resources ahead look.Areas state one other p q = p ∙ sym q
+same_lines tasks resources ahead (look.AreasOf name) state one other p q = p ∙ sym q
+same_lines tasks resources ahead (look.Task name) state one other p q = p ∙ sym q
+same_lines tasks resources ahead (look.Abend name) state one other p q = p ∙ sym q
+same_lines tasks resources ahead (look.Faults source) state one other p q = p ∙ sym q
+same_lines tasks resources ahead (look.Symbol program name) state one other p q = p ∙ sym q
+same_lines tasks resources ahead (look.Symbols program) state one other p q = p ∙ sym q
+same_lines tasks resources ahead (look.Xref program) state one other p q = p ∙ sym q
+same_lines tasks resources ahead look.Terminals state one other p q = p ∙ sym q
+same_lines tasks resources ahead (look.Field term name k) state one other p q = p ∙ sym q
+same_lines tasks resources ahead (look.Fields term k) state one other p q = p ∙ sym q
+same_lines tasks resources ahead (look.Help word) state one other p q = p ∙ sym q
 
-pub looks_are_reported_once : TasksTextsDecide → ResourcesTextsDecide → LooksAreReportedOnce
-looks_are_reported_once tasks resources look state one other p q =
-    p.is ∙ ap marked (same_lines tasks resources look state p.lines q.lines p.are q.are) ∙ sym q.is
+pub looks_are_reported_once : TasksTextsDecide → ResourcesTextsDecide → AheadDecides → LooksAreReportedOnce
+looks_are_reported_once tasks resources ahead look state one other p q =
+    p.is ∙ ap marked (same_lines tasks resources ahead look state p.lines q.lines p.are q.are) ∙ sym q.is

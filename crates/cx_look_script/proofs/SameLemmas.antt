@@ -1,12 +1,12 @@
 -- A script of `cicsedf` is one of `cicslook`, and does the same.
-use Rattle.std.proofs.Common.{◌≡◌, ℕ, ◌+◌, Bool, true, false, Option, Some, None, List, [], ◌∷◌, codes, map, unwrap_or, refl, sym, ap, ◌∙◌, subst}
+use Rattle.std.proofs.Common.{◌≡◌, ℕ, ◌+◌, Bool, true, false, Option, Some, None, List, [], ◌∷◌, ◌++◌, codes, map, unwrap_or, refl, sym, ap, ◌∙◌, subst}
 use Rattle.std.specs.Prelude.{Result, Ok, Err, if◌then◌else◌}
-use Rattle.std.specs.Option.{ok_or, option_map}
+use Rattle.std.specs.Option.{ok_or, option_map, option_map_or, option_or}
 use Rattle.std.specs.Result.{result_map_both}
 use Rattle.std.specs.Str.{bytes_eq}
 use Rattle.cx_script_actions.specs.Actions.{line_of}
 use Rattle.cx_script_actions.specs.Effects.{Performs}
-use Rattle.cx_script_actions.specs.Language.{edf_language}
+use Rattle.cx_script_actions.specs.Language.{Language, edf_language}
 use Rattle.cx_script_actions.specs.declared.actions.Action.{Action}
 use Rattle.cx_script_actions.specs.declared.actions.Action.TheVariants as script
 use Rattle.cx_script_actions.specs.declared.actions.Line.{Line}
@@ -24,7 +24,8 @@ use Rattle.cx_asm_build.specs.Prepared.{prepared_of}
 use Rattle.cx_asm_build.specs.declared.faults.PrepareFault.{PrepareFault}
 use Rattle.cx_asm_build.specs.declared.program.Prepared.{Prepared}
 use Rattle.cx_edf.specs.State.{EdfState}
-use Rattle.cx_script.specs.Script.{Script, with_action_first, led_to, script_from, script_in}
+use Rattle.cx_script.specs.Script.{Script, Step, actions_of, first_place, stepped, step_from, led_to, script_from, script_in}
+use Rattle.cx_script.specs.declared.run.Place.{Place}
 use Rattle.cx_script.specs.Transcript.{Runs}
 use Rattle.cx_look_script.specs.Laws.Scripts.{ActionsStay, ArePlain, HasNoBadLine, IsSame, ScriptsStay, plain_action}
 use Rattle.cx_look_script.specs.Looking.{LookPerforms}
@@ -91,7 +92,7 @@ within number block text plain good = go (bytes_eq text (codes "/*")) good
 in_block : (number : ℕ) (block : Option Block) (text : List ℕ) → IsPlain block → (step_in edf_language number block text ≡ Err (BadLine number) → ⊥)
     → IsLedSame (step_in edf_language number block text) (step_in look_language number block text)
 unfolding look_line_of
-in_block number None text plain good = outside number (line_of text) (own_line text) good
+in_block number None text plain good = outside number (line_of text) (own_line number text) good
 in_block number (Some block) text plain good = within number block text plain good
 
 steps_here : (number : ℕ) (block : Option Block) (text : List ℕ) → IsPlain block → (step_at edf_language number block text ≡ Err (BadLine number) → ⊥)
@@ -106,55 +107,102 @@ steps_here number block text plain good = go (is_too_long text) good
     go true h = absurd (h refl)
     go false h = in_block number block text plain h
 
--- ---- the lines after it
+-- ---- what a line leads to in a script
 some_same : {A : Type 0} (x y : A) → Some x ≡ Some y → x ≡ y
 some_same x y e = ap (λ o. unwrap_or o x) e
 
-before_here : (a : Option Action) (h : Option LookAction) (script : Script Action) (here : Script LookAction)
-    → option_map plain_action h ≡ option_map (λ (x : Action). Some x) a → IsSame script here → IsSame (with_action_first a script) (with_action_first h here)
-before_here None None script here e same = same
-before_here None (Some h) script here e same = cc
-before_here (Some a) None script here e same = cc
-before_here (Some a) (Some h) script here e same =
+-- no line of `cicsedf` is a bad look
+abbrev IsPlainPlace : Place → Type 0
+IsPlainPlace place = IsPlain place.block × (place.bad_look ≡ None)
+
+record IsSameAsked (a : Option Action) (h : Option LookAction) : Type 0 where
+  actions : ArePlain (actions_of look_language h) (actions_of edf_language a)
+  good : option_map_or edf_language.is_bad_look a false ≡ false
+  good_here : option_map_or look_language.is_bad_look h false ≡ false
+
+same_one : (a : Action) (h : LookAction) → plain_action h ≡ Some a → IsSameAsked (Some a) (Some h)
+same_one a (action.Script b) e = record { actions = ap (λ (o : Option Action). o ∷ []) e; good = refl; good_here = refl }
+same_one a (action.Source name lines b) e = record { actions = ap (λ (o : Option Action). o ∷ []) e; good = refl; good_here = refl }
+same_one a (action.Run name n) e = cc
+same_one a (action.RunOn name n) e = cc
+same_one a (action.Look l) e = cc
+same_one a (action.BadLook number s) e = cc
+
+same_asked : (a : Option Action) (h : Option LookAction) → option_map plain_action h ≡ option_map (λ (x : Action). Some x) a → IsSameAsked a h
+same_asked None None e = record { actions = refl; good = refl; good_here = refl }
+same_asked None (Some h) e = cc
+same_asked (Some a) None e = cc
+same_asked (Some a) (Some h) e = same_one a h (some_same (plain_action h) (Some a) e)
+
+none_after : (before : Option ℕ) (bad : Bool) (number : ℕ) → before ≡ None → bad ≡ false → option_or before (if bad then Some number else None) ≡ None
+none_after None true number e b = cc
+none_after None false number e b = refl
+none_after (Some n) bad number e b = cc
+
+-- ---- the lines after it
+first_same : {A : Type 0} (x y : A) (xs ys : List A) → x ∷ xs ≡ y ∷ ys → x ≡ y
+first_same x y xs ys e = cc
+
+rest_same : {A : Type 0} (x y : A) (xs ys : List A) → x ∷ xs ≡ y ∷ ys → xs ≡ ys
+rest_same x y xs ys e = cc
+
+joined_same : {A : Type 0} (x y : A) (xs ys : List A) → x ≡ y → xs ≡ ys → x ∷ xs ≡ y ∷ ys
+joined_same x y xs ys e f = cc
+
+append_plain : (here : List LookAction) (script : List Action) (more : List LookAction) (rest : List Action) → ArePlain here script → ArePlain more rest → ArePlain (here ++ more) (script ++ rest)
+append_plain [] [] more rest e f = f
+append_plain [] (b ∷ script) more rest e f = cc
+append_plain (a ∷ here) [] more rest e f = cc
+append_plain (a ∷ here) (b ∷ script) more rest e f =
+    let first : plain_action a ≡ Some b = first_same (plain_action a) (Some b) (map plain_action here) (map (λ (x : Action). Some x) script) e in
+    let left : ArePlain here script = rest_same (plain_action a) (Some b) (map plain_action here) (map (λ (x : Action). Some x) script) e in
+    joined_same (plain_action a) (Some b) (map plain_action (here ++ more)) (map (λ (x : Action). Some x) (script ++ rest)) first (append_plain here script more rest left f)
+
+-- this step is that, in `cicsedf` and here
+abbrev led_here : {A : Type 0} → Language A → ℕ → Place → Result (LineStep A) RunFault → Result (Step A) RunFault
+led_here language number place due = result_map_both (stepped language number place) (λ (fault : RunFault). fault) due
+
+led : (number : ℕ) (place : Place) (due : Result (LineStep Action) RunFault) (here : Result (LineStep LookAction) RunFault) (next : Place → Script Action) (others : Place → Script LookAction)
+    → place.bad_look ≡ None → IsLedSame due here → LeavesPlain due → HasNoBadLine (led_to (led_here edf_language number place due) next)
+    → ((p : Place) → IsPlainPlace p → HasNoBadLine (next p) → IsSame (next p) (others p))
+    → IsSame (led_to (led_here edf_language number place due) next) (led_to (led_here look_language number place here) others)
+led number place (Err fault) here next others none same plain good after =
+    subst (λ (h : Result (LineStep LookAction) RunFault). IsSame (led_to (Err fault) next) (led_to (led_here look_language number place h) others)) (sym same) (record { actions = refl; fault = refl })
+led number place (Ok step) (Err fault) next others none same plain good after = absurd same
+led number place (Ok step) (Ok here) next others none same plain good after =
+    let asked = same_asked step.action here.action same.1 in
+    let clean = none_after place.bad_look (option_map_or edf_language.is_bad_look step.action false) number none asked.good in
+    let clean_here = none_after place.bad_look (option_map_or look_language.is_bad_look here.action false) number none asked.good_here in
+    let left : Place = (stepped edf_language number place step).place in
+    let left_here : Place = (stepped look_language number place here).place in
+    let same_place : left_here ≡ left =
+    ap (λ (b : Option Block). let p : Place = record { block = b; bad_look = left_here.bad_look } in p) same.0
+    ∙ ap (λ (n : Option ℕ). let p : Place = record { block = step.block; bad_look = n } in p) (clean_here ∙ sym clean) in
+    let there : IsSame (next left) (others left) = after left (plain, clean) good in
+    let there_here : IsSame (next left) (others left_here) = subst (λ (p : Place). IsSame (next left) (others p)) (sym same_place) there in
     record {
-      actions = ap (λ (x : Option Action). x ∷ map plain_action here.actions) (some_same (plain_action h) (Some a) e)
-          ∙ ap (λ (l : List (Option Action)). Some a ∷ l) same.actions;
-      fault = same.fault;
+      actions = append_plain (actions_of look_language here.action) (actions_of edf_language step.action) (others left_here).actions (next left).actions asked.actions there_here.actions;
+      fault = there_here.fault;
     }
 
-good_after : (a : Option Action) (script : Script Action) → HasNoBadLine (with_action_first a script) → HasNoBadLine script
-good_after None script good = good
-good_after (Some a) script good = good
+bad_first : (number n : ℕ) (place : Place) (due : Result (LineStep Action) RunFault) (next : Place → Script Action) → HasNoBadLine (led_to (led_here edf_language n place due) next) → due ≡ Err (BadLine number) → ⊥
+bad_first number n place due next good e =
+    good number (subst (λ (d : Result (LineStep Action) RunFault). (led_to (led_here edf_language n place d) next).fault ≡ Some (BadLine number)) (sym e) refl)
 
-led : (due : Result (LineStep Action) RunFault) (here : Result (LineStep LookAction) RunFault) (next : Option Block → Script Action) (others : Option Block → Script LookAction)
-    → IsLedSame due here → LeavesPlain due → HasNoBadLine (led_to due next)
-    → ((block : Option Block) → IsPlain block → HasNoBadLine (next block) → IsSame (next block) (others block)) → IsSame (led_to due next) (led_to here others)
-led (Err fault) here next others same plain good after =
-    subst (λ (h : Result (LineStep LookAction) RunFault). IsSame (led_to (Err fault) next) (led_to h others)) (sym same) (record { actions = refl; fault = refl })
-led (Ok step) (Err fault) next others same plain good after = absurd same
-led (Ok step) (Ok here) next others same plain good after =
-    let there : IsSame (next step.block) (others step.block) = after step.block plain (good_after step.action (next step.block) good) in
-    before_here step.action here.action (next step.block) (others here.block) same.1
-    (subst (λ (b : Option Block). IsSame (next step.block) (others b)) (sym same.0) there)
-
-bad_first : (number : ℕ) (due : Result (LineStep Action) RunFault) (next : Option Block → Script Action) → HasNoBadLine (led_to due next) → due ≡ Err (BadLine number) → ⊥
-bad_first number due next good e =
-    good number (subst (λ (d : Result (LineStep Action) RunFault). (led_to d next).fault ≡ Some (BadLine number)) (sym e) refl)
-
-from_here : (ending : Ending) (number : ℕ) (block : Option Block) (lines : List (List ℕ)) → IsPlain block → HasNoBadLine (script_from edf_language ending number block lines)
-    → IsSame (script_from edf_language ending number block lines) (script_from look_language ending number block lines)
-unfolding script_from
-from_here ending number block [] plain good = record { actions = refl; fault = refl }
-from_here ending number block (text ∷ lines) plain good =
-    let next : Option Block → Script Action = λ b. script_from edf_language ending (number + 1) b lines in
-    let others : Option Block → Script LookAction = λ b. script_from look_language ending (number + 1) b lines in
-    let due : Result (LineStep Action) RunFault = step_at edf_language number block text in
-    led due (step_at look_language number block text) next others (steps_here number block text plain (bad_first number due next good))
-    (steps_leave number block text plain) good (λ b p h. from_here ending (number + 1) b lines p h)
+from_here : (ending : Ending) (number : ℕ) (place : Place) (lines : List (List ℕ)) → IsPlainPlace place → HasNoBadLine (script_from edf_language ending number place lines)
+    → IsSame (script_from edf_language ending number place lines) (script_from look_language ending number place lines)
+unfolding script_from step_from
+from_here ending number place [] plain good = record { actions = refl; fault = refl }
+from_here ending number place (text ∷ lines) plain good =
+    let next : Place → Script Action = λ p. script_from edf_language ending (number + 1) p lines in
+    let others : Place → Script LookAction = λ p. script_from look_language ending (number + 1) p lines in
+    let due : Result (LineStep Action) RunFault = step_at edf_language number place.block text in
+    led number place due (step_at look_language number place.block text) next others plain.1 (steps_here number place.block text plain.0 (bad_first number number place due next good))
+    (steps_leave number place.block text plain.0) good (λ p q h. from_here ending (number + 1) p lines q h)
 
 pub scripts_stay : ScriptsStay
 unfolding script_in
-scripts_stay ending bytes good = from_here ending 1 None (lines_met ending bytes) tt good
+scripts_stay ending bytes good = from_here ending 1 first_place (lines_met ending bytes) (tt, refl) good
 
 -- ---- what is done
 performs_same : (old : LookState) (a : LookAction) (b : Action) (text : List ℕ) (new : LookState) → plain_action a ≡ Some b → LookPerforms old a text new
@@ -167,13 +215,9 @@ performs_same old (action.Source name lines a) b text new e p =
     subst (λ (x : Action). Performs old.edf x text new.edf) (some_same a b e)
     (subst (λ (s : EdfState). Performs old.edf a text s) kept (performs old a text p.done p.performs))
 performs_same old (action.Run name n) b text new e p = cc
+performs_same old (action.RunOn name n) b text new e p = cc
+performs_same old (action.BadLook number s) b text new e p = cc
 performs_same old (action.Look l) b text new e p = cc
-
-first_same : {A : Type 0} (x y : A) (xs ys : List A) → x ∷ xs ≡ y ∷ ys → x ≡ y
-first_same x y xs ys e = cc
-
-rest_same : {A : Type 0} (x y : A) (xs ys : List A) → x ∷ xs ≡ y ∷ ys → xs ≡ ys
-rest_same x y xs ys e = cc
 
 pub actions_stay : ActionsStay
 unfolding Runs

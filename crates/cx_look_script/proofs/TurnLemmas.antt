@@ -1,62 +1,66 @@
--- Turns of RUN, one after another.
-use Rattle.std.proofs.Common.{◌≡◌, ℕ, suc, ◌+◌, ◌-◌, ◌<◌, Bool, true, false, MatchBool, List, [], ◌++◌, refl, sym, ap, ◌∙◌, subst, append-nil, append_assoc, arith}
+-- The turns that RUN asks, and what they do one after another.
+use Rattle.std.proofs.Common.{◌≡◌, ℕ, zero, suc, ◌-◌, ◌<◌, Bool, true, false, MatchBool, List, [], ◌∷◌, ◌++◌, refl, sym, ap, ◌∙◌, subst, append-nil, arith}
 use Rattle.cx_edf.specs.declared.answers.Answer.{Answer}
-use Rattle.cx_script_actions.specs.Texts.{answer_text}
-use Rattle.cx_look_script.specs.Runs.{AppliesAtLooks, RunsOn, goes_on, still_running, turn_of}
+use Rattle.cx_script.specs.Transcript.{Runs}
+use Rattle.cx_look_script.specs.Looking.{LookPerforms, NotedPerforms}
+use Rattle.cx_look_script.specs.Laws.Looks.{turn_action}
+use Rattle.cx_look_script.specs.Laws.Turns.{RunsOn, RunsTakeTurns}
+use Rattle.cx_look_script.specs.Runs.{AppliesAtLooks, goes_on, turn_of, turns_left}
 use Rattle.cx_look_script.specs.State.{LookState}
-use Rattle.cx_look_script.specs.Parts.Turns.{Left, TurnsOnce}
+use Rattle.cx_look_script.specs.declared.action.LookAction.TheVariants as action
 
-pub left_first : (start : LookState) (name : List ℕ) (n : ℕ) (text : List ℕ) → text ≡ [] → Left start name n start (n - 0) text
-left_first start name n text e rest new h =
-    let same : n - 0 ≡ n = omega arith in
-    subst (λ t. RunsOn start name n (t ++ rest) new) (sym e) (subst (λ (k : ℕ). RunsOn start name k rest new) same h)
+pub one_left : (name : List ℕ) (n : ℕ) → 0 < n → turns_left name n ≡ action.RunOn name n ∷ turns_left name (n - 1)
+unfolding turns_left
+one_left name zero h = let none : ⊥ = omega (arith, h) in absurd none
+one_left name (suc n) h =
+    let same : n ≡ suc n - 1 = omega arith in ap (λ (k : ℕ). action.RunOn name (suc n) ∷ turns_left name k) same
 
--- a turn, and what is done after it
-once : (old between new : LookState) (name : List ℕ) (n : ℕ) (given : Answer) (rest : List ℕ) → AppliesAtLooks old (turn_of name) given between
-    → MatchBool (goes_on between.edf name given) (RunsOn between name n rest new) ((rest ≡ []) × (new ≡ between))
-    → RunsOn old name (suc n) (answer_text (turn_of name) given ++ rest) new
-unfolding RunsOn
-once old between new name n given rest applies later = (given, between, rest, applies, later, refl)
+by_bool : (b : Bool) (X Y : Type 0) → MatchBool b X Y → b ≡ true → X
+by_bool true X Y h e = h
+by_bool false X Y h e = cc
 
-one_less : (n done : ℕ) → done < n → suc (n - (done + 1)) ≡ n - done
-one_less n done h = omega (arith, h)
+by_other : (b : Bool) (X Y : Type 0) → MatchBool b X Y → b ≡ false → Y
+by_other true X Y h e = cc
+by_other false X Y h e = h
 
-after_text : (before after added rest : List ℕ) → after ≡ before ++ added → before ++ (added ++ rest) ≡ after ++ rest
-after_text before after added rest e = sym (append_assoc before added rest) ∙ ap (λ t. t ++ rest) (sym e)
+-- where the last turn isn't to be followed by one more, none of them does anything
+nothing_more : (old : LookState) (name : List ℕ) (n : ℕ) (text : List ℕ) (new : LookState) → Runs LookPerforms old (turns_left name n) text new → old.goes_on ≡ false → (text ≡ []) × (new ≡ old)
+unfolding Runs turns_left LookPerforms
+nothing_more old name zero text new p e =
+    let first = by_other old.goes_on _ _ p.3 e in
+    (p.5 ∙ ap (λ l. l ++ p.2) first.0 ∙ p.4.0, p.4.1 ∙ first.1)
+nothing_more old name (suc n) text new p e =
+    let first = by_other old.goes_on _ _ p.3 e in
+    let still : p.0.goes_on ≡ false = ap (λ (s : LookState). s.goes_on) first.1 ∙ e in
+    let rest = nothing_more p.0 name n p.2 new p.4 still in
+    (p.5 ∙ ap (λ l. l ++ p.2) first.0 ∙ rest.0, rest.1 ∙ first.1)
 
-joined : (start old between new : LookState) (name : List ℕ) (n done : ℕ) (before after : List ℕ) (given : Answer) (rest : List ℕ) → done < n
-    → Left start name n old (n - done) before → AppliesAtLooks old (turn_of name) given between → after ≡ before ++ answer_text (turn_of name) given
-    → MatchBool (goes_on between.edf name given) (RunsOn between name (n - (done + 1)) rest new) ((rest ≡ []) × (new ≡ between))
-    → RunsOn start name n (after ++ rest) new
-joined start old between new name n done before after given rest less left applies written later =
-    let a = answer_text (turn_of name) given in
-    let one = once old between new name (n - (done + 1)) given rest applies later in
-    let due = subst (λ (k : ℕ). RunsOn old name k (a ++ rest) new) (one_less n done less) one in
-    subst (λ t. RunsOn start name n t new) (after_text before after a rest written) (left (a ++ rest) new due)
+-- a turn, and what comes after it
+after_turn : (between : LookState) (name : List ℕ) (n : ℕ) (given : Answer) (rest : List ℕ) (new : LookState) (on : Bool) → on ≡ between.goes_on → on ≡ goes_on between.edf (turn_of name) given
+    → Runs LookPerforms between (turns_left name n) rest new → (between.goes_on ≡ true → RunsOn between name n rest new) → MatchBool (goes_on between.edf (turn_of name) given) (RunsOn between name n rest new) ((rest ≡ []) × (new ≡ between))
+after_turn between name n given rest new true e f p law =
+    subst (λ b. MatchBool b (RunsOn between name n rest new) ((rest ≡ []) × (new ≡ between))) f (law (sym e))
+after_turn between name n given rest new false e f p law =
+    subst (λ b. MatchBool b (RunsOn between name n rest new) ((rest ≡ []) × (new ≡ between))) f (nothing_more between name n rest new p (sym e))
 
-pub left_next : (start old between : LookState) (name : List ℕ) (n done : ℕ) (before after : List ℕ) (on : Bool) → done < n
-    → Left start name n old (n - done) before → TurnsOnce old name before on after between → on ≡ true → Left start name n between (n - (done + 1)) after
-left_next start old between name n done before after on less left turn goes rest new h =
-    joined start old between new name n done before after turn.given rest less left turn.applies turn.written
-    (subst (λ b. MatchBool b (RunsOn between name (n - (done + 1)) rest new) ((rest ≡ []) × (new ≡ between))) (sym goes ∙ turn.follows) h)
+turn_first : (old between : LookState) (name : List ℕ) (n : ℕ) (first rest text : List ℕ) (new : LookState) → NotedPerforms old (turn_action name) first between
+    → ((given : Answer) → AppliesAtLooks old (turn_of name) given between → MatchBool (goes_on between.edf (turn_of name) given) (RunsOn between name n rest new) ((rest ≡ []) × (new ≡ between)))
+    → text ≡ first ++ rest → RunsOn old name (suc n) text new
+unfolding NotedPerforms RunsOn
+turn_first old between name n first rest text new p after e = (p.0, between, rest, p.1, after p.0 p.1, e ∙ ap (λ l. l ++ rest) p.2)
 
-ends_here : (b : Bool) (Next : Type 0) (rest : List ℕ) (between new : LookState) → b ≡ false → rest ≡ [] → new ≡ between
-    → MatchBool b Next ((rest ≡ []) × (new ≡ between))
-ends_here true Next rest between new e none same = cc
-ends_here false Next rest between new e none same = (none, same)
+goes : (old : LookState) (name : List ℕ) (n : ℕ) (text : List ℕ) (new : LookState) → Runs LookPerforms old (turns_left name n) text new → old.goes_on ≡ true → RunsOn old name n text new
+unfolding Runs turns_left LookPerforms RunsOn
+goes old name zero text new p e =
+    let last = by_bool old.goes_on _ _ p.3 e in
+    (p.5 ∙ ap (λ l. p.1 ++ l) p.4.0 ∙ append-nil p.1 ∙ last.0, p.4.1 ∙ last.1)
+goes old name (suc n) text new p e =
+    turn_first old p.0 name n p.1 p.2 text new (by_bool old.goes_on _ _ p.3 e)
+    (λ given h. after_turn p.0 name n given p.2 new p.0.goes_on refl h.goes_on p.4 (goes p.0 name n p.2 new p.4)) p.5
 
-pub runs_to_the_end : (start old between : LookState) (name : List ℕ) (n done : ℕ) (before after : List ℕ) (on : Bool) → done < n
-    → Left start name n old (n - done) before → TurnsOnce old name before on after between → on ≡ false → RunsOn start name n after between
-runs_to_the_end start old between name n done before after on less left turn stops =
-    subst (λ t. RunsOn start name n t between) (append-nil after)
-    (joined start old between between name n done before after turn.given [] less left turn.applies turn.written
-    (ends_here (goes_on between.edf name turn.given) (RunsOn between name (n - (done + 1)) [] between) [] between between (sym turn.follows ∙ stops) refl refl))
-
-still : (old : LookState) (name : List ℕ) (left : ℕ) → left ≡ 0 → RunsOn old name left (still_running name) old
-unfolding RunsOn
-still old name left e = subst (λ (k : ℕ). RunsOn old name k (still_running name) old) (sym e) (refl, refl)
-
-pub runs_out : (start old : LookState) (name : List ℕ) (n done : ℕ) (before after : List ℕ) → n - done ≡ 0
-    → Left start name n old (n - done) before → after ≡ before ++ still_running name → RunsOn start name n after old
-runs_out start old name n done before after none left e =
-    subst (λ t. RunsOn start name n t old) (sym e) (left (still_running name) old (still old name (n - done) none))
+pub runs_take_turns : RunsTakeTurns
+unfolding Runs LookPerforms
+runs_take_turns old name n text new p =
+    let same : suc n - 1 ≡ n = omega arith in
+    let rest : Runs LookPerforms p.0 (turns_left name n) p.2 new = subst (λ (k : ℕ). Runs LookPerforms p.0 (turns_left name k) p.2 new) same p.4 in
+    turn_first old p.0 name n p.1 p.2 text new p.3 (λ given h. after_turn p.0 name n given p.2 new p.0.goes_on refl h.goes_on rest (goes p.0 name n p.2 new rest)) p.5

@@ -10,8 +10,10 @@ use Rattle.cx_look.specs.declared.look.SourceLines.{SourceLines}
 use Rattle.cx_look_words.specs.Words.{Lines, look_line}
 use Rattle.cx_look_faults.specs.Faults.{faults_of}
 use Rattle.cx_look_faults.specs.Marks.{marks_of}
+use Rattle.cx_look_faults.specs.Notes.{notes_of}
 use Rattle.cx_look_faults.specs.declared.faults.FaultyLine.{FaultyLine}
 use Rattle.cx_look_faults.specs.declared.marks.Mark.{Mark}
+use Rattle.cx_look_faults.specs.declared.notes.Note.{Note}
 use Rattle.cx_look_faults.specs.declared.positions.Spot.{Spot}
 
 -- A source's line by its number, as it is in the script; after the last comes the block's end.
@@ -47,10 +49,18 @@ abbrev pub fault_lines : SourceLines → List FaultyLine → Lines
 fault_lines source [] = look_line (codes "FAULTS" ∷ shown_name source.name ∷ codes "NONE" ∷ [])
 fault_lines source (fault ∷ faults) = flat_map (fault_line source) (marks_of source.lines (fault ∷ faults))
 
+-- a note: the place of what it is about, and what it says
+abbrev pub note_line : SourceLines → Note → Lines
+note_line source note = look_line (place_word source note.spot ∷ codes "NOTE" ∷ map shown_byte note.text ∷ [])
+
 -- of a source's lines the first 10,001 are kept, and so only their faults are known
 abbrev pub is_kept : FaultyLine → Bool
 is_kept fault = nat_lt fault.line 10002
 
--- What is written for the lines of a source.
+abbrev pub kept_faults : SourceLines → List FaultyLine
+kept_faults source = filter is_kept (faults_of source.lines)
+
+-- What is written for the lines of a source: the faulty lines, and then the notes.
 unfoldable pub faults_text : SourceLines → Lines
-faults_text source = fault_lines source (filter is_kept (faults_of source.lines))
+faults_text source =
+    fault_lines source (kept_faults source) ++ flat_map (note_line source) (notes_of source.lines (kept_faults source))

@@ -1,5 +1,6 @@
 -- HELP: the table of lines (own).
-use Rattle.std.specs.Prelude.{ℕ, Option, Some, None, List, [], ◌∷◌, codes}
+use Rattle.std.specs.Prelude.{ℕ, Option, Some, None, List, [], ◌∷◌, ◌++◌, codes}
+use Rattle.std.specs.Fmt.{decimal}
 use Rattle.std.specs.List.{flat_map}
 use Rattle.cx_look.specs.declared.look.Subject.{Subject}
 use Rattle.cx_look.specs.declared.look.Subject.TheVariants as subject
@@ -13,7 +14,9 @@ form_of subject.Queue = codes "QUEUE name [k]       a queue with its items, or i
 form_of subject.Programs = codes "PROGRAMS             the programs"
 form_of subject.Tasks = codes "TASKS                each terminal, and what its task is doing"
 form_of subject.Resources = codes "RESOURCES            the resources that are owned, and who waits for them"
+form_of subject.Terminals = codes "TERMINALS            the clock, next transactions, input that is held, EDF"
 form_of subject.Command = codes "COMMAND term         the command that is due at the terminal"
+form_of subject.Ahead = codes "AHEAD term           what the terminal's next turn will do"
 form_of subject.Task = codes "TASK term            the terminal's task, and each of its levels"
 form_of subject.Field = codes "FIELD term name [k]  a field of the current level, or of level k"
 form_of subject.Fields = codes "FIELDS term [k]      all fields of that level"
@@ -30,7 +33,8 @@ form_of subject.Help = codes "HELP [word]          this table, or the line of a 
 abbrev pub table : List Subject
 table =
     subject.Run ∷ subject.Queues ∷ subject.Queue ∷ subject.Programs ∷ subject.Tasks ∷ subject.Resources ∷
-    subject.Command ∷ subject.Task ∷ subject.Field ∷ subject.Fields ∷ subject.Areas ∷ subject.Storage ∷
+    subject.Terminals ∷ subject.Command ∷ subject.Ahead ∷ subject.Task ∷ subject.Field ∷ subject.Fields ∷ subject.Areas ∷
+    subject.Storage ∷
     subject.Abend ∷ subject.Symbol ∷ subject.Symbols ∷ subject.Xref ∷ subject.Faults ∷ subject.Help ∷ []
 
 abbrev pub form_lines : List Subject → Lines
@@ -39,3 +43,7 @@ form_lines subjects = flat_map (λ s. look_line (form_of s ∷ [])) subjects
 unfoldable pub help_text : Option Subject → Lines
 help_text None = form_lines table
 help_text (Some s) = form_lines (s ∷ [])
+
+-- a bad look: the number of its line, and the line of its word
+abbrev pub bad_look_text : ℕ → Subject → Lines
+bad_look_text number s = look_line (codes "?" ∷ codes "line" ∷ (decimal number ++ codes ":") ∷ form_of s ∷ [])

@@ -1,3 +1,5 @@
 -- The statements of laws.
 pub mod Looks
+pub mod Notes
 pub mod Scripts
+pub mod Turns

@@ -1,14 +1,13 @@
 -- The definitions, in reading order.
 pub mod State
 pub mod Sources
+pub mod Runs
 pub mod Reading
 pub mod Allowed
-pub mod Runs
 pub mod Faults
 pub mod Help
 pub mod Looking
 pub mod Laws
-pub mod Parts
 pub use Rattle.cx_script_actions.specs.Actions
 pub use Rattle.cx_script_actions.specs.Language
 pub use Rattle.cx_script_actions.specs.Texts
@@ -20,6 +19,7 @@ pub use Rattle.cx_look_words.specs.Words
 pub use Rattle.cx_look_words.specs.Marked
 pub use Rattle.cx_look_tables.specs.Queues
 pub use Rattle.cx_look_tables.specs.Programs
+pub use Rattle.cx_look_tables.specs.Terminals
 pub use Rattle.cx_look_storage.specs.Uses
 pub use Rattle.cx_look_storage.specs.Areas
 pub use Rattle.cx_look_storage.specs.Bytes
@@ -32,6 +32,8 @@ pub use Rattle.cx_look_command.specs.Looks as LooksAtCommands
 pub use Rattle.cx_look_symbols.specs.Symbols
 pub use Rattle.cx_look_symbols.specs.Texts as SymbolTexts
 pub use Rattle.cx_look_symbols.specs.Places
+pub use Rattle.cx_look_ahead.specs.Rows
+pub use Rattle.cx_look_ahead.specs.Ahead
 pub use Rattle.cx_look_tasks.specs.Activities
 pub use Rattle.cx_look_tasks.specs.Tasks
 pub use Rattle.cx_look_abend.specs.Abends as LastAbends

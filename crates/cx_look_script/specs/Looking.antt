@@ -1,5 +1,5 @@
 -- What an action of a script with looks does, and what is written for it (own).
-use Rattle.std.specs.Prelude.{◌≡◌, ℕ, Option, List, []}
+use Rattle.std.specs.Prelude.{◌≡◌, ℕ, zero, suc, MatchBool, Option, List, []}
 use Rattle.std.specs.Option.{option_map_or}
 use Rattle.cx_region.specs.Tables.{program_of}
 use Rattle.cx_edf.specs.declared.answers.Answer.{Answer}
@@ -12,6 +12,8 @@ use Rattle.cx_look.specs.declared.look.Look.TheVariants as look
 use Rattle.cx_look_words.specs.Words.{Lines, marked}
 use Rattle.cx_look_tables.specs.Queues.{item_text, queue_text, queues_text}
 use Rattle.cx_look_tables.specs.Programs.{programs_text}
+use Rattle.cx_look_tables.specs.Terminals.{terminals_text}
+use Rattle.cx_look_ahead.specs.Ahead.{AheadText}
 use Rattle.cx_look_command.specs.Looks.{command_text}
 use Rattle.cx_look_symbols.specs.Texts.{symbol_text, symbols_text}
 use Rattle.cx_look_xref.specs.Texts.{xref_text}
@@ -23,9 +25,9 @@ use Rattle.cx_look_tasks.specs.Tasks.{ResourcesText, TasksText}
 use Rattle.cx_look_abend.specs.Texts.{abend_text}
 use Rattle.cx_look_script.specs.State.{LookState}
 use Rattle.cx_look_script.specs.Sources.{source_lines, with_source}
-use Rattle.cx_look_script.specs.Runs.{AppliesAtLooks, RunsOn}
+use Rattle.cx_look_script.specs.Runs.{AppliesAtLooks, still_running, turn_of}
 use Rattle.cx_look_script.specs.Faults.{faults_text}
-use Rattle.cx_look_script.specs.Help.{help_text}
+use Rattle.cx_look_script.specs.Help.{bad_look_text, help_text}
 use Rattle.cx_look_script.specs.declared.action.LookAction.{LookAction}
 use Rattle.cx_look_script.specs.declared.action.LookAction.TheVariants as action
 
@@ -42,17 +44,20 @@ AreLookLines look.Programs state lines = lines ≡ programs_text state.edf.regio
 AreLookLines look.Tasks state lines = TasksText state.edf.region lines
 AreLookLines look.Resources state lines = ResourcesText state.edf.region lines
 AreLookLines (look.Command name) state lines = lines ≡ command_text state.edf.region name
+AreLookLines (look.Ahead name) state lines = AheadText state.edf.region name lines
 AreLookLines (look.Task name) state lines = lines ≡ task_text state.sources.places state.edf.region name
 AreLookLines look.Areas state lines = lines ≡ areas_text state.edf.region
 AreLookLines (look.AreasOf name) state lines = lines ≡ task_areas_text state.edf.region name
 AreLookLines (look.Storage at n) state lines = lines ≡ storage_text state.edf.region at n
-AreLookLines (look.Abend name) state lines = lines ≡ abend_text state.sources.places state.abends name
+AreLookLines (look.Abend name) state lines =
+    lines ≡ abend_text state.sources.places state.edf.region.programs state.abends name
 AreLookLines (look.Faults source) state lines = lines ≡ faults_text source
 AreLookLines (look.Symbol program name) state lines =
     lines ≡ symbol_text (program_of state.edf.region program) (source_lines state.sources program) name
 AreLookLines (look.Symbols program) state lines =
     lines ≡ symbols_text (program_of state.edf.region program) program (source_lines state.sources program)
 AreLookLines (look.Xref program) state lines = lines ≡ xref_text program (source_lines state.sources program)
+AreLookLines look.Terminals state lines = lines ≡ terminals_text state.edf
 AreLookLines (look.Field term name k) state lines = lines ≡ field_text state.edf.region (level_lines state term k) term name k
 AreLookLines (look.Help word) state lines = lines ≡ help_text word
 AreLookLines (look.Fields term k) state lines = lines ≡ fields_text state.edf.region (level_lines state term k) term k
@@ -67,7 +72,8 @@ pub record IsLookText (look : Look) (state : LookState) (text : List ℕ) : Type
 -- kept
 unfoldable pub NotedPerforms : LookState → Action → List ℕ → LookState → Type 0
 NotedPerforms old (edf_action.Event e) text new = (given : Answer) × AppliesAtLooks old e given new × (text ≡ answer_text e given)
-NotedPerforms old a text new = Performs old.edf a text new.edf × (new.abends ≡ old.abends) × (new.sources ≡ old.sources)
+NotedPerforms old a text new =
+    Performs old.edf a text new.edf × (new.abends ≡ old.abends) × (new.sources ≡ old.sources) × (new.goes_on ≡ old.goes_on)
 
 -- a source's end: what it does in `cicsedf`, and after that the source's lines are kept, where it defined its program
 pub record SourcePerforms (old : LookState) (name : List ℕ) (lines : List (List ℕ)) (a : Action) (text : List ℕ) (new : LookState) : Type 0 where
@@ -75,9 +81,21 @@ pub record SourcePerforms (old : LookState) (name : List ℕ) (lines : List (Lis
   pub performs : NotedPerforms old a text done
   pub keeps : new ≡ with_source old name lines done
 
--- One action: the state before, the action, what is written for it, and the state after.
+-- a turn of a terminal
+abbrev pub TakesTurn : LookState → List ℕ → List ℕ → LookState → Type 0
+TakesTurn old name text new = NotedPerforms old (edf_action.Event (turn_of name)) text new
+
+-- one more turn, or where none is left the line that says so
+abbrev pub TakesOneMore : LookState → List ℕ → ℕ → List ℕ → LookState → Type 0
+TakesOneMore old name zero text new = (text ≡ still_running name) × (new ≡ old)
+TakesOneMore old name (suc n) text new = TakesTurn old name text new
+
+-- One action: the state before, the action, what is written for it, and the state after. RUN's first turn is always done, and each
+-- further one only where the last is to be followed by one more.
 unfoldable pub LookPerforms : LookState → LookAction → List ℕ → LookState → Type 0
 LookPerforms old (action.Script a) text new = NotedPerforms old a text new
 LookPerforms old (action.Source name lines a) text new = SourcePerforms old name lines a text new
-LookPerforms old (action.Run name n) text new = RunsOn old name n text new
+LookPerforms old (action.Run name n) text new = TakesTurn old name text new
+LookPerforms old (action.RunOn name n) text new = MatchBool old.goes_on (TakesOneMore old name n text new) ((text ≡ []) × (new ≡ old))
 LookPerforms old (action.Look l) text new = IsLookText l old text × (new ≡ old)
+LookPerforms old (action.BadLook number s) text new = (text ≡ marked (bad_look_text number s)) × (new ≡ old)

@@ -1,7 +1,7 @@
 -- What a line of a script with looks asks (own).
-use Rattle.std.specs.Prelude.{ℕ, if◌then◌else◌, Option, Some, None, List, codes}
+use Rattle.std.specs.Prelude.{ℕ, Bool, true, false, nat_le, if◌then◌else◌, Option, Some, None, unwrap_or, List, length, map}
 use Rattle.std.specs.Option.{option_and_then, option_map}
-use Rattle.std.specs.Str.{bytes_eq}
+use Rattle.std.specs.Char.{to_ascii_uppercase}
 use Rattle.cx_ebcdic.specs.Names.{padded_name}
 use Rattle.cx_script_actions.specs.Words.{after_first_blank, word}
 use Rattle.cx_script_actions.specs.Actions.{line_of}
@@ -9,8 +9,11 @@ use Rattle.cx_script_actions.specs.Language.{Language}
 use Rattle.cx_script_actions.specs.declared.actions.Action.{Action}
 use Rattle.cx_script_actions.specs.declared.actions.Line.{Line}
 use Rattle.cx_script_actions.specs.declared.actions.Line.TheVariants as line
-use Rattle.cx_look.specs.Looks.{count_of, look_of}
+use Rattle.cx_look.specs.Looks.{count_of, look_of, subject_of}
 use Rattle.cx_look.specs.declared.look.Look.TheVariants as look
+use Rattle.cx_look.specs.declared.look.Subject.{Subject}
+use Rattle.cx_look.specs.declared.look.Subject.TheVariants as subject
+use Rattle.cx_look_script.specs.Runs.{look_actions_of}
 use Rattle.cx_look_script.specs.declared.action.LookAction.{LookAction}
 use Rattle.cx_look_script.specs.declared.action.LookAction.TheVariants as action
 
@@ -22,12 +25,26 @@ turns_of name (Some text) = option_map (λ n. action.Run name n) (count_of 4096 
 abbrev pub run_of : List ℕ → Option LookAction
 run_of text = option_and_then (λ name. turns_of name (after_first_blank text)) (padded_name 4 (word text))
 
--- RUN, the beginning of a source's block for FAULTS, or a look
-unfoldable pub own_line : List ℕ → Option (Line LookAction)
-own_line text =
-    if bytes_eq (word text) (codes "RUN") then option_map (λ a. line.Action a) (option_and_then run_of (after_first_blank text))
-    else if bytes_eq (word text) (codes "FAULTS") then option_map (λ name. line.Lines name) (option_and_then (padded_name 8) (after_first_blank text))
-    else option_map (λ l. line.Action (action.Look l)) (look_of text)
+-- what a line asks that begins with one of these words, where it is as it should be
+abbrev pub asked_by : Subject → List ℕ → Option LookAction
+asked_by subject.Run text = option_and_then run_of (after_first_blank text)
+asked_by _ text = option_map (λ l. action.Look l) (look_of text)
+
+-- the line that begins a block of FAULTS
+abbrev pub faults_line : List ℕ → Option (Line LookAction)
+faults_line text = option_map (λ name. line.Lines name) (option_and_then (padded_name 8) (after_first_blank text))
+
+-- That line; RUN or a look; or a bad look, which is reported.
+abbrev pub line_of_subject : ℕ → List ℕ → Subject → Option (Line LookAction)
+line_of_subject number text subject.Faults = faults_line text
+line_of_subject number text s = Some (line.Action (unwrap_or (asked_by s text) (action.BadLook number s)))
+
+-- What a line asks that begins with one of the words that no script of `cicsedf` has. Lower case is taken as upper case. A line of more
+-- than 4,096 bytes is a bad line.
+unfoldable pub own_line : ℕ → List ℕ → Option (Line LookAction)
+own_line number text =
+    let read = map to_ascii_uppercase text in
+    if nat_le (length text) 4096 then option_and_then (line_of_subject number read) (subject_of (word read)) else None
 
 -- a line of `cicsedf`'s scripts as one of these
 abbrev pub as_look_line : Line Action → Line LookAction
@@ -42,12 +59,16 @@ line_by (Some l) own = Some (as_look_line l)
 line_by None own = own
 
 -- A line asks what it asks in a script of `cicsedf`; where it is a bad line there, it may be RUN, FAULTS or a look.
-unfoldable pub look_line_of : List ℕ → Option (Line LookAction)
-look_line_of text = line_by (line_of text) (own_line text)
+unfoldable pub look_line_of : ℕ → List ℕ → Option (Line LookAction)
+look_line_of number text = line_by (line_of text) (own_line number text)
 
 -- the end of a block of FAULTS: the line that begins it, the name there, and the source's lines
 abbrev pub faults_asked : ℕ → List ℕ → List (List ℕ) → LookAction
 faults_asked first name lines = action.Look (look.Faults (record { first = first; name = name; lines = lines }))
+
+abbrev pub is_bad_look : LookAction → Bool
+is_bad_look (action.BadLook number s) = true
+is_bad_look _ = false
 
 -- the language of `cicslook`
 abbrev pub look_language : Language LookAction
@@ -56,4 +77,6 @@ look_language = record {
   of_block = λ a. action.Script a;
   of_source = λ name lines a. action.Source name lines a;
   of_lines = λ first name lines. Some (faults_asked first name lines);
+  actions_of = look_actions_of;
+  is_bad_look = is_bad_look;
 }

@@ -1,5 +1,5 @@
 -- A region under EDF that is looked at (own).
-use Rattle.std.specs.Prelude.{ℕ, List, []}
+use Rattle.std.specs.Prelude.{ℕ, Bool, false, List, []}
 use Rattle.cx_edf.specs.State.{EdfState}
 use Rattle.cx_script_actions.specs.Effects.{fresh_state}
 use Rattle.cx_look_abend.specs.Noting.{Abends}
@@ -10,12 +10,14 @@ pub record Sources : Type 0 where
   pub lines : List (List ℕ × List (List ℕ))
   pub places : SourcePlaces
 
--- the region under EDF, each terminal's last abend, and what is kept of sources
+-- the region under EDF, each terminal's last abend, what is kept of sources, and whether the last event was a turn that one more
+-- turn takes on
 pub record LookState : Type 0 where
   pub edf : EdfState
   pub abends : Abends
   pub sources : Sources
+  pub goes_on : Bool
 
 -- as a script begins it: no terminal is defined, and no program
 abbrev pub fresh_look_state : LookState
-fresh_look_state = record { edf = fresh_state; abends = []; sources = record { lines = []; places = [] } }
+fresh_look_state = record { edf = fresh_state; abends = []; sources = record { lines = []; places = [] }; goes_on = false }

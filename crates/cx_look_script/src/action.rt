@@ -1,14 +1,16 @@
 //! What a line of a script with looks asks.
-ghost use Rattle.std.specs.Prelude.{◌≡◌, ◌≤◌, IfOk, IfSome, OnErr, is_some, true};
-ghost use Rattle.std.specs.Option.{option_copied};
+ghost use Rattle.std.specs.Prelude.{◌≡◌, ◌≤◌, IfOk, IfSome, OnErr, is_some, length, map, true};
+ghost use Rattle.std.specs.Char.{to_ascii_uppercase};
+ghost use Rattle.std.specs.Option.{option_copied, option_map_or};
 ghost use Rattle.cx_script_actions.specs.Allowed.{IsAllowed, IsAllowedLine};
 ghost use Rattle.cx_look.specs.Looks.{count_of};
 ghost use Rattle.cx_look_script.specs.Allowed.{IsAllowedLook};
-ghost use Rattle.cx_look_script.specs.Reading.{look_language, look_line_of, own_line, run_of, as_look_line, turns_of};
+ghost use Rattle.cx_look_script.specs.Reading.{asked_by, faults_line, look_language, look_line_of, line_of_subject, own_line, run_of, as_look_line, turns_of};
+ghost use Rattle.cx_look_script.specs.Runs.{look_actions_of};
 
 use cx_base_lists::List;
 use cx_ebcdic::{Name4, Name8};
-use cx_look::{Look, SourceLines, look_of};
+use cx_look::{Look, SourceLines, Subject, look_of, subject_of};
 use cx_script_actions::{Action, Line, ScriptAction, line_of, name4, name8, number, split_word};
 use cx_source::Text;
 use std::alloc::{AllocError, Global};
@@ -26,11 +28,18 @@ pub enum LookAction {
     Script(Action),
     /// What the end of a source's block asks there: its program's name, its lines, and what they are made into.
     Source(Name8, List<Text>, Action),
-    /// At most this many turns of a terminal.
+    /// RUN: the first of at most this many turns of a terminal.
     Run(Name4, u16),
+    /// One more turn of RUN, where at most this many are left; where none is, the line that says so.
+    RunOn(Name4, u16),
     /// A look.
     Look(Look),
+    /// The report of a bad look: the number of its line, and the word that it begins with.
+    BadLook(usize, Subject),
 }
+
+/// The most bytes of a line.
+const MOST_IN_LINE: usize = 4_096;
 
 /// The number from 1 to 4,096 that at most five decimal digits spell.
 #[tactic(auto, using(std::proofs::lemmas::Bool::Decides::nat_tests), unfolding(cx_look::specs::Looks::count_of))]
@@ -66,23 +75,67 @@ fn run_of(text: &[u8]) -> Option<LookAction>
     turns_of(name, rest)
 }
 
-/// What a line asks that a script of `cicsedf` doesn't have.
-#[tactic(auto, unfolding(crate::specs::Reading::own_line))]
-fn own_line(text: &[u8]) -> Option<Line<LookAction>>
-    ensures value { result ≡ own_line text.now }
-    ensures allowed { IfSome result (IsAllowedLine IsAllowedLook) }
+/// What a line asks that begins with one of these words, where it is as it should be.
+fn asked_by(subject: Subject, text: &[u8]) -> Option<LookAction>
+    ensures value { result ≡ asked_by subject text.now }
+    ensures allowed { IfSome result IsAllowedLook }
 {
-    let (word, rest) = split_word(text);
-    if word == b"RUN".as_slice() {
-        let run = run_of(rest?)?;
-        return Some(Line::Action(run));
-    }
-    if word == b"FAULTS".as_slice() {
-        let name = name8(rest?)?;
-        return Some(Line::Lines(name));
+    if subject == Subject::Run {
+        let (_word, rest) = split_word(text);
+        return run_of(rest?);
     }
     let look = look_of(text)?;
-    Some(Line::Action(LookAction::Look(look)))
+    Some(LookAction::Look(look))
+}
+
+/// The line that begins a block of FAULTS.
+fn faults_line(text: &[u8]) -> Option<Line<LookAction>>
+    ensures value { result ≡ faults_line text.now }
+    ensures allowed { IfSome result (IsAllowedLine IsAllowedLook) }
+{
+    let (_word, rest) = split_word(text);
+    let name = name8(rest?)?;
+    Some(Line::Lines(name))
+}
+
+/// What a line asks that begins with one of these words.
+fn line_of_subject(number: usize, text: &[u8], subject: Subject) -> Option<Line<LookAction>>
+    ensures value { result ≡ line_of_subject number text.now subject }
+    ensures allowed { IfSome result (IsAllowedLine IsAllowedLook) }
+{
+    if subject == Subject::Faults {
+        return faults_line(text);
+    }
+    match asked_by(subject, text) {
+        Some(action) => Some(Line::Action(action)),
+        None => Some(Line::Action(LookAction::BadLook(number, subject))),
+    }
+}
+
+/// Puts a text into a buffer of its length, in upper case.
+fn put_upper(text: &[u8], out: &mut [u8])
+    requires { length out.old ≡ length text.now }
+    ensures { out.new ≡ map to_ascii_uppercase text.now }
+{
+    out.copy_from_slice(text);
+    out.make_ascii_uppercase();
+}
+
+/// What a line asks that begins with one of the words that no script of `cicsedf` has. It takes no memory.
+#[tactic(auto, unfolding(crate::specs::Reading::own_line))]
+fn own_line(number: usize, text: &[u8]) -> Option<Line<LookAction>>
+    ensures value { result ≡ own_line number text.now }
+    ensures allowed { IfSome result (IsAllowedLine IsAllowedLook) }
+{
+    let mut buffer = [0; MOST_IN_LINE];
+    if text.len() > MOST_IN_LINE {
+        return None;
+    }
+    let read = &mut buffer[..text.len()];
+    put_upper(text, read);
+    let (word, _rest) = split_word(read);
+    let subject = subject_of(word)?;
+    line_of_subject(number, read, subject)
 }
 
 /// A line of `cicsedf`'s scripts as one of these.
@@ -100,17 +153,21 @@ fn scripted(line: Line<Action>) -> Line<LookAction>
     }
 }
 
-/// What a line asks where it is not in a block; None, and never Memory, where it is a bad line.
+/// What the line with this number asks where it is not in a block; None, and never Memory, where it is a bad line.
 #[tactic(auto, unfolding(crate::specs::Reading::look_line_of))]
-fn look_line_of(alloc: Global, text: &[u8]) -> Result<Option<Line<LookAction>>, AllocError>
-    ensures value { IfOk result (λ line. line ≡ look_line_of text.now) }
-    ensures memory { OnErr result (is_some (look_line_of text.now) ≡ true) }
+fn look_line_of(
+    alloc: Global,
+    number: usize,
+    text: &[u8],
+) -> Result<Option<Line<LookAction>>, AllocError>
+    ensures value { IfOk result (λ line. line ≡ look_line_of number text.now) }
+    ensures memory { OnErr result (is_some (look_line_of number text.now) ≡ true) }
     ensures allowed { IfOk result (λ line. IfSome line (IsAllowedLine IsAllowedLook)) }
 {
     if let Some(line) = line_of(alloc, text)? {
         return Ok(Some(scripted(line)));
     }
-    Ok(own_line(text))
+    Ok(own_line(number, text))
 }
 
 impl ScriptAction for LookAction {
@@ -134,7 +191,24 @@ impl ScriptAction for LookAction {
         })))
     }
 
-    fn read_line(alloc: Global, text: &[u8]) -> Result<Option<Line<LookAction>>, AllocError> {
-        look_line_of(alloc, text)
+    #[tactic(auto, using(crate::proofs::TurnLemmas::one_left), unfolding(crate::specs::Runs::turns_left))]
+    fn following(&self) -> Option<LookAction> {
+        match self {
+            LookAction::Run(name, n) => Some(LookAction::RunOn(*name, n.saturating_sub(1))),
+            LookAction::RunOn(name, n) if *n > 0 => Some(LookAction::RunOn(*name, *n - 1)),
+            _ => None,
+        }
+    }
+
+    fn is_bad_look(&self) -> bool {
+        matches!(self, LookAction::BadLook(_, _))
+    }
+
+    fn read_line(
+        alloc: Global,
+        number: usize,
+        text: &[u8],
+    ) -> Result<Option<Line<LookAction>>, AllocError> {
+        look_line_of(alloc, number, text)
     }
 }

@@ -2,12 +2,12 @@
 ghost use Rattle.std.specs.Prelude.{◌≡◌, ◌+◌, ◌++◌, IfOk, OnOk, map};
 ghost use Rattle.std.specs.List.{filter, flat_map};
 ghost use Rattle.cx_look_faults.specs.Faults.{faults_of};
-ghost use Rattle.cx_look_script.specs.Faults.{fault_line, fault_lines, fault_word, faults_text, is_kept, place_word, shown_byte, text_at, with_marks};
+ghost use Rattle.cx_look_script.specs.Faults.{fault_line, fault_lines, fault_word, faults_text, is_kept, note_line, place_word, shown_byte, text_at, with_marks};
 
 use cx_base_text::shown_name;
 use cx_ebcdic::to_ebcdic;
 use cx_look::SourceLines;
-use cx_look_faults::{FaultyLine, Mark, Spot, faults_of, marks_of};
+use cx_look_faults::{FaultyLine, Mark, Note, Spot, faults_of, marks_of, notes_of};
 use cx_look_words::{Report, decimal};
 use cx_source::Text;
 use std::alloc::{AllocError, Global};
@@ -142,11 +142,33 @@ fn kept_faults(alloc: Global, source: &SourceLines) -> Result<Vec<FaultyLine>, A
     Ok(faults)
 }
 
+/// Adds the line of a note.
+fn note_line(report: &mut Report, source: &SourceLines, note: &Note) -> Result<(), AllocError>
+    ensures { OnOk result (report.new ≡ report.old ++ note_line source.now note.now) }
+{
+    let place = place_word(report.alloc(), source, note.spot)?;
+    let text = shown(report.alloc(), note.text.as_slice())?;
+    report.line(&[&place, b"NOTE", &text])
+}
+
+/// Adds a line for each of some notes.
+fn note_lines(report: &mut Report, source: &SourceLines, notes: &[Note]) -> Result<(), AllocError>
+    ensures { OnOk result (report.new ≡ report.old ++ flat_map (note_line source.now) notes.now) }
+{
+    for note in notes {
+        note_line(report, source, note)?;
+    }
+    Ok(())
+}
+
 /// What the look has to say of the lines of a source.
 #[tactic(auto, unfolding(crate::specs::Faults::faults_text))]
 pub(crate) fn faults_text(alloc: Global, source: &SourceLines) -> Result<Report, AllocError>
     ensures { IfOk result (λ report. report ≡ faults_text source.now) }
 {
     let faults = kept_faults(alloc, source)?;
-    fault_lines(alloc, source, &faults)
+    let notes = notes_of(alloc, source.lines.as_slice(), &faults)?;
+    let mut report = fault_lines(alloc, source, &faults)?;
+    note_lines(&mut report, source, &notes)?;
+    Ok(report)
 }

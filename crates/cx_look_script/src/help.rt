@@ -1,20 +1,23 @@
 //! HELP: the table of lines.
 ghost use Rattle.std.specs.Prelude.{◌≡◌, ◌++◌, IfOk, OnOk};
-ghost use Rattle.cx_look_script.specs.Help.{form_lines, form_of, help_text};
+ghost use Rattle.cx_look_script.specs.Help.{bad_look_text, form_lines, form_of, help_text};
+ghost use Rattle.cx_look_words.specs.Words.{marked};
 
 use cx_look::Subject;
-use cx_look_words::Report;
+use cx_look_words::{Report, decimal};
 use std::alloc::{AllocError, Global};
 
 /// The words in the order of the table.
-const TABLE: [Subject; 18] = [
+const TABLE: [Subject; 20] = [
     Subject::Run,
     Subject::Queues,
     Subject::Queue,
     Subject::Programs,
     Subject::Tasks,
     Subject::Resources,
+    Subject::Terminals,
     Subject::Command,
+    Subject::Ahead,
     Subject::Task,
     Subject::Field,
     Subject::Fields,
@@ -40,7 +43,10 @@ fn form_of(subject: Subject) -> &'static [u8]
         Subject::Tasks => b"TASKS                each terminal, and what its task is doing",
         Subject::Resources =>
             b"RESOURCES            the resources that are owned, and who waits for them",
+        Subject::Terminals =>
+            b"TERMINALS            the clock, next transactions, input that is held, EDF",
         Subject::Command => b"COMMAND term         the command that is due at the terminal",
+        Subject::Ahead => b"AHEAD term           what the terminal's next turn will do",
         Subject::Task => b"TASK term            the terminal's task, and each of its levels",
         Subject::Field => b"FIELD term name [k]  a field of the current level, or of level k",
         Subject::Fields => b"FIELDS term [k]      all fields of that level",
@@ -79,4 +85,19 @@ pub(crate) fn help_text(alloc: Global, subject: Option<Subject>) -> Result<Repor
         None => form_lines(&mut report, &TABLE)?,
     }
     Ok(report)
+}
+
+/// What is written for a bad look: the number of its line, and the line of its word.
+pub(crate) fn bad_look_text(
+    alloc: Global,
+    number: usize,
+    subject: Subject,
+) -> Result<Vec<u8>, AllocError>
+    ensures { IfOk result (λ text. text.items ≡ marked (bad_look_text number subject)) }
+{
+    let mut report = Report::new(alloc);
+    let mut place = decimal(alloc, number)?;
+    place.push(b':')?;
+    report.line(&[b"?", b"line", &place, form_of(subject)])?;
+    report.marked()
 }

@@ -1,7 +1,9 @@
 //! What follows from the definitions of a script with looks.
 
 ghost use Rattle.cx_look_script.specs.Laws.Looks.{LooksAreMarked, LooksAreReportedOnce, LooksChangeNothing};
+ghost use Rattle.cx_look_script.specs.Laws.Notes.{NotesRefuseNothing};
 ghost use Rattle.cx_look_script.specs.Laws.Scripts.{ActionsStay, ScriptsStay};
+ghost use Rattle.cx_look_script.specs.Laws.Turns.{RunsTakeTurns};
 
 /// A look changes nothing. Each run has for each of its actions a part, in which an action of `cicsedf` stands for itself, RUN for as
 /// many TURNs as it did, and a look for nothing: the actions of all parts are a run of `cicsedf` from the same state to the same
@@ -21,10 +23,24 @@ pub fn looks_are_reported_once()
     ensures { LooksAreReportedOnce }
 {
     cx_look_tasks::laws::texts_decide();
+    cx_look_ahead::laws::the_next_turn_is_shown();
 }
+
+/// The actions of a RUN are turns of its terminal, one after another: up to one that isn't to be followed by one more, or until there are as
+/// many as it may do, and its last line says so.
+pub fn runs_take_turns()
+    ensures { RunsTakeTurns }
+{}
 
 /// A script of `cicsedf` without a bad line is the same script here, and its actions do and write the same.
 pub fn scripts_of_cicsedf_stay()
     ensures scripts { ScriptsStay }
     ensures actions { ActionsStay }
 {}
+
+/// Of a source that is accepted FAULTS writes that none of its lines is faulty, whatever notes follow.
+pub fn notes_refuse_nothing()
+    ensures { NotesRefuseNothing }
+{
+    cx_look_faults::laws::what_a_source_is_refused_for_is_among_them();
+}

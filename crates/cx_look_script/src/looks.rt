@@ -1,5 +1,6 @@
 //! What is written for a look.
 ghost use Rattle.std.specs.Prelude.{◌≡◌, IfOk};
+ghost use Rattle.cx_look.specs.declared.look.Look.TheVariants as look;
 ghost use Rattle.cx_look_script.specs.Looking.{AreLookLines, IsLookText, level_lines};
 
 use crate::faults::faults_text;
@@ -8,11 +9,12 @@ use crate::performer::Looking;
 use cx_ebcdic::Name4;
 use cx_look::Look;
 use cx_look_abend::abend_text;
+use cx_look_ahead::ahead_text;
 use cx_look_command::command_text;
 use cx_look_levels::{field_text, fields_text, program_at, task_text};
 use cx_look_storage::{areas_text, storage_text, task_areas_text};
 use cx_look_symbols::{symbol_text, symbols_text};
-use cx_look_tables::{item_text, programs_text, queue_text, queues_text};
+use cx_look_tables::{item_text, programs_text, queue_text, queues_text, terminals_text};
 use cx_look_tasks::{resources_text, tasks_text};
 use cx_look_words::Report;
 use cx_look_xref::xref_text;
@@ -28,6 +30,25 @@ fn level_lines<S: Store + Drop>(looking: &Looking<S>, term: Name4, k: Option<u8>
         Some(program) => looking.sources.lines_of(program),
         None => &[],
     }
+}
+
+/// The last abend of a terminal.
+#[tactic(auto, unfolding(crate::specs::Looking::AreLookLines))]
+fn abend_lines<S: Store + Drop>(
+    alloc: Global,
+    looking: &Looking<S>,
+    name: Name4,
+) -> Result<Report, AllocError>
+    ensures { IfOk result (λ report. AreLookLines (look.Abend name) looking.now report) }
+{
+    let programs = &looking.state.region().shared().programs;
+    abend_text(
+        alloc,
+        looking.sources.places(),
+        programs,
+        &looking.abends,
+        name,
+    )
 }
 
 /// What a look has to say.
@@ -48,11 +69,12 @@ fn look_lines<S: Store + Drop>(
         Look::Tasks => tasks_text(alloc, region),
         Look::Resources => resources_text(alloc, region),
         Look::Command(name) => command_text(alloc, region, name),
+        Look::Ahead(name) => ahead_text(alloc, region, name),
         Look::Task(name) => task_text(alloc, looking.sources.places(), region, name),
         Look::Areas => areas_text(alloc, region),
         Look::AreasOf(name) => task_areas_text(alloc, region, name),
         Look::Storage(address, n) => storage_text(alloc, region, address, n),
-        Look::Abend(name) => abend_text(alloc, looking.sources.places(), &looking.abends, name),
+        Look::Abend(name) => abend_lines(alloc, looking, name),
         Look::Faults(source) => faults_text(alloc, &source),
         Look::Symbol(program, name) => {
             let lines = looking.sources.lines_of(program);
@@ -63,6 +85,7 @@ fn look_lines<S: Store + Drop>(
             symbols_text(alloc, region, program, lines)
         }
         Look::Xref(program) => xref_text(alloc, program, looking.sources.lines_of(program)),
+        Look::Terminals => terminals_text(alloc, &looking.state),
         Look::Help(word) => help_text(alloc, word),
         Look::Field(term, name, k) => {
             let lines = level_lines(looking, term, k);

@@ -1,21 +1,23 @@
 //! What a script with looks is performed on.
-ghost use Rattle.std.specs.Prelude.{◌≡◌, [], IfOk};
+ghost use Rattle.std.specs.Prelude.{◌≡◌, [], false, IfOk, MatchBool};
 ghost use Rattle.cx_edf.specs.Runs.{IsAllowedEdf};
 ghost use Rattle.cx_script_actions.specs.Allowed.{IsAllowed};
 ghost use Rattle.cx_script_actions.specs.declared.actions.Action.TheVariants as edf_action;
-ghost use Rattle.cx_look_script.specs.Looking.{LookPerforms, NotedPerforms, SourcePerforms};
+ghost use Rattle.cx_look_script.specs.Looking.{LookPerforms, NotedPerforms, SourcePerforms, TakesOneMore, TakesTurn};
 ghost use Rattle.cx_look_script.specs.Runs.{AppliesAtLooks};
 ghost use Rattle.cx_look_script.specs.State.{fresh_look_state};
 
 use crate::action::LookAction;
+use crate::help::bad_look_text;
 use crate::looks::look_text;
 use crate::sources::{Sources, has_program, is_defined};
-use crate::turns::run;
+use crate::turns::{goes_on, still_running};
 use cx_base_lists::List;
-use cx_ebcdic::Name8;
+use cx_ebcdic::{Name4, Name8};
 use cx_edf::{Answer, Debugged, EdfEvent};
 use cx_look_abend::{LastAbends, apply_noted};
 use cx_look_symbols::statement_places;
+use cx_region::Event;
 use cx_script::edf_stage;
 use cx_script_actions::{Action, Performer, answer_text};
 use cx_source::Text;
@@ -26,12 +28,14 @@ use indexmap::IndexMap;
 use std::alloc::{AllocError, Global};
 use std::marker::Model;
 
-/// A region under EDF that is looked at, with each terminal's last abend, and what is kept of the sources that defined programs.
+/// A region under EDF that is looked at, with each terminal's last abend, what is kept of the sources that defined programs, and whether
+/// the last event was a turn that one more turn follows.
 #[derive(Drop)]
 pub struct Looking<S: Store + Drop> {
     pub(crate) state: Debugged<S>,
     pub(crate) abends: LastAbends,
     pub(crate) sources: Sources,
+    pub(crate) goes_on: bool,
 }
 
 impl<S: Store + Drop> Model for Looking<S> {
@@ -39,27 +43,30 @@ impl<S: Store + Drop> Model for Looking<S> {
 
     ghost Value = { LookState };
 
-    ghost view = { λ held. record { edf = held.state; abends = held.abends.entries; sources = held.sources } };
+    ghost view = { λ held. record { edf = held.state; abends = held.abends.entries; sources = held.sources; goes_on = held.goes_on } };
 }
 
 impl<S: Store + Drop> Looking<S> {
     /// A region under EDF without a terminal and without a program, to be looked at. It takes no memory.
     pub fn new(alloc: Global, state: Debugged<S>) -> Looking<S>
-        ensures { result ≡ record { edf = state; abends = []; sources = record { lines = []; places = [] } } }
+        ensures { result ≡ record { edf = state; abends = []; sources = record { lines = []; places = [] }; goes_on = false } }
     {
         Looking {
             state,
             abends: IndexMap::new(alloc),
             sources: Sources::new(alloc),
+            goes_on: false,
         }
     }
 
-    /// Does an event, and keeps the abend that it led to.
+    /// Does an event, keeps the abend that it led to, and whether it was a turn that one more follows.
     pub(crate) fn apply(&mut self, event: &EdfEvent) -> Result<Answer, AllocError>
         requires { IsAllowedEdf event.now }
         ensures { IfOk result (λ given. AppliesAtLooks self.old event.now given self.new) }
     {
-        apply_noted(&mut self.state, &mut self.abends, event)
+        let answer = apply_noted(&mut self.state, &mut self.abends, event)?;
+        self.goes_on = goes_on(&self.state, event, &answer);
+        Ok(answer)
     }
 
     /// Does an event, and gives the text of its answer.
@@ -70,6 +77,28 @@ impl<S: Store + Drop> Looking<S> {
     {
         let answer = self.apply(event)?;
         answer_text(alloc, event, answer)
+    }
+
+    /// Does a turn of a terminal.
+    fn do_turn(&mut self, alloc: Global, name: Name4) -> Result<Vec<u8>, AllocError>
+        ensures { IfOk result (λ text. TakesTurn self.old name text.items self.new) }
+    {
+        self.do_event(alloc, &EdfEvent::Plain(Event::Turn(name)))
+    }
+
+    /// Does one more turn of RUN, or writes that none is left; nothing where the last turn isn't to be followed by one more.
+    fn run_on(&mut self, alloc: Global, name: Name4, n: u16) -> Result<Vec<u8>, AllocError>
+        ensures { IfOk result (λ text.
+            MatchBool self.old.goes_on (TakesOneMore self.old name n text.items self.new)
+            ((text.items ≡ []) × (self.new ≡ self.old))) }
+    {
+        if !self.goes_on {
+            return Ok(Vec::new(alloc));
+        }
+        match n {
+            0 => still_running(alloc, name),
+            _ => self.do_turn(alloc, name),
+        }
     }
 
     /// Does what a script of `cicsedf` asks too.
@@ -121,13 +150,17 @@ impl<S: Store + Drop> Performer for Looking<S> {
 
     ghost performs = { LookPerforms };
 
+    ghost refused = { λ _ _ _. Unit {0} };
+
     #[tactic(auto, unfolding(crate::specs::Looking::LookPerforms))]
     fn perform(&mut self, alloc: Global, action: LookAction) -> Result<Vec<u8>, AllocError> {
         match action {
             LookAction::Script(action) => self.do_action(alloc, action),
             LookAction::Source(name, lines, action) => self.define(alloc, name, lines, action),
-            LookAction::Run(name, n) => run(self, alloc, name, n),
+            LookAction::Run(name, _) => self.do_turn(alloc, name),
+            LookAction::RunOn(name, n) => self.run_on(alloc, name, n),
             LookAction::Look(look) => look_text(alloc, self, look),
+            LookAction::BadLook(number, subject) => bad_look_text(alloc, number, subject),
         }
     }
 }

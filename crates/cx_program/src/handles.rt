@@ -1,5 +1,5 @@
 //! The handle entries and the exit of one level.
-ghost use Rattle.std.specs.Prelude.{◌≡◌, ◌≢◌, ◌<◌, ◌≤◌, ◌↔◌, if◌then◌else◌, false, length, IsOk, OnOk, OnErr, IfErr};
+ghost use Rattle.std.specs.Prelude.{◌≡◌, ◌≢◌, ◌<◌, ◌≤◌, ◌↔◌, if◌then◌else◌, false, length, reverse, IsOk, OnOk, OnErr, IfErr};
 ghost use Rattle.cx_program.specs.Entries.{label_on, turned_off, turned_on};
 ghost use Rattle.cx_program.specs.Handles.{abend_code, after_pop, after_push, choice, choice_by_entry, no_handles, put_entry, put_exit, waits};
 
@@ -109,6 +109,14 @@ impl HandleTable {
         ensures bound { result ≤ 16 }
     {
         self.kept.len()
+    }
+
+    /// What PUSH HANDLEs keep, the first kept first. It takes no memory.
+    pub fn kept(&self) -> &[Handling]
+        ensures value { result.now ≡ reverse self.now.kept }
+        ensures bound { length result.now ≤ 16 }
+    {
+        self.kept.as_slice()
     }
 
     /// PUSH HANDLE: keeps the entries and the exit, and begins with none.

@@ -6,7 +6,7 @@ use Rattle.cx_region.specs.State.{RegionState}
 use Rattle.cx_region.specs.Attach.{input_from}
 use Rattle.cx_region.specs.Parts.Asking.{KeyTakesMemory}
 use Rattle.cx_region.specs.Defining.{transaction_fault, terminal_fault}
-use Rattle.cx_region.specs.Events.{IsDone, MayTakeMemory}
+use Rattle.cx_region.specs.Events.{Applies, IsDone, MayTakeMemory}
 use Rattle.cx_region.specs.declared.replies.DefineFault.{DefineFault}
 use Rattle.cx_region.specs.declared.replies.DefineFault.TheVariants.{Duplicate, Full, Memory, NoProgram}
 use Rattle.cx_region.specs.declared.replies.Event.{Event}
@@ -44,7 +44,7 @@ unfolding MayTakeMemory KeyTakesMemory
 key_memory old name aid bytes h = h
 
 -- an event whose call was refused memory
-pub not_done : {A F : Type 0} (old new : RegionState) (e : Event) (r : Result A F) (fault : F) {refusal : AllocError} → r ≡ Err fault → MayTakeMemory old e → OnErr r (new ≡ old) → IsDone old e (Err refusal) new
+pub not_done : {A F : Type 0} (old new : RegionState) (e : Event) (r : Result A F) (fault : F) {refusal : AllocError} → r ≡ Err fault → MayTakeMemory old e → OnErr r (new ≡ old) → IsDone Applies MayTakeMemory old e (Err refusal) new
 not_done old new e r fault is due same = record { applies = tt; memory = due; err = subst (λ x. OnErr x (new ≡ old)) is same }
 
 -- what holds anyway holds of an error

@@ -43,12 +43,12 @@ run_all old new events k replies all run = subst (λ (es : List Event). Run old 
     take_whole (e ∷ es) (suc n) h = rw (take_whole es n (omega arith)) refl
 
 -- in front of the first event
-pub run_unbegun : (r : RegionState) (events : List Event) → (length events ≡ 0 → ⊥) → RunStopped r events 0 r
+pub run_unbegun : (r : RegionState) (events : List Event) → (length events ≡ 0 → ⊥) → RunStopped Run MayTakeMemory r events 0 r
 run_unbegun r events some = record { within = omega (arith, some); replies = []; run = run_none r events; due = inl refl }
 
 -- at an event that may take memory
 pub run_stopped : (old mid new : RegionState) (events : List Event) (k : ℕ) (event : Event) (replies : List Reply) → k < length events → event ≡ get_or events k event
-    → Run old (take k events) replies mid → new ≡ mid → MayTakeMemory mid event → RunStopped old events k new
+    → Run old (take k events) replies mid → new ≡ mid → MayTakeMemory mid event → RunStopped Run MayTakeMemory old events k new
 run_stopped old mid new events k event replies within is run same grows =
     let there : slice_get events k ≡ Some event = slice_get-get_or events k event within ∙ ap Some (sym is) in
     record {

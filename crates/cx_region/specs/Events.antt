@@ -48,19 +48,22 @@ MayTakeMemory region (event.Turn name) =
     IsSomeAnd (terminal_of region name) (λ terminal. IsSomeAnd terminal.task (λ task. TakesMemory (context_of region terminal task)))
 MayTakeMemory region _ = ⊥
 
--- What the one door for events promises: it is answered; or it was refused memory that it may take, and all is as before.
-pub record IsDone (old : RegionState) (event : Event) (result : Result Reply AllocError) (new : RegionState) : Type 0 where
-  pub applies : IfOk result (λ reply. Applies old event reply new)
-  pub memory : OnErr result (MayTakeMemory old event)
+-- What a door for events promises, by what an event does and where it may take memory: it is answered; or it was
+-- refused memory that it may take, and all is as before.
+pub record IsDone {S E R : Type 0} (does : S → E → R → S → Type 0) (may_take : S → E → Type 0)
+    (old : S) (event : E) (result : Result R AllocError) (new : S) : Type 0 where
+  pub applies : IfOk result (λ reply. does old event reply new)
+  pub memory : OnErr result (may_take old event)
   pub err : OnErr result (new ≡ old)
 
--- A run that stopped after `done` events, and left the region as these did: in front of all of them, or at an event
--- that may take memory.
-pub record RunStopped (old : RegionState) (events : List Event) (done : ℕ) (new : RegionState) : Type 0 where
+-- A run that stopped after `done` events, and left the state as these did: in front of all of them, where there was no
+-- room for their replies, or at an event that may take memory.
+pub record RunStopped {S E R : Type 0} (runs : S → List E → List R → S → Type 0) (may_take : S → E → Type 0)
+    (old : S) (events : List E) (done : ℕ) (new : S) : Type 0 where
   pub within : done < length events
-  pub replies : List Reply
-  pub run : Run old (take done events) replies new
-  pub due : (done ≡ 0) ⊎ IsSomeAnd (slice_get events done) (MayTakeMemory new)
+  pub replies : List R
+  pub run : runs old (take done events) replies new
+  pub due : (done ≡ 0) ⊎ IsSomeAnd (slice_get events done) (may_take new)
 
 -- what the calls take: a time and a date of six and five digits, at most 1,920 bytes of input, and a register of the sixteen
 abbrev pub IsAllowed : Event → Type 0

@@ -1,7 +1,7 @@
 //! Events, and runs of them.
 ghost use Rattle.std.specs.Prelude.{◌≡◌, ◌≤◌, IfOk, IfErr, length};
 ghost use Rattle.std.specs.List.{AllByRecursion};
-ghost use Rattle.cx_region.specs.Events.{IsAllowed, IsDone, Run, RunStopped};
+ghost use Rattle.cx_region.specs.Events.{Applies, IsAllowed, IsDone, MayTakeMemory, Run, RunStopped};
 ghost use Rattle.cx_region.specs.Sound.{IsSound};
 
 use crate::replies::{DefineFault, Event, Reply, RunStop};
@@ -18,7 +18,7 @@ impl<S: Store + Drop> Region<S> {
     #[tactic(auto, using(crate::proofs::EventLemmas::transaction_memory, crate::proofs::EventLemmas::terminal_memory), unfolding(crate::specs::Events::Applies, crate::specs::Defining::DefinesTransaction, crate::specs::Defining::DefinesTerminal))]
     pub fn apply(&mut self, event: &Event) -> Result<Reply, AllocError>
         requires { IsAllowed event.now }
-        ensures done { IsDone self.old event.now result self.new }
+        ensures done { IsDone Applies MayTakeMemory self.old event.now result self.new }
         ensures sound { IsSound self.new }
     {
         match event {
@@ -60,7 +60,7 @@ impl<S: Store + Drop> Region<S> {
     pub fn run(&mut self, events: &[Event]) -> Result<Vec<Reply>, RunStop>
         requires { AllByRecursion IsAllowed events.now }
         ensures ok { IfOk result (λ replies. Run self.old events.now replies.items self.new) }
-        ensures stopped { IfErr result (λ stop. RunStopped self.old events.now stop.done self.new) }
+        ensures stopped { IfErr result (λ stop. RunStopped Run MayTakeMemory self.old events.now stop.done self.new) }
         ensures sound { IsSound self.new }
     {
         let Ok(mut replies) = Vec::with_capacity(self.alloc, events.len()) else {

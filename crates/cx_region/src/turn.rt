@@ -12,11 +12,10 @@ ghost use Rattle.cx_region.specs.declared.replies.Event.TheVariants as event;
 ghost use Rattle.cx_region.specs.Sound.{IsSound};
 
 use crate::state::{Region, Terminal};
-use cx_ebcdic::{Name4, Name8};
+use cx_ebcdic::Name4;
 use cx_region_state::{Shared, Task, TurnReply};
 use cx_region_task::laws::half_turns_keep;
 use cx_region_task::{AbendRecord, half_turn};
-use cx_service::ResourceName;
 use cx_storage::Store;
 use cx_storage::laws::store_is_sound;
 use std::alloc::AllocError;
@@ -64,8 +63,8 @@ pub(crate) fn services_are_sound<S: Store + Drop>(shared: &Shared<S>)
     ensures resources { AreSoundResources shared.now.resources }
 {
     store_is_sound(&shared.store);
-    let _items = shared.queues.items(Name8::from_bytes([0; 8]));
-    let _hold = shared.enqueues.hold(&ResourceName::Address(0));
+    shared.queues.all();
+    shared.enqueues.all();
 }
 
 impl<S: Store + Drop> Region<S> {

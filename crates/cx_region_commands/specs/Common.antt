@@ -1,5 +1,5 @@
 -- What the rows of commands have in common (this product's own).
-use Rattle.std.specs.Prelude.{◌≡◌, ℕ, Bool, List, [], Option, Some, None, ◌==◌, if◌then◌else◌}
+use Rattle.std.specs.Prelude.{◌≡◌, ℕ, Bool, List, [], Option, Some, None, ◌==◌, if◌then◌else◌, replicate, unwrap_or}
 use Rattle.std.specs.Option.{option_and_then, option_map}
 use Rattle.std.specs.List.{AllByRecursion}
 use Rattle.std.specs.Map.{lookup}
@@ -11,7 +11,7 @@ use Rattle.cx_base_commands.specs.declared.options.OptionName.TheVariants.{Comma
 use Rattle.cx_base_commands.specs.Arguments.{has_option}
 use Rattle.cx_storage.specs.Storage.{Storage}
 use Rattle.cx_load.specs.declared.program.Loaded.{Loaded}
-use Rattle.cx_region_call.specs.Call.{Call}
+use Rattle.cx_region_call.specs.Call.{Call, place_of}
 use Rattle.cx_region_call.specs.Inputs.{bytes_of, piece_of}
 use Rattle.cx_region_call.specs.declared.inputs.StorageSpan.{StorageSpan}
 use Rattle.cx_region_call.specs.declared.outputs.Output.{Output}
@@ -27,6 +27,17 @@ use Rattle.cx_region_commands.specs.declared.common.Called.{Called}
 -- the call has the option
 abbrev pub has : Call → OptionName → Bool
 has call name = has_option call.command call.first name
+
+-- What is at an argument that each call of the command has: its address, the name there, and the bytes that LENGTH
+-- measures. Where there is none, as in no call that is judged, they are 0, zeros, and no byte.
+unfoldable pub place_at : Call → OptionName → ℕ
+place_at call option = unwrap_or (place_of call option) 0
+
+unfoldable pub name_at : Storage → Call → OptionName → List ℕ
+name_at storage call option = unwrap_or (bytes_of storage call option 8) (replicate 8 0)
+
+unfoldable pub piece_at : Storage → Call → OptionName → StorageSpan
+piece_at storage call option = unwrap_or (piece_of storage call option) (record { place = 0; len = 0 })
 
 -- a condition alone: no output, no change
 abbrev pub condition_alone : Condition → Verdict
@@ -61,8 +72,8 @@ commarea_of storage call =
 -- the program that PROGRAM names, where there is one
 unfoldable pub named_program : Storage → Call → List (List ℕ × Loaded) → Option Called
 named_program storage call programs =
-    option_and_then (λ name. option_map (λ loaded. record { name = name; loaded = loaded }) (program_of programs name))
-    (bytes_of storage call Program 8)
+    let name = name_at storage call Program in
+    option_map (λ loaded. record { name = name; loaded = loaded }) (program_of programs name)
 
 -- a level of the program that begins, with DFHEISTG at this place
 abbrev pub new_level : Called → Option StorageSpan → ℕ → NewLevel

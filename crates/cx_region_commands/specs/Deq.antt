@@ -3,7 +3,6 @@
 -- LENGERR: LENGTH is outside 1 to 255. Else, where this task owns the resource, it owns it once less, and at zero the
 -- resource is free; another task's stays. Reply: Performed.
 use Rattle.std.specs.Prelude.{if◌then◌else◌}
-use Rattle.std.specs.Option.{option_map_or}
 use Rattle.cx_base_commands.specs.declared.conditions.Condition.TheVariants.{Lengerr}
 use Rattle.cx_storage.specs.Storage.{Storage}
 use Rattle.cx_region_call.specs.Call.{Call}
@@ -11,10 +10,8 @@ use Rattle.cx_region_state.specs.declared.verdict.TaskChange.TheVariants.{Ends}
 use Rattle.cx_region_state.specs.declared.verdict.Ended.TheVariants.{Dequeues}
 use Rattle.cx_region_state.specs.declared.verdict.Verdict.{Verdict}
 use Rattle.cx_region_commands.specs.Common.{does, condition_alone}
-use Rattle.cx_region_commands.specs.Enq.{is_wrong_length, resource_named}
+use Rattle.cx_region_commands.specs.Enq.{is_wrong_length, resource_at}
 
--- RESOURCE is always there
 unfoldable pub deq_row : Storage → Call → Verdict
 deq_row storage call =
-    if is_wrong_length storage call then condition_alone Lengerr
-    else option_map_or (λ name. does (Ends (Dequeues name))) (resource_named storage call) (condition_alone Lengerr)
+    if is_wrong_length storage call then condition_alone Lengerr else does (Ends (Dequeues (resource_at storage call)))

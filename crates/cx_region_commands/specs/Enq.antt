@@ -3,8 +3,8 @@
 -- With LENGTH the resource is named by that many bytes, without it by the address itself. LENGERR: LENGTH is outside 1
 -- to 255. ENQBUSY: another task owns the resource, or it would be a 257th. INVREQ: this task owns it 65,535 times. Else
 -- it owns it once more. Reply: Performed.
-use Rattle.std.specs.Prelude.{ℕ, Bool, ◌&&◌, not, Option, if◌then◌else◌}
-use Rattle.std.specs.Option.{option_map, option_map_or}
+use Rattle.std.specs.Prelude.{ℕ, Bool, ◌&&◌, not, Option, if◌then◌else◌, unwrap_or}
+use Rattle.std.specs.Option.{option_map}
 use Rattle.cx_base_commands.specs.declared.conditions.Condition.TheVariants.{Lengerr}
 use Rattle.cx_base_commands.specs.declared.options.OptionName.TheVariants.{Length, Resource}
 use Rattle.cx_storage.specs.Storage.{Storage}
@@ -30,11 +30,12 @@ resource_named storage call =
     if has call Length then option_map Bytes (bytes_of storage call Resource (length_option storage call))
     else option_map Address (place_of call Resource)
 
-abbrev pub enqueues : Resources → ℕ → ResourceName → Verdict
-enqueues resources slot name = fault_or_verdict (enq_fault resources slot name) (does (Makes (Enqueues name)))
+-- which is always there
+unfoldable pub resource_at : Storage → Call → ResourceName
+resource_at storage call = unwrap_or (resource_named storage call) (Address 0)
 
--- RESOURCE is always there
 unfoldable pub enq_row : Storage → Resources → ℕ → Call → Verdict
 enq_row storage resources slot call =
+    let name = resource_at storage call in
     if is_wrong_length storage call then condition_alone Lengerr
-    else option_map_or (enqueues resources slot) (resource_named storage call) (condition_alone Lengerr)
+    else fault_or_verdict (enq_fault resources slot name) (does (Makes (Enqueues name)))

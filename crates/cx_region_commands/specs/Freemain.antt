@@ -9,11 +9,11 @@ use Rattle.cx_storage.specs.declared.areas.Area.{Area}
 use Rattle.cx_storage.specs.declared.areas.Kind.{Kind}
 use Rattle.cx_storage.specs.declared.areas.Kind.TheVariants.{Got}
 use Rattle.cx_storage.specs.Storage.{Storage, area_at}
-use Rattle.cx_region_call.specs.Call.{Call, place_of}
+use Rattle.cx_region_call.specs.Call.{Call}
 use Rattle.cx_region_state.specs.declared.verdict.TaskChange.TheVariants.{Ends}
 use Rattle.cx_region_state.specs.declared.verdict.Ended.TheVariants.{Frees}
 use Rattle.cx_region_state.specs.declared.verdict.Verdict.{Verdict}
-use Rattle.cx_region_commands.specs.Common.{does, condition_alone}
+use Rattle.cx_region_commands.specs.Common.{does, condition_alone, place_at}
 
 abbrev pub is_got : Kind → Bool
 is_got Got = true
@@ -23,9 +23,8 @@ is_got _ = false
 abbrev pub is_got_by : ℕ → Area → Bool
 is_got_by slot area = (area.owner.slot == slot) && is_got area.owner.kind
 
-abbrev pub frees : Storage → ℕ → ℕ → Verdict
-frees storage slot place = if option_map_or (is_got_by slot) (area_at storage place) false then does (Ends (Frees place)) else condition_alone Invreq
-
--- DATA is always there
 unfoldable pub freemain_row : Storage → ℕ → Call → Verdict
-freemain_row storage slot call = option_map_or (frees storage slot) (place_of call Data) (condition_alone Invreq)
+freemain_row storage slot call =
+    let place = place_at call Data in
+    if option_map_or (is_got_by slot) (area_at storage place) false then does (Ends (Frees place))
+    else condition_alone Invreq

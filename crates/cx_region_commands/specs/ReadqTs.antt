@@ -5,14 +5,14 @@
 -- INTO gets the item, at most as many bytes as LENGTH says; LENGERR: the item is longer. SET gets the address of a fresh area of the
 -- task with the item. LENGTH gets the item's length, NUMITEMS the number of the queue's items. The item, ITEM's or else the one
 -- after the item last read by any task, is the one last read then. Reply: Performed.
-use Rattle.std.specs.Prelude.{◌≡◌, ℕ, ◌&&◌, nat_le, List, [], ◌∷◌, Option, Some, None, unwrap_or, if◌then◌else◌, MatchBool, MatchOption}
+use Rattle.std.specs.Prelude.{◌≡◌, ℕ, ◌&&◌, nat_le, List, [], ◌∷◌, Option, Some, None, unwrap_or, if◌then◌else◌, MatchBool}
 use Rattle.cx_base_commands.specs.declared.conditions.Condition.TheVariants.{Normal, Lengerr, Nostg, Qiderr}
 use Rattle.cx_base_commands.specs.declared.options.OptionName.TheVariants as option
 use Rattle.cx_storage.specs.Storage.{Storage}
 use Rattle.cx_service.specs.declared.faults.ServiceFault.{ServiceFault}
 use Rattle.cx_service.specs.Queues.{Queues, count_of, item_len_of, next_number, read_fault}
 use Rattle.cx_region_call.specs.Call.{Call}
-use Rattle.cx_region_call.specs.Inputs.{bytes_of, halfword_of, is_length_negative, length_option}
+use Rattle.cx_region_call.specs.Inputs.{halfword_of, is_length_negative, length_option}
 use Rattle.cx_region_call.specs.declared.outputs.OutputValue.TheVariants.{Half, Text, Word}
 use Rattle.cx_region_state.specs.declared.verdict.TaskChange.TheVariants.{Ends, Gets}
 use Rattle.cx_region_state.specs.declared.verdict.Ended.TheVariants.{ReadOf}
@@ -20,7 +20,7 @@ use Rattle.cx_region_state.specs.declared.verdict.Fill.TheVariants.{Item}
 use Rattle.cx_region_state.specs.declared.verdict.Verdict.{Verdict}
 use Rattle.cx_region_state.specs.declared.verdict.Verdict.TheVariants.{Meets}
 use Rattle.cx_region_commands.specs.declared.readq_ts.Reading.{Reading}
-use Rattle.cx_region_commands.specs.Common.{AtPlace, has, condition_alone, output}
+use Rattle.cx_region_commands.specs.Common.{AtPlace, has, condition_alone, output, name_at}
 use Rattle.cx_region_commands.specs.Services.{fault_or_verdict}
 
 -- the number of the item that is asked for; one that isn't there is no item's
@@ -57,14 +57,10 @@ abbrev pub ReadsItem : Storage → Queues → Call → List ℕ → ℕ → Opti
 ReadsItem storage queues call name n None verdict = Reads storage call (reading_of queues name n) verdict
 ReadsItem storage queues call name n (Some fault) verdict = verdict ≡ fault_or_verdict (Some fault) (condition_alone Qiderr)
 
--- the queue of that name
-unfoldable pub ReadsQueue : Storage → Queues → Call → List ℕ → Verdict → Type 0
-ReadsQueue storage queues call name verdict =
-    let n = item_asked storage queues call name in ReadsItem storage queues call name n (read_fault queues name n) verdict
-
--- QUEUE is always there
 unfoldable pub ReadqRow : Storage → Queues → Call → Verdict → Type 0
 ReadqRow storage queues call verdict =
+    let name = name_at storage call option.Queue in
+    let n = item_asked storage queues call name in
     MatchBool (has call option.Into && is_length_negative storage call)
     (verdict ≡ condition_alone Lengerr)
-    (MatchOption (bytes_of storage call option.Queue 8) (verdict ≡ condition_alone Qiderr) (λ name. ReadsQueue storage queues call name verdict))
+    (ReadsItem storage queues call name n (read_fault queues name n) verdict)

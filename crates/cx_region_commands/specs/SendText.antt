@@ -3,19 +3,17 @@
 -- LENGERR: LENGTH is negative. Else the text's lines replace the screen's lines from the top; ERASE blanks the screen first;
 -- FREEKB has no effect. Reply: Performed.
 use Rattle.std.specs.Prelude.{if◌then◌else◌}
-use Rattle.std.specs.Option.{option_map_or}
 use Rattle.cx_base_commands.specs.declared.conditions.Condition.TheVariants.{Lengerr}
 use Rattle.cx_base_commands.specs.declared.options.OptionName.TheVariants.{Erase, From}
 use Rattle.cx_storage.specs.Storage.{Storage}
 use Rattle.cx_region_call.specs.Call.{Call}
-use Rattle.cx_region_call.specs.Inputs.{is_length_negative, piece_of}
-use Rattle.cx_region_state.specs.declared.verdict.TaskChange.TheVariants.{Makes, Nothing}
+use Rattle.cx_region_call.specs.Inputs.{is_length_negative}
+use Rattle.cx_region_state.specs.declared.verdict.TaskChange.TheVariants.{Makes}
 use Rattle.cx_region_state.specs.declared.verdict.Made.TheVariants.{Shows}
 use Rattle.cx_region_state.specs.declared.verdict.Verdict.{Verdict}
-use Rattle.cx_region_commands.specs.Common.{does, has, condition_alone}
+use Rattle.cx_region_commands.specs.Common.{does, has, condition_alone, piece_at}
 
--- FROM is always there
 unfoldable pub send_text_row : Storage → Call → Verdict
 send_text_row storage call =
     if is_length_negative storage call then condition_alone Lengerr
-    else does (option_map_or (λ piece. Makes (Shows piece (has call Erase))) (piece_of storage call From) Nothing)
+    else does (Makes (Shows (piece_at storage call From) (has call Erase)))

@@ -1,7 +1,7 @@
 //! What the rows have in common.
 ghost use Rattle.std.specs.Prelude.{◌≡◌, ◌<◌, ◌≤◌, ◌+◌, ◌^◌, IfSome};
 ghost use Rattle.cx_region_state.specs.Areas.{IsSoundProgram, IsTaskPlace, first_of_tasks};
-ghost use Rattle.cx_region_commands.specs.Common.{AreSoundPrograms, commarea_of, does, named_program, new_level, condition_alone, program_of};
+ghost use Rattle.cx_region_commands.specs.Common.{AreSoundPrograms, commarea_of, does, name_at, named_program, new_level, condition_alone, piece_at, place_at, program_of};
 
 use cx_base_commands::{Condition, OptionName};
 use cx_ebcdic::Name8;
@@ -10,6 +10,31 @@ use cx_region_call::{Call, Outputs, StorageSpan, measured_piece, name8};
 use cx_region_state::{FIRST_OF_TASKS, LAST_OF_TASKS, NewLevel, TaskChange, Verdict};
 use cx_storage::Store;
 use indexmap::IndexMap;
+
+/// The address at an argument that the command always has; 0 where it isn't there.
+#[tactic(auto, unfolding(crate::specs::Common::place_at))]
+pub(crate) fn place_at(call: &Call, option: OptionName) -> u32
+    ensures value { result ≡ place_at call.now option }
+    ensures address { result < 2 ^ 24 }
+{
+    call.place(option).unwrap_or(0)
+}
+
+/// The name at an argument that the command always has; zeros where it isn't there.
+#[tactic(auto, unfolding(crate::specs::Common::name_at))]
+pub(crate) fn name_at<S: Store>(store: &S, call: &Call, option: OptionName) -> Name8
+    ensures { result ≡ name_at (S.storage store.now) call.now option }
+{
+    name8(store, call, option).unwrap_or(Name8::from_bytes([0; 8]))
+}
+
+/// The bytes that LENGTH measures at an argument that the command always has; none where it isn't there.
+#[tactic(auto, unfolding(crate::specs::Common::piece_at))]
+pub(crate) fn piece_at<S: Store>(store: &S, call: &Call, option: OptionName) -> StorageSpan
+    ensures { result ≡ piece_at (S.storage store.now) call.now option }
+{
+    measured_piece(store, call, option).unwrap_or(StorageSpan { place: 0, len: 0 })
+}
 
 /// A condition alone: no output, no change.
 pub(crate) fn condition_alone(condition: Condition) -> Verdict
@@ -61,7 +86,7 @@ pub(crate) fn named_program<S: Store>(
     ensures value { result ≡ named_program (S.storage store.now) call.now programs.now.entries }
     ensures sound { IfSome result (λ called. IsSoundProgram called.loaded) }
 {
-    let name = name8(store, call, OptionName::Program)?;
+    let name = name_at(store, call, OptionName::Program);
     let loaded = program_of(programs, name)?;
     Some(Called { name, loaded })
 }

@@ -2,9 +2,9 @@
 ghost use Rattle.std.specs.Prelude.{◌≡◌};
 ghost use Rattle.cx_region_commands.specs.DeleteqTs.{deleteq_row};
 
-use crate::common::{condition_alone, does};
+use crate::common::{condition_alone, does, name_at};
 use cx_base_commands::{Condition, OptionName};
-use cx_region_call::{Call, name8};
+use cx_region_call::Call;
 use cx_region_state::{Ended, TaskChange, Verdict};
 use cx_service::Queues;
 use cx_storage::Store;
@@ -14,9 +14,7 @@ use cx_storage::Store;
 pub(crate) fn judge_deleteq_ts<S: Store>(store: &S, queues: &Queues, call: &Call) -> Verdict
     ensures { result ≡ deleteq_row (S.storage store.now) queues.now call.now }
 {
-    let Some(name) = name8(store, call, OptionName::Queue) else {
-        return condition_alone(Condition::Qiderr);
-    };
+    let name = name_at(store, call, OptionName::Queue);
     if queues.items(name).is_none() {
         return condition_alone(Condition::Qiderr);
     }

@@ -3,7 +3,7 @@ ghost use Rattle.std.specs.Prelude.{◌≡◌};
 ghost use Rattle.cx_region_commands.specs.Deq.{deq_row};
 
 use crate::common::{condition_alone, does};
-use crate::enq::{is_wrong_length, resource_named};
+use crate::enq::{is_wrong_length, resource_at};
 use cx_base_commands::Condition;
 use cx_region_call::Call;
 use cx_region_state::{Ended, TaskChange, Verdict};
@@ -17,8 +17,6 @@ pub(crate) fn judge_deq<S: Store>(store: &S, call: &Call) -> Verdict
     if is_wrong_length(store, call) {
         return condition_alone(Condition::Lengerr);
     }
-    match resource_named(store, call) {
-        Some(name) => does(TaskChange::Ends(Ended::Dequeues(name))),
-        None => condition_alone(Condition::Lengerr),
-    }
+    let name = resource_at(store, call);
+    does(TaskChange::Ends(Ended::Dequeues(name)))
 }

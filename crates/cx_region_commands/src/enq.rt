@@ -1,6 +1,6 @@
 //! ENQ.
 ghost use Rattle.std.specs.Prelude.{◌≡◌, IsFalse};
-ghost use Rattle.cx_region_commands.specs.Enq.{enq_row, enqueues, is_wrong_length, resource_named};
+ghost use Rattle.cx_region_commands.specs.Enq.{enq_row, is_wrong_length, resource_at, resource_named};
 
 use crate::common::{condition_alone, does};
 use crate::services::fault_or_verdict;
@@ -40,12 +40,13 @@ pub fn resource_named<S: Store>(store: &S, call: &Call) -> Option<ResourceName>
     ResourceName::from_bytes(bytes).ok()
 }
 
-/// An ENQ upon a resource of that name.
-fn enqueues(resources: &Enqueues, slot: u8, name: ResourceName) -> Verdict
-    ensures { result ≡ enqueues resources.now slot name }
+/// The resource that an ENQ or a DEQ names, which is always there.
+#[tactic(auto, unfolding(crate::specs::Enq::resource_at))]
+pub(crate) fn resource_at<S: Store>(store: &S, call: &Call) -> ResourceName
+    requires { IsFalse (is_wrong_length (S.storage store.now) call.now) }
+    ensures { result ≡ resource_at (S.storage store.now) call.now }
 {
-    let tested = resources.can_enq(slot, &name);
-    fault_or_verdict(tested, does(TaskChange::Makes(Made::Enqueues(name))))
+    resource_named(store, call).unwrap_or(ResourceName::Address(0))
 }
 
 /// How an ENQ is judged.
@@ -56,8 +57,7 @@ pub(crate) fn judge_enq<S: Store>(store: &S, resources: &Enqueues, slot: u8, cal
     if is_wrong_length(store, call) {
         return condition_alone(Condition::Lengerr);
     }
-    match resource_named(store, call) {
-        Some(name) => enqueues(resources, slot, name),
-        None => condition_alone(Condition::Lengerr),
-    }
+    let name = resource_at(store, call);
+    let tested = resources.can_enq(slot, &name);
+    fault_or_verdict(tested, does(TaskChange::Makes(Made::Enqueues(name))))
 }

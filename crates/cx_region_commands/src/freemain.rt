@@ -2,7 +2,7 @@
 ghost use Rattle.std.specs.Prelude.{◌≡◌};
 ghost use Rattle.cx_region_commands.specs.Freemain.{freemain_row, is_got_by};
 
-use crate::common::{condition_alone, does};
+use crate::common::{condition_alone, does, place_at};
 use cx_base_commands::{Condition, OptionName};
 use cx_region_call::Call;
 use cx_region_state::{Ended, TaskChange, Verdict};
@@ -20,9 +20,7 @@ fn is_got_by(slot: u8, area: Area) -> bool
 pub(crate) fn judge_freemain<S: Store>(store: &S, slot: u8, call: &Call) -> Verdict
     ensures { result ≡ freemain_row (S.storage store.now) slot call.now }
 {
-    let Some(place) = call.place(OptionName::Data) else {
-        return condition_alone(Condition::Invreq);
-    };
+    let place = place_at(call, OptionName::Data);
     match store.area_at(place) {
         Some(area) if is_got_by(slot, area) => does(TaskChange::Ends(Ended::Frees(place))),
         _ => condition_alone(Condition::Invreq),

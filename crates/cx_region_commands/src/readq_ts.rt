@@ -2,13 +2,13 @@
 ghost use Rattle.std.specs.Prelude.{◌≡◌, ◌<◌, ◌≤◌, None};
 ghost use Rattle.cx_service.specs.Queues.{read_fault};
 ghost use Rattle.cx_region_commands.specs.Common.{AtPlace};
-ghost use Rattle.cx_region_commands.specs.ReadqTs.{Reads, ReadsItem, ReadsQueue, ReadqRow, reads_into, reads_to};
+ghost use Rattle.cx_region_commands.specs.ReadqTs.{Reads, ReadsItem, ReadqRow, item_asked, reads_into, reads_to};
 
-use crate::common::{condition_alone, task_place};
+use crate::common::{condition_alone, name_at, task_place};
 use crate::services::fault_or_verdict;
 use cx_base_commands::{Condition, OptionName};
 use cx_ebcdic::Name8;
-use cx_region_call::{Call, OutputValue, Outputs, halfword, is_length_negative, measured, name8};
+use cx_region_call::{Call, OutputValue, Outputs, halfword, is_length_negative, measured};
 use cx_region_state::{Ended, Fill, Got, TaskChange, Verdict};
 use cx_service::{Queues, ServiceFault};
 use cx_storage::Store;
@@ -67,9 +67,10 @@ fn reads<S: Store>(store: &S, call: &Call, reading: Reading) -> Verdict
 }
 
 /// The queue of that name.
-#[tactic(auto, using(crate::specs::Facts::Queues::few_read, crate::specs::Facts::Queues::few_items, crate::specs::Facts::Queues::few_bytes, crate::specs::Facts::Queues::some_bytes), unfolding(crate::specs::ReadqTs::ReadsQueue, crate::specs::ReadqTs::item_asked, crate::specs::ReadqTs::reading_of))]
+#[tactic(auto, using(crate::specs::Facts::Queues::few_read, crate::specs::Facts::Queues::few_items, crate::specs::Facts::Queues::few_bytes, crate::specs::Facts::Queues::some_bytes), unfolding(crate::specs::ReadqTs::item_asked, crate::specs::ReadqTs::reading_of))]
 fn reads_queue<S: Store>(store: &S, queues: &Queues, call: &Call, name: Name8) -> Verdict
-    ensures { ReadsQueue (S.storage store.now) queues.now call.now name result }
+    ensures { let storage = S.storage store.now in let n = item_asked storage queues.now call.now name in
+        ReadsItem storage queues.now call.now name n (read_fault queues.now name n) result }
 {
     let next = queues.last_read(name).unwrap_or(0) + 1;
     let n = halfword(store, call, OptionName::Item).map_or(next, |n| usize::from(n));
@@ -97,8 +98,5 @@ pub(crate) fn judge_readq_ts<S: Store>(store: &S, queues: &Queues, call: &Call) 
     if call.has(OptionName::Into) && is_length_negative(store, call) {
         return condition_alone(Condition::Lengerr);
     }
-    match name8(store, call, OptionName::Queue) {
-        Some(name) => reads_queue(store, queues, call, name),
-        None => condition_alone(Condition::Qiderr),
-    }
+    reads_queue(store, queues, call, name_at(store, call, OptionName::Queue))
 }

@@ -1,15 +1,15 @@
 //! WRITEQ TS.
 ghost use Rattle.std.specs.Prelude.{◌≡◌, ◌+◌, [], ◌∷◌, unwrap_or};
-ghost use Rattle.cx_region_commands.specs.WriteqTs.{item_named, writeq_row, written_to};
+ghost use Rattle.cx_region_commands.specs.WriteqTs.{item_named, writeq_row};
 ghost use Rattle.cx_region_commands.specs.Services.{fault_or_verdict};
 ghost use Rattle.cx_region_commands.specs.Common.{does, output};
 ghost use Rattle.cx_service.specs.Queues.{count_of, rewrite_fault, write_fault};
 
-use crate::common::{condition_alone, does};
+use crate::common::{does, name_at, piece_at};
 use crate::services::fault_or_verdict;
 use cx_base_commands::{Condition, OptionName};
 use cx_ebcdic::Name8;
-use cx_region_call::{Call, OutputValue, Outputs, StorageSpan, halfword, measured_piece, name8};
+use cx_region_call::{Call, OutputValue, Outputs, StorageSpan, halfword};
 use cx_region_state::{Made, TaskChange, Verdict};
 use cx_service::Queues;
 use cx_storage::Store;
@@ -51,34 +51,16 @@ fn item_named<S: Store>(store: &S, call: &Call) -> u16
     halfword(store, call, OptionName::Item).unwrap_or(0)
 }
 
-/// By the bytes of FROM.
-fn written_to<S: Store>(
-    store: &S,
-    queues: &Queues,
-    call: &Call,
-    name: Name8,
-    piece: Option<StorageSpan>,
-) -> Verdict
-    ensures { result ≡ written_to (S.storage store.now) queues.now call.now name piece }
-{
-    let Some(piece) = piece else {
-        return condition_alone(Condition::Qiderr);
-    };
-    if call.has(OptionName::Rewrite) {
-        rewrites(queues, name, item_named(store, call), piece)
-    } else {
-        writes(queues, name, piece)
-    }
-}
-
 /// How a WRITEQ TS is judged.
 #[tactic(auto, unfolding(crate::specs::WriteqTs::writeq_row))]
 pub(crate) fn judge_writeq_ts<S: Store>(store: &S, queues: &Queues, call: &Call) -> Verdict
     ensures { result ≡ writeq_row (S.storage store.now) queues.now call.now }
 {
-    let Some(name) = name8(store, call, OptionName::Queue) else {
-        return condition_alone(Condition::Qiderr);
-    };
-    let piece = measured_piece(store, call, OptionName::From);
-    written_to(store, queues, call, name, piece)
+    let name = name_at(store, call, OptionName::Queue);
+    let piece = piece_at(store, call, OptionName::From);
+    if call.has(OptionName::Rewrite) {
+        rewrites(queues, name, item_named(store, call), piece)
+    } else {
+        writes(queues, name, piece)
+    }
 }

@@ -13,6 +13,7 @@ use Rattle.cx_storage.specs.Place.{CanPlace, IsLeastPlace}
 use Rattle.cx_code.specs.declared.image.Image.{Image}
 use Rattle.cx_load.specs.declared.program.Loaded.{Loaded}
 use Rattle.cx_load.specs.Fault.{IsFit, are_inside}
+use Rattle.cx_load.specs.Facts.Faults.{facts_of_fit}
 use Rattle.cx_load.specs.Program.{IsLoaded, IsProgramPlace, first_of_programs, last_of_programs, program_owner, text_at}
 use Rattle.cx_load.specs.Relocation.{relocated_text}
 
@@ -55,12 +56,13 @@ pub images_are_loaded : KeepsLength → ImagesAreLoaded
 unfolding IsLeastPlace
 images_are_loaded keeps storage image at fit place =
     let after = after_write (with_area storage (Some at) (length image.text) program_owner) at (text_at at image) in
-    let size = keeps at image.relocs image.text fit.inside in (
+    let facts = facts_of_fit image fit in
+    let size = keeps at image.relocs image.text facts.inside in (
       record { at = at; len = length image.text; entry = at + image.entry; stg_len = image.stg_len },
       after,
       record {
         place = place;
-        stands = fresh_holds storage (length image.text) at program_owner (text_at at image) place.0 fit.short size;
+        stands = fresh_holds storage (length image.text) at program_owner (text_at at image) place.0 facts.short size;
         storage_after = refl;
         size = refl;
         entry = refl;

@@ -6,7 +6,7 @@ use Rattle.std.specs.declared.alloc.AllocError.{AllocError}
 use Rattle.cx_region.specs.declared.replies.Event.{Event}
 use Rattle.cx_region.specs.declared.replies.Reply.{Reply}
 use Rattle.cx_region.specs.State.{RegionState}
-use Rattle.cx_region.specs.Events.{Applies, IsDone, Run}
+use Rattle.cx_region.specs.Events.{Applies, IsDone, MayTakeMemory, Run}
 use Rattle.cx_region_laws.specs.Laws.Memory.{RefusedEventsAreNone, StoppedRunsGoOn}
 use Rattle.cx_region_laws.specs.Laws.Regions.{EventsDecide}
 use Rattle.cx_region_laws.proofs.RunLawLemmas.{runs_join}
@@ -18,7 +18,7 @@ same_answer decide old new after e (Err fault) reply h k = tt
 
 pub refused_events_are_none : EventsDecide → RefusedEventsAreNone
 refused_events_are_none decide old mid new refused next fault result first second =
-    let done : IsDone old next result new = subst (λ (r : RegionState). IsDone r next result new) first.err second in
+    let done : IsDone Applies MayTakeMemory old next result new = subst (λ (r : RegionState). IsDone Applies MayTakeMemory r next result new) first.err second in
     record { done = done; answer = λ reply after h. same_answer decide old new after next result reply done.applies h }
 
 pub stopped_runs_go_on : StoppedRunsGoOn

@@ -20,10 +20,10 @@ use Rattle.cx_region_call.specs.Inputs.{are_inputs_there}
 use Rattle.cx_service.specs.Lines.{AreLinesOf}
 use Rattle.cx_storage.specs.Storage.{Storage}
 use Rattle.cx_region_commands.specs.CommandVerdicts.{HasVerdict, JudgedBy}
-use Rattle.cx_region_commands.specs.Common.{AtPlace, commarea_of, has, named_program}
+use Rattle.cx_region_commands.specs.Common.{AtPlace, commarea_of, has, name_at, named_program}
 use Rattle.cx_region_commands.specs.Getmain.{GetmainRow, asked_len, is_area_length}
 use Rattle.cx_region_commands.specs.Link.{LinkRow, Links}
-use Rattle.cx_region_commands.specs.ReadqTs.{ReadqRow, Reads, ReadsItem, ReadsQueue, item_asked, reading_of}
+use Rattle.cx_region_commands.specs.ReadqTs.{ReadqRow, Reads, ReadsItem, item_asked, reading_of}
 use Rattle.cx_region_commands.specs.Xctl.{Copies, Transfers, XctlRow, XctlTo, copying_to, replaces}
 use Rattle.cx_region_commands.specs.declared.common.Called.{Called}
 use Rattle.cx_region_commands.specs.declared.readq_ts.Reading.{Reading}
@@ -115,15 +115,12 @@ reads_item : (storage : Storage) (queues : Queues) (call : Call) (name : List �
 reads_item storage queues call name n None = reads storage call (reading_of queues name n)
 reads_item storage queues call name n (Some fault) = (_, refl)
 
-reads_queue : (storage : Storage) (queues : Queues) (call : Call) (name : List ℕ) → Found (ReadsQueue storage queues call name)
-unfolding ReadsQueue
-reads_queue storage queues call name = reads_item storage queues call name (item_asked storage queues call name) (read_fault queues name (item_asked storage queues call name))
-
 readq : (storage : Storage) (queues : Queues) (call : Call) → Found (ReadqRow storage queues call)
 unfolding ReadqRow
 readq storage queues call =
-    either _ _ (has call option.Into && is_length_negative storage call) (_, refl)
-    (optional _ (λ name verdict. ReadsQueue storage queues call name verdict) (bytes_of storage call option.Queue 8) (_, refl) (λ name. reads_queue storage queues call name))
+    let name = name_at storage call option.Queue in
+    let n = item_asked storage queues call name in
+    either _ _ (has call option.Into && is_length_negative storage call) (_, refl) (reads_item storage queues call name n (read_fault queues name n))
 
 copies_to : (storage : Storage) (slot : ℕ) (called : Called) (piece : StorageSpan) → (place : Option ℕ)
     → Found (λ verdict. MatchOption place (verdict ≡ Refuses abend.Xstg) (λ to. Transfers storage slot called (Some (copying_to piece to)) verdict))

@@ -33,25 +33,25 @@ use Rattle.cx_region_state.specs.declared.verdict.Ended.TheVariants.{Dequeues, F
 use Rattle.cx_region_state.specs.declared.verdict.Verdict.{Verdict}
 use Rattle.cx_region_state.specs.declared.verdict.Verdict.TheVariants.{Meets, Refuses, Waits}
 use Rattle.cx_region_commands.specs.declared.common.Called.{Called}
-use Rattle.cx_region_commands.specs.Common.{commarea_of, does, has, named_program, condition_alone}
+use Rattle.cx_region_commands.specs.Common.{commarea_of, does, has, name_at, named_program, condition_alone, piece_at, place_at}
 use Rattle.cx_region_commands.specs.Services.{fault_or_verdict}
 use Rattle.cx_region_commands.specs.Abend.{abend_row}
 use Rattle.cx_region_commands.specs.Address.{address_row}
-use Rattle.cx_region_commands.specs.DeleteqTs.{deleteq_row, deletes}
+use Rattle.cx_region_commands.specs.DeleteqTs.{deleteq_row}
 use Rattle.cx_region_commands.specs.Deq.{deq_row}
-use Rattle.cx_region_commands.specs.Enq.{enq_row, enqueues, is_wrong_length, resource_named}
-use Rattle.cx_region_commands.specs.Freemain.{freemain_row, frees, is_got_by}
+use Rattle.cx_region_commands.specs.Enq.{enq_row, is_wrong_length, resource_at}
+use Rattle.cx_region_commands.specs.Freemain.{freemain_row, is_got_by}
 use Rattle.cx_region_commands.specs.Getmain.{GetmainRow, asked_len, fill_byte, gets, is_area_length}
 use Rattle.cx_region_commands.specs.HandleAbend.{handle_abend_row}
 use Rattle.cx_region_commands.specs.Handling.{handle_row, ignore_row, pop_row, push_row}
 use Rattle.cx_region_commands.specs.CommandVerdicts.{HasVerdict, JudgedBy}
 use Rattle.cx_region_commands.specs.Link.{LinkRow, Links, enters}
-use Rattle.cx_region_commands.specs.ReadqTs.{ReadqRow, Reads, ReadsItem, ReadsQueue, item_asked, reading_of, reads_into, reads_to}
+use Rattle.cx_region_commands.specs.ReadqTs.{ReadqRow, Reads, ReadsItem, item_asked, reading_of, reads_into, reads_to}
 use Rattle.cx_region_commands.specs.Receive.{receive_row}
 use Rattle.cx_region_commands.specs.Return.{return_row}
 use Rattle.cx_region_commands.specs.SendText.{send_text_row}
 use Rattle.cx_region_commands.specs.Suspend.{suspend_row}
-use Rattle.cx_region_commands.specs.WriteqTs.{item_named, writeq_row, written_to}
+use Rattle.cx_region_commands.specs.WriteqTs.{item_named, writeq_row}
 use Rattle.cx_region_commands.specs.Xctl.{Transfers, XctlRow, XctlTo, copying_to, replaces}
 use Rattle.cx_region_commands.specs.Facts.FitsParts.{by_option, by_test}
 use Rattle.cx_region_laws.proofs.ClearLemmas.{placed_ends}
@@ -125,13 +125,13 @@ getmain_plain s call v row =
         row_plain v _ is (inr (refl, (omega (arith, ends), tt)))
 
 readq_plain : (s : Storage) (queues : Queues) (call : Call) (v : Verdict) → ReadqRow s queues call v → IsPlain v
-unfolding ReadqRow ReadsQueue Reads
+unfolding ReadqRow Reads
 readq_plain s queues call v row =
     by_test (has call option.Into && is_length_negative s call) row
     (λ _ is. row_plain v (condition_alone Lengerr) is (inl refl))
-    (λ _ named. by_option (bytes_of s call option.Queue 8) named
-    (λ is. row_plain v (condition_alone Qiderr) is (inl refl))
-    (λ name _ reads. by_fault name (item_asked s queues call name) (read_fault queues name (item_asked s queues call name)) reads))
+    (λ _ reads.
+    let name = name_at s call option.Queue in
+    by_fault name (item_asked s queues call name) (read_fault queues name (item_asked s queues call name)) reads)
   where
     placed : (name : List ℕ) (n : ℕ) (place : Option ℕ) → IsTaskPlace s (reading_of queues name n).len place → v ≡ reads_to (reading_of queues name n) place → IsPlain v
     placed name n None least is = row_plain v _ is (inl refl)
@@ -148,18 +148,13 @@ readq_plain s queues call v row =
 
 writeq_plain : (s : Storage) (queues : Queues) (call : Call) → IsPlain (writeq_row s queues call)
 unfolding writeq_row
-writeq_plain s queues call = go (bytes_of s call option.Queue 8)
-  where
-    written : (name : List ℕ) (o : Option StorageSpan) → IsPlain (written_to s queues call name o)
-    written name None = inl refl
-    written name (Some piece) = elim (cases_Bool (has call option.Rewrite)) [
+writeq_plain s queues call =
+    let name = name_at s call option.Queue in
+    let piece = piece_at s call option.From in
+    elim (cases_Bool (has call option.Rewrite)) [
       | inl t ↦ rw t (unless_plain (rewrite_fault queues name (item_named s call) piece.len) _ (inl refl))
       | inr f ↦ rw f (unless_plain (write_fault queues name piece.len) _ (inr (refl, (tt, tt))))
     ]
-
-    go : (o : Option (List ℕ)) → IsPlain (option_map_or (λ name. written_to s queues call name (piece_of s call option.From)) o (condition_alone Qiderr))
-    go None = inl refl
-    go (Some name) = written name (piece_of s call option.From)
 
 -- ---- rows without outputs
 push_plain : (kept : List Handling) → IsPlain (push_row kept)
@@ -176,47 +171,31 @@ pop_plain (last ∷ rest) = inl refl
 
 deleteq_plain : (s : Storage) (queues : Queues) (call : Call) → IsPlain (deleteq_row s queues call)
 unfolding deleteq_row
-deleteq_plain s queues call = go (bytes_of s call option.Queue 8)
-  where
-    go : (o : Option (List ℕ)) → IsPlain (option_map_or (deletes queues) o (condition_alone Qiderr))
-    go None = inl refl
-    go (Some name) = elim (cases_Bool (is_none (count_of queues name))) [
-      | inl t ↦ rw t (inl refl)
-      | inr f ↦ rw f (inl refl)
-    ]
+deleteq_plain s queues call = elim (cases_Bool (is_none (count_of queues (name_at s call option.Queue)))) [
+  | inl t ↦ rw t (inl refl)
+  | inr f ↦ rw f (inl refl)
+]
 
 freemain_plain : (s : Storage) (slot : ℕ) (call : Call) → IsPlain (freemain_row s slot call)
 unfolding freemain_row
-freemain_plain s slot call = go (place_of call option.Data)
-  where
-    go : (o : Option ℕ) → IsPlain (option_map_or (frees s slot) o (condition_alone Invreq))
-    go None = inl refl
-    go (Some place) = elim (cases_Bool (option_map_or (is_got_by slot) (area_at s place) false)) [
-      | inl t ↦ rw t (inl refl)
-      | inr f ↦ rw f (inl refl)
-    ]
+freemain_plain s slot call = elim (cases_Bool (option_map_or (is_got_by slot) (area_at s (place_at call option.Data)) false)) [
+  | inl t ↦ rw t (inl refl)
+  | inr f ↦ rw f (inl refl)
+]
 
 enq_plain : (call : Call) (r : TaskContext) → IsPlain (enq_row r.shared.storage r.shared.resources r.terminal_entry.slot call)
 unfolding enq_row
 enq_plain call r = elim (cases_Bool (is_wrong_length r.shared.storage call)) [
   | inl t ↦ rw t (inl refl)
-  | inr f ↦ rw f (go (resource_named r.shared.storage call))
+  | inr f ↦ rw f (unless_plain (enq_fault r.shared.resources r.terminal_entry.slot (resource_at r.shared.storage call)) _ (inl refl))
 ]
-  where
-    go : (o : Option ResourceName) → IsPlain (option_map_or (enqueues r.shared.resources r.terminal_entry.slot) o (condition_alone Lengerr))
-    go None = inl refl
-    go (Some name) = unless_plain (enq_fault r.shared.resources r.terminal_entry.slot name) _ (inl refl)
 
 deq_plain : (s : Storage) (call : Call) → IsPlain (deq_row s call)
 unfolding deq_row
 deq_plain s call = elim (cases_Bool (is_wrong_length s call)) [
   | inl t ↦ rw t (inl refl)
-  | inr f ↦ rw f (go (resource_named s call))
+  | inr f ↦ rw f (inl refl)
 ]
-  where
-    go : (o : Option ResourceName) → IsPlain (option_map_or (λ name. does (Ends (Dequeues name))) o (condition_alone Lengerr))
-    go None = inl refl
-    go (Some name) = inl refl
 
 send_text_plain : (s : Storage) (call : Call) → IsPlain (send_text_row s call)
 unfolding send_text_row

@@ -13,8 +13,8 @@ use Rattle.cx_service.specs.declared.faults.ServiceFault.TheVariants as fault
 use Rattle.cx_service.specs.declared.resources.ResourceName.{ResourceName}
 use Rattle.cx_service.specs.Queues.{Queues, count_of, read_fault, rewrite_fault, write_fault}
 use Rattle.cx_service.specs.Resources.{enq_fault}
-use Rattle.cx_region_call.specs.Call.{Call, place_of}
-use Rattle.cx_region_call.specs.Inputs.{bytes_of, is_length_negative, length_option, piece_of}
+use Rattle.cx_region_call.specs.Call.{Call}
+use Rattle.cx_region_call.specs.Inputs.{is_length_negative, length_option}
 use Rattle.cx_region_call.specs.declared.inputs.StorageSpan.{StorageSpan}
 use Rattle.cx_region_state.specs.State.{Input, TaskContext}
 use Rattle.cx_region_state.specs.declared.verdict.TaskChange.{TaskChange}
@@ -30,18 +30,18 @@ use Rattle.cx_region_state.specs.declared.verdict.Request.TheVariants.{Push, Pop
 use Rattle.cx_region_state.specs.declared.verdict.Verdict.{Verdict}
 use Rattle.cx_region_state.specs.declared.verdict.Verdict.TheVariants.{Meets, Refuses, Waits}
 use Rattle.cx_region_commands.specs.declared.common.Called.{Called}
-use Rattle.cx_region_commands.specs.Common.{commarea_of, does, has, named_program, condition_alone}
+use Rattle.cx_region_commands.specs.Common.{commarea_of, has, name_at, named_program, condition_alone, piece_at, place_at}
 use Rattle.cx_region_commands.specs.Services.{fault_or_verdict}
-use Rattle.cx_region_commands.specs.DeleteqTs.{deleteq_row, deletes}
+use Rattle.cx_region_commands.specs.DeleteqTs.{deleteq_row}
 use Rattle.cx_region_commands.specs.Deq.{deq_row}
-use Rattle.cx_region_commands.specs.Enq.{enq_row, enqueues, is_wrong_length, resource_named}
+use Rattle.cx_region_commands.specs.Enq.{enq_row, is_wrong_length, resource_at}
 use Rattle.cx_region_commands.specs.Getmain.{GetmainRow, asked_len, fill_byte, gets, is_area_length}
 use Rattle.cx_region_commands.specs.Link.{LinkRow, Links, enters}
-use Rattle.cx_region_commands.specs.ReadqTs.{ReadqRow, Reads, ReadsItem, ReadsQueue, item_asked, reading_of, reads_into, reads_to}
-use Rattle.cx_region_commands.specs.WriteqTs.{item_named, writeq_row, written_to}
+use Rattle.cx_region_commands.specs.ReadqTs.{ReadqRow, Reads, ReadsItem, item_asked, reading_of, reads_into, reads_to}
+use Rattle.cx_region_commands.specs.WriteqTs.{item_named, writeq_row}
 use Rattle.cx_region_commands.specs.Xctl.{Transfers, XctlRow, XctlTo, copying_to, replaces}
 use Rattle.cx_region_commands.specs.Facts.FitsParts.{by_option, by_test}
-use Rattle.cx_region_commands.specs.Freemain.{freemain_row, frees, is_got_by}
+use Rattle.cx_region_commands.specs.Freemain.{freemain_row, is_got_by}
 use Rattle.cx_region_commands.specs.Handling.{pop_row, push_row}
 use Rattle.cx_region_commands.specs.Receive.{receive_row}
 use Rattle.cx_region_commands.specs.SendText.{send_text_row}
@@ -106,47 +106,31 @@ pop_none p apart handles (last ∷ rest) = handles Pop
 
 pub deleteq_none : (p : TaskChange → Bool) → IsApart p → (s : Storage) (queues : Queues) (call : Call) → passes p (deleteq_row s queues call) ≡ false
 unfolding deleteq_row passes
-deleteq_none p apart s queues call = go (bytes_of s call option.Queue 8)
-  where
-    go : (o : Option (List ℕ)) → passes p (option_map_or (deletes queues) o (condition_alone Qiderr)) ≡ false
-    go None = apart.none
-    go (Some name) = elim (cases_Bool (is_none (count_of queues name))) [
-      | inl t ↦ rw t apart.none
-      | inr f ↦ rw f (apart.ends (QueueGone name))
-    ]
+deleteq_none p apart s queues call = elim (cases_Bool (is_none (count_of queues (name_at s call option.Queue)))) [
+  | inl t ↦ rw t apart.none
+  | inr f ↦ rw f (apart.ends (QueueGone (name_at s call option.Queue)))
+]
 
 pub deq_none : (p : TaskChange → Bool) → IsApart p → (s : Storage) (call : Call) → passes p (deq_row s call) ≡ false
 unfolding deq_row passes
 deq_none p apart s call = elim (cases_Bool (is_wrong_length s call)) [
   | inl t ↦ rw t apart.none
-  | inr f ↦ rw f (go (resource_named s call))
+  | inr f ↦ rw f (apart.ends (Dequeues (resource_at s call)))
 ]
-  where
-    go : (o : Option ResourceName) → passes p (option_map_or (λ name. does (Ends (Dequeues name))) o (condition_alone Lengerr)) ≡ false
-    go None = apart.none
-    go (Some name) = apart.ends (Dequeues name)
 
 pub freemain_none : (p : TaskChange → Bool) → IsApart p → (s : Storage) (slot : ℕ) (call : Call) → passes p (freemain_row s slot call) ≡ false
 unfolding freemain_row passes
-freemain_none p apart s slot call = go (place_of call option.Data)
-  where
-    go : (o : Option ℕ) → passes p (option_map_or (frees s slot) o (condition_alone Invreq)) ≡ false
-    go None = apart.none
-    go (Some place) = elim (cases_Bool (option_map_or (is_got_by slot) (area_at s place) false)) [
-      | inl t ↦ rw t (apart.ends (Frees place))
-      | inr f ↦ rw f apart.none
-    ]
+freemain_none p apart s slot call = elim (cases_Bool (option_map_or (is_got_by slot) (area_at s (place_at call option.Data)) false)) [
+  | inl t ↦ rw t (apart.ends (Frees (place_at call option.Data)))
+  | inr f ↦ rw f apart.none
+]
 
 pub send_text_none : (p : TaskChange → Bool) → IsApart p → (s : Storage) (call : Call) → passes p (send_text_row s call) ≡ false
 unfolding send_text_row passes
 send_text_none p apart s call = elim (cases_Bool (is_length_negative s call)) [
   | inl t ↦ rw t apart.none
-  | inr f ↦ rw f (go (piece_of s call option.From))
+  | inr f ↦ rw f (apart.shows (piece_at s call option.From) (has call option.Erase))
 ]
-  where
-    go : (o : Option StorageSpan) → passes p (does (option_map_or (λ piece. Makes (Shows piece (has call option.Erase))) o Nothing)) ≡ false
-    go None = apart.none
-    go (Some piece) = apart.shows piece (has call option.Erase)
 
 -- ---- rows of storage, queues, resources and levels
 pub getmain_none : (p : TaskChange → Bool) → IsApart p → IsOfNoService p → (call : Call) (r : TaskContext) (v : Verdict) → GetmainRow r.shared.storage call v → passes p v ≡ true → {P : Type 0} → P
@@ -158,13 +142,13 @@ getmain_none p apart others call r v row e = by_test (is_area_length (asked_len 
     got (Some place) is = never p v _ is (others.gets _) e
 
 pub readq_none : (p : TaskChange → Bool) → IsApart p → IsOfNoService p → (call : Call) (r : TaskContext) (v : Verdict) → ReadqRow r.shared.storage r.shared.queues call v → passes p v ≡ true → {P : Type 0} → P
-unfolding ReadqRow ReadsQueue Reads passes
+unfolding ReadqRow Reads passes
 readq_none p apart others call r v row e =
     by_test (has call option.Into && is_length_negative r.shared.storage call) row
     (λ _ is. never p v (condition_alone Lengerr) is apart.none e)
-    (λ _ named. by_option (bytes_of r.shared.storage call option.Queue 8) named
-    (λ is. never p v (condition_alone Qiderr) is apart.none e)
-    (λ name _ reads. by_fault name (item_asked r.shared.storage r.shared.queues call name) (read_fault r.shared.queues name (item_asked r.shared.storage r.shared.queues call name)) reads))
+    (λ _ reads.
+    let name = name_at r.shared.storage call option.Queue in
+    by_fault name (item_asked r.shared.storage r.shared.queues call name) (read_fault r.shared.queues name (item_asked r.shared.storage r.shared.queues call name)) reads)
   where
     placed : {P : Type 0} (name : List ℕ) (n : ℕ) (place : Option ℕ) → v ≡ reads_to (reading_of r.shared.queues name n) place → P
     placed name n None is = never p v _ is apart.none e
@@ -214,26 +198,17 @@ xctl_none p apart others call r v row e =
 
 pub writeq_none : (p : TaskChange → Bool) → IsApart p → IsOfNoService p → (call : Call) (r : TaskContext) → passes p (writeq_row r.shared.storage r.shared.queues call) ≡ false
 unfolding writeq_row passes
-writeq_none p apart others call r = go (bytes_of r.shared.storage call option.Queue 8)
-  where
-    written : (name : List ℕ) (o : Option StorageSpan) → passes p (written_to r.shared.storage r.shared.queues call name o) ≡ false
-    written name None = apart.none
-    written name (Some piece) = elim (cases_Bool (has call option.Rewrite)) [
+writeq_none p apart others call r =
+    let name = name_at r.shared.storage call option.Queue in
+    let piece = piece_at r.shared.storage call option.From in
+    elim (cases_Bool (has call option.Rewrite)) [
       | inl t ↦ rw t (unless_none p apart (rewrite_fault r.shared.queues name (item_named r.shared.storage call) piece.len) _ (others.at _ _ _))
       | inr f ↦ rw f (unless_none p apart (write_fault r.shared.queues name piece.len) _ (others.last _ _))
     ]
-
-    go : (o : Option (List ℕ)) → passes p (option_map_or (λ name. written_to r.shared.storage r.shared.queues call name (piece_of r.shared.storage call option.From)) o (condition_alone Qiderr)) ≡ false
-    go None = apart.none
-    go (Some name) = written name (piece_of r.shared.storage call option.From)
 
 pub enq_none : (p : TaskChange → Bool) → IsApart p → IsOfNoService p → (call : Call) (r : TaskContext) → passes p (enq_row r.shared.storage r.shared.resources r.terminal_entry.slot call) ≡ false
 unfolding enq_row passes
 enq_none p apart others call r = elim (cases_Bool (is_wrong_length r.shared.storage call)) [
   | inl t ↦ rw t apart.none
-  | inr f ↦ rw f (go (resource_named r.shared.storage call))
+  | inr f ↦ rw f (unless_none p apart (enq_fault r.shared.resources r.terminal_entry.slot (resource_at r.shared.storage call)) _ (others.enqueues _))
 ]
-  where
-    go : (o : Option ResourceName) → passes p (option_map_or (enqueues r.shared.resources r.terminal_entry.slot) o (condition_alone Lengerr)) ≡ false
-    go None = apart.none
-    go (Some name) = unless_none p apart (enq_fault r.shared.resources r.terminal_entry.slot name) _ (others.enqueues _)

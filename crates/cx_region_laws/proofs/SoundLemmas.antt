@@ -7,6 +7,7 @@ use Rattle.cx_code.specs.declared.image.Image.{Image}
 use Rattle.cx_ebcdic.specs.Facts.Names.{is_name-laws}
 use Rattle.cx_load.specs.declared.program.Loaded.{Loaded}
 use Rattle.cx_load.specs.Fault.{IsFit}
+use Rattle.cx_load.specs.Facts.Faults.{facts_of_fit}
 use Rattle.cx_region_state.specs.State.{Input, TaskState}
 use Rattle.cx_base_lists.specs.Facts.Tables.{distinct-insert_entry}
 use Rattle.cx_region_task.specs.Laws.HalfTurns.{HalfTurnsKeep}
@@ -43,7 +44,7 @@ program_kept old new name image result ok fit parts h = by_fault (program_fault 
     loads : (answer : Result Loaded DefineFault) → program_fault old name ≡ None → Loads old name image answer new → IsSound new
     loads (Ok loaded) free h =
         subst IsSound (sym h.1)
-        (sound_program old name image loaded new.storage (insert_entry is_name old.programs name loaded) ok parts.storage fit.nonempty
+        (sound_program old name image loaded new.storage (insert_entry is_name old.programs name loaded) ok parts.storage (facts_of_fit image fit).nonempty
         (sound_loaded old.storage new.storage image loaded fit h.0) free h.0 refl (distinct-insert_entry is_name is_name-laws old.programs name loaded ok.programs_distinct))
     loads (Err NoRoom) free h = subst IsSound (sym h.1) ok
     loads (Err _) free h = absurd h

@@ -16,14 +16,14 @@ use Rattle.cx_region_state.specs.State.{TaskContext}
 use Rattle.cx_region_state.specs.declared.verdict.TaskChange.TheVariants.{TaskEnds}
 use Rattle.cx_region_state.specs.declared.verdict.Verdict.{Verdict}
 use Rattle.cx_region_state.specs.declared.verdict.Verdict.TheVariants.{Meets}
-use Rattle.cx_region_commands.specs.Common.{commarea_of, does, has, condition_alone}
+use Rattle.cx_region_commands.specs.Common.{commarea_of, does, has, name_at, condition_alone}
 use Rattle.cx_region_commands.specs.Services.{fault_or_verdict}
 use Rattle.cx_region_commands.specs.Abend.{abend_row}
 use Rattle.cx_region_commands.specs.Address.{address_row}
 use Rattle.cx_region_commands.specs.HandleAbend.{handle_abend_row}
 use Rattle.cx_region_commands.specs.Handling.{handle_row, ignore_row}
 use Rattle.cx_region_commands.specs.CommandVerdicts.{HasVerdict, JudgedBy}
-use Rattle.cx_region_commands.specs.ReadqTs.{ReadqRow, Reads, ReadsItem, ReadsQueue, item_asked, reading_of, reads_into}
+use Rattle.cx_region_commands.specs.ReadqTs.{ReadqRow, Reads, ReadsItem, item_asked, reading_of, reads_into}
 use Rattle.cx_region_commands.specs.Return.{highest_return, next_of, return_row}
 use Rattle.cx_region_commands.specs.Suspend.{suspend_row}
 use Rattle.cx_region_commands.specs.Facts.FitsParts.{by_option, by_test}
@@ -41,15 +41,15 @@ apart = record { none = refl; ends = λ e. refl; shows = λ piece erase. refl }
 
 -- ---- rows whose change takes memory in one case
 readq_takes : (call : Call) (r : TaskContext) (v : Verdict) → ReadqRow r.shared.storage r.shared.queues call v → takes v ≡ true → has call option.Set ≡ true
-unfolding ReadqRow ReadsQueue Reads takes passes
+unfolding ReadqRow Reads takes passes
 readq_takes call r v row e = elim (cases_Bool (has call option.Set)) [
   | inl t ↦ t
   | inr f ↦
       by_test (has call option.Into && is_length_negative r.shared.storage call) row
       (λ _ is. never change_takes_memory v (condition_alone Lengerr) is refl e)
-      (λ _ named. by_option (bytes_of r.shared.storage call option.Queue 8) named
-      (λ is. never change_takes_memory v (condition_alone Qiderr) is refl e)
-      (λ name _ reads. by_fault f name (item_asked r.shared.storage r.shared.queues call name) (read_fault r.shared.queues name (item_asked r.shared.storage r.shared.queues call name)) reads))
+      (λ _ reads.
+      let name = name_at r.shared.storage call option.Queue in
+      by_fault f name (item_asked r.shared.storage r.shared.queues call name) (read_fault r.shared.queues name (item_asked r.shared.storage r.shared.queues call name)) reads)
 ]
   where
     by_fault : has call option.Set ≡ false → (name : List ℕ) (n : ℕ) (o : Option ServiceFault) → ReadsItem r.shared.storage r.shared.queues call name n o v → has call option.Set ≡ true

@@ -1,9 +1,11 @@
-//! `RegionSnapshot`: all that a region keeps, kept apart from it, to be compared and put back.
+//! `RegionSnapshot`: all that a region keeps, kept apart from it, to be compared and put back; and a turn that is done apart from a
+//! region.
 #![tactic(auto)]
 
 mod snapshot;
 mod task;
 mod terminal;
+mod turned;
 
 pub use snapshot::RegionSnapshot;
 // A crate can name the snapshot in a contract only if the types of its fields are exported.
@@ -13,3 +15,4 @@ pub use snapshot::Defined;
 pub use task::TaskSnapshot;
 #[doc(hidden)]
 pub use terminal::TerminalSnapshot;
+pub use turned::turn_apart;

@@ -1,5 +1,5 @@
 //! `RegionSnapshot`: all that a region keeps.
-ghost use Rattle.std.specs.Prelude.{◌≡◌, ◌↔◌, IsTrue, IfOk, OnOk, OnErr, ◌+◌, ◌<◌, fold, length, take};
+ghost use Rattle.std.specs.Prelude.{◌≡◌, ◌↔◌, IsTrue, IfOk, OnOk, OnErr, ◌+◌, ◌<◌, [], fold, length, take};
 ghost use Rattle.std.specs.List.{IsDistinct};
 ghost use Rattle.std.specs.Map.{keys_of};
 ghost use Rattle.cx_base_hash.specs.Hash.{hash_with};
@@ -173,6 +173,7 @@ impl RegionSnapshot {
     ) -> Result<RegionSnapshot, AllocError>
         ensures { IfOk result (λ snapshot. snapshot ≡ region.now) }
     {
+        // First, since its clause says that the region is sound, which the calls after it need.
         let counter = region.counter();
         let shared = region.shared();
         let storage = StorageSnapshot::take(
@@ -214,7 +215,8 @@ impl RegionSnapshot {
         })
     }
 
-    /// Gives a region this state in place of its own.
+    /// Gives a region this state in place of its own. The old state is dropped once all of the new one is made, so that memory
+    /// holds both until then.
     ///
     /// An error comes only where an allocation failed; then the region is as before.
     pub fn restore<S: Store + Drop>(&self, region: &mut Region<S>) -> Result<(), AllocError>
@@ -234,6 +236,22 @@ impl RegionSnapshot {
             counter: self.counter,
         });
         Ok(())
+    }
+
+    /// A region of this state, over an empty store.
+    ///
+    /// An error comes only where an allocation failed; the store is dropped then.
+    pub fn region_in<S: Store + Drop>(
+        &self,
+        alloc: Global,
+        store: S,
+    ) -> Result<Region<S>, AllocError>
+        requires { S.storage store ≡ [] }
+        ensures { IfOk result (λ region. region ≡ self.now) }
+    {
+        let mut region = Region::new(alloc, store)?;
+        self.restore(&mut region)?;
+        Ok(region)
     }
 
     /// Whether two are the same state.

@@ -11,11 +11,10 @@ use crate::decision::{Act, Decision, Wait};
 use crate::finishing::has_room;
 use crate::going::{continuation_at, is_wait};
 use cx_base_commands::{Abend, Condition, OptionName};
-use cx_ebcdic::Name8;
 use cx_region_call::{Call, CallFault, Outputs, are_inputs_there, name8, read_call};
 use cx_region_commands::{is_wrong_length, judge, resource_named};
 use cx_region_state::{Shared, Task, TaskChange, TerminalEntry, Verdict};
-use cx_service::{Queues, ResourceName};
+use cx_service::ResourceName;
 use cx_storage::{Store, address_in};
 
 /// The abend that a call's fault leads to.
@@ -110,14 +109,6 @@ fn decide_by<S: Store + Drop>(
     }
 }
 
-/// The queues are within their limits, as always.
-fn queues_are_sound(queues: &Queues)
-    ensures { AreSoundQueues queues.now }
-{
-    // A look at them says so.
-    queues.items(Name8::from_bytes([0; 8]));
-}
-
 /// What the command that is due will do: its argument list is read, its inputs are tested, its row judges it, and its
 /// outputs are tested. Nothing changes, and no memory is taken.
 #[tactic(auto, unfolding(crate::specs::Performing::Decides), using(cx_region_commands::specs::Facts::Fits::judged_fits))]
@@ -130,7 +121,8 @@ pub fn decide<S: Store + Drop>(
     ensures decides { Decides (context shared.now terminal_entry.now task.now) result }
     ensures queues { AreSoundQueues shared.now.queues }
 {
-    queues_are_sound(&shared.queues);
+    // A look at the queues says that they are within their limits.
+    shared.queues.all();
     let call = match read_call(&shared.store, address_in(task.cpu.regs[1])) {
         Ok(call) => call,
         Err(fault) => return Decision::Refuse(None, fault_abend(fault)),

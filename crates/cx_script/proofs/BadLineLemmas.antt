@@ -14,9 +14,10 @@ use Rattle.cx_script_blocks.specs.declared.blocks.Body.{Body}
 use Rattle.cx_script_blocks.specs.declared.blocks.Body.TheVariants as kind
 use Rattle.cx_script_blocks.specs.Blocks.{body_with, block_step, action_step, block_end, fault_of_line, step_at, step_in, step_of, with_line}
 use Rattle.cx_script_io.specs.Lines.{is_too_long, lines_met}
-use Rattle.cx_script.specs.Script.{Script, script_in, script_from, fault_at, with_action_first, led_to}
+use Rattle.cx_script.specs.Script.{Script, Step, actions_of, end_fault, first_place, script_in, script_from, step_from, stepped, fault_at, with_actions_first, led_to}
+use Rattle.cx_script.specs.declared.run.Place.{Place}
 use Rattle.cx_script_actions.specs.declared.actions.Action.TheVariants as action
-use Rattle.cx_script.specs.Laws.BadLines.{block_after, block_after_lines, IsBadIn, IsBadLine, BadLinesAreBad}
+use Rattle.cx_script.specs.Laws.BadLines.{place_after, place_after_lines, IsBadIn, IsBadLine, BadLinesAreBad}
 use Rattle.cx_script_actions.specs.Language.{Language}
 use Rattle.cx_script_actions.specs.declared.actions.Line.{Line}
 use Rattle.cx_script_actions.specs.declared.actions.Line.TheVariants as line
@@ -29,14 +30,14 @@ use Rattle.cx_script.proofs.FaultLemmas.{fault_before, is_own, led_own, MayBeLed
 
 -- ---- a line that leads to BadLine is bad at its place
 abbrev Reported : {A : Type 0} → Language A → ℕ → Option Block → List ℕ → RunFault → Type 0
-Reported language number block text (BadLine n) = (n ≡ number) × IsBadIn language block text
+Reported language number block text (BadLine n) = (n ≡ number) × IsBadIn language number block text
 Reported language number block text _ = Unit {0}
 
 unreported : {A B : Type 0} (o : Option B) (f : B → LineStep A) (number : ℕ) (fault : RunFault) → ok_or (option_map f o) (BadLine number) ≡ Err fault → (o ≡ None) × (fault ≡ BadLine number)
 unreported None f number fault e = (refl, cc)
 unreported (Some x) f number fault e = cc
 
-reported : {A : Type 0} (language : Language A) (number : ℕ) (block : Option Block) (text : List ℕ) (fault : RunFault) → fault ≡ BadLine number → IsBadIn language block text → Reported language number block text fault
+reported : {A : Type 0} (language : Language A) (number : ℕ) (block : Option Block) (text : List ℕ) (fault : RunFault) → fault ≡ BadLine number → IsBadIn language number block text → Reported language number block text fault
 reported language number block text fault e h = subst (Reported language number block text) (sym e) (refl, h)
 
 -- an end has no BadLine
@@ -67,7 +68,7 @@ in_reported : {A : Type 0} (language : Language A) (number : ℕ) (block : Optio
 in_reported language number None text true fault l e = let same : fault ≡ BadLine number = cc in reported language number None text fault same (inl (sym l))
 in_reported language number (Some block) text true fault l e = let same : fault ≡ BadLine number = cc in reported language number (Some block) text fault same (inl (sym l))
 in_reported language number None text false fault l e =
-    let u = unreported (language.line_of text) (step_of number) number fault e in
+    let u = unreported (language.line_of number text) (step_of number) number fault e in
     reported language number None text fault u.1 (inr u.0)
 in_reported language number (Some block) text false fault l e = within_reported language number block text (bytes_eq text (codes "/*")) fault refl e
 
@@ -122,7 +123,7 @@ began_within language number block text false step e = began_more number block (
 
 began_in : {A : Type 0} (language : Language A) (number : ℕ) (block : Option Block) (text : List ℕ) (long : Bool) (step : LineStep A) → cond long (Err (BadLine number)) (step_in language number block text) ≡ Ok step → Began number block step
 began_in language number block text true step e = cc
-began_in language number None text false step e = began_line number (language.line_of text) step e
+began_in language number None text false step e = began_line number (language.line_of number text) step e
 began_in language number (Some block) text false step e = began_within language number block text (bytes_eq text (codes "/*")) step e
 
 began : {A : Type 0} (language : Language A) (number : ℕ) (block : Option Block) (text : List ℕ) (step : LineStep A) → step_at language number block text ≡ Ok step → Began number block step
@@ -130,125 +131,156 @@ unfolding step_at
 began language number block text step e = began_in language number block text (is_too_long text) step e
 
 -- ---- a script whose first line leads to a step
-led : {A : Type 0} (language : Language A) (ending : Ending) (number : ℕ) (block : Option Block) (text : List ℕ) (lines : List (List ℕ)) (step : LineStep A) → step_at language number block text ≡ Ok step
-    → script_from language ending number block (text ∷ lines) ≡ with_action_first step.action (script_from language ending (number + 1) step.block lines)
+led : {A : Type 0} (language : Language A) (ending : Ending) (number : ℕ) (place : Place) (text : List ℕ) (lines : List (List ℕ)) (step : Step A) → step_from language number place text ≡ Ok step
+    → script_from language ending number place (text ∷ lines) ≡ with_actions_first step.actions (script_from language ending (number + 1) step.place lines)
 unfolding script_from
-led language ending number block text lines step e = ap (λ d. led_to d (λ next. script_from language ending (number + 1) next lines)) e
+led language ending number place text lines step e = ap (λ d. led_to d (λ next. script_from language ending (number + 1) next lines)) e
 
 -- the same actions, with no fault except that no more is read
 abbrev unended : {A : Type 0} → Script A → Script A
 unended script = record { actions = script.actions; fault = Some Read }
 
-before_unended : {A : Type 0} (action : Option A) (script : Script A) → with_action_first action (unended script) ≡ unended (with_action_first action script)
-before_unended None script = refl
-before_unended (Some action) script = refl
+before_unended : {A : Type 0} (actions : List A) (script : Script A) → with_actions_first actions (unended script) ≡ unended (with_actions_first actions script)
+before_unended actions script = refl
 
 -- ---- where the fault of a script is
-record Met {A : Type 0} (language : Language A) (ending : Ending) (number : ℕ) (block : Option Block) (lines : List (List ℕ)) (n : ℕ) : Type 0 where
+record Met {A : Type 0} (language : Language A) (ending : Ending) (number : ℕ) (place : Place) (lines : List (List ℕ)) (n : ℕ) : Type 0 where
   k : ℕ
   at : n ≡ number + k
   text : List ℕ
   is : slice_get lines k ≡ Some text
   within : k < length lines
-  bad : IsBadIn language (block_after_lines language number block (take k lines)) text
-  done : script_from language Failed number block (take k lines) ≡ unended (script_from language ending number block lines)
+  bad : IsBadIn language n (place_after_lines language number place (take k lines)).block text
+  done : script_from language Failed number place (take k lines) ≡ unended (script_from language ending number place lines)
 
-record Open {A : Type 0} (language : Language A) (ending : Ending) (number : ℕ) (block : Option Block) (lines : List (List ℕ)) (n : ℕ) : Type 0 where
+record Open {A : Type 0} (language : Language A) (ending : Ending) (number : ℕ) (place : Place) (lines : List (List ℕ)) (n : ℕ) : Type 0 where
   ended : ending ≡ AtEnd
   left : Block
-  is : block_after_lines language number block lines ≡ Some left
+  is : (place_after_lines language number place lines).block ≡ Some left
   at : left.line ≡ n
-  done : script_from language Failed number block lines ≡ unended (script_from language ending number block lines)
+  done : script_from language Failed number place lines ≡ unended (script_from language ending number place lines)
 
-at_end : {A : Type 0} (language : Language A) (ending : Ending) (number : ℕ) (block : Option Block) (n : ℕ) → fault_at ending block ≡ Some (BadLine n) → Met language ending number block [] n ⊎ Open language ending number block [] n
-unfolding fault_at script_from block_after_lines
-at_end language AtEnd number None n e = cc
-at_end language AtEnd number (Some block) n e = inr (record { ended = refl; left = block; is = refl; at = cc; done = refl })
-at_end language Failed number block n e = cc
-at_end language PastBound number block n e = cc
+at_end : {A : Type 0} (language : Language A) (number : ℕ) (block : Option Block) (bad_look : Option ℕ) (n : ℕ) → end_fault block bad_look ≡ Some (BadLine n)
+    → (let place : Place = record { block = block; bad_look = bad_look } in Open language AtEnd number place [] n)
+unfolding fault_at script_from place_after_lines
+at_end language number None None n e = cc
+at_end language number None (Some line) n e = cc
+at_end language number (Some block) bad_look n e = record { ended = refl; left = block; is = refl; at = cc; done = refl }
 
-met_here : {A : Type 0} (language : Language A) (ending : Ending) (number : ℕ) (block : Option Block) (text : List ℕ) (lines : List (List ℕ)) (n : ℕ) → (due : RunFault) → step_at language number block text ≡ Err due
-    → (script_from language ending number block (text ∷ lines)).fault ≡ Some (BadLine n) → Met language ending number block (text ∷ lines) n
-unfolding script_from block_after_lines fault_at
-met_here {A} language ending number block text lines n due e f =
+left_over : {A : Type 0} (language : Language A) (ending : Ending) (number : ℕ) (place : Place) (n : ℕ) → fault_at ending place ≡ Some (BadLine n) → Met language ending number place [] n ⊎ Open language ending number place [] n
+unfolding fault_at
+left_over language AtEnd number place n e = inr (at_end language number place.block place.bad_look n e)
+left_over language Failed number place n e = cc
+left_over language PastBound number place n e = cc
+
+-- a step in a script is that of its line, and so is a fault
+not_led : {A : Type 0} (language : Language A) (number : ℕ) (place : Place) (text : List ℕ) (fault : RunFault) → step_from language number place text ≡ Err fault → step_at language number place.block text ≡ Err fault
+unfolding step_from
+not_led {A} language number place text fault e = go (step_at language number place.block text) e
+  where
+    go : (due : Result (LineStep A) RunFault) → result_map_both (stepped language number place) (λ (f : RunFault). f) due ≡ Err fault → due ≡ Err fault
+    go (Ok step) e = cc
+    go (Err own) e = let same : own ≡ fault = cc in ap Err same
+
+record LedBy {A : Type 0} (language : Language A) (number : ℕ) (place : Place) (text : List ℕ) (step : Step A) : Type 0 where
+  by : LineStep A
+  led : step_at language number place.block text ≡ Ok by
+  is : stepped language number place by ≡ step
+
+led_by : {A : Type 0} (language : Language A) (number : ℕ) (place : Place) (text : List ℕ) (step : Step A) → step_from language number place text ≡ Ok step → LedBy language number place text step
+unfolding step_from
+led_by {A} language number place text step e = go (step_at language number place.block text) refl e
+  where
+    go : (due : Result (LineStep A) RunFault) → step_at language number place.block text ≡ due → result_map_both (stepped language number place) (λ (f : RunFault). f) due ≡ Ok step
+        → LedBy language number place text step
+    go (Ok by) d e = record { by = by; led = d; is = cc }
+    go (Err own) d e = cc
+
+met_here : {A : Type 0} (language : Language A) (ending : Ending) (number : ℕ) (place : Place) (text : List ℕ) (lines : List (List ℕ)) (n : ℕ) → (due : RunFault) → step_from language number place text ≡ Err due
+    → (script_from language ending number place (text ∷ lines)).fault ≡ Some (BadLine n) → Met language ending number place (text ∷ lines) n
+unfolding script_from place_after_lines fault_at
+met_here {A} language ending number place text lines n due e f =
     let bad = ap (λ d. led_to d (λ next. script_from language ending (number + 1) next lines)) e in
-    let fault : (script_from language ending number block (text ∷ lines)).fault ≡ Some due = ap (λ (s : Script A). s.fault) bad in
-    let none : (script_from language ending number block (text ∷ lines)).actions ≡ [] = ap (λ (s : Script A). s.actions) bad in
+    let fault : (script_from language ending number place (text ∷ lines)).fault ≡ Some due = ap (λ (s : Script A). s.fault) bad in
+    let none : (script_from language ending number place (text ∷ lines)).actions ≡ [] = ap (λ (s : Script A). s.actions) bad in
     let same : due ≡ BadLine n = cc in
-    let how : Reported language number block text (BadLine n) = subst (Reported language number block text) same (is_reported language number block text due e) in
+    let how : Reported language number place.block text (BadLine n) = subst (Reported language number place.block text) same (is_reported language number place.block text due (not_led language number place text due e)) in
     record {
       k = 0;
       at = omega (arith, how.0);
       text = text;
       is = refl;
       within = omega arith;
-      bad = how.1;
+      bad = subst (λ (i : ℕ). IsBadIn language i place.block text) (sym how.0) how.1;
       done = ap (λ (l : List A). let s : Script A = record { actions = l; fault = Some Read } in s) (sym none);
     }
 
-met_later : {A : Type 0} (language : Language A) (ending : Ending) (number : ℕ) (block : Option Block) (text : List ℕ) (lines : List (List ℕ)) (n : ℕ) (step : LineStep A) → step_at language number block text ≡ Ok step
-    → Met language ending (number + 1) step.block lines n → Met language ending number block (text ∷ lines) n
-unfolding block_after_lines
-met_later language ending number block text lines n step e m =
+met_later : {A : Type 0} (language : Language A) (ending : Ending) (number : ℕ) (place : Place) (text : List ℕ) (lines : List (List ℕ)) (n : ℕ) (step : Step A) → step_from language number place text ≡ Ok step
+    → Met language ending (number + 1) step.place lines n → Met language ending number place (text ∷ lines) n
+unfolding place_after_lines
+met_later language ending number place text lines n step e m =
     record {
       k = suc m.k;
       at = omega (arith, m.at);
       text = m.text;
       is = m.is;
       within = omega (arith, m.within);
-      bad = subst (λ d. IsBadIn language (block_after_lines language (number + 1) (block_after d) (take m.k lines)) m.text) (sym e) m.bad;
-      done = led language Failed number block text (take m.k lines) step e ∙ ap (with_action_first step.action) m.done
-          ∙ before_unended step.action (script_from language ending (number + 1) step.block lines) ∙ ap unended (sym (led language ending number block text lines step e));
+      bad = subst (λ d. IsBadIn language n (place_after_lines language (number + 1) (place_after d) (take m.k lines)).block m.text) (sym e) m.bad;
+      done = led language Failed number place text (take m.k lines) step e ∙ ap (with_actions_first step.actions) m.done
+          ∙ before_unended step.actions (script_from language ending (number + 1) step.place lines) ∙ ap unended (sym (led language ending number place text lines step e));
     }
 
-open_later : {A : Type 0} (language : Language A) (ending : Ending) (number : ℕ) (block : Option Block) (text : List ℕ) (lines : List (List ℕ)) (n : ℕ) (step : LineStep A) → step_at language number block text ≡ Ok step
-    → Open language ending (number + 1) step.block lines n → Open language ending number block (text ∷ lines) n
-unfolding block_after_lines
-open_later language ending number block text lines n step e o =
+open_later : {A : Type 0} (language : Language A) (ending : Ending) (number : ℕ) (place : Place) (text : List ℕ) (lines : List (List ℕ)) (n : ℕ) (step : Step A) → step_from language number place text ≡ Ok step
+    → Open language ending (number + 1) step.place lines n → Open language ending number place (text ∷ lines) n
+unfolding place_after_lines
+open_later language ending number place text lines n step e o =
     record {
       ended = o.ended;
       left = o.left;
       at = o.at;
-      is = ap (λ d. block_after_lines language (number + 1) (block_after d) lines) e ∙ o.is;
-      done = led language Failed number block text lines step e ∙ ap (with_action_first step.action) o.done
-          ∙ before_unended step.action (script_from language ending (number + 1) step.block lines) ∙ ap unended (sym (led language ending number block text lines step e));
+      is = ap (λ d. (place_after_lines language (number + 1) (place_after d) lines).block) e ∙ o.is;
+      done = led language Failed number place text lines step e ∙ ap (with_actions_first step.actions) o.done
+          ∙ before_unended step.actions (script_from language ending (number + 1) step.place lines) ∙ ap unended (sym (led language ending number place text lines step e));
     }
 
-later : {A : Type 0} (language : Language A) (ending : Ending) (number : ℕ) (block : Option Block) (text : List ℕ) (lines : List (List ℕ)) (n : ℕ) (due : Result (LineStep A) RunFault) → step_at language number block text ≡ due
-    → (script_from language ending number block (text ∷ lines)).fault ≡ Some (BadLine n)
-    → ((next : Option Block) → (script_from language ending (number + 1) next lines).fault ≡ Some (BadLine n) → Met language ending (number + 1) next lines n ⊎ Open language ending (number + 1) next lines n)
-    → Met language ending number block (text ∷ lines) n ⊎ Open language ending number block (text ∷ lines) n
-later language ending number block text lines n (Err due) e f ih = inl (met_here language ending number block text lines n due e f)
-later {A} language ending number block text lines n (Ok step) e f ih =
-    let rest = script_from language ending (number + 1) step.block lines in
-    let same : (script_from language ending number block (text ∷ lines)).fault ≡ rest.fault = ap (λ (s : Script A). s.fault) (led language ending number block text lines step e) ∙ fault_before step.action rest in
-    elim (ih step.block (sym same ∙ f)) [
-      | inl m ↦ inl (met_later language ending number block text lines n step e m)
-      | inr o ↦ inr (open_later language ending number block text lines n step e o)
+later : {A : Type 0} (language : Language A) (ending : Ending) (number : ℕ) (place : Place) (text : List ℕ) (lines : List (List ℕ)) (n : ℕ) (due : Result (Step A) RunFault) → step_from language number place text ≡ due
+    → (script_from language ending number place (text ∷ lines)).fault ≡ Some (BadLine n)
+    → ((next : Place) → (script_from language ending (number + 1) next lines).fault ≡ Some (BadLine n) → Met language ending (number + 1) next lines n ⊎ Open language ending (number + 1) next lines n)
+    → Met language ending number place (text ∷ lines) n ⊎ Open language ending number place (text ∷ lines) n
+later language ending number place text lines n (Err due) e f ih = inl (met_here language ending number place text lines n due e f)
+later {A} language ending number place text lines n (Ok step) e f ih =
+    let rest = script_from language ending (number + 1) step.place lines in
+    let same : (script_from language ending number place (text ∷ lines)).fault ≡ rest.fault = ap (λ (s : Script A). s.fault) (led language ending number place text lines step e) ∙ fault_before step.actions rest in
+    elim (ih step.place (sym same ∙ f)) [
+      | inl m ↦ inl (met_later language ending number place text lines n step e m)
+      | inr o ↦ inr (open_later language ending number place text lines n step e o)
     ]
 
-found : {A : Type 0} (language : Language A) (ending : Ending) (number : ℕ) (block : Option Block) (lines : List (List ℕ)) (n : ℕ) → (script_from language ending number block lines).fault ≡ Some (BadLine n)
-    → Met language ending number block lines n ⊎ Open language ending number block lines n
+found : {A : Type 0} (language : Language A) (ending : Ending) (number : ℕ) (place : Place) (lines : List (List ℕ)) (n : ℕ) → (script_from language ending number place lines).fault ≡ Some (BadLine n)
+    → Met language ending number place lines n ⊎ Open language ending number place lines n
 unfolding script_from
-found language ending number block [] n e = at_end language ending number block n e
-found language ending number block (text ∷ lines) n e =
-    later language ending number block text lines n (step_at language number block text) refl e (λ next f. found language ending (number + 1) next lines n f)
+found language ending number place [] n e = left_over language ending number place n e
+found language ending number place (text ∷ lines) n e =
+    later language ending number place text lines n (step_from language number place text) refl e (λ next f. found language ending (number + 1) next lines n f)
 
 -- ---- the line that begins an open block
-record BeganAt {A : Type 0} (language : Language A) (number : ℕ) (block : Option Block) (lines : List (List ℕ)) (left : Block) : Type 0 where
+record BeganAt {A : Type 0} (language : Language A) (number : ℕ) (place : Place) (lines : List (List ℕ)) (left : Block) : Type 0 where
   k : ℕ
   within : k < length lines
   at : left.line ≡ number + k
-  done : script_from language Failed number block (take k lines) ≡ script_from language Failed number block lines
+  done : script_from language Failed number place (take k lines) ≡ script_from language Failed number place lines
 
-record Stays {A : Type 0} (language : Language A) (number : ℕ) (block : Option Block) (lines : List (List ℕ)) (left : Block) : Type 0 where
-  same : IsSomeAnd block (λ b. b.line ≡ left.line)
-  idle : (script_from language Failed number block lines).actions ≡ []
+record Stays {A : Type 0} (language : Language A) (number : ℕ) (place : Place) (lines : List (List ℕ)) (left : Block) : Type 0 where
+  same : IsSomeAnd place.block (λ b. b.line ≡ left.line)
+  idle : (script_from language Failed number place lines).actions ≡ []
 
-stayed : {A : Type 0} (language : Language A) (number : ℕ) (block : Option Block) (left : Block) → block ≡ Some left → Stays language number block [] left
+is_left : (block : Option Block) (left : Block) → block ≡ Some left → IsSomeAnd block (λ b. b.line ≡ left.line)
+is_left None left e = cc
+is_left (Some b) left e = let same : b ≡ left = cc in ap (λ (x : Block). x.line) same
+
+stayed : {A : Type 0} (language : Language A) (number : ℕ) (place : Place) (left : Block) → place.block ≡ Some left → Stays language number place [] left
 unfolding script_from
-stayed language number None left e = cc
-stayed language number (Some b) left e = let same : b ≡ left = cc in record { same = ap (λ (x : Block). x.line) same; idle = refl }
+stayed language number place left e = record { same = is_left place.block left e; idle = refl }
 
 -- a script by its parts
 by_parts : {A : Type 0} (script : Script A) → script.actions ≡ [] → script.fault ≡ Some Read → script ≡ record { actions = []; fault = Some Read }
@@ -257,64 +289,73 @@ by_parts {A} script a f =
     ∙ ap (λ (o : Option RunFault). let s : Script A = record { actions = []; fault = o } in s) f
 
 -- a line that left the block in which the next ones stay
-stays_on : {A : Type 0} (language : Language A) (number : ℕ) (block : Option Block) (text : List ℕ) (lines : List (List ℕ)) (left : Block) (action : Option A) (next : Option Block)
-    → step_at language number block text ≡ Ok (let s : LineStep A = record { action = action; block = next } in s)
-    → (script_from language Failed number block (text ∷ lines)).fault ≡ Some Read → Stays language (number + 1) next lines left
-    → BeganAt language number block (text ∷ lines) left ⊎ Stays language number block (text ∷ lines) left
-unfolding script_from fault_at
-stays_on language number block text lines left action None e f s = absurd s.same
-stays_on {A} language number None text lines left action (Some b) e f s =
-    let step : LineStep A = record { action = action; block = Some b } in
-    let how = began language number None text step e in
-    let same : left.line ≡ number = sym s.same ∙ how.1 in
-    let rest = script_from language Failed (number + 1) (Some b) lines in
-    let whole : script_from language Failed number None (text ∷ lines) ≡ rest = led language Failed number None text lines step e ∙ ap (λ a. with_action_first a rest) how.0 in
-    inl (record { k = 0; within = omega arith; at = omega (arith, same); done = sym (whole ∙ by_parts rest s.idle (sym (ap (λ (x : Script A). x.fault) whole) ∙ f)) })
-stays_on {A} language number (Some b0) text lines left action (Some b) e f s =
-    let step : LineStep A = record { action = action; block = Some b } in
-    let how = began language number (Some b0) text step e in
-    let rest = script_from language Failed (number + 1) (Some b) lines in
-    let whole : script_from language Failed number (Some b0) (text ∷ lines) ≡ rest = led language Failed number (Some b0) text lines step e ∙ ap (λ a. with_action_first a rest) how.0 in
-    inr (record { same = sym how.1 ∙ s.same; idle = ap (λ (x : Script A). x.actions) whole ∙ s.idle })
+stays_by : (before next : Option Block) (number line : ℕ) → IsSomeAnd next (λ b. b.line ≡ line) → MatchOption next (Unit {0}) (λ b. MatchOption before (b.line ≡ number) (λ a. b.line ≡ a.line))
+    → (line ≡ number) ⊎ IsSomeAnd before (λ a. a.line ≡ line)
+stays_by before None number line s h = absurd s
+stays_by None (Some b) number line s h = inl (sym s ∙ h)
+stays_by (Some a) (Some b) number line s h = inr (sym h ∙ s)
 
-began_later : {A : Type 0} (language : Language A) (number : ℕ) (block : Option Block) (text : List ℕ) (lines : List (List ℕ)) (left : Block) (step : LineStep A) → step_at language number block text ≡ Ok step
-    → BeganAt language (number + 1) step.block lines left → BeganAt language number block (text ∷ lines) left
-began_later language number block text lines left step e b =
+began_some : {A : Type 0} (block next : Option Block) (number line : ℕ) (action : Option A) → IsSomeAnd next (λ b. b.line ≡ line) → MatchOption next (Unit {0}) (λ b. (action ≡ None) × MatchOption block (b.line ≡ number) (λ a. b.line ≡ a.line))
+    → (action ≡ None) × MatchOption next (Unit {0}) (λ b. MatchOption block (b.line ≡ number) (λ a. b.line ≡ a.line))
+began_some block None number line action s h = absurd s
+began_some block (Some b) number line action s h = h
+
+stays_on : {A : Type 0} (language : Language A) (number : ℕ) (place : Place) (text : List ℕ) (lines : List (List ℕ)) (left : Block) (step : Step A)
+    → step_from language number place text ≡ Ok step
+    → (script_from language Failed number place (text ∷ lines)).fault ≡ Some Read → Stays language (number + 1) step.place lines left
+    → BeganAt language number place (text ∷ lines) left ⊎ Stays language number place (text ∷ lines) left
+unfolding script_from fault_at
+stays_on {A} language number place text lines left step e f s =
+    let l = led_by language number place text step e in
+    let same_place : l.by.block ≡ step.place.block = ap (λ (x : Step A). x.place.block) l.is in
+    let stays = subst (λ (o : Option Block). IsSomeAnd o (λ (b : Block). b.line ≡ left.line)) (sym same_place) s.same in
+    let how = began_some place.block l.by.block number left.line l.by.action stays (began language number place.block text l.by l.led) in
+    let none : step.actions ≡ [] = sym (ap (λ (x : Step A). x.actions) l.is) ∙ ap (λ (o : Option A). actions_of language o) how.0 in
+    let rest = script_from language Failed (number + 1) step.place lines in
+    let whole : script_from language Failed number place (text ∷ lines) ≡ rest = led language Failed number place text lines step e ∙ ap (λ (a : List A). with_actions_first a rest) none in
+    elim (stays_by place.block l.by.block number left.line stays how.1) [
+      | inl same ↦ inl (record { k = 0; within = omega arith; at = omega (arith, same); done = sym (whole ∙ by_parts rest s.idle (sym (ap (λ (x : Script A). x.fault) whole) ∙ f)) })
+      | inr same ↦ inr (record { same = same; idle = ap (λ (x : Script A). x.actions) whole ∙ s.idle })
+    ]
+
+began_later : {A : Type 0} (language : Language A) (number : ℕ) (place : Place) (text : List ℕ) (lines : List (List ℕ)) (left : Block) (step : Step A) → step_from language number place text ≡ Ok step
+    → BeganAt language (number + 1) step.place lines left → BeganAt language number place (text ∷ lines) left
+began_later language number place text lines left step e b =
     record {
       k = suc b.k;
       within = omega (arith, b.within);
       at = omega (arith, b.at);
-      done = led language Failed number block text (take b.k lines) step e ∙ ap (with_action_first step.action) b.done ∙ sym (led language Failed number block text lines step e);
+      done = led language Failed number place text (take b.k lines) step e ∙ ap (with_actions_first step.actions) b.done ∙ sym (led language Failed number place text lines step e);
     }
 
-opened_line : {A : Type 0} (language : Language A) (number : ℕ) (block : Option Block) (text : List ℕ) (lines : List (List ℕ)) (left : Block) (due : Result (LineStep A) RunFault) → step_at language number block text ≡ due
-    → (script_from language Failed number block (text ∷ lines)).fault ≡ Some Read → block_after_lines language (number + 1) (block_after due) lines ≡ Some left
-    → ((next : Option Block) → (script_from language Failed (number + 1) next lines).fault ≡ Some Read → block_after_lines language (number + 1) next lines ≡ Some left
+opened_line : {A : Type 0} (language : Language A) (number : ℕ) (place : Place) (text : List ℕ) (lines : List (List ℕ)) (left : Block) (due : Result (Step A) RunFault) → step_from language number place text ≡ due
+    → (script_from language Failed number place (text ∷ lines)).fault ≡ Some Read → (place_after_lines language (number + 1) (place_after due) lines).block ≡ Some left
+    → ((next : Place) → (script_from language Failed (number + 1) next lines).fault ≡ Some Read → (place_after_lines language (number + 1) next lines).block ≡ Some left
     → BeganAt language (number + 1) next lines left ⊎ Stays language (number + 1) next lines left)
-    → BeganAt language number block (text ∷ lines) left ⊎ Stays language number block (text ∷ lines) left
+    → BeganAt language number place (text ∷ lines) left ⊎ Stays language number place (text ∷ lines) left
 unfolding script_from
-opened_line {A} language number block text lines left (Err due) e f b ih =
+opened_line {A} language number place text lines left (Err due) e f b ih =
     let bad = ap (λ d. led_to d (λ next. script_from language Failed (number + 1) next lines)) e in
-    let fault : (script_from language Failed number block (text ∷ lines)).fault ≡ Some due = ap (λ (s : Script A). s.fault) bad in
+    let fault : (script_from language Failed number place (text ∷ lines)).fault ≡ Some due = ap (λ (s : Script A). s.fault) bad in
     let same : due ≡ Read = cc in
-    let own : is_own Read ≡ true = subst (λ f. is_own f ≡ true) same (subst MayBeLed e (led_own language number block text)) in cc
-opened_line {A} language number block text lines left (Ok step) e f b ih =
-    let rest = script_from language Failed (number + 1) step.block lines in
-    let same : (script_from language Failed number block (text ∷ lines)).fault ≡ rest.fault = ap (λ (s : Script A). s.fault) (led language Failed number block text lines step e) ∙ fault_before step.action rest in
-    elim (ih step.block (sym same ∙ f) b) [
-      | inl m ↦ inl (began_later language number block text lines left step e m)
-      | inr s ↦ stays_on language number block text lines left step.action step.block e f s
+    let own : is_own Read ≡ true = subst (λ f. is_own f ≡ true) same (subst MayBeLed e (led_own language number place text)) in cc
+opened_line {A} language number place text lines left (Ok step) e f b ih =
+    let rest = script_from language Failed (number + 1) step.place lines in
+    let same : (script_from language Failed number place (text ∷ lines)).fault ≡ rest.fault = ap (λ (s : Script A). s.fault) (led language Failed number place text lines step e) ∙ fault_before step.actions rest in
+    elim (ih step.place (sym same ∙ f) b) [
+      | inl m ↦ inl (began_later language number place text lines left step e m)
+      | inr s ↦ stays_on language number place text lines left step e f s
     ]
 
-opened : {A : Type 0} (language : Language A) (number : ℕ) (block : Option Block) (lines : List (List ℕ)) (left : Block) → (script_from language Failed number block lines).fault ≡ Some Read
-    → block_after_lines language number block lines ≡ Some left → BeganAt language number block lines left ⊎ Stays language number block lines left
-unfolding block_after_lines
-opened language number block [] left f b = inr (stayed language number block left b)
-opened language number block (text ∷ lines) left f b =
-    opened_line language number block text lines left (step_at language number block text) refl f b (λ next g c. opened language (number + 1) next lines left g c)
+opened : {A : Type 0} (language : Language A) (number : ℕ) (place : Place) (lines : List (List ℕ)) (left : Block) → (script_from language Failed number place lines).fault ≡ Some Read
+    → (place_after_lines language number place lines).block ≡ Some left → BeganAt language number place lines left ⊎ Stays language number place lines left
+unfolding place_after_lines
+opened language number place [] left f b = inr (stayed language number place left b)
+opened language number place (text ∷ lines) left f b =
+    opened_line language number place text lines left (step_from language number place text) refl f b (λ next g c. opened language (number + 1) next lines left g c)
 
 -- ---- both
-from_met : {A : Type 0} (language : Language A) (ending : Ending) (bytes : List ℕ) (n : ℕ) → Met language ending 1 None (lines_met ending bytes) n → IsBadLine language ending bytes n
+from_met : {A : Type 0} (language : Language A) (ending : Ending) (bytes : List ℕ) (n : ℕ) → Met language ending 1 first_place (lines_met ending bytes) n → IsBadLine language ending bytes n
 unfolding script_in
 from_met language ending bytes n m =
     let place : n - 1 ≡ m.k = omega (arith, m.at) in
@@ -325,7 +366,7 @@ from_met language ending bytes n m =
       done = rw place m.done;
     }
 
-from_began : {A : Type 0} (language : Language A) (ending : Ending) (bytes : List ℕ) (n : ℕ) (o : Open language ending 1 None (lines_met ending bytes) n) → BeganAt language 1 None (lines_met ending bytes) o.left → IsBadLine language ending bytes n
+from_began : {A : Type 0} (language : Language A) (ending : Ending) (bytes : List ℕ) (n : ℕ) (o : Open language ending 1 first_place (lines_met ending bytes) n) → BeganAt language 1 first_place (lines_met ending bytes) o.left → IsBadLine language ending bytes n
 unfolding script_in
 from_began language ending bytes n o b =
     let place : n - 1 ≡ b.k = omega (arith, o.at, b.at) in
@@ -336,9 +377,9 @@ from_began language ending bytes n o b =
       done = rw place (b.done ∙ o.done);
     }
 
-from_open : {A : Type 0} (language : Language A) (ending : Ending) (bytes : List ℕ) (n : ℕ) → Open language ending 1 None (lines_met ending bytes) n → IsBadLine language ending bytes n
+from_open : {A : Type 0} (language : Language A) (ending : Ending) (bytes : List ℕ) (n : ℕ) → Open language ending 1 first_place (lines_met ending bytes) n → IsBadLine language ending bytes n
 from_open {A} language ending bytes n o =
-    elim (opened language 1 None (lines_met ending bytes) o.left (ap (λ (s : Script A). s.fault) o.done) o.is) [
+    elim (opened language 1 first_place (lines_met ending bytes) o.left (ap (λ (s : Script A). s.fault) o.done) o.is) [
       | inl b ↦ from_began language ending bytes n o b
       | inr s ↦ absurd s.same
     ]
@@ -347,7 +388,7 @@ pub bad_lines_are_bad : {A : Type 0} (language : Language A) → BadLinesAreBad 
 unfolding script_in
 bad_lines_are_bad language ending bytes n e =
     let lines = lines_met ending bytes in
-    elim (found language ending 1 None lines n e) [
+    elim (found language ending 1 first_place lines n e) [
       | inl m ↦ from_met language ending bytes n m
       | inr o ↦ from_open language ending bytes n o
     ]

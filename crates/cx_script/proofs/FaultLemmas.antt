@@ -13,25 +13,27 @@ use Rattle.cx_asm_build.specs.declared.faults.PrepareFault.{PrepareFault}
 use Rattle.cx_asm_build.specs.declared.faults.PrepareFault.TheVariants as prepare
 use Rattle.cx_asm_build.specs.declared.program.Prepared.{Prepared}
 use Rattle.cx_script_io.specs.Lines.{is_too_long, lines_met}
-use Rattle.cx_script.specs.Script.{Script, script_in, script_from, fault_at, with_action_first, led_to}
+use Rattle.cx_script.specs.Script.{Script, Step, end_fault, first_place, script_in, script_from, step_from, stepped, fault_at, with_actions_first, led_to}
+use Rattle.cx_script.specs.declared.run.Place.{Place}
 use Rattle.cx_script_actions.specs.Language.{Language}
 use Rattle.cx_script_blocks.specs.declared.blocks.LineStep.{LineStep}
 use Rattle.cx_script_blocks.specs.declared.faults.RunFault.{RunFault}
-use Rattle.cx_script_blocks.specs.declared.faults.RunFault.TheVariants.{BadLine, Source, Read, Write, Memory, ReadBound}
+use Rattle.cx_script_blocks.specs.declared.faults.RunFault.TheVariants.{BadLine, BadLook, Source, Read, Write, Memory, ReadBound}
 use Rattle.cx_script_io.specs.declared.input.Ending.{Ending}
 use Rattle.cx_script_io.specs.declared.input.Ending.TheVariants.{AtEnd, Failed, PastBound}
 
 -- whether a script that was read so far may have this fault, or none
 abbrev pub may_have : Ending → Option RunFault → Bool
 may_have ending (Some (BadLine n)) = true
+may_have AtEnd (Some (BadLook n)) = true
 may_have ending (Some (Source n kind)) = true
 may_have AtEnd None = true
 may_have Failed (Some Read) = true
 may_have PastBound (Some ReadBound) = true
 may_have _ _ = false
 
-pub fault_before : {A : Type 0} (action : Option A) (script : Script A) → (with_action_first action script).fault ≡ script.fault
-fault_before action script = refl
+pub fault_before : {A : Type 0} (actions : List A) (script : Script A) → (with_actions_first actions script).fault ≡ script.fault
+fault_before actions script = refl
 
 -- what a line's fault may be
 abbrev pub is_own : RunFault → Bool
@@ -40,7 +42,7 @@ is_own (Source n kind) = true
 is_own _ = false
 
 -- a step, or a fault that a line may have
-abbrev pub MayBeLed : {A : Type 0} → Result (LineStep A) RunFault → Type 0
+abbrev pub MayBeLed : {A : Type 0} → Result A RunFault → Type 0
 MayBeLed (Ok step) = Unit {0}
 MayBeLed (Err fault) = is_own fault ≡ true
 
@@ -67,42 +69,51 @@ own_within language number block text false = own_bad (option_map block_step (wi
 
 own_in : {A : Type 0} (language : Language A) (number : ℕ) (block : Option Block) (text : List ℕ) (long : Bool) → MayBeLed (cond long (Err (BadLine number)) (step_in language number block text))
 own_in language number block text true = refl
-own_in language number None text false = own_bad (option_map (step_of number) (language.line_of text)) number
+own_in language number None text false = own_bad (option_map (step_of number) (language.line_of number text)) number
 own_in language number (Some block) text false = own_within language number block text (bytes_eq text (codes "/*"))
 
-pub led_own : {A : Type 0} (language : Language A) (number : ℕ) (block : Option Block) (text : List ℕ) → MayBeLed (step_at language number block text)
-unfolding step_at
-led_own language number block text = own_in language number block text (is_too_long text)
+own_led : {A : Type 0} (f : LineStep A → Step A) (due : Result (LineStep A) RunFault) → MayBeLed due → MayBeLed (result_map_both f (λ (fault : RunFault). fault) due)
+own_led f (Ok step) own = tt
+own_led f (Err fault) own = own
+
+pub led_own : {A : Type 0} (language : Language A) (number : ℕ) (place : Place) (text : List ℕ) → MayBeLed (step_from language number place text)
+unfolding step_from step_at
+led_own language number place text = own_led (stepped language number place) _ (own_in language number place.block text (is_too_long text))
 
 own_may : (ending : Ending) (fault : RunFault) → is_own fault ≡ true → may_have ending (Some fault) ≡ true
 own_may ending (BadLine n) e = refl
 own_may ending (Source n kind) e = refl
+own_may ending (BadLook n) e = cc
 own_may ending Read e = cc
 own_may ending Write e = cc
 own_may ending Memory e = cc
 own_may ending ReadBound e = cc
 
-led_has : {A : Type 0} (ending : Ending) (due : Result (LineStep A) RunFault) (next : Option Block → Script A) → MayBeLed due
-    → ((block : Option Block) → may_have ending (next block).fault ≡ true) → may_have ending (led_to due next).fault ≡ true
+led_has : {A : Type 0} (ending : Ending) (due : Result (Step A) RunFault) (next : Place → Script A) → MayBeLed due
+    → ((place : Place) → may_have ending (next place).fault ≡ true) → may_have ending (led_to due next).fault ≡ true
 led_has ending (Err fault) next own h = own_may ending fault own
-led_has ending (Ok step) next own h = ap (may_have ending) (fault_before step.action (next step.block)) ∙ h step.block
+led_has ending (Ok step) next own h = ap (may_have ending) (fault_before step.actions (next step.place)) ∙ h step.place
 
-end_has : (ending : Ending) (block : Option Block) → may_have ending (fault_at ending block) ≡ true
+end_has : (block : Option Block) (bad_look : Option ℕ) → may_have AtEnd (end_fault block bad_look) ≡ true
+end_has (Some block) bad_look = refl
+end_has None (Some line) = refl
+end_has None None = refl
+
+left_has : (ending : Ending) (place : Place) → may_have ending (fault_at ending place) ≡ true
 unfolding fault_at
-end_has AtEnd None = refl
-end_has AtEnd (Some block) = refl
-end_has Failed block = refl
-end_has PastBound block = refl
+left_has AtEnd place = end_has place.block place.bad_look
+left_has Failed place = refl
+left_has PastBound place = refl
 
-from_has : {A : Type 0} (language : Language A) (ending : Ending) (number : ℕ) (block : Option Block) (lines : List (List ℕ)) → may_have ending (script_from language ending number block lines).fault ≡ true
+from_has : {A : Type 0} (language : Language A) (ending : Ending) (number : ℕ) (place : Place) (lines : List (List ℕ)) → may_have ending (script_from language ending number place lines).fault ≡ true
 unfolding script_from
-from_has language ending number block [] = end_has ending block
-from_has language ending number block (line ∷ lines) =
-    led_has ending (step_at language number block line) (λ next. script_from language ending (number + 1) next lines) (led_own language number block line) (λ next. from_has language ending (number + 1) next lines)
+from_has language ending number place [] = left_has ending place
+from_has language ending number place (line ∷ lines) =
+    led_has ending (step_from language number place line) (λ next. script_from language ending (number + 1) next lines) (led_own language number place line) (λ next. from_has language ending (number + 1) next lines)
 
 pub script_has : {A : Type 0} (language : Language A) (ending : Ending) (bytes : List ℕ) → may_have ending (script_in language ending bytes).fault ≡ true
 unfolding script_in
-script_has language ending bytes = from_has language ending 1 None (lines_met ending bytes)
+script_has language ending bytes = from_has language ending 1 first_place (lines_met ending bytes)
 
 -- a script's fault is one that it may have
 pub has_this : {A : Type 0} (language : Language A) (ending : Ending) (bytes : List ℕ) (fault : Option RunFault) → (script_in language ending bytes).fault ≡ fault → may_have ending fault ≡ true

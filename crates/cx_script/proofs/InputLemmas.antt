@@ -13,7 +13,7 @@ use Rattle.cx_script.specs.Laws.Inputs.{was_stopped, InputsDecide, IsPastBound, 
 use Rattle.cx_script_actions.specs.declared.actions.Action.{Action}
 use Rattle.cx_script_blocks.specs.Faults.{is_read}
 use Rattle.cx_script_blocks.specs.declared.faults.RunFault.{RunFault}
-use Rattle.cx_script_blocks.specs.declared.faults.RunFault.TheVariants.{BadLine, Source, Read, Write, Memory, ReadBound}
+use Rattle.cx_script_blocks.specs.declared.faults.RunFault.TheVariants.{BadLine, BadLook, Source, Read, Write, Memory, ReadBound}
 use Rattle.cx_script_blocks.specs.declared.faults.Summary.{Summary}
 use Rattle.cx_script_io.specs.declared.input.Ending.{Ending}
 use Rattle.cx_script_io.specs.declared.input.Ending.TheVariants.{AtEnd, Failed, PastBound}
@@ -27,6 +27,7 @@ own : {A S : Type 0} (language : Language A) (performs : S → A → List ℕ �
     → ((script_in language ending bytes).fault ≡ Some fault) × Wrote (◌≡◌ written) performs old (script_in language ending bytes).actions
 unfolding Ends
 own language performs old ending bytes (BadLine n) written e s = s
+own language performs old ending bytes (BadLook n) written e s = s
 own language performs old ending bytes (Source n which) written e s = s
 own language performs old ending bytes Read written e s = s
 own language performs old ending bytes Write written e s = cc

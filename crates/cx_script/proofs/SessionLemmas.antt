@@ -8,7 +8,7 @@ use Rattle.std.proofs.lemmas.List.{length-take-le, take-append-drop, take_all}
 use Rattle.std.proofs.Math.Seq.{take-append_seam}
 use borrow.Author.Tests.{ltb-true, ltb-false}
 use Rattle.cx_script_actions.specs.Language.{Language}
-use Rattle.cx_script_blocks.specs.declared.blocks.Block.{Block}
+use Rattle.cx_script.specs.declared.run.Place.{Place}
 use Rattle.cx_script_blocks.specs.declared.faults.RunFault.{RunFault}
 use Rattle.cx_script_blocks.specs.declared.faults.RunFault.TheVariants.{Read}
 use Rattle.cx_script_blocks.specs.declared.faults.Summary.{Summary}
@@ -21,7 +21,7 @@ use Rattle.cx_script_io.specs.declared.input.Ending.{Ending}
 use Rattle.cx_script_io.specs.declared.input.Ending.TheVariants.{AtEnd, Failed, PastBound}
 use Rattle.cx_script_io.specs.Facts.Calls.{did_writes, folds_append, given_append, given_writes, last_append, last_writes, taken_append}
 use Rattle.cx_script.specs.Parts.Progress.{Calling, Came, Closes, Halts, InTime, Seen, Stopped}
-use Rattle.cx_script.specs.Script.{fault_at}
+use Rattle.cx_script.specs.Script.{fault_at, first_place}
 use Rattle.cx_script.specs.Session.{RanIn}
 use Rattle.cx_script.specs.Transcript.{Ends}
 use Rattle.cx_script.proofs.PieceLemmas.{came_more, came_start, came_stopped, came_trans, ends_from, finished, stopped_written}
@@ -145,7 +145,7 @@ module _ {A S : Type 0} (language : Language A) (performs : S → A → List ℕ
 
   ran_stopped : {D : Type 0} (start : S) (reads writes : D → Option (List ℕ) → D → Type 0) (before after : D) (calls : List Call) (bytes : List ℕ) (fault : RunFault)
       → FoldsTo (did reads writes) before calls after → InTime language performs start calls → take most_bytes (given calls) ≡ bytes
-      → Stopped language performs start 0 None bytes fault (device_output [] []) (device_output (taken calls) []) → RanIn language performs start reads writes before (Err fault) after
+      → Stopped language performs start 0 first_place bytes fault (device_output [] []) (device_output (taken calls) []) → RanIn language performs start reads writes before (Err fault) after
   ran_stopped start reads writes before after calls bytes fault made t cut s =
       record {
         calls = calls;
@@ -154,14 +154,14 @@ module _ {A S : Type 0} (language : Language A) (performs : S → A → List ℕ
           ends = λ ending script r.
               let same : bytes ++ r.rest ≡ script = ap (λ l. l ++ r.rest) (sym cut) ∙ sym r.whole in
               stopped_written language performs start ending script fault (taken calls)
-              (subst (λ (l : List ℕ). Halts language performs start ending 0 None (lines_met ending l) fault (device_output [] []) (device_output (taken calls) [])) same (s.stops ending r.rest));
+              (subst (λ (l : List ℕ). Halts language performs start ending 0 first_place (lines_met ending l) fault (device_output [] []) (device_output (taken calls) [])) same (s.stops ending r.rest));
           in_time = t;
         };
       }
 
   module _ {D : Type 0} (reads writes : D → Option (List ℕ) → D → Type 0) where
     -- the complete lines of what was read are done and written
-    pub due_now : (start mid : S) (before now : D) (read m : ℕ) (next : Option Block) (part : List ℕ) (s : Seen language performs start reads writes before now read mid m next part)
+    pub due_now : (start mid : S) (before now : D) (read m : ℕ) (next : Place) (part : List ℕ) (s : Seen language performs start reads writes before now read mid m next part)
         → IsUnbroken part → is_too_long (strip_carriage_return part) ≡ false → Ends language performs start Failed (given s.calls) (Err Read) (taken s.calls)
     unfolding fault_at
     due_now start mid before now read m next part s u short =
@@ -174,33 +174,33 @@ module _ {A S : Type 0} (language : Language A) (performs : S → A → List ℕ
     made_on before now mid then calls bytes ms f r w =
         folds_append (did reads writes) before now then calls (Reading bytes ∷ map Writing ms) f (mid, r, did_writes reads writes mid then ms w)
 
-    pub seen_start : (start : S) (now : D) (n : ℕ) (block : Option Block) (part : List ℕ) → n ≡ 0 → block ≡ None → part ≡ []
+    pub seen_start : (start : S) (now : D) (n : ℕ) (block : Place) (part : List ℕ) → n ≡ 0 → block ≡ first_place → part ≡ []
         → Seen language performs start reads writes now now 0 start n block part
     unfolding most_bytes
     seen_start start now n block part e b p =
-        let begun : Seen language performs start reads writes now now 0 start 0 None [] =
+        let begun : Seen language performs start reads writes now now 0 start 0 first_place [] =
         record {
           calls = [];
           made = refl;
           len = refl;
           unended = nothing;
           in_time = λ before after bytes h. absurd (no_reads [] before after bytes h);
-          came = came_start language performs start 0 None [] (device_output [] []);
+          came = came_start language performs start 0 first_place [] (device_output [] []);
         } in
         subst (λ (k : ℕ). Seen language performs start reads writes now now 0 start k block part) (sym e)
-        (subst (λ (x : Option Block). Seen language performs start reads writes now now 0 start 0 x part) (sym b)
-        (subst (λ (l : List ℕ). Seen language performs start reads writes now now 0 start 0 None l) (sym p) begun))
+        (subst (λ (x : Place). Seen language performs start reads writes now now 0 start 0 x part) (sym b)
+        (subst (λ (l : List ℕ). Seen language performs start reads writes now now 0 start 0 first_place l) (sym p) begun))
 
     -- a piece more, and its lines
-    came_on : (start old new : S) (seen part piece last : List ℕ) (n m : ℕ) (block next : Option Block) (before after : List ℕ)
-        → Came language performs start 0 None seen (device_output [] []) old n block part (device_output before [])
+    came_on : (start old new : S) (seen part piece last : List ℕ) (n m : ℕ) (block next : Place) (before after : List ℕ)
+        → Came language performs start 0 first_place seen (device_output [] []) old n block part (device_output before [])
         → Came language performs old n block (part ++ piece) (device_output before []) new m next last (device_output after [])
-        → Came language performs start 0 None (seen ++ piece) (device_output [] []) new m next last (device_output after [])
+        → Came language performs start 0 first_place (seen ++ piece) (device_output [] []) new m next last (device_output after [])
     came_on start old new seen part piece last n m block next before after c d =
-        came_trans language performs start old new 0 n m None block next (seen ++ piece) (part ++ piece) last (device_output [] []) (device_output before []) (device_output after [])
-        (came_more language performs start old 0 n None block seen part piece (device_output [] []) (device_output before []) c) d
+        came_trans language performs start old new 0 n m first_place block next (seen ++ piece) (part ++ piece) last (device_output [] []) (device_output before []) (device_output after [])
+        (came_more language performs start old 0 n first_place block seen part piece (device_output [] []) (device_output before []) c) d
 
-    pub seen_taken : (start old new : S) (before now mid then : D) (read took room n m : ℕ) (block next : Option Block) (part last piece buffer : List ℕ)
+    pub seen_taken : (start old new : S) (before now mid then : D) (read took room n m : ℕ) (block next : Place) (part last piece buffer : List ℕ)
         → Seen language performs start reads writes before now read old n block part → IsUnbroken part → is_too_long (strip_carriage_return part) ≡ false
         → reads now (Some (take took buffer)) mid → piece ≡ take room buffer → room ≡ took → took ≤ length buffer → (took ≡ 0 → ⊥) → read + took ≤ 16777216
         → Calling writes mid then (λ x y. Came language performs old n block (part ++ piece) (device_output x []) new m next last (device_output y []))
@@ -220,16 +220,16 @@ module _ {A S : Type 0} (language : Language A) (performs : S → A → List ℕ
           unended = no_ending calls bytes (then_last s.calls (Some bytes) c.calls) (λ h. some (sym size ∙ ap length h)) (omega (arith, len, bound));
           in_time = due_first start s.calls (Some bytes) c.calls s.unended (due_now start old before now read n block part s u short) s.in_time;
           came =
-              subst (λ (l : List ℕ). Came language performs start 0 None l (device_output [] []) new m next last (device_output (taken calls) [])) (ap (λ l. given s.calls ++ l) (sym is) ∙ sym all)
-              (subst (λ (l : List ℕ). Came language performs start 0 None (given s.calls ++ piece) (device_output [] []) new m next last (device_output l [])) (sym (then_taken s.calls (Some bytes) c.calls))
+              subst (λ (l : List ℕ). Came language performs start 0 first_place l (device_output [] []) new m next last (device_output (taken calls) [])) (ap (λ l. given s.calls ++ l) (sym is) ∙ sym all)
+              (subst (λ (l : List ℕ). Came language performs start 0 first_place (given s.calls ++ piece) (device_output [] []) new m next last (device_output l [])) (sym (then_taken s.calls (Some bytes) c.calls))
               (came_on start old new (given s.calls) part piece last n m block next (taken s.calls) (taken s.calls ++ taken (map Writing c.calls)) s.came (c.does (taken s.calls))));
         }
 
     -- ---- the last read
-    abbrev ClosesThen : S → ℕ → Option Block → List ℕ → Ending → Result Summary RunFault → List ℕ → List ℕ → Type 0
+    abbrev ClosesThen : S → ℕ → Place → List ℕ → Ending → Result Summary RunFault → List ℕ → List ℕ → Type 0
     ClosesThen mid m next part ending answer x y = Closes language performs mid ending m next (lines_met ending part) answer (device_output x []) (device_output y [])
 
-    pub ran_failed : (start old : S) (before now mid then : D) (read m : ℕ) (next : Option Block) (part : List ℕ) (answer : Result Summary RunFault)
+    pub ran_failed : (start old : S) (before now mid then : D) (read m : ℕ) (next : Place) (part : List ℕ) (answer : Result Summary RunFault)
         → Seen language performs start reads writes before now read old m next part → IsUnbroken part → is_too_long (strip_carriage_return part) ≡ false → read ≤ 16777216
         → reads now None mid → Calling writes mid then (ClosesThen old m next part Failed answer) → RanIn language performs start reads writes before answer then
     unfolding most_bytes
@@ -244,7 +244,7 @@ module _ {A S : Type 0} (language : Language A) (performs : S → A → List ℕ
         (subst (Ends language performs start Failed (given s.calls) answer) (sym (then_taken s.calls None c.calls))
         (ends_from language performs start old (given s.calls) part Failed m next answer (taken s.calls) (taken s.calls ++ taken (map Writing c.calls)) s.came (c.does (taken s.calls))))
 
-    pub ran_at_end : (start old : S) (before now mid then : D) (read took m : ℕ) (buffer : List ℕ) (next : Option Block) (part : List ℕ) (answer : Result Summary RunFault)
+    pub ran_at_end : (start old : S) (before now mid then : D) (read took m : ℕ) (buffer : List ℕ) (next : Place) (part : List ℕ) (answer : Result Summary RunFault)
         → Seen language performs start reads writes before now read old m next part → IsUnbroken part → is_too_long (strip_carriage_return part) ≡ false → read ≤ 16777216
         → took ≡ 0 → reads now (Some (take took buffer)) mid → Calling writes mid then (ClosesThen old m next part AtEnd answer) → RanIn language performs start reads writes before answer then
     unfolding most_bytes
@@ -261,7 +261,7 @@ module _ {A S : Type 0} (language : Language A) (performs : S → A → List ℕ
         (subst (Ends language performs start AtEnd (given s.calls) answer) (sym (then_taken s.calls (Some []) c.calls))
         (ends_from language performs start old (given s.calls) part AtEnd m next answer (taken s.calls) (taken s.calls ++ taken (map Writing c.calls)) s.came (c.does (taken s.calls))))
 
-    pub ran_piece_stopped : (start old : S) (before now mid then : D) (read took room n : ℕ) (block : Option Block) (part piece buffer : List ℕ) (fault : RunFault)
+    pub ran_piece_stopped : (start old : S) (before now mid then : D) (read took room n : ℕ) (block : Place) (part piece buffer : List ℕ) (fault : RunFault)
         → Seen language performs start reads writes before now read old n block part → IsUnbroken part → is_too_long (strip_carriage_return part) ≡ false
         → reads now (Some (take took buffer)) mid → piece ≡ take room buffer → room ≤ took → took ≤ length buffer → read + room ≤ 16777216 → (room < took → read + room ≡ 16777216)
         → Calling writes mid then (λ x y. Stopped language performs old n block (part ++ piece) fault (device_output x []) (device_output y []))
@@ -271,16 +271,16 @@ module _ {A S : Type 0} (language : Language A) (performs : S → A → List ℕ
         let bytes = take took buffer in
         let calls = then_read s.calls (Some bytes) c.calls in
         let cut = cut_piece 16777216 (given s.calls) buffer piece read took room s.len e less few bound full in
-        let stopped = came_stopped language performs start old 0 n None block (given s.calls ++ piece) (part ++ piece) fault (device_output [] []) (device_output (taken s.calls) [])
-        (device_output (taken s.calls ++ taken (map Writing c.calls)) []) (came_more language performs start old 0 n None block (given s.calls) part piece (device_output [] []) (device_output (taken s.calls) []) s.came)
+        let stopped = came_stopped language performs start old 0 n first_place block (given s.calls ++ piece) (part ++ piece) fault (device_output [] []) (device_output (taken s.calls) [])
+        (device_output (taken s.calls ++ taken (map Writing c.calls)) []) (came_more language performs start old 0 n first_place block (given s.calls) part piece (device_output [] []) (device_output (taken s.calls) []) s.came)
         (c.does (taken s.calls)) in
         ran_stopped start reads writes before then calls (given s.calls ++ piece) fault
         (made_on before now mid then s.calls (Some bytes) c.calls s.made r c.made)
         (due_first start s.calls (Some bytes) c.calls s.unended (due_now start old before now read n block part s u short) s.in_time)
         (ap (take most_bytes) (then_given s.calls bytes c.calls) ∙ cut)
-        (subst (λ (l : List ℕ). Stopped language performs start 0 None (given s.calls ++ piece) fault (device_output [] []) (device_output l [])) (sym (then_taken s.calls (Some bytes) c.calls)) stopped)
+        (subst (λ (l : List ℕ). Stopped language performs start 0 first_place (given s.calls ++ piece) fault (device_output [] []) (device_output l [])) (sym (then_taken s.calls (Some bytes) c.calls)) stopped)
 
-    pub ran_past : (start old new : S) (before now mid then : D) (read took room n m : ℕ) (block next : Option Block) (part last piece buffer : List ℕ) (answer : Result Summary RunFault)
+    pub ran_past : (start old new : S) (before now mid then : D) (read took room n m : ℕ) (block next : Place) (part last piece buffer : List ℕ) (answer : Result Summary RunFault)
         → Seen language performs start reads writes before now read old n block part → IsUnbroken part → is_too_long (strip_carriage_return part) ≡ false
         → reads now (Some (take took buffer)) mid → piece ≡ take room buffer → room < took → took ≤ length buffer → read + room ≡ 16777216
         → Calling writes mid then (λ x z. (y : List ℕ) × Came language performs old n block (part ++ piece) (device_output x []) new m next last (device_output y []) × ClosesThen new m next last PastBound answer y z)

@@ -1,6 +1,7 @@
 -- What a script of a language asks: its actions in order, up to its first fault (own).
-use Rattle.std.specs.Prelude.{ℕ, ◌+◌, ◌++◌, Option, Some, None, Result, Ok, Err, List, [], ◌∷◌}
-use Rattle.std.specs.Option.{option_to_list}
+use Rattle.std.specs.Prelude.{ℕ, ◌+◌, ◌++◌, false, if◌then◌else◌, Option, Some, None, Result, Ok, Err, List, [], ◌∷◌}
+use Rattle.std.specs.Option.{option_map_or, option_or}
+use Rattle.std.specs.Result.{result_map_both}
 use Rattle.cx_script_actions.specs.Language.{Language}
 use Rattle.cx_script_blocks.specs.declared.faults.RunFault.{RunFault}
 use Rattle.cx_script_blocks.specs.declared.faults.RunFault.TheVariants as fault
@@ -10,6 +11,7 @@ use Rattle.cx_script_io.specs.Lines.{lines_met}
 use Rattle.cx_script_blocks.specs.declared.blocks.Block.{Block}
 use Rattle.cx_script_blocks.specs.declared.blocks.LineStep.{LineStep}
 use Rattle.cx_script_blocks.specs.Blocks.{step_at}
+use Rattle.cx_script.specs.declared.run.Place.{Place}
 
 pub record Script (A : Type 0) : Type 0 where
   -- what is done, in order, in front of the fault
@@ -17,28 +19,61 @@ pub record Script (A : Type 0) : Type 0 where
   -- the fault that comes first, where there is one
   pub fault : Option RunFault
 
--- Where no line is left: a block that is not ended is a fault of the line that begins it, if the script was read to its
--- end. Else that no more was read is the fault.
-unfoldable pub fault_at : Ending → Option Block → Option RunFault
-fault_at AtEnd None = None
-fault_at AtEnd (Some block) = Some (fault.BadLine block.line)
-fault_at Failed block = Some fault.Read
-fault_at PastBound block = Some fault.ReadBound
+-- Where no line is left: if the script was read to its end, a block that is not ended is a fault of the line that begins
+-- it, and where there is none, the first bad look is a fault. Else that no more was read is the fault.
+abbrev pub end_fault : Option Block → Option ℕ → Option RunFault
+end_fault (Some block) bad_look = Some (fault.BadLine block.line)
+end_fault None (Some line) = Some (fault.BadLook line)
+end_fault None None = None
 
-abbrev pub with_action_first : {A : Type 0} → Option A → Script A → Script A
-with_action_first asked script = record { actions = option_to_list asked ++ script.actions; fault = script.fault }
+unfoldable pub fault_at : Ending → Place → Option RunFault
+fault_at AtEnd place = end_fault place.block place.bad_look
+fault_at Failed place = Some fault.Read
+fault_at PastBound place = Some fault.ReadBound
+
+-- what a line leads to in a script: what is done, one action after another, and what is left to the next line
+pub record Step (A : Type 0) : Type 0 where
+  pub actions : List A
+  pub place : Place
+
+-- the actions that are asked, by the first of them
+abbrev pub actions_of : {A : Type 0} → Language A → Option A → List A
+actions_of language asked = option_map_or language.actions_of asked []
+
+-- the first bad look, after a line with this number and this action
+abbrev pub bad_look_after : {A : Type 0} → Language A → ℕ → Option ℕ → Option A → Option ℕ
+bad_look_after language number before asked =
+    option_or before (if option_map_or language.is_bad_look asked false then Some number else None)
+
+abbrev pub stepped : {A : Type 0} → Language A → ℕ → Place → LineStep A → Step A
+stepped language number place step =
+    record {
+      actions = actions_of language step.action;
+      place = record { block = step.block; bad_look = bad_look_after language number place.bad_look step.action };
+    }
+
+unfoldable pub step_from : {A : Type 0} → Language A → ℕ → Place → List ℕ → Result (Step A) RunFault
+step_from language number place text =
+    result_map_both (stepped language number place) (λ fault. fault) (step_at language number place.block text)
+
+abbrev pub with_actions_first : {A : Type 0} → List A → Script A → Script A
+with_actions_first asked script = record { actions = asked ++ script.actions; fault = script.fault }
 
 -- a line's fault ends the script; after any other line come the next ones
-abbrev pub led_to : {A : Type 0} → Result (LineStep A) RunFault → (Option Block → Script A) → Script A
+abbrev pub led_to : {A : Type 0} → Result (Step A) RunFault → (Place → Script A) → Script A
 led_to (Err fault) next = record { actions = []; fault = Some fault }
-led_to (Ok step) next = with_action_first step.action (next step.block)
+led_to (Ok step) next = with_actions_first step.actions (next step.place)
 
--- the lines from the one with this number on, the first of them in this block
-unfoldable pub script_from : {A : Type 0} → Language A → Ending → ℕ → Option Block → List (List ℕ) → Script A
-script_from language ending number block [] = record { actions = []; fault = fault_at ending block }
-script_from language ending number block (line ∷ lines) =
-    led_to (step_at language number block line) (λ next. script_from language ending (number + 1) next lines)
+-- the lines from the one with this number on, at this place
+unfoldable pub script_from : {A : Type 0} → Language A → Ending → ℕ → Place → List (List ℕ) → Script A
+script_from language ending number place [] = record { actions = []; fault = fault_at ending place }
+script_from language ending number place (line ∷ lines) =
+    led_to (step_from language number place line) (λ next. script_from language ending (number + 1) next lines)
+
+-- in front of the first line there is no block, and no bad look
+abbrev pub first_place : Place
+first_place = record { block = None; bad_look = None }
 
 -- the script that these bytes are in a language
 unfoldable pub script_in : {A : Type 0} → Language A → Ending → List ℕ → Script A
-script_in language ending bytes = script_from language ending 1 None (lines_met ending bytes)
+script_in language ending bytes = script_from language ending 1 first_place (lines_met ending bytes)

@@ -3,7 +3,7 @@ use Rattle.std.specs.Prelude.{◌≡◌, ℕ, ◌+◌, ◌<◌, Some, None, Resu
 use Rattle.cx_script_io.specs.Lines.{lines_met}
 use Rattle.cx_script_io.specs.declared.input.Ending.{Ending}
 use Rattle.cx_script_io.specs.declared.input.Ending.TheVariants.{Failed}
-use Rattle.cx_script.specs.Script.{Script, script_from, script_in}
+use Rattle.cx_script.specs.Script.{Script, first_place, script_from, script_in}
 use Rattle.cx_script_actions.specs.Language.{Language}
 use Rattle.cx_script_blocks.specs.declared.faults.RunFault.{RunFault}
 use Rattle.cx_script_blocks.specs.declared.faults.RunFault.TheVariants.{BadLine, Read, Write, Memory}
@@ -31,9 +31,10 @@ IsFront bytes text = (n : ℕ) × (bytes ≡ take n text)
 
 -- what the first n lines ask, as if no more could be read
 abbrev pub front_of : {A : Type 0} → Language A → List (List ℕ) → ℕ → Script A
-front_of language lines n = script_from language Failed 1 None (take n lines)
+front_of language lines n = script_from language Failed 1 first_place (take n lines)
 
--- A run without memory stopped at a line: those in front of it have no fault, and are done and written; and it isn't a bad one.
+-- A run without memory stopped at a line: those in front of it have no fault, and are done and written, and so are the actions of
+-- the line's own in front of the one that had no memory; and it isn't a bad one.
 pub record StoppedAt {A S : Type 0} (language : Language A) (performs : S → A → List ℕ → S → Type 0) (old : S)
     (lines : List (List ℕ)) (written : List ℕ) : Type 0 where
   -- how many are in front of it
@@ -41,10 +42,14 @@ pub record StoppedAt {A S : Type 0} (language : Language A) (performs : S → A 
   pub within : line < length lines
   pub led : (front_of language lines line).fault ≡ Some Read
   pub good : (front_of language lines (line + 1)).fault ≡ Some (BadLine (line + 1)) → ⊥
-  pub done : Wrote (◌≡◌ written) performs old (front_of language lines line).actions
+  -- of its own actions those that are done, and the others
+  pub own : List A
+  pub left : List A
+  pub asked : (front_of language lines (line + 1)).actions ≡ (front_of language lines line).actions ++ own ++ left
+  pub done : Wrote (◌≡◌ written) performs old ((front_of language lines line).actions ++ own)
 
 -- How a run of the script that these bytes are ended, and what it wrote. Ok: all of its actions are done and written. Without
--- memory it stopped at a line; after a failed write some of its actions are done, and a front of their transcript is written; any
+-- memory it stopped at an action of a line; after a failed write some of its actions are done, and a front of their transcript is written; any
 -- other fault is the script's own, and everything in front of it is done and written.
 unfoldable pub Ends : {A S : Type 0} → Language A → (S → A → List ℕ → S → Type 0) → S → Ending → List ℕ
     → Result Summary RunFault → List ℕ → Type 0

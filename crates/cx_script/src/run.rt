@@ -2,19 +2,18 @@
 
 ghost use Rattle.std.specs.Prelude.{◌≡◌, ◌+◌, ◌++◌, ◌<◌, ◌≤◌, ◌^◌, ℕ, List, IfOk, IfErr, IfSome, IsOkAnd, OnOk, OnErr, MatchOption, Err, None, [], true, false, length};
 ghost use Rattle.std.specs.Str.Lines.{strip_carriage_return};
-ghost use Rattle.cx_script_blocks.specs.Blocks.{step_at};
 ghost use Rattle.cx_script_io.specs.Input.{is_failure};
 ghost use Rattle.cx_script_io.specs.Lines.{is_too_long, lines_met};
 ghost use Rattle.cx_script.specs.Session.{RanIn};
-ghost use Rattle.cx_script.specs.Script.{fault_at};
+ghost use Rattle.cx_script.specs.Script.{actions_of, bad_look_after, fault_at, first_place, step_from};
 ghost use Rattle.cx_script_blocks.specs.Faults.{is_read, is_write};
-ghost use Rattle.cx_script.specs.Parts.Progress.{Acted, Calling, Came, Closes, Stopped, TakesLine};
+ghost use Rattle.cx_script.specs.Parts.Progress.{Acted, ActsOnce, Calling, Came, Closes, Stopped, TakesLine};
 ghost use Rattle.cx_script_io.specs.Devices.{device_output};
 ghost use Rattle.cx_script_io.specs.Unbroken.{IsUnbroken};
 ghost use Rattle.cx_script_blocks.specs.declared.faults.RunFault.TheVariants.{BadLine};
 
 use arrayvec::ArrayVec;
-use cx_script_actions::Performer;
+use cx_script_actions::{Performer, ScriptAction};
 use cx_script_blocks::{Block, RunFault, Summary, step_at};
 use cx_script_io::{
     Ending, OutputBuffer, ScriptDevices, ScriptOut, in_front, is_too_long, last_line, split_line,
@@ -31,7 +30,52 @@ const MOST_KEPT: usize = 4_097;
 /// The most bytes that a script may have.
 const MOST_BYTES: usize = 16_777_216;
 
-/// Performs the action of a line, where it has one, and puts its text after what waits to be written.
+/// What the lines of a script leave to the next one.
+#[derive(Drop)]
+pub struct Place {
+    /// The block that it is in.
+    pub block: Option<Block>,
+    /// The number of the first bad look.
+    pub bad_look: Option<usize>,
+}
+
+impl Place {
+    /// That of a script's first line.
+    fn first() -> Place
+        ensures { result ≡ first_place }
+    {
+        Place {
+            block: None,
+            bad_look: None,
+        }
+    }
+}
+
+/// Performs an action, and puts its text after what waits to be written.
+fn act_once<P: Performer, W: ScriptOut>(
+    performer: &mut P,
+    alloc: Global,
+    waiting: &mut OutputBuffer,
+    writer: &mut W,
+    action: P::Action,
+) -> Result<(), RunFault>
+    requires allowed { P.Action.allowed action }
+    requires failure { W.has_failed writer.old ≡ false }
+    ensures acted { Calling W.writes writer.old writer.new (λ log later.
+        ActsOnce P.performs P.refused action performer.old (device_output log waiting.old)
+        result performer.new (device_output later waiting.new)) }
+    ensures failure { W.has_failed writer.new ≡ is_write result }
+    ensures unread { is_read result ≡ false }
+{
+    let text = performer.perform(alloc, action)?;
+    match waiting.put(writer, text.as_slice()) {
+        Ok(()) => Ok(()),
+        Err(_) => Err(RunFault::Write),
+    }
+}
+
+/// Performs the actions that a line asks, one after another: the text of each is put after what waits to be written before the
+/// next is performed.
 fn act<P: Performer, W: ScriptOut>(
     performer: &mut P,
     alloc: Global,
@@ -42,29 +86,43 @@ fn act<P: Performer, W: ScriptOut>(
     requires allowed { IfSome action P.Action.allowed }
     requires failure { W.has_failed writer.old ≡ false }
     ensures acted { Calling W.writes writer.old writer.new (λ log later.
-        Acted P.performs action performer.old (device_output log waiting.old)
+        Acted P.performs P.refused (actions_of P.Action.language action) performer.old (device_output log waiting.old)
         result performer.new (device_output later waiting.new)) }
     ensures failure { W.has_failed writer.new ≡ is_write result }
     ensures unread { is_read result ≡ false }
 {
-    let Some(action) = action else {
-        return Ok(());
-    };
-    let text = performer.perform(alloc, action)?;
-    match waiting.put(writer, text.as_slice()) {
-        Ok(()) => Ok(()),
-        Err(_) => Err(RunFault::Write),
+    let mut due = action;
+    'actions: while let Some(action) = due {
+        due = action.following();
+        if let Err(fault) = act_once(performer, alloc, waiting, writer, action) {
+            return Err(fault);
+        }
+    }
+    Ok(())
+}
+
+/// The first bad look, after a line with this number that asks this action.
+fn bad_look_after<A: ScriptAction>(
+    before: Option<usize>,
+    action: &Option<A>,
+    number: usize,
+) -> Option<usize>
+    ensures { result ≡ bad_look_after A.language number before action.now }
+{
+    match action {
+        Some(action) if before.is_none() && action.is_bad_look() => Some(number),
+        _ => before,
     }
 }
 
-/// Lines that were taken: what they were performed on, the texts that wait to be written, how many they are, and the block
-/// that the next one is in.
+/// Lines that were taken: what they were performed on, the texts that wait to be written, how many they are, and what they leave
+/// to the next one.
 #[derive(Drop)]
 pub struct Progress<P> {
     performer: P,
     waiting: OutputBuffer,
     lines: usize,
-    block: Option<Block>,
+    place: Place,
 }
 
 impl<P: Performer + Drop> Progress<P> {
@@ -78,20 +136,23 @@ impl<P: Performer + Drop> Progress<P> {
         requires lines { self.old.lines < 2 ^ 32 }
         requires failure { W.has_failed writer.old ≡ false }
         ensures taken { let number = self.old.lines + 1 in
-            let due = step_at P.Action.language number self.old.block line.now in
+            let due = step_from P.Action.language number self.old.place line.now in
             Calling W.writes writer.old writer.new (λ log later.
             TakesLine P.performs number due self.old.performer (device_output log self.old.waiting)
-            result self.new.performer (device_output later self.new.waiting) self.new.block) }
+            result self.new.performer (device_output later self.new.waiting) self.new.place) }
         ensures lines { self.new.lines ≡ self.old.lines + 1 }
         ensures failure { W.has_failed writer.new ≡ is_write result }
         ensures unread { is_read result ≡ false }
     {
         self.lines += 1;
-        let step = match step_at(alloc, self.lines, self.block.take(), line) {
+        let step = match step_at(alloc, self.lines, self.place.block.take(), line) {
             Ok(step) => step,
             Err(fault) => return Err(fault),
         };
-        self.block = step.block;
+        self.place = Place {
+            block: step.block,
+            bad_look: bad_look_after(self.place.bad_look, &step.action, self.lines),
+        };
         act(
             &mut self.performer,
             alloc,
@@ -112,35 +173,37 @@ impl<P: Performer + Drop> Progress<P> {
         requires waits { self.old.waiting ≡ [] }
         requires failure { W.has_failed writer.old ≡ false }
         ensures taken { let number = self.old.lines + 1 in
-            let due = step_at P.Action.language number self.old.block line.now in
+            let due = step_from P.Action.language number self.old.place line.now in
             Calling W.writes writer.old writer.new (λ log later.
             TakesLine P.performs number due self.old.performer (device_output log [])
-            result self.new.performer (device_output later []) self.new.block) }
+            result self.new.performer (device_output later []) self.new.place) }
         ensures lines { self.new.lines ≡ self.old.lines + 1 }
         ensures failure { W.has_failed writer.new ≡ is_write result }
         ensures unread { is_read result ≡ false }
     {
-        if let Err(fault) = self.take_line(alloc, writer, line) {
-            return Err(fault);
+        let answer = self.take_line(alloc, writer, line);
+        if writer.failed() {
+            return answer;
         }
         if self.waiting.flush(writer).is_err() {
             return Err(RunFault::Write);
         }
-        Ok(())
+        answer
     }
 
     /// The answer where no line is left.
     #[tactic(auto, unfolding(crate::specs::Script::fault_at))]
     fn end(&self, ending: Ending) -> Result<Summary, RunFault>
-        ensures value { MatchOption (fault_at ending self.now.block)
+        ensures value { MatchOption (fault_at ending self.now.place)
             (IsOkAnd result (λ summary. summary.lines ≡ self.now.lines)) (λ fault. result ≡ Err fault) }
         ensures unwritten { is_write result ≡ false }
         ensures read { is_read result ≡ is_failure ending }
     {
         match ending {
-            Ending::AtEnd => match &self.block {
-                Some(block) => Err(RunFault::BadLine(block.line)),
-                None => Ok(Summary { lines: self.lines }),
+            Ending::AtEnd => match (&self.place.block, self.place.bad_look) {
+                (Some(block), _) => Err(RunFault::BadLine(block.line)),
+                (None, Some(line)) => Err(RunFault::BadLook(line)),
+                (None, None) => Ok(Summary { lines: self.lines }),
             },
             Ending::Failed => Err(RunFault::Read),
             Ending::PastBound => Err(RunFault::ReadBound),
@@ -161,7 +224,7 @@ impl<P: Performer + Drop> ScriptRun<P> {
         ensures performer { result.progress.performer ≡ performer }
         ensures waits { result.progress.waiting ≡ [] }
         ensures lines { result.progress.lines ≡ 0 }
-        ensures block { result.progress.block ≡ None }
+        ensures place { result.progress.place ≡ first_place }
         ensures part { result.part.items ≡ [] }
     {
         ScriptRun {
@@ -169,7 +232,7 @@ impl<P: Performer + Drop> ScriptRun<P> {
                 performer,
                 waiting: OutputBuffer::new(),
                 lines: 0,
-                block: None,
+                place: Place::first(),
             },
             part: ArrayVec::new(),
         }
@@ -186,10 +249,10 @@ impl<P: Performer + Drop> ScriptRun<P> {
         requires failure { W.has_failed writer.old ≡ false }
         ensures taken { let old = self.old.progress in let new = self.new.progress in let number = old.lines + 1 in
             let line = strip_carriage_return (self.old.part.items ++ bytes.now) in
-            let due = step_at P.Action.language number old.block line in
+            let due = step_from P.Action.language number old.place line in
             Calling W.writes writer.old writer.new (λ log later.
             TakesLine P.performs number due old.performer (device_output log old.waiting)
-            result new.performer (device_output later new.waiting) new.block) }
+            result new.performer (device_output later new.waiting) new.place) }
         ensures lines { self.new.progress.lines ≡ self.old.progress.lines + 1 }
         ensures part { OnOk result (self.new.part.items ≡ []) }
         ensures failure { W.has_failed writer.new ≡ is_write result }
@@ -240,14 +303,14 @@ impl<P: Performer + Drop> ScriptRun<P> {
         ensures came { let old = self.old.progress in let new = self.new.progress in
             let ahead = self.old.part.items ++ piece.now in
             OnOk result (Calling W.writes writer.old writer.new (λ log later.
-            Came P.Action.language P.performs old.performer old.lines old.block ahead (device_output log old.waiting)
-            new.performer new.lines new.block self.new.part.items (device_output later new.waiting))) }
+            Came P.Action.language P.performs old.performer old.lines old.place ahead (device_output log old.waiting)
+            new.performer new.lines new.place self.new.part.items (device_output later new.waiting))) }
         ensures unbroken { OnOk result (IsUnbroken self.new.part.items) }
         ensures short { OnOk result (is_too_long (strip_carriage_return self.new.part.items) ≡ false) }
         ensures lines { OnOk result (self.new.progress.lines ≤ self.old.progress.lines + length piece.now) }
         ensures err { let old = self.old.progress in let ahead = self.old.part.items ++ piece.now in
             IfErr result (λ fault. Calling W.writes writer.old writer.new (λ log later.
-            Stopped P.Action.language P.performs old.performer old.lines old.block ahead fault
+            Stopped P.Action.language P.performs old.performer old.lines old.place ahead fault
             (device_output log old.waiting) (device_output later self.new.progress.waiting))) }
         ensures failure { W.has_failed writer.new ≡ is_write result }
         ensures unread { is_read result ≡ false }
@@ -276,15 +339,15 @@ impl<P: Performer + Drop> ScriptRun<P> {
         ensures came { let old = self.old.progress in let new = self.new.progress in
             let ahead = self.old.part.items ++ piece.now in
             OnOk result (Calling W.writes writer.old writer.new (λ log later.
-            Came P.Action.language P.performs old.performer old.lines old.block ahead (device_output log [])
-            new.performer new.lines new.block self.new.part.items (device_output later []))) }
+            Came P.Action.language P.performs old.performer old.lines old.place ahead (device_output log [])
+            new.performer new.lines new.place self.new.part.items (device_output later []))) }
         ensures unbroken { OnOk result (IsUnbroken self.new.part.items) }
         ensures short { OnOk result (is_too_long (strip_carriage_return self.new.part.items) ≡ false) }
         ensures lines { OnOk result (self.new.progress.lines ≤ self.old.progress.lines + length piece.now) }
         ensures waits { OnOk result (self.new.progress.waiting ≡ []) }
         ensures err { let old = self.old.progress in let ahead = self.old.part.items ++ piece.now in
             IfErr result (λ fault. Calling W.writes writer.old writer.new (λ log later.
-            Stopped P.Action.language P.performs old.performer old.lines old.block ahead fault
+            Stopped P.Action.language P.performs old.performer old.lines old.place ahead fault
             (device_output log []) (device_output later []))) }
         ensures failure { W.has_failed writer.new ≡ is_write result }
         ensures unread { is_read result ≡ false }
@@ -313,7 +376,7 @@ impl<P: Performer + Drop> ScriptRun<P> {
         requires failure { W.has_failed writer.old ≡ false }
         ensures ends { let old = self.progress in let lines = lines_met ending self.part.items in
             Calling W.writes writer.old writer.new (λ log later.
-            Closes P.Action.language P.performs old.performer ending old.lines old.block lines
+            Closes P.Action.language P.performs old.performer ending old.lines old.place lines
             result (device_output log []) (device_output later [])) }
         ensures failure { W.has_failed writer.new ≡ is_write result }
         ensures read { is_read result ≡ is_failure ending }
@@ -334,7 +397,7 @@ impl<P: Performer + Drop> ScriptRun<P> {
         devices: &mut D,
     ) -> Result<Summary, RunFault>
         requires lines { self.progress.lines ≡ 0 }
-        requires block { self.progress.block ≡ None }
+        requires place { self.progress.place ≡ first_place }
         requires part { self.part.items ≡ [] }
         requires waits { self.progress.waiting ≡ [] }
         requires reader { D.ScriptIn.has_failed devices.old ≡ false }

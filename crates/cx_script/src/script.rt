@@ -35,10 +35,12 @@ pub fn edf_stage(alloc: Global) -> Result<EdfStage, AllocError>
 ///
 /// Neither device may have failed. The fault that comes first in the script is answered, and everything
 /// in front of it is done and written: BadLine with the line's number; Read where a read failed, and
-/// ReadBound where the script has more than 16,777,216 bytes, after the complete lines. Write comes where
+/// ReadBound where the script has more than 16,777,216 bytes, after the complete lines; BadLook with the
+/// number of the first bad look, at the end of a script without another fault. Write comes where
 /// a write failed or took no byte: what was written is then a front of a transcript. Memory comes only
 /// where an allocation failed, before anything was read or at a line that isn't a bad one: the lines in
-/// front of it have no fault, are done, and their transcript is written.
+/// front of it have no fault, are done, and their transcript is written. A line may ask several actions:
+/// then those in front of the one without memory are done, and their texts are written.
 pub fn run_script_on<P: Performer + Drop, D: ScriptDevices>(
     performer: Result<P, AllocError>,
     alloc: Global,

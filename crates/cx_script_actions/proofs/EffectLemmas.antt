@@ -1,8 +1,7 @@
 -- An action performed, by what the region answered.
-use Rattle.std.proofs.Common.{◌≡◌, ℕ, ◌++◌, List, Option, codes, subst, sym}
+use Rattle.std.proofs.Common.{◌≡◌, ℕ, ◌++◌, List, Option, Some, codes, subst, sym}
 use Rattle.cx_code.specs.declared.image.Image.{Image}
-use Rattle.cx_load.specs.Fault.{IsFit, IsLowestFault, fault_name}
-use Rattle.cx_load.specs.Facts.Faults.{answered_of_lowest, no_fault_of_fit}
+use Rattle.cx_load.specs.Fault.{IsFit, fault_name, fault_of}
 use Rattle.cx_load.specs.declared.fault.ImageFault.{ImageFault}
 use Rattle.cx_region.specs.declared.replies.Event.TheVariants as event
 use Rattle.cx_edf.specs.declared.answers.Answer.{Answer}
@@ -19,15 +18,15 @@ unfolding Replies
 event_replied old new event given text h t = (given, h, t)
 
 pub image_refused : (old new : EdfState) (name : List ℕ) (image : Image) (fault : ImageFault) (text : List ℕ)
-    → IsLowestFault image fault → text ≡ refused_text (codes "PROGRAM") name (fault_name fault) → new ≡ old → Performs old (action.Image name image) text new
+    → fault_of image ≡ Some fault → text ≡ refused_text (codes "PROGRAM") name (fault_name fault) → new ≡ old → Performs old (action.Image name image) text new
 unfolding Performs
-image_refused old new name image fault text lowest t n =
-    subst (λ (due : Option ImageFault). ByFault due old name image text new) (sym (answered_of_lowest image fault lowest)) (t, n)
+image_refused old new name image fault text is t n =
+    subst (λ (due : Option ImageFault). ByFault due old name image text new) (sym is) (t, n)
 
 pub image_defined : (old new : EdfState) (name : List ℕ) (image : Image) (text : List ℕ)
     → IsFit image → Replies old (edf_event.Plain (event.Program name image)) text new → Performs old (action.Image name image) text new
 unfolding Performs
-image_defined old new name image text fit d = subst (λ (due : Option ImageFault). ByFault due old name image text new) (sym (no_fault_of_fit image fit)) d
+image_defined old new name image text fit d = subst (λ (due : Option ImageFault). ByFault due old name image text new) (sym fit.none) d
 
 pub event_done : (old new : EdfState) (event : EdfEvent) (text : List ℕ) → Replies old event text new → Performs old (action.Event event) text new
 unfolding Performs

@@ -1,12 +1,12 @@
 -- The language of a script: what its lines ask where they are not in a block, and what the end of a block asks (own).
-use Rattle.std.specs.Prelude.{ℕ, Option, None, List}
+use Rattle.std.specs.Prelude.{ℕ, Bool, false, Option, None, List, [], ◌∷◌}
 use Rattle.cx_script_actions.specs.Actions.{line_of}
 use Rattle.cx_script_actions.specs.declared.actions.Action.{Action}
 use Rattle.cx_script_actions.specs.declared.actions.Line.{Line}
 
 pub record Language (A : Type 0) : Type 0 where
-  -- what a line asks; None where it is a bad line
-  pub line_of : List ℕ → Option (Line A)
+  -- what a line asks, by its number and its text; None where it is a bad line
+  pub line_of : ℕ → List ℕ → Option (Line A)
   -- the action that the end of a block gives, as one of these
   pub of_block : Action → A
   -- the action that the end of a source's block gives: by its program's name, its lines, and what they are made into
@@ -14,8 +14,19 @@ pub record Language (A : Type 0) : Type 0 where
   -- the action that the end of a block of lines gives: by the number of the line that begins it, its name and its lines; None in a
   -- language without such blocks
   pub of_lines : ℕ → List ℕ → List (List ℕ) → Option A
+  -- the actions that a line asks, one after another, by the first of them
+  pub actions_of : A → List A
+  -- whether an action only reports a bad look, with which a script goes on
+  pub is_bad_look : A → Bool
 
--- that of `cicsedf`, without blocks of lines
+-- that of `cicsedf`, where a line asks one action; without blocks of lines and without looks
 abbrev pub edf_language : Language Action
 edf_language =
-    record { line_of = line_of; of_block = λ a. a; of_source = λ name lines a. a; of_lines = λ first name lines. None }
+    record {
+      line_of = λ number text. line_of text;
+      of_block = λ a. a;
+      of_source = λ name lines a. a;
+      of_lines = λ first name lines. None;
+      actions_of = λ a. a ∷ [];
+      is_bad_look = λ a. false;
+    }

@@ -137,6 +137,8 @@ impl<S: Store + Drop> Performer for Debugged<S> {
 
     ghost performs = { Performs };
 
+    ghost refused = { λ _ _ _. Unit {0} };
+
     #[tactic(auto, using(crate::proofs::EffectLemmas::event_done, crate::proofs::EffectLemmas::screen_shown, crate::proofs::EffectLemmas::display_shown, crate::proofs::EffectLemmas::previous_shown))]
     fn perform(&mut self, alloc: Global, action: Action) -> Result<Vec<u8>, AllocError> {
         match action {

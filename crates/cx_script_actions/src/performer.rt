@@ -1,6 +1,7 @@
 //! What the actions of a script are, and what they are performed on.
 
-ghost use Rattle.std.specs.Prelude.{◌≡◌, ℕ, List as Elements, IfOk, IfSome, OnErr, is_some, true};
+ghost use Rattle.std.specs.Prelude.{◌≡◌, ◌∷◌, [], ℕ, List as Elements, IfOk, IfSome, OnErr, is_some, true};
+ghost use Rattle.std.specs.Option.{option_map_or};
 ghost use Rattle.cx_script_actions.specs.Allowed.{IsAllowed, IsAllowedLine};
 ghost use Rattle.cx_script_actions.specs.Language.{Language, edf_language};
 
@@ -36,10 +37,24 @@ pub trait ScriptAction: Drop {
         ensures value { result ≡ language.of_lines first name lines.items }
         ensures allowed { IfSome result allowed };
 
-    /// What a line asks where it is not in a block; None, and never Memory, where it is a bad line.
-    fn read_line(alloc: Global, text: &[u8]) -> Result<Option<Line<Self>>, AllocError>
-        ensures value { IfOk result (λ line. line ≡ language.line_of text.now) }
-        ensures memory { OnErr result (is_some (language.line_of text.now) ≡ true) }
+    /// The action that the same line asks after this one, where it asks another.
+    fn following(&self) -> Option<Self>
+        requires { allowed self.now }
+        ensures value { language.actions_of self.now ≡ self.now ∷ option_map_or language.actions_of result [] }
+        ensures allowed { IfSome result allowed };
+
+    /// Whether it only reports a bad look, with which a script goes on.
+    fn is_bad_look(&self) -> bool
+        ensures { result ≡ language.is_bad_look self.now };
+
+    /// What the line with this number asks where it is not in a block; None, and never Memory, where it is a bad line.
+    fn read_line(
+        alloc: Global,
+        number: usize,
+        text: &[u8],
+    ) -> Result<Option<Line<Self>>, AllocError>
+        ensures value { IfOk result (λ line. line ≡ language.line_of number text.now) }
+        ensures memory { OnErr result (is_some (language.line_of number text.now) ≡ true) }
         ensures allowed { IfOk result (λ line. IfSome line (IsAllowedLine allowed)) };
 }
 
@@ -60,7 +75,19 @@ impl ScriptAction for Action {
         None
     }
 
-    fn read_line(alloc: Global, text: &[u8]) -> Result<Option<Line<Action>>, AllocError> {
+    fn following(&self) -> Option<Action> {
+        None
+    }
+
+    fn is_bad_look(&self) -> bool {
+        false
+    }
+
+    fn read_line(
+        alloc: Global,
+        _number: usize,
+        text: &[u8],
+    ) -> Result<Option<Line<Action>>, AllocError> {
         line_of(alloc, text)
     }
 }
@@ -73,8 +100,13 @@ pub trait Performer {
     /// One action: the state before, the action, what is written for it, and the state after.
     ghost performs: { Self → Self.Action → Elements ℕ → Self → Type 0 };
 
+    /// An action for which memory was refused: the state before, the action, and the state after. Where a type parameter stands
+    /// for the performer, nothing but a refused call gives it.
+    ghost refused: { Self → Self.Action → Self → Type 0 };
+
     /// Performs an action, and gives what is written for it.
     fn perform(&mut self, alloc: Global, action: Self::Action) -> Result<Vec<u8>, AllocError>
         requires { Self.Action.allowed action }
-        ensures { IfOk result (λ text. performs self.old action text.items self.new) };
+        ensures done { IfOk result (λ text. performs self.old action text.items self.new) }
+        ensures refused { OnErr result (refused self.old action self.new) };
 }

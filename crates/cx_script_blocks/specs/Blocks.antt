@@ -78,7 +78,7 @@ block_end language first name (kind.Lines lines) = Ok (action_step (language.of_
 
 -- a line outside a block, or inside one: its end, or one more line of it
 abbrev pub step_in : {A : Type 0} → Language A → ℕ → Option Block → List ℕ → Result (LineStep A) RunFault
-step_in language number None text = ok_or (option_map (step_of number) (language.line_of text)) (BadLine number)
+step_in language number None text = ok_or (option_map (step_of number) (language.line_of number text)) (BadLine number)
 step_in language number (Some block) text =
     if bytes_eq text (codes "/*") then block_end language block.line block.name block.body
     else ok_or (option_map block_step (with_line block text)) (BadLine number)

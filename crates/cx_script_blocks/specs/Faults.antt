@@ -2,11 +2,12 @@
 use Rattle.std.specs.Prelude.{ℕ, Bool, true, false, List, ◌++◌, codes, decimal, Result, Err}
 use Rattle.cx_asm_build.specs.Kinds.{kind_name}
 use Rattle.cx_script_blocks.specs.declared.faults.RunFault.{RunFault}
-use Rattle.cx_script_blocks.specs.declared.faults.RunFault.TheVariants.{BadLine, Source, Read, Write, Memory, ReadBound}
+use Rattle.cx_script_blocks.specs.declared.faults.RunFault.TheVariants.{BadLine, BadLook, Source, Read, Write, Memory, ReadBound}
 
 -- the line on standard error that reports a fault
 abbrev pub fault_line : RunFault → List ℕ
 fault_line (BadLine line) = codes "cicsedf: line " ++ decimal line ++ codes ": BadLine"
+fault_line (BadLook line) = codes "cicsedf: line " ++ decimal line ++ codes ": BadLook"
 fault_line (Source line kind) = codes "cicsedf: line " ++ decimal line ++ codes ": " ++ kind_name kind
 fault_line Read = codes "cicsedf: read"
 fault_line Write = codes "cicsedf: write"

@@ -296,7 +296,7 @@ fn step_outside<A: ScriptAction>(
     ensures unwritten { is_write result ≡ false }
     ensures unread { is_read result ≡ false }
 {
-    match A::read_line(alloc, line)? {
+    match A::read_line(alloc, number, line)? {
         Some(line) => Ok(step_of(alloc, number, line)),
         None => Err(RunFault::BadLine(number)),
     }

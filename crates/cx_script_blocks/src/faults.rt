@@ -10,12 +10,15 @@ use std::alloc::{AllocError, AllocFailed};
 use std::fmt::{Display, Formatter};
 use thiserror::Error;
 
-/// Why a run of a script ends early. The lines before the fault are done, and their transcript is written.
+/// Why a run of a script ends early, or isn't one without a fault. The lines before the fault are done, and their transcript is written.
 /// It is shown as the program's line on standard error.
 #[derive(Clone, Copy, Debug, PartialEq, Eq, Error)]
 pub enum RunFault {
     /// The line with this number, counted from 1, is no line of a script; or it begins a block that is not ended.
     BadLine(usize),
+    /// The line with this number, counted from 1, is the first of the bad looks. It comes where a script has no other fault: each of its
+    /// lines was done, and the bad looks were reported in its transcript.
+    BadLook(usize),
     /// The line with this number, counted from 1, is a faulty one of a source; of NoEnd it is the line that ends the block.
     Source(usize, SourceKind),
     /// A read failed.
@@ -34,6 +37,7 @@ impl Display for RunFault {
     fn fmt<W: std::fmt::Write>(&self, f: &mut Formatter<W>) -> Result<(), std::fmt::Error> {
         match self {
             RunFault::BadLine(line) => write!(f, "cicsedf: line {line}: BadLine"),
+            RunFault::BadLook(line) => write!(f, "cicsedf: line {line}: BadLook"),
             RunFault::Source(line, kind) => write!(f, "cicsedf: line {line}: {kind}"),
             RunFault::Read => f.write_str("cicsedf: read"),
             RunFault::Write => f.write_str("cicsedf: write"),
@@ -73,7 +77,7 @@ pub fn status(answer: &Result<Summary, RunFault>) -> u8
 {
     match answer {
         Ok(_) => 0,
-        Err(RunFault::BadLine(_) | RunFault::Source(_, _)) => 1,
+        Err(RunFault::BadLine(_) | RunFault::BadLook(_) | RunFault::Source(_, _)) => 1,
         Err(RunFault::Read | RunFault::Write | RunFault::ReadBound) => 3,
         Err(RunFault::Memory) => 4,
     }

@@ -6,7 +6,7 @@ use Rattle.std.proofs.lemmas.Option.{none-some, same_Some, slice_get_within}
 use Rattle.cx_search.specs.declared.found.Origin.{Origin}
 use Rattle.cx_search.specs.declared.marks.Rule.TheVariants.{All, Any}
 use Rattle.cx_search.specs.Finds.{IsWhole}
-use Rattle.cx_search.specs.Forever.{CanRest, IsPlaceOf, Loops}
+use Rattle.cx_search.specs.Forever.{CanRest, IsFirstPlaceOf, IsPlaceOf, Loops}
 use Rattle.cx_search.specs.Found.{IsAt}
 use Rattle.cx_search.specs.Marks.{AreRight, AreStable, IsComeTo, is_free, is_marked}
 use Rattle.cx_search.specs.Moves.{Leads}
@@ -107,9 +107,18 @@ module _ {State : Type 0} (Goes : State → ℕ → State → Type 0) (start : S
       let at : IsAt found place item.0.0 = record { origin = item.0.1; there = item.1 } in
       record { state = item.0.0; at = at; is = restless Goes found links whole.done whole.linked whole.enough marks stable place item.0.0 free at }
 
+  first_restless : (marks : List Bool) → AreRight Goes found Any marks → AreStable links Any marks → (place : ℕ) → place < length found
+      → is_marked marks place ≡ false → ((other : ℕ) → other < place → is_marked marks other ≡ true)
+      → IsFirstPlaceOf (λ state. CanRest Goes state → ⊥) found place
+  first_restless marks right stable place within free before = record {
+    is = one_restless marks stable place within free;
+    first = λ other state l at never. never (right other state (before other l) at);
+  }
+
   -- by the first place without a mark
   pub rest_of : (marks : List Bool) (most : ℕ) (r : Option ℕ) → most ≡ length found → AreRight Goes found Any marks → AreStable links Any marks
       → IfSome r (λ place. (place < most) × (is_marked marks place ≡ false)) → IfNone r ((place : ℕ) → place < most → is_marked marks place ≡ true)
-      → MatchOption r ((moves : List ℕ) (to : State) → Leads Goes start moves to → CanRest Goes to) (IsPlaceOf (λ state. CanRest Goes state → ⊥) found)
-  rest_of marks most None many right stable some none = all_can_rest marks right (λ place l. none place (omega (arith, many, l)))
-  rest_of marks most (Some place) many right stable some none = one_restless marks stable place (omega (arith, many, some.0)) some.1
+      → IfSome r (λ place. (other : ℕ) → other < place → is_marked marks other ≡ true)
+      → MatchOption r ((moves : List ℕ) (to : State) → Leads Goes start moves to → CanRest Goes to) (IsFirstPlaceOf (λ state. CanRest Goes state → ⊥) found)
+  rest_of marks most None many right stable some none first = all_can_rest marks right (λ place l. none place (omega (arith, many, l)))
+  rest_of marks most (Some place) many right stable some none first = first_restless marks right stable place (omega (arith, many, some.0)) some.1 first

@@ -6,4 +6,5 @@ mod NextLemmas
 mod OrderLemmas
 mod PathLemmas
 mod PlaceLemmas
+mod RestLemmas
 mod SearchLemmas

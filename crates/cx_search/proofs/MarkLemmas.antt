@@ -1,15 +1,15 @@
 -- A mark more.
-use Rattle.std.proofs.Common.{◌≡◌, ℕ, zero, suc, ◌+◌, ◌<◌, ◌≤◌, ◌-◌, Bool, true, false, true≢false, List, [], ◌∷◌, length, Some, ◌⊎◌, inl, inr, sym, subst, refl, ◌∙◌, ap, arith, cond}
-use Rattle.std.specs.Prelude.{slice_get, slice_set, replicate, ◌&&◌, ◌||◌, ◌==◌}
+use Rattle.std.proofs.Common.{◌≡◌, ℕ, zero, suc, ◌+◌, ◌<◌, ◌≤◌, ◌-◌, Bool, true, false, true≢false, List, [], ◌∷◌, length, Some, ◌⊎◌, inl, inr, sym, subst, refl, ◌∙◌, ap, arith, cond, eq-eqb}
+use Rattle.std.specs.Prelude.{slice_get, slice_set, replicate, MatchBool, ◌&&◌, ◌||◌, ◌==◌}
 use Rattle.std.specs.List.{list_all, list_any}
 use Rattle.std.proofs.lemmas.Bool.{cases_lt, eqb-true}
 use Rattle.std.proofs.lemmas.Option.{none-some, same_Some, slice_get_within}
 use Rattle.cx_search.specs.declared.found.Origin.{Origin}
 use Rattle.cx_search.specs.declared.marks.Rule.{Rule}
-use Rattle.cx_search.specs.declared.marks.Rule.TheVariants.{All, Any}
-use Rattle.cx_search.specs.Forever.{AtRest, CanRest, IsBounded}
+use Rattle.cx_search.specs.declared.marks.Rule.TheVariants.{All, Any, To}
+use Rattle.cx_search.specs.Forever.{AtRest, CanRest, IsBounded, Loops}
 use Rattle.cx_search.specs.Found.{IsAt}
-use Rattle.cx_search.specs.Marks.{AreRight, AreStable, Says, is_due, is_marked, unmarked}
+use Rattle.cx_search.specs.Marks.{AreRight, AreStable, LeadsOn, Says, is_due, is_marked, unmarked}
 use Rattle.cx_search.specs.Moves.{Leads}
 use Rattle.cx_search.specs.Nexts.{AreLinked, AreNexts, LeadsTo}
 use Rattle.cx_search.proofs.ListLemmas.{item_at}
@@ -142,10 +142,26 @@ module _ {State : Type 0} (Goes : State → ℕ → State → Type 0) (found : L
           let few = bound it.index it.to leads.between it.among it.at ms u leads.rest in
           omega (arith, few)
 
+  leads_on_to : (target : ℕ) (s : State) (nexts : List ℕ) (marks : List Bool) (to : State) → AreNexts Goes found s nexts → is_due (To target) nexts marks ≡ true
+      → AreRight Goes found (To target) marks → IsAt found target to → LeadsOn Goes s to
+  unfolding Leads
+  leads_on_to target s nexts marks to are due right there =
+      let it = some_of (λ next. (next == target) || is_marked marks next) nexts due in
+      let next = are.each it.index it.item it.at in
+      elim (either (it.item == target) (is_marked marks it.item) it.is) [
+        | inl e ↦
+            let same = (at_same found it.item target next.next to next.at.origin there.origin (eqb-true it.item target e) next.at.there there.there).0 in
+            record { number = next.number; moves = []; leads = record { between = next.next; goes = next.goes; rest = sym same } }
+        | inr m ↦
+            let on = right it.item next.next m next.at to there in
+            record { number = next.number; moves = on.number ∷ on.moves; leads = record { between = next.next; goes = next.goes; rest = on.leads } }
+      ]
+
   says : (rule : Rule) (s : State) (nexts : List ℕ) (marks : List Bool) → AreNexts Goes found s nexts → is_due rule nexts marks ≡ true → AreRight Goes found rule marks
-      → Says Goes rule s
+      → Says Goes found rule s
   says Any s nexts marks are due right = can_rest s nexts marks are due right
   says All s nexts marks are due right = is_bounded s nexts marks are due right
+  says (To target) s nexts marks are due right = λ to there. leads_on_to target s nexts marks to are due right there
 
   -- a mark more
   pub right_set : (links : List (List ℕ)) (done : ℕ) (rule : Rule) (marks : List Bool) (p : ℕ) → AreLinked Goes found links done → p < length links
@@ -198,6 +214,39 @@ module _ {State : Type 0} (Goes : State → ℕ → State → Type 0) (found : L
     -- no rest can be come to from a state without a mark
     pub restless : (marks : List Bool) → AreStable links Any marks → (p : ℕ) (s : State) → is_marked marks p ≡ false → IsAt found p s → CanRest Goes s → ⊥
     restless marks stable p s free at can = restless_by marks stable can.moves p s can.to free at can.leads can.rest
+
+    no_way : (marks : List Bool) (target : ℕ) (to : State) → AreStable links (To target) marks → IsAt found target to
+        → ((one other : ℕ) (state : State) → IsAt found one state → IsAt found other state → one ≡ other)
+        → (ms : List ℕ) (n p : ℕ) (s : State) → is_marked marks p ≡ false → IsAt found p s → Leads Goes s (n ∷ ms) to → ⊥
+    unfolding Leads
+    no_way marks target to stable there once [] n p s free at leads =
+        let row = row_of p s at in
+        let it = (linked.nexts p s row.0 row.1 at).all n leads.between leads.goes in
+        let not_on = neither (it.to == target) (is_marked marks it.to)
+        (none_of (λ next. (next == target) || is_marked marks next) row.0 (stable p row.0 row.1 free) it.index it.to it.among) in
+        let same = once it.to target to (subst (λ x. IsAt found it.to x) (sym leads.rest) it.at) there in
+        true≢false (sym (eq-eqb it.to target same) ∙ not_on.0)
+    no_way marks target to stable there once (m ∷ ms) n p s free at leads =
+        let row = row_of p s at in
+        let it = (linked.nexts p s row.0 row.1 at).all n leads.between leads.goes in
+        let not_on = neither (it.to == target) (is_marked marks it.to)
+        (none_of (λ next. (next == target) || is_marked marks next) row.0 (stable p row.0 row.1 free) it.index it.to it.among) in
+        no_way marks target to stable there once ms m it.to leads.between not_on.1 it.at leads.rest
+
+    -- no moves lead from a state without a mark to itself
+    pub no_loop : (marks : List Bool) (p : ℕ) (s : State) → AreStable links (To p) marks
+        → ((one other : ℕ) (state : State) → IsAt found one state → IsAt found other state → one ≡ other)
+        → is_marked marks p ≡ false → IsAt found p s → Loops Goes s → ⊥
+    no_loop marks p s stable once free at loop = no_way marks p s stable at once loop.moves loop.number p s free at loop.leads
+
+    -- whether they do, by the mark
+    pub loops_by : (marks : List Bool) (p : ℕ) (s : State) (marked : Bool) → marked ≡ is_marked marks p → AreRight Goes found (To p) marks → AreStable links (To p) marks
+        → ((one other : ℕ) (state : State) → IsAt found one state → IsAt found other state → one ≡ other) → IsAt found p s
+        → MatchBool marked (Loops Goes s) (Loops Goes s → ⊥)
+    loops_by marks p s true is right stable once at =
+        let on = right p s (sym is) at s at in
+        record { number = on.number; moves = on.moves; leads = on.leads }
+    loops_by marks p s false is right stable once at = no_loop marks p s stable once (sym is) at
 
     -- one that moves lead to has none either
     pub unmarked_next : (marks : List Bool) → AreStable links All marks → (p : ℕ) (s : State) (row : List ℕ) → is_marked marks p ≡ false → slice_get links p ≡ Some row

@@ -1,5 +1,5 @@
 -- Moves without an end, and states from which no rest can be come to (this product's own).
-use Rattle.std.specs.Prelude.{ℕ, ◌≤◌, List, ◌∷◌, length}
+use Rattle.std.specs.Prelude.{ℕ, ◌<◌, ◌≤◌, List, ◌∷◌, length}
 use Rattle.cx_search.specs.declared.found.Origin.{Origin}
 use Rattle.cx_search.specs.Found.{IsAt}
 use Rattle.cx_search.specs.Moves.{Leads}
@@ -40,3 +40,9 @@ pub record IsPlaceOf {State : Type 0} (Holds : State → Type 0) (found : List (
   pub state : State
   pub at : IsAt found place state
   pub is : Holds state
+
+-- the first of these places
+pub record IsFirstPlaceOf {State : Type 0} (Holds : State → Type 0) (found : List (State × Origin)) (place : ℕ)
+    : Type 0 where
+  pub is : IsPlaceOf Holds found place
+  pub first : (other : ℕ) (state : State) → other < place → IsAt found other state → Holds state → ⊥

@@ -1,6 +1,7 @@
 -- Laws of lists of moves: which of two is sooner, where one leads, and which leads there first.
 use Rattle.std.specs.Prelude.{◌≡◌, ℕ, ◌⊎◌, List}
-use Rattle.cx_search.specs.Forever.{IsBounded, IsLong, Loops}
+use Rattle.cx_search.specs.declared.found.Origin.{Origin}
+use Rattle.cx_search.specs.Forever.{CanRest, IsBounded, IsFirstPlaceOf, IsLong, Loops}
 use Rattle.cx_search.specs.Moves.{IsFirst, IsSooner, Leads}
 
 -- of two lists one is the sooner, or they are equal; and so in a row
@@ -24,3 +25,11 @@ module _ {State : Type 0} (Goes : State → ℕ → State → Type 0) where
   abbrev pub BoundedNeverLoop : Type 0
   BoundedNeverLoop =
       (from to : State) (moves : List ℕ) → IsBounded Goes from → Leads Goes from moves to → Loops Goes to → ⊥
+
+  -- the first place of a state that is come to again from itself is one, and that of a state from which no rest can be
+  -- come to
+  pub record FirstPlacesDecide : Type 0 where
+    pub looping : (found : List (State × Origin)) (one other : ℕ) → IsFirstPlaceOf (Loops Goes) found one
+        → IsFirstPlaceOf (Loops Goes) found other → one ≡ other
+    pub restless : (found : List (State × Origin)) (one other : ℕ) → IsFirstPlaceOf (λ state. CanRest Goes state → ⊥) found one
+        → IsFirstPlaceOf (λ state. CanRest Goes state → ⊥) found other → one ≡ other

@@ -3,7 +3,7 @@ use Rattle.std.specs.Prelude.{◌≡◌, ℕ, nat_lt, not, ◌&&◌, suc, Bool, 
 use Rattle.std.specs.List.{list_all, list_any}
 use Rattle.cx_search.specs.declared.found.Origin.{Origin}
 use Rattle.cx_search.specs.declared.marks.Rule.{Rule}
-use Rattle.cx_search.specs.declared.marks.Rule.TheVariants.{All, Any}
+use Rattle.cx_search.specs.declared.marks.Rule.TheVariants.{All, Any, To}
 use Rattle.cx_search.specs.Forever.{CanRest, IsBounded}
 use Rattle.cx_search.specs.Found.{IsAt}
 use Rattle.cx_search.specs.Moves.{Leads}
@@ -17,32 +17,35 @@ unmarked [] = 0
 unmarked (true ∷ marks) = unmarked marks
 unmarked (false ∷ marks) = suc (unmarked marks)
 
--- by the rule a place is to be marked: where one of those that moves lead to is, or none is led to; or where all are
+-- by the rule a place is to be marked: where one of those that moves lead to is, or none is led to; where all are; or
+-- where one is, or is that place
 abbrev pub is_due : Rule → List ℕ → List Bool → Bool
 is_due Any nexts marks = (length nexts == 0) || list_any (is_marked marks) nexts
 is_due All nexts marks = list_all (is_marked marks) nexts
-
--- what a mark says of a state
-abbrev pub Says : {State : Type 0} → (State → ℕ → State → Type 0) → Rule → State → Type 0
-Says Goes Any = CanRest Goes
-Says Goes All = IsBounded Goes
-
--- each mark is right
-abbrev pub AreRight : {State : Type 0} → (State → ℕ → State → Type 0) → List (State × Origin) → Rule → List Bool → Type 0
-AreRight {State = State} Goes found rule marks =
-    (place : ℕ) (state : State) → is_marked marks place ≡ true → IsAt found place state → Says Goes rule state
-
--- no more are due
-abbrev pub AreStable : List (List ℕ) → Rule → List Bool → Type 0
-AreStable links rule marks =
-    (place : ℕ) (nexts : List ℕ) → slice_get links place ≡ Some nexts → is_marked marks place ≡ false
-    → is_due rule nexts marks ≡ false
+is_due (To target) nexts marks = list_any (λ next. (next == target) || is_marked marks next) nexts
 
 -- one move or more lead from a state to a state
 pub record LeadsOn {State : Type 0} (Goes : State → ℕ → State → Type 0) (from to : State) : Type 0 where
   pub number : ℕ
   pub moves : List ℕ
   pub leads : Leads Goes from (number ∷ moves) to
+
+-- what a mark says of a state
+abbrev pub Says : {State : Type 0} → (State → ℕ → State → Type 0) → List (State × Origin) → Rule → State → Type 0
+Says Goes found Any state = CanRest Goes state
+Says Goes found All state = IsBounded Goes state
+Says {State = State} Goes found (To target) state = (to : State) → IsAt found target to → LeadsOn Goes state to
+
+-- each mark is right
+abbrev pub AreRight : {State : Type 0} → (State → ℕ → State → Type 0) → List (State × Origin) → Rule → List Bool → Type 0
+AreRight {State = State} Goes found rule marks =
+    (place : ℕ) (state : State) → is_marked marks place ≡ true → IsAt found place state → Says Goes found rule state
+
+-- no more are due
+abbrev pub AreStable : List (List ℕ) → Rule → List Bool → Type 0
+AreStable links rule marks =
+    (place : ℕ) (nexts : List ℕ) → slice_get links place ≡ Some nexts → is_marked marks place ≡ false
+    → is_due rule nexts marks ≡ false
 
 -- the place is below a limit, and isn't marked
 abbrev pub is_free : List Bool → ℕ → ℕ → Bool

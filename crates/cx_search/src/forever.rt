@@ -1,9 +1,9 @@
 //! States from which moves go on without an end, and states from which no rest can be come to.
 
-ghost use Rattle.std.specs.Prelude.{◌≡◌, ◌<◌, ◌≤◌, ℕ, true, false, IfOk, IfSome, IfNone, MatchOption, List as Items, find, length, slice_get, slice_set};
+ghost use Rattle.std.specs.Prelude.{◌≡◌, ◌<◌, ◌≤◌, ℕ, true, false, IfOk, IfSome, IfNone, MatchBool, MatchOption, List as Items, find, length, slice_get, slice_set};
 ghost use Rattle.std.specs.Option.{option_copied};
 ghost use Rattle.cx_search.specs.Finds.{Finds, IsWhole};
-ghost use Rattle.cx_search.specs.Forever.{CanRest, IsBounded, IsPlaceOf, Loops};
+ghost use Rattle.cx_search.specs.Forever.{CanRest, IsBounded, IsFirstPlaceOf, IsPlaceOf, Loops};
 ghost use Rattle.cx_search.specs.Found.{IsAt};
 ghost use Rattle.cx_search.specs.Marks.{AreStable, is_free, is_marked};
 ghost use Rattle.cx_search.specs.Moves.{Leads};
@@ -19,6 +19,7 @@ use std::alloc::AllocError;
 /// The first place that isn't marked, below a limit.
 fn first_unmarked(marks: &[bool], most: usize) -> Option<usize>
     ensures some { IfSome result (λ place. (place < most) × (is_marked marks.now place ≡ false)) }
+    ensures first { IfSome result (λ place. (other : ℕ) → other < place → is_marked marks.now other ≡ true) }
     ensures none { IfNone result ((place : ℕ) → place < most → is_marked marks.now place ≡ true) }
 {
     for place in 0..most {
@@ -98,33 +99,65 @@ impl<T: Space> Found<T> {
         Ok(at)
     }
 
-    /// The place of a state that is come to again from itself by moves; `None` where there is none, and no list of
-    /// moves is longer than some number. After a whole search.
+    /// Whether moves lead from the state at a place to itself.
+    ///
+    /// An error comes only where an allocation failed.
+    fn is_looping(&self, place: usize) -> Result<bool, AllocError>
+        ensures { (space : T) (start state : T.State) → Finds (T.goes space) start self.now.states.entries
+            → IsWhole (T.goes space) start self.now.states.entries self.now.links.items
+            → IsAt self.now.states.entries place state
+            → IfOk result (λ loops. MatchBool loops (Loops (T.goes space) state) (Loops (T.goes space) state → ⊥)) }
+    {
+        let marks = self.marks(Rule::To(place))?;
+        Ok(has_mark(&marks, place))
+    }
+
+    /// The first place of a state that is come to again from itself, of which one is known.
+    ///
+    /// An error comes only where an allocation failed.
+    fn first_looping(&self, known: usize) -> Result<usize, AllocError>
+        ensures { (space : T) (start : T.State) → Finds (T.goes space) start self.now.states.entries
+            → IsWhole (T.goes space) start self.now.states.entries self.now.links.items
+            → IsPlaceOf (Loops (T.goes space)) self.now.states.entries known
+            → IfOk result (IsFirstPlaceOf (Loops (T.goes space)) self.now.states.entries) }
+    {
+        for place in 0..known {
+            let loops = self.is_looping(place)?;
+            if loops {
+                return Ok(place);
+            }
+        }
+        Ok(known)
+    }
+
+    /// The place of a state that is come to again from itself by moves, the first that was found; `None` where there is
+    /// none, and no list of moves is longer than some number. After a whole search.
     ///
     /// An error comes only where an allocation failed.
     pub fn looping(&self) -> Result<Option<usize>, AllocError>
         ensures { (space : T) (start : T.State) → Finds (T.goes space) start self.now.states.entries
             → IsWhole (T.goes space) start self.now.states.entries self.now.links.items
             → IfOk result (λ place. MatchOption place (IsBounded (T.goes space) start)
-            (IsPlaceOf (Loops (T.goes space)) self.now.states.entries)) }
+            (IsFirstPlaceOf (Loops (T.goes space)) self.now.states.entries)) }
     {
         let marks = self.marks(Rule::All)?;
         if has_mark(&marks, 0) {
             return Ok(None);
         }
-        let place = self.repeated(&marks)?;
+        let known = self.repeated(&marks)?;
+        let place = self.first_looping(known)?;
         Ok(Some(place))
     }
 
-    /// The place of a state from which no list of moves leads to one at rest; `None` where one does from each. After
-    /// a whole search.
+    /// The place of a state from which no list of moves leads to one at rest, the first that was found; `None` where one
+    /// does from each. After a whole search.
     ///
     /// An error comes only where an allocation failed.
     pub fn restless(&self) -> Result<Option<usize>, AllocError>
         ensures { (space : T) (start : T.State) → IsWhole (T.goes space) start self.now.states.entries self.now.links.items
             → IfOk result (λ place. MatchOption place
             ((moves : Items ℕ) (to : T.State) → Leads (T.goes space) start moves to → CanRest (T.goes space) to)
-            (IsPlaceOf (λ state. CanRest (T.goes space) state → ⊥) self.now.states.entries)) }
+            (IsFirstPlaceOf (λ state. CanRest (T.goes space) state → ⊥) self.now.states.entries)) }
     {
         let marks = self.marks(Rule::Any)?;
         Ok(first_unmarked(marks.as_slice(), self.states.len()))

@@ -1,5 +1,5 @@
 //! What holds of lists of moves.
-ghost use Rattle.cx_search.specs.Laws.{BoundedNeverLoop, FirstIsOne, LoopsLeadOn, SoonerOrders};
+ghost use Rattle.cx_search.specs.Laws.{BoundedNeverLoop, FirstIsOne, FirstPlacesDecide, LoopsLeadOn, SoonerOrders};
 
 use crate::space::Space;
 
@@ -18,4 +18,10 @@ pub fn one_list_leads_first<T: Space>()
 pub fn a_loop_leads_on<T: Space>()
     ensures on { (space : T) → LoopsLeadOn (T.goes space) }
     ensures bounded { (space : T) → BoundedNeverLoop (T.goes space) }
+{}
+
+/// Of the states that were found one is the first that is come to again from itself, and one the first from which no rest
+/// can be come to.
+pub fn first_places_decide<T: Space>()
+    ensures { (space : T) → FirstPlacesDecide (T.goes space) }
 {}

@@ -5,6 +5,7 @@ mod forever;
 mod found;
 pub mod laws;
 mod marks;
+mod rest;
 mod space;
 
 pub use found::{Found, Origin, Outcome, search};

@@ -1,6 +1,6 @@
 //! Places that are marked by the places that moves lead to, until no more are to be marked.
 
-ghost use Rattle.std.specs.Prelude.{◌≡◌, ◌<◌, ◌≤◌, ◌+◌, ℕ, Bool, true, false, Some, IfOk, List as Items, length, slice_get, slice_set, replicate, ◌⊎◌};
+ghost use Rattle.std.specs.Prelude.{◌≡◌, ◌<◌, ◌≤◌, ◌+◌, ℕ, Bool, true, false, Some, IfOk, List as Items, length, slice_get, slice_set, replicate, ◌⊎◌, ◌||◌, ◌==◌};
 ghost use Rattle.std.specs.List.{list_all, list_any};
 ghost use Rattle.cx_search.specs.Marks.{AreRight, AreStable, is_due, is_marked, unmarked};
 ghost use Rattle.cx_search.specs.Nexts.{AreLinked};
@@ -17,6 +17,8 @@ pub enum Rule {
     Any,
     /// By all that moves lead to.
     All,
+    /// By one that a move leads to; and where one leads to this place.
+    To(usize),
 }
 
 /// Whether a place is marked.
@@ -40,6 +42,15 @@ fn are_all_marked(places: &[usize], marks: &[bool]) -> bool
     places.iter().all(|place| is_marked(marks, *place))
 }
 
+/// Whether one of some places is that one, or is marked.
+fn is_any_on(places: &[usize], target: usize, marks: &[bool]) -> bool
+    ensures { result ≡ list_any (λ place. (place == target) || is_marked marks.now place) places.now }
+{
+    places
+        .iter()
+        .any(|place| *place == target || is_marked(marks, *place))
+}
+
 /// Whether a place is to be marked.
 fn is_due(rule: Rule, nexts: &[usize], marks: &[bool]) -> bool
     ensures { result ≡ is_due rule nexts.now marks.now }
@@ -47,6 +58,7 @@ fn is_due(rule: Rule, nexts: &[usize], marks: &[bool]) -> bool
     match rule {
         Rule::Any => nexts.is_empty() || is_any_marked(nexts, marks),
         Rule::All => are_all_marked(nexts, marks),
+        Rule::To(target) => is_any_on(nexts, target, marks),
     }
 }
 

@@ -1,21 +1,19 @@
 -- What copies of areas have, one after the other.
-use Rattle.std.proofs.Common.{◌≡◌, ℕ, zero, suc, ◌+◌, ◌-◌, ◌<◌, ◌≤◌, ◌^◌, ◌%◌, refl, sym, ap, ◌∙◌, arith, inl, inr, add-one, List, [], ◌∷◌, ◌++◌, map, length, take, drop, get_or, slice_get, Option, Some, None, is_some, nat_le, fold, false}
+use Rattle.std.proofs.Common.{◌≡◌, ℕ, zero, suc, ◌+◌, ◌-◌, ◌<◌, ◌≤◌, ◌^◌, refl, sym, ap, ◌∙◌, arith, inl, inr, List, [], ◌∷◌, ◌++◌, length, take, drop, get_or, slice_get, Option, Some, None, nat_le, fold, false}
 use Rattle.std.specs.Prelude.{slice_index, slice_range, IfSome}
 use Rattle.std.specs.Global.{Global}
 use Rattle.std.specs.declared.rc.Rc.{Rc}
 use Rattle.std.specs.List.{AllByRecursion}
 use Rattle.std.specs.Option.{option_and_then, option_map}
-use Rattle.std.proofs.lemmas.Bool.{cases_Bool, cases_eq, eq-eqb, ne_eqb, cases_lt, le-leb, lt-leb, leb-true}
-use Rattle.std.proofs.lemmas.List.{drop_more, drop_all, take_all, take_more, take_more_same, take-take, take-append-drop, drop-take, get_or-map, take-map, length-map}
+use Rattle.std.proofs.lemmas.Bool.{cases_Bool, le-leb, lt-leb, leb-true}
+use Rattle.std.proofs.lemmas.List.{drop_more, take-take, length-take-le, length-drop, get_or-take, get_or-drop, take-append-drop, drop-take}
 use Rattle.std.proofs.lemmas.Option.{slice_get-get_or, same_Some}
 use Rattle.cx_storage.specs.Address.{address_after}
-use Rattle.cx_storage.specs.Storage.{Held, Storage, end_of, covers, byte_at, span, next_area, IsSound}
+use Rattle.cx_storage.specs.Storage.{Held, Storage, end_of, byte_at, span, next_area, IsSound}
 use Rattle.cx_storage.specs.Facts.Sound.{IsSound-head, IsSound-tail, IsSound-apart, covers_cases, covers_from}
-use Rattle.cx_storage.specs.Facts.Areas.{byte_before}
-use Rattle.cx_storage.specs.Facts.Spans.{span_from, span_length}
+use Rattle.cx_storage.specs.Facts.Spans.{span_from, span_at, span_length}
 use Rattle.cx_storage.specs.declared.areas.Area.{Area}
-use Rattle.cx_base_hash.specs.Hash.{hash_with, hash_of}
-use Rattle.cx_storage_snapshot.specs.Hash.{hash_with_area, storage_hash}
+use Rattle.cx_storage_snapshot.specs.Hash.{hash_with_area}
 use Rattle.cx_base_copies.specs.Shared.{values}
 use Rattle.cx_storage_snapshot.specs.Parts.Copies.{areas_from, IsCopyOf}
 
@@ -63,6 +61,25 @@ take_piece xs n m =
     let front : take n (take (n + m) xs) ≡ take n xs = take-take n (n + m) xs (omega arith) in
     let back : drop n (take (n + m) xs) ≡ take m (drop n xs) = drop-take n m xs in
     rw len (ap (λ a. a ++ take m (drop n xs)) (sym front) ∙ ap (λ b. take n (take (n + m) xs) ++ b) (sym back) ∙ take-append-drop n (take (n + m) xs))
+
+-- a span inside another has those of its bytes
+pub span_part : (s : Storage) (start at len : ℕ) (bytes part : List ℕ) → start ≤ at → at < 2 ^ 24 → at + length part ≤ start + len → span s start len ≡ Some bytes
+    → span s at (length part) ≡ Some part → part ≡ slice_range bytes (at - start) (at - start + length part)
+span_part s start at len bytes part low high within whole e =
+    let i = at - start in
+    let n = length part in
+    let all : length bytes ≡ len = span_length s start len bytes whole in
+    let few : i + n - i ≡ n = omega arith in
+    let size : length (take n (drop i bytes)) ≡ n = length-take-le n (drop i bytes) (rw (length-drop i bytes, all) (omega (arith, low, within))) in
+    let each : (k : ℕ) → k < n → byte_at s (address_after at k) ≡ Some (slice_index (take n (drop i bytes)) k) = λ k less.
+    let there : address_after start (i + k) ≡ address_after at k = omega (arith, low) in
+    rw (get_or-take n (drop i bytes) k 0 less, get_or-drop i bytes k 0) (rw there at (span_at s start len bytes (i + k) (omega (arith, low, high)) whole (omega (arith, low, within, less)))) in
+    let so : span s at n ≡ Some (take n (drop i bytes)) = span_from s at n _ high size each in
+    rw few (same_Some _ _ (sym e ∙ so))
+
+-- a copy of an area is as long as it
+pub copy_length : (s : Storage) (area : Area) (copy : Held) → IsCopyOf s area copy → length copy.bytes ≡ area.len
+copy_length s area copy is = span_length s area.start area.len copy.bytes is.bytes
 
 -- the areas from an address on
 pub areas_from_zero : (s : Storage) → areas_from 0 s ≡ s

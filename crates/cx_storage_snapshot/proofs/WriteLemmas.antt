@@ -1,16 +1,16 @@
 -- What writing the last area of a storage leaves.
-use Rattle.std.proofs.Common.{◌≡◌, ℕ, zero, suc, ◌+◌, ◌-◌, ◌<◌, ◌≤◌, ◌^◌, ◌%◌, refl, sym, ap, ◌∙◌, arith, inl, inr, true, false, List, [], ◌∷◌, ◌++◌, map, length, take, drop, replicate, get_or, slice_get, slice_set, Option, Some, None, is_some, nat_lt, append_assoc, length-append, length-drop}
+use Rattle.std.proofs.Common.{◌≡◌, ℕ, zero, suc, ◌+◌, ◌-◌, ◌<◌, ◌≤◌, ◌^◌, ◌%◌, refl, sym, ap, ◌∙◌, arith, inl, inr, true, List, [], ◌∷◌, ◌++◌, map, length, take, drop, replicate, get_or, slice_get, Option, Some, None, is_some, append_assoc, length-append, length-drop}
 use Rattle.std.specs.Prelude.{slice_range}
 use Rattle.std.specs.Global.{Global}
 use Rattle.std.specs.declared.rc.Rc.{Rc}
 use Rattle.std.specs.List.{AllByRecursion}
-use Rattle.std.proofs.lemmas.Bool.{cases_lt, le-ltb}
-use Rattle.std.proofs.lemmas.List.{append-nil, set_at, take_all, length-take, map-append, take_more, get_or-map, length-map, length-replicate, length-take-le}
+use Rattle.std.proofs.lemmas.Bool.{le-ltb}
+use Rattle.std.proofs.lemmas.List.{append-nil, set_at, take_all, map-append, take_more, get_or-map, length-map, length-replicate, length-take-le}
 use Rattle.std.proofs.lemmas.Option.{slice_get-get_or}
 use Rattle.cx_storage.specs.Address.{address_after}
 use Rattle.cx_storage.specs.Aligned.{AreAligned}
 use Rattle.cx_storage.specs.Place.{Misses, CanPlace, IsLeastPlace}
-use Rattle.cx_storage.specs.Storage.{Held, Storage, end_of, covers, byte_at, span, put_byte, with_byte, with_bytes, after_write, zeros, put_held, with_area, IsWhole, IsSound}
+use Rattle.cx_storage.specs.Storage.{Held, Storage, end_of, byte_at, span, put_byte, with_byte, with_bytes, after_write, zeros, put_held, with_area, IsWhole, IsSound}
 use Rattle.cx_storage.specs.Facts.Sound.{sound_nil, IsSound-head, IsSound-tail, IsSound-apart, IsSound-cons, covers_cases, covers_from}
 use Rattle.cx_storage.specs.Facts.Spans.{span_inside}
 use Rattle.cx_storage.specs.Facts.Writes.{written_whole}

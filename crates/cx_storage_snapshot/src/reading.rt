@@ -1,5 +1,5 @@
 //! The bytes of an area, read off a store.
-ghost use Rattle.std.specs.Prelude.{◌≡◌, ◌+◌, ◌≤◌, ◌<◌, ◌%◌, ◌^◌, Some, true, IfOk, length, IsSome};
+ghost use Rattle.std.specs.Prelude.{◌≡◌, ◌↔◌, ◌+◌, ◌≤◌, ◌<◌, ◌%◌, ◌^◌, IsTrue, Some, IfOk, length};
 ghost use Rattle.cx_storage.specs.Storage.{area_at, span, end_of};
 ghost use Rattle.cx_storage_snapshot.specs.Parts.Copies.{IsCopyOf};
 
@@ -55,7 +55,7 @@ fn bytes_of<S: Store>(alloc: Global, store: &S, area: Area) -> Result<Vec<u8>, A
 fn has_bytes<S: Store>(store: &S, area: Area, bytes: &[u8]) -> bool
     requires there { area_at (S.storage store.now) area.start ≡ Some area }
     requires size { length bytes.now ≡ area.len }
-    ensures { result ≡ true → span (S.storage store.now) area.start area.len ≡ Some bytes.now }
+    ensures { IsTrue result ↔ (span (S.storage store.now) area.start area.len ≡ Some bytes.now) }
 {
     area_is_present();
     store_is_sound(store);
@@ -91,10 +91,11 @@ pub(crate) fn copy_of<S: Store>(
     Ok(Rc::new(alloc, AreaCopy::new(area, bytes))?)
 }
 
-/// Whether a copy is still one of an area.
+/// Whether a copy is one of an area as it is now.
+#[tactic(auto, using(crate::proofs::CopyLemmas::copy_length))]
 fn is_unchanged<S: Store>(store: &S, area: Area, earlier: &AreaCopy) -> bool
     requires { area_at (S.storage store.now) area.start ≡ Some area }
-    ensures { result ≡ true → IsCopyOf (S.storage store.now) area earlier.now }
+    ensures { IsTrue result ↔ IsCopyOf (S.storage store.now) area earlier.now }
 {
     earlier.area() == area
         && earlier.bytes().len() == area.len as usize

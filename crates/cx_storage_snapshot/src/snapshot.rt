@@ -1,5 +1,5 @@
 //! `StorageSnapshot`: the areas of a store with their bytes.
-ghost use Rattle.std.specs.Prelude.{◌≡◌, ◌↔◌, ◌++◌, IsTrue, IfOk, OnOk, OnErr, Some};
+ghost use Rattle.std.specs.Prelude.{◌≡◌, ◌↔◌, ◌++◌, IsTrue, IfOk, Some};
 ghost use Rattle.cx_storage.specs.Storage.{area_at};
 ghost use Rattle.cx_storage_snapshot.specs.Hash.{storage_hash};
 ghost use Rattle.cx_base_copies.specs.Shared.{values};
@@ -87,18 +87,8 @@ impl StorageSnapshot {
         Ok(fresh)
     }
 
-    /// Gives a store this storage in place of its own.
-    ///
-    /// An error comes only where an allocation failed; then the store is as before.
-    pub fn restore<S: Store + Drop>(&self, store: &mut S) -> Result<(), AllocError>
-        ensures ok { OnOk result (S.storage store.new ≡ self.now) }
-        ensures err { OnErr result (S.storage store.new ≡ S.storage store.old) }
-    {
-        *store = self.store_like(store)?;
-        Ok(())
-    }
-
-    /// The copy of the area at an address, or of the next one.
+    /// The copy of the area at an address, or of the next one. It has no clause: `copy_of` compares what it is given with the
+    /// area, so that only what is shared depends on it.
     fn at(&self, start: u32) -> Option<&Rc<AreaCopy>> {
         let i = self
             .areas

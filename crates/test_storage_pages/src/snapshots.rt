@@ -30,7 +30,7 @@ fn is_given_back<S: Store + Drop>(alloc: Global, store: &mut S) -> Result<bool, 
     store.write(0x3000, &[9]);
     let fetched = store.fetch(0x3000);
     let after = StorageSnapshot::take(alloc, store, Some(&before))?;
-    before.restore(store)?;
+    *store = before.store_like(store)?;
     let again = StorageSnapshot::take(alloc, store, Some(&after))?;
     let mut bytes = [0; 4];
     let read = store.read(0x2FFE, &mut bytes);
@@ -106,9 +106,9 @@ fn one_and_many<S: Store + Drop>(
         }
     }
     let many = StorageSnapshot::take(alloc, store, Some(&whole))?;
-    whole.restore(store)?;
+    *store = whole.store_like(store)?;
     let last = store.byte((len - 1) % (HIGH + 1));
-    many.restore(store)?;
+    *store = many.store_like(store)?;
     let again = StorageSnapshot::take(alloc, store, Some(&many))?;
     Ok(last == Some(7) && many.is_same(&again) && !many.is_same(&whole))
 }

@@ -1,14 +1,16 @@
 -- What always holds of the region under EDF is kept, and an event that was refused memory is none.
 use Rattle.std.specs.Prelude.{◌≡◌, ℕ, ⊤, List, ◌++◌, drop, Result, Err, IfOk}
 use Rattle.std.specs.declared.alloc.AllocError.{AllocError}
+use Rattle.cx_region.specs.Events.{IsDone, RunStopped}
 use Rattle.cx_region.specs.Sound.{IsSound}
+use Rattle.cx_region_laws.specs.Laws.Memory.{IsAsWithout}
 use Rattle.cx_region_laws.specs.Laws.Sound.{ArePartsSound, IsChecked}
 use Rattle.cx_edf.specs.declared.answers.EdfEvent.{EdfEvent}
 use Rattle.cx_edf.specs.declared.answers.EdfEvent.TheVariants as edf_event
 use Rattle.cx_edf.specs.declared.answers.Answer.{Answer}
 use Rattle.cx_edf.specs.State.{EdfState}
 use Rattle.cx_edf.specs.Steps.{EdfApplies}
-use Rattle.cx_edf.specs.Runs.{EdfRun, EdfRunStopped, IsAllowedEdf, IsDoneEdf}
+use Rattle.cx_edf.specs.Runs.{EdfRun, IsAllowedEdf, MayTakeEdf}
 
 -- ---- soundness
 -- the image of a program that is to be defined was checked
@@ -22,19 +24,16 @@ EdfSoundIsKept = (old new : EdfState) (e : EdfEvent) (given : Answer) → IsSoun
     → IsCheckedEdf e → EdfApplies old e given new → ArePartsSound new.region → IsSound new.region
 
 -- ---- memory
--- What comes after a refused event is done as if that had never come; so its answer and the state after it, with all modes and
--- displays, are those that it would have had.
-pub record IsAsWithoutEdf (old : EdfState) (next : EdfEvent) (result : Result Answer AllocError) (new : EdfState) : Type 0 where
-  pub done : IsDoneEdf old next result new
-  pub answer : (other : Answer) (after : EdfState) → EdfApplies old next other after
-      → IfOk result (λ given. (given ≡ other) × (new ≡ after))
-
+-- what comes after a refused event is done as if that had never come, with all modes and displays
 abbrev pub RefusedEdfEventsAreNone : Type 0
-RefusedEdfEventsAreNone = (old mid new : EdfState) (refused next : EdfEvent) (fault : AllocError) (result : Result Answer AllocError)
-    → IsDoneEdf old refused (Err fault) mid → IsDoneEdf mid next result new → IsAsWithoutEdf old next result new
+RefusedEdfEventsAreNone = (old mid new : EdfState) (refused next : EdfEvent) (fault : AllocError)
+    (result : Result Answer AllocError)
+    → IsDone EdfApplies MayTakeEdf old refused (Err fault) mid → IsDone EdfApplies MayTakeEdf mid next result new
+    → IsAsWithout EdfApplies MayTakeEdf old next result new
 
 -- a list of events that ran out of memory, and then goes on with the events that weren't done, is the run of the whole
 -- list
 abbrev pub StoppedEdfRunsGoOn : Type 0
-StoppedEdfRunsGoOn = (old mid new : EdfState) (events : List EdfEvent) (done : ℕ) (others : List Answer) (stopped : EdfRunStopped old events done mid)
-    → EdfRun mid (drop done events) others new → EdfRun old events (stopped.answers ++ others) new
+StoppedEdfRunsGoOn = (old mid new : EdfState) (events : List EdfEvent) (done : ℕ) (others : List Answer)
+    (stopped : RunStopped EdfRun MayTakeEdf old events done mid)
+    → EdfRun mid (drop done events) others new → EdfRun old events (stopped.replies ++ others) new

@@ -1,5 +1,5 @@
 -- A look changes nothing (own).
-use Rattle.std.specs.Prelude.{◌≡◌, ◌⊎◌, ℕ, ◌≤◌, List, [], ◌∷◌, ◌++◌, replicate}
+use Rattle.std.specs.Prelude.{◌≡◌, ℕ, zero, suc, if◌then◌else◌, List, [], ◌∷◌, ◌++◌}
 use Rattle.std.specs.List.{flat_map}
 use Rattle.cx_script_actions.specs.Effects.{Performs}
 use Rattle.cx_script_actions.specs.declared.actions.Action.{Action}
@@ -8,6 +8,8 @@ use Rattle.cx_script.specs.Transcript.{Runs}
 use Rattle.cx_look_words.specs.Marked.{IsOfLooks}
 use Rattle.cx_look.specs.declared.look.Look.{Look}
 use Rattle.cx_look_script.specs.Looking.{IsLookText, LookPerforms, NotedPerforms}
+use Rattle.cx_look_words.specs.Words.{marked}
+use Rattle.cx_look_script.specs.Help.{bad_look_text}
 use Rattle.cx_look_script.specs.Runs.{still_running, turn_of}
 use Rattle.cx_look_script.specs.Sources.{with_source}
 use Rattle.cx_look_script.specs.State.{LookState}
@@ -21,18 +23,21 @@ pub record Part : Type 0 where
   pub written : List ℕ
   pub looked : List ℕ
 
--- RUN became turns of its terminal, no more than its number; where they were as many, its last line may say so.
-pub record IsPartOfRun (name : List ℕ) (n : ℕ) (part : Part) : Type 0 where
-  pub turns : ℕ
-  pub plain : part.plain ≡ replicate turns (edf_action.Event (turn_of name))
-  pub ended : ((turns ≤ n) × (part.looked ≡ [])) ⊎ ((turns ≡ n) × (part.looked ≡ still_running name))
+-- a turn of a terminal
+abbrev pub turn_action : List ℕ → Action
+turn_action name = edf_action.Event (turn_of name)
 
--- an action of `cicsedf` is itself, and a look is none: its text is that of the state there
+-- An action of `cicsedf` is itself, and so is each turn of RUN: the first, and a further one exactly where the last is to be followed by
+-- one more; where none is left then, its last line says so. A look is none: its text is that of the state there.
 abbrev pub IsPart : LookState → LookAction → Part → Type 0
 IsPart there (action.Script a) part = (part.plain ≡ a ∷ []) × (part.looked ≡ [])
 IsPart there (action.Source name lines a) part = (part.plain ≡ a ∷ []) × (part.looked ≡ [])
-IsPart there (action.Run name n) part = IsPartOfRun name n part
+IsPart there (action.Run name n) part = (part.plain ≡ turn_action name ∷ []) × (part.looked ≡ [])
+IsPart there (action.RunOn name zero) part = (part.plain ≡ []) × (part.looked ≡ (if there.goes_on then still_running name else []))
+IsPart there (action.RunOn name (suc n)) part =
+    (part.plain ≡ (if there.goes_on then turn_action name ∷ [] else [])) × (part.looked ≡ [])
 IsPart there (action.Look look) part = (part.plain ≡ []) × IsLookText look there part.looked
+IsPart there (action.BadLook number s) part = (part.plain ≡ []) × (part.looked ≡ marked (bad_look_text number s))
 
 -- after the actions of a source's part its lines are kept
 abbrev pub kept_after : LookState → LookAction → LookState → LookState

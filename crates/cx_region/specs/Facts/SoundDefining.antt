@@ -17,6 +17,7 @@ use Rattle.cx_storage.specs.Storage.{with_area}
 use Rattle.cx_storage.specs.Place.{CanPlace, IsLeastPlace}
 use Rattle.cx_code.specs.declared.image.Image.{Image}
 use Rattle.cx_load.specs.Fault.{IsFit}
+use Rattle.cx_load.specs.Facts.Faults.{facts_of_fit}
 use Rattle.cx_load.specs.Program.{IsLoaded, program_owner, text_at}
 use Rattle.cx_program.specs.declared.level.Level.{Level}
 use Rattle.cx_region.specs.State.{TerminalState, RegionState}
@@ -203,9 +204,10 @@ sound_loaded s t image loaded fit is =
     let len = is.stg_len in
     let entry = is.entry in
     let place = is.place.0.2 in
-    let inside = fit.entry in
-    let low = fit.stg_low in
-    let high = fit.stg_high in
+    let facts = facts_of_fit image fit in
+    let inside = facts.entry in
+    let low = facts.stg_low in
+    let high = facts.stg_high in
     record { stg_low = omega arith; stg_high = omega arith; entry = omega arith }
 
 pub sound_program : (r : RegionState) (name : List ℕ) (image : Image) (loaded : Loaded) (t : Storage) (ps : List (List ℕ × Loaded)) → IsSound r → IsSoundStorage t

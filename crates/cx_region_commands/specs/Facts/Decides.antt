@@ -12,17 +12,17 @@ use Rattle.cx_service.specs.Queues.{Queues, read_fault}
 use Rattle.cx_storage.specs.Facts.Places.{place_decides}
 use Rattle.cx_storage.specs.Storage.{Storage}
 use Rattle.cx_region_call.specs.Call.{Call}
-use Rattle.cx_region_call.specs.Inputs.{bytes_of, is_length_negative}
+use Rattle.cx_region_call.specs.Inputs.{is_length_negative}
 use Rattle.cx_region_call.specs.declared.inputs.StorageSpan.{StorageSpan}
 use Rattle.cx_region_state.specs.State.{TaskContext}
 use Rattle.cx_region_state.specs.declared.verdict.Verdict.{Verdict}
 use Rattle.cx_region_state.specs.declared.verdict.Verdict.TheVariants.{Refuses}
 use Rattle.cx_region_commands.specs.declared.common.Called.{Called}
-use Rattle.cx_region_commands.specs.Common.{AtPlace, commarea_of, has, named_program}
+use Rattle.cx_region_commands.specs.Common.{AtPlace, commarea_of, has, name_at, named_program}
 use Rattle.cx_region_commands.specs.Getmain.{GetmainRow, asked_len, is_area_length}
 use Rattle.cx_region_commands.specs.CommandVerdicts.{HasVerdict, JudgedBy}
 use Rattle.cx_region_commands.specs.Link.{LinkRow, Links}
-use Rattle.cx_region_commands.specs.ReadqTs.{Reads, ReadsItem, ReadsQueue, ReadqRow, item_asked}
+use Rattle.cx_region_commands.specs.ReadqTs.{Reads, ReadsItem, ReadqRow, item_asked}
 use Rattle.cx_region_commands.specs.Xctl.{Copies, Transfers, XctlRow, XctlTo, copying_to}
 
 both_tests : {A B A2 B2 C : Type 0} (b : Bool) → MatchBool b A B → MatchBool b A2 B2 → (A → A2 → C) → (B → B2 → C) → C
@@ -77,11 +77,12 @@ unfolding GetmainRow
 getmain_once s call v w one other = both_tests (is_area_length (asked_len s call)) one other (at_place s _ _ v w) same
 
 readq_once : (s : Storage) (queues : Queues) (call : Call) (v w : Verdict) → ReadqRow s queues call v → ReadqRow s queues call w → v ≡ w
-unfolding ReadqRow ReadsQueue Reads
+unfolding ReadqRow Reads
 readq_once s queues call v w one other =
     both_tests (has call option.Into && is_length_negative s call) one other same
-    (λ m n. both_options (bytes_of s call option.Queue 8) m n same
-    (λ name l k. by_fault name (item_asked s queues call name) (read_fault queues name (item_asked s queues call name)) l k))
+    (λ l k.
+    let name = name_at s call option.Queue in
+    by_fault name (item_asked s queues call name) (read_fault queues name (item_asked s queues call name)) l k)
   where
     by_fault : (name : List ℕ) (n : ℕ) (o : Option ServiceFault) → ReadsItem s queues call name n o v → ReadsItem s queues call name n o w → v ≡ w
     by_fault name n None l k = both_tests (has call option.Set) l k (at_place s _ _ v w) same

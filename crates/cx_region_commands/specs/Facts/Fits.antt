@@ -1,7 +1,5 @@
 -- What a command is judged to do can be done.
 use Rattle.std.proofs.Common.{◌≡◌, ℕ, zero, suc, ◌<◌, ◌==◌, nat_le, true, false, List, [], ◌∷◌, length, nat_lt, Option, Some, None, refl, arith, inl, inr, ◌^◌}
-use Rattle.cx_region_state.specs.declared.verdict.Made.TheVariants.{Shows}
-use Rattle.cx_region_state.specs.declared.verdict.TaskChange.TheVariants.{Makes, Nothing}
 use Rattle.cx_region_state.specs.declared.verdict.Request.TheVariants.{SetExit, ExitOff, ExitOn}
 use Rattle.std.specs.Prelude.{◌&&◌, ◌||◌, not, MatchOption, if◌then◌else◌}
 use Rattle.std.specs.Option.{option_map, option_and_then, option_map_or}
@@ -9,7 +7,7 @@ use Rattle.std.specs.List.{AllByRecursion}
 use Rattle.std.proofs.lemmas.Bool.{cases_Bool, ltb-true}
 use Rattle.cx_base_commands.specs.declared.commands.Command.{Command}
 use Rattle.cx_base_commands.specs.declared.commands.Command.TheVariants as command
-use Rattle.cx_base_commands.specs.declared.options.OptionName.TheVariants.{Cancel, Commarea, Erase, From, Label, Program, Transid}
+use Rattle.cx_base_commands.specs.declared.options.OptionName.TheVariants.{Cancel, Commarea, From, Label, Program, Transid}
 use Rattle.cx_storage.specs.Storage.{Storage}
 use Rattle.cx_load.specs.declared.program.Loaded.{Loaded}
 use Rattle.cx_program.specs.declared.level.Level.{Level}
@@ -28,7 +26,7 @@ use Rattle.cx_region_state.specs.declared.verdict.Verdict.TheVariants.{Refuses}
 use Rattle.cx_base_commands.specs.declared.abends.Abend.TheVariants as abend
 use Rattle.cx_region_commands.specs.declared.common.Called.{Called}
 use Rattle.cx_region_commands.specs.Facts.Programs.{program_sound}
-use Rattle.cx_region_commands.specs.Common.{AreSoundPrograms, commarea_of, does, has, named_program, program_of}
+use Rattle.cx_region_commands.specs.Common.{AreSoundPrograms, commarea_of, has, name_at, named_program, program_of}
 use Rattle.cx_region_commands.specs.Abend.{abend_row}
 use Rattle.cx_region_commands.specs.HandleAbend.{handle_abend_row}
 use Rattle.cx_region_commands.specs.Handling.{asks, handle_row, ignore_row, pop_row, push_row}
@@ -39,7 +37,7 @@ use Rattle.cx_region_commands.specs.Return.{highest_return, next_of, return_row}
 use Rattle.cx_region_commands.specs.SendText.{send_text_row}
 use Rattle.cx_region_commands.specs.Suspend.{suspend_row}
 use Rattle.cx_region_commands.specs.Xctl.{Copies, Transfers, XctlRow, XctlTo, copying_to, replaces}
-use Rattle.cx_region_commands.specs.Facts.FitsParts.{by_option, by_test, invreq_fits, lengerr_fits, normal_fits, pgmiderr_fits, piece_there}
+use Rattle.cx_region_commands.specs.Facts.FitsParts.{by_option, by_test, invreq_fits, lengerr_fits, normal_fits, pgmiderr_fits, piece_at_there, piece_there}
 use Rattle.cx_region_commands.specs.Facts.FitsServices.{address_fits, deleteq_fits, deq_fits, enq_fits, freemain_fits, getmain_fits, readq_fits, writeq_fits}
 
 -- a COMMAREA with bytes
@@ -66,7 +64,7 @@ commarea_is s call piece e = go (piece_of s call Commarea) e
 named_sound : (s : Storage) (call : Call) (programs : List (List ℕ × Loaded)) (called : Called) → AreSoundPrograms programs
     → named_program s call programs ≡ Some called → IsSoundProgram called.loaded
 unfolding named_program
-named_sound s call programs called sound e = go (bytes_of s call Program 8) e
+named_sound s call programs called sound e = found (name_at s call Program) (program_of programs (name_at s call Program)) refl e
   where
     found : (name : List ℕ) (o : Option Loaded) → program_of programs name ≡ o
         → option_map (λ loaded. record { name = name; loaded = loaded }) o ≡ Some called → IsSoundProgram called.loaded
@@ -75,12 +73,6 @@ named_sound s call programs called sound e = go (bytes_of s call Program 8) e
         let same : record { name = name; loaded = loaded } ≡ called = cc in
         let good = program_sound programs name loaded sound is in
         rw (← same) good
-
-    go : (o : Option (List ℕ))
-        → option_and_then (λ name. option_map (λ loaded. record { name = name; loaded = loaded }) (program_of programs name)) o ≡ Some called
-        → IsSoundProgram called.loaded
-    go None e = cc
-    go (Some name) e = found name (program_of programs name) refl e
 
 -- ---- each row
 
@@ -142,16 +134,8 @@ send_text_fits : (call : Call) (r : TaskContext) (v : Verdict) → AllByRecursio
 unfolding send_text_row
 send_text_fits call r v low is there e = elim (cases_Bool (is_length_negative r.shared.storage call)) [
   | inl t ↦ rw (e, t) (lengerr_fits, tt)
-  | inr f ↦ rw (e, f) (go (piece_of r.shared.storage call From) refl)
+  | inr f ↦ rw (e, f) (normal_fits, piece_at_there r.shared.storage call From low there (rw is from_of_send_text))
 ]
-  where
-    row : IsMeasuredInput call.command From
-    row = rw is from_of_send_text
-
-    go : (o : Option StorageSpan) → piece_of r.shared.storage call From ≡ o
-        → Fits (does (option_map_or (λ piece. Makes (Shows piece (has call Erase))) o Nothing)) r
-    go None at = (normal_fits, tt)
-    go (Some piece) at = (normal_fits, piece_there r.shared.storage call From piece low there row at)
 
 return_fits : (call : Call) (r : TaskContext) (v : Verdict) → AllByRecursion (λ place. place < 2 ^ 24) call.places → call.command ≡ command.Return → are_inputs_there r.shared.storage call ≡ true
     → v ≡ return_row r.shared.storage r.task.levels.callers call → Fits v r

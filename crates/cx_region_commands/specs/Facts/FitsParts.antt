@@ -1,15 +1,16 @@
 -- What the lemmas on rows have in common.
-use Rattle.std.proofs.Common.{◌≡◌, ◌≢◌, ◌<◌, ◌^◌, Bool, true, false, Option, Some, None, refl}
+use Rattle.std.proofs.Common.{◌≡◌, ◌≢◌, ◌<◌, ◌^◌, Bool, true, false, Option, Some, None, refl, arith, unwrap_or}
 use Rattle.std.specs.Prelude.{MatchBool, MatchOption}
 use Rattle.std.specs.List.{AllByRecursion}
 use Rattle.cx_base_commands.specs.declared.conditions.Condition.TheVariants.{Normal, Error, Invreq, Lengerr, Pgmiderr, Itemerr, Nospace, Qiderr, Enqbusy, Nostg}
 use Rattle.cx_base_commands.specs.declared.options.OptionName.{OptionName}
-use Rattle.cx_storage.specs.Storage.{Storage}
+use Rattle.cx_storage.specs.Storage.{Storage, span}
 use Rattle.cx_region_call.specs.Call.{Call}
 use Rattle.cx_region_call.specs.Inputs.{are_inputs_there, piece_of}
 use Rattle.cx_region_call.specs.Facts.Inputs.{IsMeasuredInput, measured_there, piece_below, piece_few}
 use Rattle.cx_region_call.specs.declared.inputs.StorageSpan.{StorageSpan}
 use Rattle.cx_region_state.specs.Parts.Fits.{IsThere}
+use Rattle.cx_region_commands.specs.Common.{piece_at}
 
 -- ---- the parts of a row
 
@@ -57,3 +58,13 @@ piece_there s call name piece low there row at =
       few = piece_few s call name piece at;
       bytes = measured_there s call name piece there row at;
     }
+
+-- and so is that at an argument that is always there, which has no byte where it isn't
+pub piece_at_there : (s : Storage) (call : Call) (name : OptionName) → AllByRecursion (λ place. place < 2 ^ 24) call.places
+    → are_inputs_there s call ≡ true → IsMeasuredInput call.command name → IsThere s (piece_at s call name)
+unfolding piece_at span
+piece_at_there s call name low there row = go (piece_of s call name) refl
+  where
+    go : (o : Option StorageSpan) → piece_of s call name ≡ o → IsThere s (unwrap_or o (record { place = 0; len = 0 }))
+    go None at = record { below = omega arith; few = omega arith; bytes = refl }
+    go (Some piece) at = piece_there s call name piece low there row at

@@ -6,12 +6,12 @@ use Rattle.std.specs.List.{AllByRecursion}
 use Rattle.std.proofs.lemmas.Bool.{and_parts, cases_Bool, eqb-true, leb-true}
 use Rattle.cx_base_commands.specs.declared.commands.Command.TheVariants as command
 use Rattle.cx_base_commands.specs.declared.options.OptionName.TheVariants as option
-use Rattle.cx_base_commands.specs.declared.conditions.Condition.TheVariants.{Normal, Invreq, Lengerr, Qiderr}
+use Rattle.cx_base_commands.specs.declared.conditions.Condition.TheVariants.{Normal, Invreq, Qiderr}
 use Rattle.cx_region_state.specs.declared.verdict.TaskChange.TheVariants.{Ends, Makes}
-use Rattle.cx_region_state.specs.declared.verdict.Made.TheVariants.{ItemAt, ItemLast}
+use Rattle.cx_region_state.specs.declared.verdict.Made.TheVariants.{Enqueues, ItemAt, ItemLast}
 use Rattle.cx_region_state.specs.declared.verdict.Verdict.TheVariants.{Meets}
 use Rattle.cx_region_call.specs.declared.outputs.OutputValue.TheVariants.{Half}
-use Rattle.cx_region_state.specs.declared.verdict.Ended.TheVariants.{Dequeues, Frees}
+use Rattle.cx_region_state.specs.declared.verdict.Ended.TheVariants.{Frees}
 use Rattle.cx_storage.specs.declared.areas.Area.{Area}
 use Rattle.cx_storage.specs.declared.areas.Kind.{Kind}
 use Rattle.cx_storage.specs.declared.areas.Kind.TheVariants.{Got, Fixed, System}
@@ -23,25 +23,25 @@ use Rattle.cx_service.specs.declared.resources.ResourceName.{ResourceName}
 use Rattle.cx_service.specs.Queues.{AreSoundQueues, Queues, count_of, delete_fault, item_len_of, read_fault, rewrite_fault, write_fault}
 use Rattle.cx_service.specs.Resources.{Resources, enq_fault, hold_fault, hold_of}
 use Rattle.cx_region_call.specs.Call.{Call, place_of}
-use Rattle.cx_region_call.specs.Inputs.{are_inputs_there, bytes_of, is_length_negative, length_option, piece_of}
-use Rattle.cx_region_call.specs.Facts.Inputs.{IsMeasuredInput, from_of_writeq_ts, place_below}
+use Rattle.cx_region_call.specs.Inputs.{are_inputs_there, is_length_negative, length_option}
+use Rattle.cx_region_call.specs.Facts.Inputs.{from_of_writeq_ts, place_below}
 use Rattle.cx_region_call.specs.declared.inputs.StorageSpan.{StorageSpan}
 use Rattle.cx_region_state.specs.Areas.{IsTaskPlace, got_owner}
 use Rattle.cx_region_state.specs.State.{TaskContext}
-use Rattle.cx_region_state.specs.Parts.Fits.{Fits}
+use Rattle.cx_region_state.specs.Parts.Fits.{Fits, IsThere}
 use Rattle.cx_region_state.specs.declared.verdict.Verdict.{Verdict}
 use Rattle.cx_region_commands.specs.Address.{address_row}
-use Rattle.cx_region_commands.specs.Common.{does, has, condition_alone, output}
-use Rattle.cx_region_commands.specs.DeleteqTs.{deleteq_row, deletes}
+use Rattle.cx_region_commands.specs.Common.{does, has, condition_alone, name_at, output, piece_at, place_at}
+use Rattle.cx_region_commands.specs.DeleteqTs.{deleteq_row}
 use Rattle.cx_region_commands.specs.Deq.{deq_row}
-use Rattle.cx_region_commands.specs.Enq.{enq_row, enqueues, is_wrong_length, resource_named}
-use Rattle.cx_region_commands.specs.Freemain.{freemain_row, frees, is_got, is_got_by}
+use Rattle.cx_region_commands.specs.Enq.{enq_row, is_wrong_length, resource_at}
+use Rattle.cx_region_commands.specs.Freemain.{freemain_row, is_got, is_got_by}
 use Rattle.cx_region_commands.specs.Getmain.{GetmainRow, asked_len, fill_byte, gets, is_area_length}
-use Rattle.cx_region_commands.specs.ReadqTs.{Reads, ReadsItem, ReadsQueue, ReadqRow, item_asked, reading_of, reads_into, reads_to}
+use Rattle.cx_region_commands.specs.ReadqTs.{Reads, ReadsItem, ReadqRow, item_asked, reading_of, reads_into, reads_to}
 use Rattle.cx_region_commands.specs.Services.{fault_or_verdict}
-use Rattle.cx_region_commands.specs.WriteqTs.{item_named, writeq_row, written_to}
+use Rattle.cx_region_commands.specs.WriteqTs.{item_named, writeq_row}
 use Rattle.cx_region_commands.specs.Facts.Queues.{few_bytes, some_bytes}
-use Rattle.cx_region_commands.specs.Facts.FitsParts.{by_option, by_test, enqbusy_fits, invreq_fits, itemerr_fits, lengerr_fits, normal_fits, nospace_fits, nostg_fits, piece_there, qiderr_fits}
+use Rattle.cx_region_commands.specs.Facts.FitsParts.{by_test, enqbusy_fits, invreq_fits, itemerr_fits, lengerr_fits, normal_fits, nospace_fits, nostg_fits, piece_at_there, qiderr_fits}
 
 -- ---- the conditions of services
 
@@ -111,36 +111,28 @@ address_fits r v e = rw e (normal_fits, tt)
 
 pub deleteq_fits : (call : Call) (r : TaskContext) (v : Verdict) → v ≡ deleteq_row r.shared.storage r.shared.queues call → Fits v r
 unfolding deleteq_row delete_fault
-deleteq_fits call r v e = rw e (go (bytes_of r.shared.storage call option.Queue 8))
-  where
-    go : (o : Option (List ℕ)) → Fits (option_map_or (deletes r.shared.queues) o (condition_alone Qiderr)) r
-    go None = (qiderr_fits, tt)
-    go (Some name) = elim (cases_Bool (is_none (count_of r.shared.queues name))) [
-      | inl t ↦ rw t (qiderr_fits, tt)
-      | inr f ↦ rw f (normal_fits, rw f refl)
-    ]
+deleteq_fits call r v e = elim (cases_Bool (is_none (count_of r.shared.queues (name_at r.shared.storage call option.Queue)))) [
+  | inl t ↦ rw (e, t) (qiderr_fits, tt)
+  | inr f ↦ rw (e, f) (normal_fits, rw f refl)
+]
 
 pub enq_fits : (call : Call) (r : TaskContext) (v : Verdict) → v ≡ enq_row r.shared.storage r.shared.resources r.terminal_entry.slot call → Fits v r
 unfolding enq_row
 enq_fits call r v e = elim (cases_Bool (is_wrong_length r.shared.storage call)) [
   | inl t ↦ rw (e, t) (lengerr_fits, tt)
-  | inr f ↦ rw (e, f) (go (resource_named r.shared.storage call))
+  | inr f ↦
+      let name = resource_at r.shared.storage call in
+      rw (e, f)
+      (fault_or_verdict_fits (enq_fault r.shared.resources r.terminal_entry.slot name) r (does (Makes (Enqueues name)))
+      (enq_never r.shared.resources r.terminal_entry.slot name) (λ none. (normal_fits, none)))
 ]
-  where
-    go : (o : Option ResourceName) → Fits (option_map_or (enqueues r.shared.resources r.terminal_entry.slot) o (condition_alone Lengerr)) r
-    go None = (lengerr_fits, tt)
-    go (Some name) = fault_or_verdict_fits (enq_fault r.shared.resources r.terminal_entry.slot name) r _ (enq_never r.shared.resources r.terminal_entry.slot name) (λ none. (normal_fits, none))
 
 pub deq_fits : (call : Call) (r : TaskContext) (v : Verdict) → v ≡ deq_row r.shared.storage call → Fits v r
 unfolding deq_row
 deq_fits call r v e = elim (cases_Bool (is_wrong_length r.shared.storage call)) [
   | inl t ↦ rw (e, t) (lengerr_fits, tt)
-  | inr f ↦ rw (e, f) (go (resource_named r.shared.storage call))
+  | inr f ↦ rw (e, f) (normal_fits, tt)
 ]
-  where
-    go : (o : Option ResourceName) → Fits (option_map_or (λ name. does (Ends (Dequeues name))) o (condition_alone Lengerr)) r
-    go None = (lengerr_fits, tt)
-    go (Some name) = (normal_fits, tt)
 
 -- a length that an area may have
 area_length : (len : ℕ) → is_area_length len ≡ true → (0 < len) × (len ≤ 65520)
@@ -187,9 +179,14 @@ got_area s slot place area at t =
 
 pub freemain_fits : (call : Call) (r : TaskContext) (v : Verdict) → AllByRecursion (λ place. place < 2 ^ 24) call.places
     → v ≡ freemain_row r.shared.storage r.terminal_entry.slot call → Fits v r
-unfolding freemain_row
-freemain_fits call r v low e = rw e (go (place_of call option.Data) refl)
+unfolding freemain_row place_at
+freemain_fits call r v low e =
+    rw e (found (place_at call option.Data) (below (place_of call option.Data) refl) (area_at r.shared.storage (place_at call option.Data)) refl)
   where
+    below : (o : Option ℕ) → place_of call option.Data ≡ o → unwrap_or o 0 < 2 ^ 24
+    below None at = omega arith
+    below (Some place) at = place_below call option.Data place low at
+
     found : (place : ℕ) → place < 2 ^ 24 → (o : Option Area) → area_at r.shared.storage place ≡ o
         → Fits (if option_map_or (is_got_by r.terminal_entry.slot) o false then does (Ends (Frees place)) else condition_alone Invreq) r
     found place below None at = (invreq_fits, tt)
@@ -198,35 +195,30 @@ freemain_fits call r v low e = rw e (go (place_of call option.Data) refl)
       | inr f ↦ rw f (invreq_fits, tt)
     ]
 
-    go : (o : Option ℕ) → place_of call option.Data ≡ o → Fits (option_map_or (frees r.shared.storage r.terminal_entry.slot) o (condition_alone Invreq)) r
-    go None at = (invreq_fits, tt)
-    go (Some place) at = found place (place_below call option.Data place low at) (area_at r.shared.storage place) refl
-
 pub writeq_fits : (call : Call) (r : TaskContext) (v : Verdict) → AllByRecursion (λ place. place < 2 ^ 24) call.places → call.command ≡ command.WriteqTs
     → are_inputs_there r.shared.storage call ≡ true → v ≡ writeq_row r.shared.storage r.shared.queues call → Fits v r
 unfolding writeq_row
-writeq_fits call r v low is there e = rw e (go (bytes_of r.shared.storage call option.Queue 8))
+writeq_fits call r v low is there e = elim (cases_Bool (has call option.Rewrite)) [
+  | inl t ↦ rw (e, t)
+      (fault_or_verdict_fits (rewrite_fault r.shared.queues name n piece.len) r (does (Makes (ItemAt name n piece)))
+      (rewrite_never r.shared.queues name n piece.len) (λ none. (normal_fits, record { rewrites = none; there = stands })))
+  | inr f ↦ rw (e, f)
+      (fault_or_verdict_fits (write_fault r.shared.queues name piece.len) r
+      (Meets Normal (output option.Item (Half (unwrap_or (count_of r.shared.queues name) 0 + 1)) ∷ []) (Makes (ItemLast name piece)))
+      (write_never r.shared.queues name piece.len) (λ none. (normal_fits, record { writes = none; there = stands })))
+]
   where
-    row : IsMeasuredInput call.command option.From
-    row = rw is from_of_writeq_ts
+    name : List ℕ
+    name = name_at r.shared.storage call option.Queue
 
-    written : (name : List ℕ) (o : Option StorageSpan) → piece_of r.shared.storage call option.From ≡ o
-        → Fits (written_to r.shared.storage r.shared.queues call name o) r
-    written name None at = (qiderr_fits, tt)
-    written name (Some piece) at = elim (cases_Bool (has call option.Rewrite)) [
-      | inl t ↦ rw t (fault_or_verdict_fits (rewrite_fault r.shared.queues name (item_named r.shared.storage call) piece.len) r
-          (does (Makes (ItemAt name (item_named r.shared.storage call) piece)))
-          (rewrite_never r.shared.queues name (item_named r.shared.storage call) piece.len)
-          (λ none. (normal_fits, record { rewrites = none; there = piece_there r.shared.storage call option.From piece low there row at })))
-      | inr f ↦ rw f (fault_or_verdict_fits (write_fault r.shared.queues name piece.len) r
-          (Meets Normal (output option.Item (Half (unwrap_or (count_of r.shared.queues name) 0 + 1)) ∷ []) (Makes (ItemLast name piece)))
-          (write_never r.shared.queues name piece.len)
-          (λ none. (normal_fits, record { writes = none; there = piece_there r.shared.storage call option.From piece low there row at })))
-    ]
+    piece : StorageSpan
+    piece = piece_at r.shared.storage call option.From
 
-    go : (o : Option (List ℕ)) → Fits (option_map_or (λ name. written_to r.shared.storage r.shared.queues call name (piece_of r.shared.storage call option.From)) o (condition_alone Qiderr)) r
-    go None = (qiderr_fits, tt)
-    go (Some name) = written name (piece_of r.shared.storage call option.From) refl
+    n : ℕ
+    n = item_named r.shared.storage call
+
+    stands : IsThere r.shared.storage piece
+    stands = piece_at_there r.shared.storage call option.From low there (rw is from_of_writeq_ts)
 
 -- an item that is read has its length
 item_read : (o : Option ℕ) (no_queue : Bool) → (if no_queue then Some fault.Qiderr else if is_none o then Some fault.Itemerr else None) ≡ None → o ≡ Some (unwrap_or o 0)
@@ -243,13 +235,13 @@ unfolding read_fault
 read_never queues name n = first_or _ fault.Qiderr _ qiderr_other (first_or _ fault.Itemerr _ itemerr_other no_fault)
 
 pub readq_fits : (call : Call) (r : TaskContext) (v : Verdict) → AreSoundQueues r.shared.queues → ReadqRow r.shared.storage r.shared.queues call v → Fits v r
-unfolding ReadqRow ReadsQueue Reads reading_of
+unfolding ReadqRow Reads reading_of
 readq_fits call r v sound row =
     by_test (has call option.Into && is_length_negative r.shared.storage call) row
     (λ t e. rw e (lengerr_fits, tt))
-    (λ f named. by_option (bytes_of r.shared.storage call option.Queue 8) named
-    (λ e. rw e (qiderr_fits, tt))
-    (λ name is reads. item name (item_asked r.shared.storage r.shared.queues call name) reads))
+    (λ f reads.
+    let name = name_at r.shared.storage call option.Queue in
+    item name (item_asked r.shared.storage r.shared.queues call name) reads)
   where
     to : (name : List ℕ) (n : ℕ) → read_fault r.shared.queues name n ≡ None → (place : Option ℕ)
         → IsTaskPlace r.shared.storage (reading_of r.shared.queues name n).len place → v ≡ reads_to (reading_of r.shared.queues name n) place → Fits v r

@@ -2,45 +2,45 @@
 use Rattle.std.specs.Prelude.{◌≡◌, ℕ, ◌+◌, ◌-◌, ◌≤◌, ◌⊎◌, true, false, codes, List, [], ◌∷◌, length, take, slice_get, Option, Some, None, Result, Ok, Err, IsSomeAnd}
 use Rattle.std.specs.Str.{bytes_eq}
 use Rattle.cx_script_actions.specs.Language.{Language}
-use Rattle.cx_script_blocks.specs.Blocks.{step_at, with_line}
+use Rattle.cx_script_blocks.specs.Blocks.{with_line}
 use Rattle.cx_script_blocks.specs.declared.blocks.Block.{Block}
 use Rattle.cx_script_io.specs.Lines.{is_too_long, lines_met}
-use Rattle.cx_script.specs.Script.{script_in}
+use Rattle.cx_script.specs.Script.{Step, first_place, script_in, step_from}
+use Rattle.cx_script.specs.declared.run.Place.{Place}
 use Rattle.cx_script.specs.Transcript.{front_of}
-use Rattle.cx_script_blocks.specs.declared.blocks.LineStep.{LineStep}
 use Rattle.cx_script_blocks.specs.declared.faults.RunFault.{RunFault}
 use Rattle.cx_script_blocks.specs.declared.faults.RunFault.TheVariants.{BadLine, Read}
 use Rattle.cx_script_io.specs.declared.input.Ending.{Ending}
 use Rattle.cx_script_io.specs.declared.input.Ending.TheVariants.{AtEnd}
 
--- the block that a line leaves to the next one
-abbrev pub block_after : {A : Type 0} → Result (LineStep A) RunFault → Option Block
-block_after (Err fault) = None
-block_after (Ok step) = step.block
+-- the place that a line leaves to the next one
+abbrev pub place_after : {A : Type 0} → Result (Step A) RunFault → Place
+place_after (Err fault) = first_place
+place_after (Ok step) = step.place
 
--- the block that the line after these lines is in; the first of them has this number, and is in this block
-unfoldable pub block_after_lines : {A : Type 0} → Language A → ℕ → Option Block → List (List ℕ) → Option Block
-block_after_lines language number block [] = block
-block_after_lines language number block (line ∷ lines) =
-    block_after_lines language (number + 1) (block_after (step_at language number block line)) lines
+-- the place of the line after these lines; the first of them has this number, and is at this place
+unfoldable pub place_after_lines : {A : Type 0} → Language A → ℕ → Place → List (List ℕ) → Place
+place_after_lines language number place [] = place
+place_after_lines language number place (line ∷ lines) =
+    place_after_lines language (number + 1) (place_after (step_from language number place line)) lines
 
 -- A bad line at its place: it is too long; or it is no line of a script outside a block, and in one neither the
 -- block's end nor a line that the block may have.
-abbrev pub IsBadIn : {A : Type 0} → Language A → Option Block → List ℕ → Type 0
-IsBadIn language None line = (is_too_long line ≡ true) ⊎ (language.line_of line ≡ None)
-IsBadIn language (Some block) line =
+abbrev pub IsBadIn : {A : Type 0} → Language A → ℕ → Option Block → List ℕ → Type 0
+IsBadIn language number None line = (is_too_long line ≡ true) ⊎ (language.line_of number line ≡ None)
+IsBadIn language number (Some block) line =
     (is_too_long line ≡ true) ⊎ ((bytes_eq line (codes "/*") ≡ false) × (with_line block line ≡ None))
 
 -- the line with this number is bad at its place
 abbrev pub IsBadThere : {A : Type 0} → Language A → List (List ℕ) → ℕ → Type 0
 IsBadThere language lines number =
-    let block = block_after_lines language 1 None (take (number - 1) lines) in
-    IsSomeAnd (slice_get lines (number - 1)) (IsBadIn language block)
+    let place = place_after_lines language 1 first_place (take (number - 1) lines) in
+    IsSomeAnd (slice_get lines (number - 1)) (IsBadIn language number place.block)
 
 -- it begins a block that the script's end leaves without its own
 abbrev pub IsLeftOpen : {A : Type 0} → Language A → Ending → List (List ℕ) → ℕ → Type 0
 IsLeftOpen language ending lines number =
-    (ending ≡ AtEnd) × IsSomeAnd (block_after_lines language 1 None lines) (λ block. block.line ≡ number)
+    (ending ≡ AtEnd) × IsSomeAnd (place_after_lines language 1 first_place lines).block (λ block. block.line ≡ number)
 
 -- A bad line of the script that these bytes are: it is one of its lines, and bad; those in front of it are not, and exactly what they
 -- complete is done.

@@ -1,7 +1,5 @@
 -- What copies of areas are.
-use Rattle.std.specs.Prelude.{◌≡◌, ℕ, ◌-◌, ◌≤◌, List, [], ◌∷◌, ◌++◌, map, length, take, replicate, Some, nat_le, if◌then◌else◌}
-use Rattle.std.specs.Global.{Global}
-use Rattle.std.specs.declared.rc.Rc.{Rc}
+use Rattle.std.specs.Prelude.{◌≡◌, ℕ, ◌-◌, ◌≤◌, List, [], ◌∷◌, ◌++◌, length, take, replicate, Some, nat_le, if◌then◌else◌}
 use Rattle.std.specs.List.{AllByRecursion}
 use Rattle.cx_storage.specs.Storage.{Held, Storage, end_of, span}
 use Rattle.cx_storage.specs.declared.areas.Area.{Area}

@@ -1,10 +1,10 @@
 use Rattle.std.specs.Prelude.{slice_index}
 use Rattle.cx_load.proofs.ApartLemmas.{inside_at, inside_from, all_apart_from, pair_apart, share_none, apart_of_none}
-use Rattle.cx_load.specs.Facts.Faults.{fit_of_none, none_of_fit}
+use Rattle.cx_load.specs.Facts.Faults.{facts_of_fit, fit_of_facts}
 use Rattle.cx_load.proofs.laws.facts_of_checked.Goals as goal
 
-pub returns-clause-none : goal.returns-clause-none
-returns-clause-none c image = (fit_of_none image, none_of_fit image)
+pub returns-clause-fit : goal.returns-clause-fit
+returns-clause-fit c image = (facts_of_fit image, fit_of_facts image)
 
 pub returns-clause-inside : goal.returns-clause-inside
 returns-clause-inside c size relocs = (λ all i h. inside_at size relocs i all h, inside_from size relocs)

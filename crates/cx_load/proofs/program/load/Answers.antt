@@ -19,7 +19,7 @@ returns-clause-loaded g c =
     let copied : c.in_ok-bytes.bytes.items ≡ c.as_slice-text.result.now = c.in_ok-bytes.ensures.items_if_clones_equal (λ x y e. e) in
     let moved : c.relocate.new.bytes ≡ text_at at image =
     cc (c.relocate.ensures, c.as_slice.ensures, c.as_mut_slice.ensures.value, copied, text, same) in
-    let size : length (text_at at image) ≡ length image.text = length-relocated at image.relocs image.text c.image-checked.ensures.fit.inside in
+    let size : length (text_at at image) ≡ length image.text = length-relocated at image.relocs image.text c.image-checked.ensures.facts.inside in
     let many : c.in_ok-bytes.bytes.len ≡ length c.relocate.new.bytes =
     c.in_ok-bytes.bytes.ok.0 ∙ ap length copied ∙ ap length text ∙ sym size ∙ ap length (sym moved) in
     let bytes : c.as_slice-2.result.now ≡ text_at at image =

@@ -1,7 +1,8 @@
-use Rattle.std.proofs.Common.{◌≡◌, drop}
-use Rattle.cx_look_faults.specs.Marks.{place_from}
+use Rattle.std.proofs.Common.{◌≡◌, ◌-◌, length}
+use Rattle.std.specs.List.{find, range_with_len}
+use Rattle.cx_look_faults.specs.Marks.{place_in, stands_at}
 use Rattle.cx_look_faults.proofs.marks.place_in.Given as goal
 
-abbrev pub invariant-loop-i : goal.invariant-loop-i
-invariant-loop-i l =
-    place_from l.text l.before l.i (drop l.i l.operand) ≡ place_from l.text 0 0 l.operand
+abbrev pub invariant-loop-at : goal.invariant-loop-at
+invariant-loop-at l =
+    find (stands_at l.text l.operand) (range_with_len l.at (length l.operand - l.at)) ≡ place_in l.text l.operand

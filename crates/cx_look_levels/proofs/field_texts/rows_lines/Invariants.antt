@@ -5,5 +5,5 @@ use Rattle.cx_look_levels.proofs.field_texts.rows_lines.Given as goal
 
 abbrev pub invariant-loop-name : goal.invariant-loop-name
 invariant-loop-name g l =
-    l.report ++ flat_map (row_line (g.S.Store.storage l.store) l.term l.regs l.bases l.names.control) l.name-iterator
-    ≡ l.initial.report ++ flat_map (row_line (g.S.Store.storage l.store) l.term l.regs l.bases l.names.control) l.names.symbols.entries
+    l.report ++ flat_map (row_line (g.S.Store.storage l.store) l.term l.readings l.regs l.bases l.names.control) l.name-iterator
+    ≡ l.initial.report ++ flat_map (row_line (g.S.Store.storage l.store) l.term l.readings l.regs l.bases l.names.control) l.names.symbols.entries

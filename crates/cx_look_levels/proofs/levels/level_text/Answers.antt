@@ -8,5 +8,5 @@ unfolding level_text level_line
 returns g c =
     let programs = ap (λ (s : SharedState). s.programs) c.shared.view_is in
     let first = c.in_ok-level_line.ensures in
-    let second = c.in_ok-handle_lines.ensures in
-    rw (second, first, append_assoc, append_assoc, c.active-active.ensures, c.handled-conditions.ensures, programs) at c.exit_line.ensures
+    let second = c.in_ok-handling_lines.ensures in
+    rw (second, first, append_assoc, append_assoc, c.active-active.ensures, c.kept.ensures.value, programs) at c.pushed_lines.ensures

@@ -1,16 +1,20 @@
-use Rattle.cx_script.proofs.TakeLemmas.{act_memory, act_none, act_put, act_refused}
+use Rattle.cx_script.proofs.TakeLemmas.{acts_done, acts_first, acts_on, acts_stopped}
 use Rattle.cx_script.proofs.run.act.Goals as goal
 
-pub returns-in_default-clause-acted : goal.returns-in_default-clause-acted
-returns-in_default-clause-acted g c = act_none g.P.Performer.performs g.W.ScriptOut.writes _ _ _ _ c.in_default.is
+pub actions-init : goal.actions-init
+actions-init g c = (c.requires.failure, c.requires.allowed, acts_first g.P.Performer.performs g.W.ScriptOut.writes _ _ _ _ _)
 
-pub returns-in_err-text-clause-acted : goal.returns-in_err-text-clause-acted
-returns-in_err-text-clause-acted g c = act_memory g.P.Performer.performs g.W.ScriptOut.writes _ _ _ _ _ c.from_residual.result c.from_residual.ensures.1
-
-pub returns-in-Ok-clause-acted : goal.returns-in-Ok-clause-acted
-returns-in-Ok-clause-acted g c =
-    act_put g.P.Performer.performs g.W.ScriptOut.writes _ _ _ _ _ _ _ _ _ _ c.in-Some.is c.in_ok-text.ensures c.as_slice.ensures.value c.in-Ok.ensures.ok
+pub returns-in-Err-clause-acted : goal.returns-in-Err-clause-acted
+returns-in-Err-clause-acted g c =
+    acts_stopped g.P.Performer.performs g.W.ScriptOut.writes _ g.P.Performer.refused _ _ _ _ _ _ _ _ _ _ _ _ _ _ c.actions.invariant.2 c.in-Some.is c.following-due.ensures.value c.in-Err.ensures.acted
 
 pub returns-clause-acted : goal.returns-clause-acted
-returns-clause-acted g c =
-    act_refused g.P.Performer.performs g.W.ScriptOut.writes _ _ _ _ _ _ _ _ _ _ c.in-Some.is c.in_ok-text.ensures c.as_slice.ensures.value c.in-Err.ensures.err
+returns-clause-acted g c = acts_done g.P.Performer.performs g.W.ScriptOut.writes _ g.P.Performer.refused _ _ _ _ _ _ _ _ c.actions.invariant.2 c.in_default.is
+
+pub actions-preserved : goal.actions-preserved
+actions-preserved g c = (
+  c.in_default-act_once.ensures.failure,
+  c.following-due.ensures.allowed,
+  acts_on g.P.Performer.performs g.W.ScriptOut.writes _ g.P.Performer.refused _ _ _ _ _ _ _ _ _ _ _ _ _ c.actions.invariant.2 c.in-Some.is c.following-due.ensures.value
+      c.in_default-act_once.ensures.acted,
+)

@@ -1,5 +1,4 @@
-use Rattle.std.proofs.Common.{◌≡◌, ◌++◌, Some, Ok, length, arith, sym, ◌-◌}
-use Rattle.cx_storage.specs.Storage.{span}
+use Rattle.std.proofs.Common.{arith, ◌-◌}
 use Rattle.cx_storage_snapshot.proofs.CopyLemmas.{no_span, span_piece}
 use Rattle.cx_storage_snapshot.proofs.reading.bytes_of.Goals as goal
 

@@ -1,4 +1,4 @@
-use Rattle.std.proofs.Common.{◌≡◌, Some, length, arith, rules, ◌∙◌, sym}
+use Rattle.std.proofs.Common.{◌≡◌, Some, arith}
 use Rattle.cx_storage.specs.Storage.{span}
 use Rattle.cx_storage.specs.Facts.Spans.{span_length}
 use Rattle.cx_storage_snapshot.proofs.CopyLemmas.{some_gives}

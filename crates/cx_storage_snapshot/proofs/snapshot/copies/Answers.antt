@@ -1,8 +1,6 @@
-use Rattle.std.proofs.Common.{◌≡◌, ◌++◌, ◌+◌, [], Some, None, arith, sym, rules, ◌∙◌, Option, refl}
+use Rattle.std.proofs.Common.{◌≡◌, Some, None, arith, sym, ◌∙◌, Option, refl}
 use Rattle.std.proofs.lemmas.List.{append-nil}
-use Rattle.cx_storage.specs.Storage.{next_area}
 use Rattle.cx_storage.specs.declared.areas.Area.{Area}
-use Rattle.cx_base_copies.specs.Shared.{values}
 use Rattle.cx_storage_snapshot.proofs.CopyLemmas.{areas_from_zero, areas_from_none, copied_more, next_bounds}
 use Rattle.cx_storage_snapshot.proofs.snapshot.copies.Goals as goal
 

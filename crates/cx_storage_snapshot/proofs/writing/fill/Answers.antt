@@ -1,5 +1,4 @@
-use Rattle.std.proofs.Common.{◌≡◌, ◌∙◌, arith, rules, length}
-use Rattle.cx_storage.specs.Storage.{after_write}
+use Rattle.std.proofs.Common.{◌≡◌, ◌∙◌, arith}
 use Rattle.cx_storage_snapshot.proofs.WriteLemmas.{piece_written}
 use Rattle.cx_storage_snapshot.proofs.writing.fill.Goals as goal
 

@@ -1,4 +1,4 @@
-use Rattle.std.proofs.Common.{◌≡◌, ◌∙◌, ap, length, arith}
+use Rattle.std.proofs.Common.{◌∙◌, ap, length, arith}
 use Rattle.cx_storage_snapshot.proofs.WriteLemmas.{last_bounds, area_put}
 use Rattle.cx_storage_snapshot.proofs.writing.put_area.Goals as goal
 

@@ -1,4 +1,4 @@
-use Rattle.std.proofs.Common.{◌≡◌, ◌∙◌, ◌+◌, ◌++◌, [], ◌∷◌, ap, sym, arith, take}
+use Rattle.std.proofs.Common.{◌∙◌, ◌+◌, ◌++◌, [], ◌∷◌, ap, sym, arith, take}
 use Rattle.cx_storage.specs.Storage.{Held, IsSound}
 use Rattle.cx_base_copies.specs.Shared.{values}
 use Rattle.cx_storage_snapshot.proofs.WriteLemmas.{sound_take, front_more, copy_aligned}

@@ -25,7 +25,7 @@ pieces-init g c = (
   omega (arith, c.requires.lines),
   omega arith,
   omega arith,
-  seen_start _ g.P.Performer.performs g.D.ScriptIn.reads g.D.ScriptOut.writes _ _ _ _ _ c.requires.lines c.requires.block c.requires.part,
+  seen_start _ g.P.Performer.performs g.D.ScriptIn.reads g.D.ScriptOut.writes _ _ _ _ _ c.requires.lines c.requires.place c.requires.part,
 )
 
 pub returns-in_default-clause-ran : goal.returns-in_default-clause-ran

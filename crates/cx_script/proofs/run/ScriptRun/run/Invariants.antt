@@ -11,4 +11,4 @@ invariant-pieces g l =
     × (l.self.progress.waiting ≡ []) × IsUnbroken l.self.part.items × (is_too_long (strip_carriage_return l.self.part.items) ≡ false)
     × (l.self.progress.lines ≤ l.read) × (l._turn ≤ l.read) × (l.read ≤ 16777216)
     × Seen g.P.Action.ScriptAction.language g.P.Performer.performs l.initial.self.progress.performer g.D.ScriptIn.reads g.D.ScriptOut.writes l.initial.devices l.devices l.read
-    l.self.progress.performer l.self.progress.lines l.self.progress.block l.self.part.items
+    l.self.progress.performer l.self.progress.lines l.self.progress.place l.self.part.items

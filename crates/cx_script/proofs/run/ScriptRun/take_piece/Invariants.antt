@@ -10,8 +10,8 @@ invariant-lines g l =
     × IsUnbroken l.self.part.items
     × (l.self.progress.lines + length l.rest ≤ l.initial.self.progress.lines + length l.piece)
     × Calling g.W.ScriptOut.writes l.initial.writer l.writer (λ x y. Came g.P.Action.ScriptAction.language g.P.Performer.performs
-    l.initial.self.progress.performer l.initial.self.progress.lines l.initial.self.progress.block (l.initial.self.part.items ++ l.piece) (device_output x l.initial.self.progress.waiting)
-    l.self.progress.performer l.self.progress.lines l.self.progress.block (l.self.part.items ++ l.rest) (device_output y l.self.progress.waiting))
+    l.initial.self.progress.performer l.initial.self.progress.lines l.initial.self.progress.place (l.initial.self.part.items ++ l.piece) (device_output x l.initial.self.progress.waiting)
+    l.self.progress.performer l.self.progress.lines l.self.progress.place (l.self.part.items ++ l.rest) (device_output y l.self.progress.waiting))
 
 abbrev pub decreases-lines : goal.decreases-lines
 decreases-lines g l = length l.rest

@@ -9,4 +9,5 @@ pub repeated-requires : goal.repeated-requires
 repeated-requires g c = record { stable = c.in_ok-marks.ensures.stable; unmarked = sym c.has_mark.ensures ∙ c.if-has_mark.false }
 
 pub returns : goal.returns
-returns g c = λ space start f whole. c.in_ok-place.ensures space whole.done start whole.linked whole.enough f.begins
+returns g c = λ space start f whole.
+    c.in_ok-place.ensures space start f whole (c.in_ok-known.ensures space whole.done start whole.linked whole.enough f.begins)

@@ -1,0 +1,3 @@
+pub mod GapLemmas
+pub mod RowLemmas
+pub mod AheadLemmas

@@ -1,0 +1,46 @@
+-- AHEAD: what a terminal's next turn will do (own).
+use Rattle.std.specs.Prelude.{◌≡◌, ℕ, zero, suc, min, List, [], ◌∷◌, ◌++◌, codes}
+use Rattle.std.specs.Fmt.{decimal}
+use Rattle.std.specs.List.{flat_map}
+use Rattle.std.specs.Option.{option_map_or, option_to_list}
+use Rattle.cx_base_text.specs.Digits.{digits}
+use Rattle.cx_base_text.specs.Texts.{shown_name}
+use Rattle.cx_storage.specs.Address.{address_after}
+use Rattle.cx_storage.specs.Storage.{Storage, byte_at}
+use Rattle.cx_region_state.specs.Replies.{turn_reply_name}
+use Rattle.cx_region_state.specs.declared.replies.TurnReply.{TurnReply}
+use Rattle.cx_region.specs.State.{RegionState}
+use Rattle.cx_region.specs.Turn.{TakesTurn}
+use Rattle.cx_script_actions.specs.Texts.{turn_reply_detail}
+use Rattle.cx_look_words.specs.Words.{Lines, look_line}
+use Rattle.cx_look_ahead.specs.Rows.{AreRows}
+use Rattle.cx_look_ahead.specs.declared.rows.Row.{Row}
+
+-- how the turn ends, in the words that are written for the turn
+abbrev pub end_line : List ℕ → TurnReply → Lines
+end_line name reply = look_line (codes "AHEAD" ∷ shown_name name ∷ turn_reply_name reply ∷ option_to_list (turn_reply_detail reply))
+
+-- the first k bytes from an address on; hyphens for one that isn't there
+abbrev pub bytes_word : Storage → ℕ → ℕ → List ℕ
+bytes_word s at zero = []
+bytes_word s at (suc k) = bytes_word s at k ++ option_map_or (digits 16 2) (byte_at s (address_after at k)) (codes "--")
+
+-- a row of bytes that the turn changes, of which the first 64 are shown, before the turn and after it
+unfoldable pub row_line : Storage → Storage → Row → Lines
+row_line before after row =
+    let shown = min row.length 64 in
+    look_line (codes "CHANGES" ∷ digits 16 6 row.at ∷ decimal row.length ∷ codes "FROM" ∷ bytes_word before row.at shown
+    ∷ codes "TO" ∷ bytes_word after row.at shown ∷ [])
+
+-- what is written for a turn of that reply from one storage to another
+pub record TurnText (name : List ℕ) (reply : TurnReply) (before after : Storage) (lines : Lines) : Type 0 where
+  pub rows : List Row
+  pub differ : AreRows before after 0 rows
+  pub are : lines ≡ end_line name reply ++ flat_map (row_line before after) rows
+
+-- what is written for the turn that the region would do next
+pub record AheadText (region : RegionState) (name : List ℕ) (lines : Lines) : Type 0 where
+  pub reply : TurnReply
+  pub after : RegionState
+  pub turns : TakesTurn region name reply after
+  pub is : TurnText name reply region.storage after.storage lines

@@ -1,0 +1,6 @@
+-- The definitions, in reading order, then what the laws state.
+pub mod Rows
+pub mod Ahead
+pub mod Laws
+pub mod Parts
+pub use Rattle.cx_look_words.specs.Words

@@ -1,0 +1,103 @@
+//! AHEAD.
+ghost use Rattle.std.specs.Prelude.{◌≡◌, [], ◌∷◌, ◌++◌, codes, IfOk, OnOk};
+ghost use Rattle.std.specs.List.{flat_map};
+ghost use Rattle.cx_look_words.specs.Words.{look_line};
+ghost use Rattle.cx_look_ahead.specs.Ahead.{AheadText, TurnText, end_line, row_line};
+
+use crate::bytes::row_line;
+use crate::rows::{Row, rows_between};
+use cx_base_text::{shown, shown_name};
+use cx_ebcdic::Name4;
+use cx_look_words::Report;
+use cx_region::{Region, TurnReply};
+use cx_region_snapshot::turn_apart;
+use cx_storage::Store;
+use std::alloc::{AllocError, Global};
+
+/// Adds the line of a turn whose reply has a condition or a code.
+fn detailed_line(
+    report: &mut Report,
+    name: &[u8],
+    answer: &[u8],
+    detail: &[u8],
+) -> Result<(), AllocError>
+    ensures { let words = name.now ∷ answer.now ∷ detail.now ∷ [] in
+        OnOk result (report.new ≡ report.old ++ look_line (codes "AHEAD" ∷ words)) }
+{
+    report.line(&[b"AHEAD", name, answer, detail])
+}
+
+/// Adds the line of a turn whose reply has none.
+fn plain_line(report: &mut Report, name: &[u8], answer: &[u8]) -> Result<(), AllocError>
+    ensures { OnOk result (report.new ≡ report.old ++ look_line (codes "AHEAD" ∷ name.now ∷ answer.now ∷ [])) }
+{
+    report.line(&[b"AHEAD", name, answer])
+}
+
+/// Adds the line of how a turn ends.
+fn end_line(report: &mut Report, name: Name4, reply: &TurnReply) -> Result<(), AllocError>
+    ensures { OnOk result (report.new ≡ report.old ++ end_line name reply.now) }
+{
+    let name = shown_name(report.alloc(), name)?;
+    let answer = reply.name().as_bytes();
+    match reply {
+        TurnReply::Performed(condition) | TurnReply::TookLabel(condition) => {
+            detailed_line(report, &name, answer, condition.name().as_bytes())
+        }
+        TurnReply::TookExit(code) | TurnReply::Abended(code) => {
+            let code = shown(report.alloc(), &code.bytes())?;
+            detailed_line(report, &name, answer, &code)
+        }
+        _ => plain_line(report, &name, answer),
+    }
+}
+
+/// Adds the lines of rows.
+fn row_lines<S: Store + Drop>(
+    report: &mut Report,
+    before: &Region<S>,
+    after: &Region<S>,
+    rows: &[Row],
+) -> Result<(), AllocError>
+    ensures { let more = flat_map (row_line before.now.storage after.now.storage) rows.now in
+        OnOk result (report.new ≡ report.old ++ more) }
+{
+    for row in rows {
+        row_line(report, before, after, *row)?;
+    }
+    Ok(())
+}
+
+/// What is written for a turn of a reply from one region to another.
+fn turn_text<S: Store + Drop>(
+    alloc: Global,
+    name: Name4,
+    reply: TurnReply,
+    before: &Region<S>,
+    after: &Region<S>,
+) -> Result<Report, AllocError>
+    ensures { IfOk result (λ report. TurnText name reply before.now.storage after.now.storage report) }
+{
+    let mut report = Report::new(alloc);
+    end_line(&mut report, name, &reply)?;
+    let rows = rows_between(alloc, &before.shared().store, &after.shared().store)?;
+    row_lines(&mut report, before, after, &rows)?;
+    Ok(report)
+}
+
+/// Looks at what the next turn of a terminal will do: how it will end, in the words that are written for the turn, and a line for
+/// each row of bytes that it will change, with the first 64 of them before the turn and after it. The turn is done in a region like
+/// this one, so nothing changes here.
+///
+/// An error comes only where memory for that region, for what the turn makes, or for the report was refused.
+pub fn ahead_text<S: Store + Drop>(
+    alloc: Global,
+    region: &Region<S>,
+    name: Name4,
+) -> Result<Report, AllocError>
+    ensures { IfOk result (λ report. AheadText region.now name report) }
+{
+    let (reply, after) = turn_apart(alloc, region, name)?;
+    let report = turn_text(alloc, name, reply, region, &after)?;
+    Ok(report)
+}

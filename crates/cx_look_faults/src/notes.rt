@@ -1,0 +1,514 @@
+//! What is accepted and is most likely not meant.
+
+ghost use Rattle.std.specs.Prelude.{◌≡◌, ◌++◌, IfOk, OnOk, None, codes, false, option_map};
+ghost use Rattle.std.specs.List.{filter_map, find, flat_map, list_all, list_any};
+ghost use Rattle.std.specs.Option.{option_map_or, option_to_list};
+ghost use Rattle.std.specs.Result.{result_ok};
+ghost use Rattle.std.specs.Str.{bytes_eq};
+ghost use Rattle.cx_asm_expressions.specs.Items.{Constant as ConstantValue, constant_in};
+ghost use Rattle.cx_asm_operands.specs.Storage.{is_literal};
+ghost use Rattle.cx_asm_pass1.specs.Locations.{IsPlaced, final_state};
+ghost use Rattle.cx_asm_pass2.specs.Whole.{whole_by, whole_of};
+ghost use Rattle.cx_base_commands.specs.Options.{option_name};
+ghost use Rattle.cx_look_faults.specs.Notes.{
+  argument_of,
+  bare,
+  copies_place,
+  halfword_literal,
+  if_absolute,
+  if_literal,
+  is_absolute,
+  is_decimal,
+  note_of_item,
+  note_of_phrase,
+  note_on,
+  notes_of,
+  notes_of_stmt,
+  notes_of_words,
+  notes_on,
+  of_read,
+  of_written,
+  option_of_word,
+  remark,
+  remark_on,
+};
+ghost use Rattle.cx_look_faults.specs.Spans.{text_in};
+
+use crate::commands::{
+    Phrase, command_of, is_word, phrases, words_after, words_of, written_phrase,
+};
+use crate::faults::FaultyLine;
+use crate::operands::kind_on;
+use crate::positions::{Spot, part_spot};
+use crate::spans::{Cut, Span, cells_of, spans_of, text_in};
+use cx_asm_expressions::{Constant, TermFault, parenthesized_body, value_of};
+use cx_asm_pass1::{Places, place_with_faults};
+use cx_base_commands::{ArgumentKind, Command, CommandOption};
+use cx_source::{Item, Source, Stmt, Text, skip_blanks, source_with_faults, trimmed};
+use cx_translate::translate_with_faults;
+use std::alloc::{AllocError, Global};
+
+/// What is said of an item of several copies with `*`.
+const SAME: &[u8] = b" IS THE SAME IN ALL COPIES";
+
+/// Something that is most likely not meant.
+#[derive(Debug, Drop)]
+pub struct Note {
+    /// Where it is.
+    pub spot: Spot,
+    /// What is said of it.
+    pub text: Text,
+}
+
+/// A text without the blanks round it.
+fn bare(text: &[u8]) -> &[u8]
+    ensures { result.now ≡ bare text.now }
+{
+    trimmed(skip_blanks(text))
+}
+
+/// The argument after a word; empty where there is none.
+fn argument_of(operand: &[u8], phrase: Phrase) -> &[u8]
+    ensures { result.now ≡ argument_of operand.now phrase }
+{
+    let after = Span {
+        start: phrase.word.end,
+        end: phrase.full.end,
+    };
+    match parenthesized_body(bare(text_in(after, operand))) {
+        Some(body) => bare(body),
+        None => &[],
+    }
+}
+
+/// Whether a text's value is absolute.
+fn is_absolute(alloc: Global, places: &Places<'_>, text: &[u8]) -> Result<bool, AllocError>
+    ensures { IfOk result (λ is. is ≡ is_absolute (whole_by places.now) text.now) }
+{
+    match value_of(alloc, text, &places.symbols, None) {
+        Ok(value) => Ok(value.section.is_none()),
+        Err(TermFault::Refused(_)) => Ok(false),
+        Err(TermFault::Memory) => Err(AllocError),
+    }
+}
+
+/// Whether a text is a literal.
+fn is_literal(text: &[u8]) -> bool
+    ensures { result ≡ is_literal text.now }
+{
+    match text {
+        [] => false,
+        [first, ..] => *first == b'=',
+    }
+}
+
+/// Whether a text is digits alone.
+fn is_digits(text: &[u8]) -> bool
+    ensures { result ≡ list_all is_decimal text.now }
+{
+    text.iter().all(|c| b'0' <= *c && *c <= b'9')
+}
+
+/// A text between two others.
+fn between(alloc: Global, before: &[u8], text: &[u8], after: &[u8]) -> Result<Vec<u8>, AllocError>
+    ensures { IfOk result (λ made. made.items ≡ before.now ++ text.now ++ after.now) }
+{
+    let mut made = before.to_vec(alloc)?;
+    made.extend_from_slice(text)?;
+    made.extend_from_slice(after)?;
+    Ok(made)
+}
+
+/// The literal that has a value in a halfword.
+fn halfword_literal(alloc: Global, text: &[u8]) -> Result<Vec<u8>, AllocError>
+    ensures { IfOk result (λ made. made.items ≡ halfword_literal text.now) }
+{
+    if is_digits(text) {
+        between(alloc, b"=H'", text, b"'")
+    } else {
+        between(alloc, b"=AL2(", text, b")")
+    }
+}
+
+/// What is said of an argument that is an address.
+fn if_absolute(
+    alloc: Global,
+    places: &Places<'_>,
+    text: &[u8],
+    due: &[u8],
+) -> Result<Option<Text>, AllocError>
+    ensures { IfOk result (λ said. said ≡ if_absolute (whole_by places.now) text.now due.now) }
+{
+    if !is_absolute(alloc, places, text)? {
+        return Ok(None);
+    }
+    let said = between(alloc, b" IS AN ADDRESS: ", due, b"")?;
+    Ok(Some(Text::from_vec(said)))
+}
+
+/// What is said of an argument that is a literal.
+fn if_literal(alloc: Global, text: &[u8], due: &[u8]) -> Result<Option<Text>, AllocError>
+    ensures { IfOk result (λ said. said ≡ if_literal text.now due.now) }
+{
+    if !is_literal(text) {
+        return Ok(None);
+    }
+    let said = between(alloc, b" IS WRITTEN: ", due, b"")?;
+    Ok(Some(Text::from_vec(said)))
+}
+
+/// What is said of a halfword that the command reads.
+fn of_read(alloc: Global, places: &Places<'_>, text: &[u8]) -> Result<Option<Text>, AllocError>
+    ensures { IfOk result (λ said. said ≡ of_read (whole_by places.now) text.now) }
+{
+    let due = halfword_literal(alloc, text)?;
+    if_absolute(alloc, places, text, &due)
+}
+
+/// What is said of a halfword that the command writes.
+fn of_written(alloc: Global, places: &Places<'_>, text: &[u8]) -> Result<Option<Text>, AllocError>
+    ensures { IfOk result (λ said. said ≡ of_written (whole_by places.now) text.now) }
+{
+    if is_literal(text) {
+        return if_literal(alloc, text, b"A HALFWORD FIELD");
+    }
+    if_absolute(alloc, places, text, b"A HALFWORD FIELD")
+}
+
+/// What is said of an option's argument.
+fn remark(
+    alloc: Global,
+    places: &Places<'_>,
+    rewrites: bool,
+    text: &[u8],
+    kind: ArgumentKind,
+) -> Result<Option<Text>, AllocError>
+    ensures { IfOk result (λ said. said ≡ remark (whole_by places.now) rewrites text.now kind) }
+{
+    match kind {
+        ArgumentKind::Halfword => of_read(alloc, places, text),
+        ArgumentKind::HalfwordOutWithoutRewrite if rewrites => of_read(alloc, places, text),
+        ArgumentKind::HalfwordBothWays
+        | ArgumentKind::HalfwordBothWaysWithoutSet
+        | ArgumentKind::HalfwordOut
+        | ArgumentKind::HalfwordOutWithoutRewrite => of_written(alloc, places, text),
+        ArgumentKind::Byte => {
+            let due = between(alloc, b"=AL1(", text, b")")?;
+            if_absolute(alloc, places, text, &due)
+        }
+        ArgumentKind::BytesWritten => if_literal(alloc, text, b"A FIELD"),
+        _ => Ok(None),
+    }
+}
+
+/// The option of a name.
+fn option_of_word<'a>(options: &'a [CommandOption], name: &[u8]) -> Option<&'a CommandOption>
+    ensures { option_map (λ option. option.now) result ≡ option_of_word options.now name.now }
+{
+    options
+        .iter()
+        .find(|option| option.name.name().as_bytes() == name)
+}
+
+/// What is said of a word and its argument.
+#[tactic(auto, unfolding(crate::specs::Notes::remark_on))]
+fn remark_on(
+    alloc: Global,
+    places: &Places<'_>,
+    rewrites: bool,
+    options: &[CommandOption],
+    operand: &[u8],
+    phrase: Phrase,
+) -> Result<Option<Text>, AllocError>
+    ensures { let whole = whole_by places.now in
+        IfOk result (λ said. said ≡ remark_on whole rewrites options.now operand.now phrase) }
+{
+    let Some(option) = option_of_word(options, text_in(phrase.word, operand)) else {
+        return Ok(None);
+    };
+    let text = argument_of(operand, phrase);
+    remark(alloc, places, rewrites, text, option.kind)
+}
+
+/// The note that says something of a part.
+#[tactic(auto, unfolding(crate::specs::Notes::note_on))]
+fn note_on(
+    alloc: Global,
+    items: &[Item],
+    item: &Item,
+    stmt: &Stmt,
+    said: &[u8],
+    part: Span,
+) -> Result<Note, AllocError>
+    ensures { IfOk result (λ note. note ≡ note_on items.now item.now stmt.now said.now part) }
+{
+    let text = between(alloc, text_in(part, stmt.operand.as_slice()), said, b"")?;
+    Ok(Note {
+        spot: part_spot(alloc, items, item, stmt, part)?,
+        text: Text::from_vec(text),
+    })
+}
+
+/// The note on a word and its argument, if there is one.
+fn note_of_phrase(
+    alloc: Global,
+    places: &Places<'_>,
+    rewrites: bool,
+    options: &[CommandOption],
+    items: &[Item],
+    item: &Item,
+    stmt: &Stmt,
+    phrase: Phrase,
+) -> Result<Option<Note>, AllocError>
+    ensures { let note = note_of_phrase (whole_by places.now) rewrites options.now items.now item.now stmt.now phrase in
+        IfOk result (λ found. found ≡ note) }
+{
+    let operand = stmt.operand.as_slice();
+    let Some(said) = remark_on(alloc, places, rewrites, options, operand, phrase)? else {
+        return Ok(None);
+    };
+    let part = written_phrase(operand, phrase);
+    let note = note_on(alloc, items, item, stmt, said.as_slice(), part)?;
+    Ok(Some(note))
+}
+
+/// Adds a note, if there is one.
+fn push_note(notes: &mut Vec<Note>, note: Option<Note>) -> Result<(), AllocError>
+    ensures { OnOk result (notes.new.items ≡ notes.old.items ++ option_to_list note) }
+{
+    if let Some(note) = note {
+        notes.push(note)?;
+    }
+    Ok(())
+}
+
+/// Adds the notes on some words of a command.
+fn notes_of_phrases(
+    alloc: Global,
+    notes: &mut Vec<Note>,
+    places: &Places<'_>,
+    rewrites: bool,
+    options: &[CommandOption],
+    items: &[Item],
+    item: &Item,
+    stmt: &Stmt,
+    phrases: &[Phrase],
+) -> Result<(), AllocError>
+    ensures { let note = note_of_phrase (whole_by places.now) rewrites options.now items.now item.now stmt.now in
+        OnOk result (notes.new.items ≡ notes.old.items ++ filter_map note phrases.now) }
+{
+    for phrase in phrases {
+        let note = note_of_phrase(alloc, places, rewrites, options, items, item, stmt, *phrase)?;
+        push_note(notes, note)?;
+    }
+    Ok(())
+}
+
+/// Adds the notes on an EXEC statement.
+fn notes_of_words(
+    alloc: Global,
+    notes: &mut Vec<Note>,
+    places: &Places<'_>,
+    items: &[Item],
+    item: &Item,
+    stmt: &Stmt,
+    words: &[Span],
+) -> Result<(), AllocError>
+    ensures { let more = notes_of_words (whole_by places.now) items.now item.now stmt.now words.now in
+        OnOk result (notes.new.items ≡ notes.old.items ++ more) }
+{
+    let operand = stmt.operand.as_slice();
+    let Some((command, last)) = command_of(operand, words) else {
+        return Ok(());
+    };
+    let words = words_after(words, last);
+    let rewrites = is_word(operand, words, b"REWRITE");
+    let phrases = phrases(alloc, operand, words)?;
+    let options = command.options();
+    notes_of_phrases(
+        alloc, notes, places, rewrites, options, items, item, stmt, &phrases,
+    )
+}
+
+/// How many copies an item of a DC has; 0 where it is none.
+fn copies_of(text: &[u8]) -> u32
+    ensures { result ≡ option_map_or (λ (item : ConstantValue). item.duplication) (result_ok (constant_in false text.now)) 0 }
+{
+    match Constant::read(text, false) {
+        Ok(item) => item.duplication(),
+        Err(_) => 0,
+    }
+}
+
+/// Whether one of some parts of a text is `*`.
+fn has_place(text: &[u8], terms: &[Span]) -> bool
+    ensures { result ≡ list_any (λ term. bytes_eq (text_in term text.now) (codes "*")) terms.now }
+{
+    terms
+        .iter()
+        .any(|term| text_in(*term, text) == b"*".as_slice())
+}
+
+/// Whether an item of a DC has several copies, and `*` in each.
+#[tactic(auto, unfolding(crate::specs::Notes::copies_place))]
+fn copies_place(alloc: Global, text: &[u8]) -> Result<bool, AllocError>
+    ensures { IfOk result (λ is. is ≡ copies_place text.now) }
+{
+    if copies_of(text) < 2 {
+        return Ok(false);
+    }
+    let cells = cells_of(alloc, Cut::Terms, text)?;
+    let terms = spans_of(alloc, &cells)?;
+    Ok(has_place(text, &terms))
+}
+
+/// The note on an item of a DC, if there is one.
+fn note_of_item(
+    alloc: Global,
+    items: &[Item],
+    item: &Item,
+    stmt: &Stmt,
+    part: Span,
+) -> Result<Option<Note>, AllocError>
+    ensures { IfOk result (λ note. note ≡ note_of_item items.now item.now stmt.now part) }
+{
+    if !copies_place(alloc, text_in(part, stmt.operand.as_slice()))? {
+        return Ok(None);
+    }
+    let note = note_on(alloc, items, item, stmt, SAME, part)?;
+    Ok(Some(note))
+}
+
+/// Adds the notes on items of a DC.
+fn notes_of_items(
+    alloc: Global,
+    notes: &mut Vec<Note>,
+    items: &[Item],
+    item: &Item,
+    stmt: &Stmt,
+    parts: &[Span],
+) -> Result<(), AllocError>
+    ensures { let more = filter_map (note_of_item items.now item.now stmt.now) parts.now in
+        OnOk result (notes.new.items ≡ notes.old.items ++ more) }
+{
+    for part in parts {
+        let note = note_of_item(alloc, items, item, stmt, *part)?;
+        push_note(notes, note)?;
+    }
+    Ok(())
+}
+
+/// Adds the notes on a statement.
+fn notes_of_stmt(
+    alloc: Global,
+    notes: &mut Vec<Note>,
+    places: &Places<'_>,
+    items: &[Item],
+    item: &Item,
+    stmt: &Stmt,
+) -> Result<(), AllocError>
+    ensures { let more = notes_of_stmt (whole_by places.now) items.now item.now stmt.now in
+        OnOk result (notes.new.items ≡ notes.old.items ++ more) }
+{
+    let operand = stmt.operand.as_slice();
+    if stmt.operation.as_slice() == b"EXEC".as_slice() {
+        let words = words_of(alloc, operand)?;
+        notes_of_words(alloc, notes, places, items, item, stmt, &words)?;
+        return Ok(());
+    }
+    if stmt.operation.as_slice() != b"DC".as_slice() {
+        return Ok(());
+    }
+    let cells = cells_of(alloc, Cut::Operands, operand)?;
+    let parts = spans_of(alloc, &cells)?;
+    notes_of_items(alloc, notes, items, item, stmt, &parts)
+}
+
+/// Adds the notes on a line without a fault.
+#[tactic(auto, unfolding(crate::specs::Notes::notes_on))]
+fn notes_on(
+    alloc: Global,
+    notes: &mut Vec<Note>,
+    places: &Places<'_>,
+    faults: &[FaultyLine],
+    items: &[Item],
+    item: &Item,
+) -> Result<(), AllocError>
+    ensures { let more = notes_on (whole_by places.now) faults.now items.now item.now in
+        OnOk result (notes.new.items ≡ notes.old.items ++ more) }
+{
+    if kind_on(faults, item.line).is_some() {
+        return Ok(());
+    }
+    match &item.stmt {
+        Some(stmt) => notes_of_stmt(alloc, notes, places, items, item, stmt),
+        None => Ok(()),
+    }
+}
+
+/// The notes on lines without a fault.
+fn notes_in(
+    alloc: Global,
+    places: &Places<'_>,
+    faults: &[FaultyLine],
+    items: &[Item],
+) -> Result<Vec<Note>, AllocError>
+    ensures { let whole = whole_by places.now in
+        IfOk result (λ notes. notes.items ≡ flat_map (notes_on whole faults.now items.now) items.now) }
+{
+    let mut notes = Vec::new(alloc);
+    for item in items {
+        notes_on(alloc, &mut notes, places, faults, items, item)?;
+    }
+    Ok(notes)
+}
+
+/// The notes on lines without a fault, where what they are made into is placed.
+#[tactic(auto, using(crate::proofs::WholeLemmas::whole_is))]
+fn notes_placed(
+    alloc: Global,
+    made: &Source,
+    places: &Places<'_>,
+    faults: &[FaultyLine],
+    items: &[Item],
+) -> Result<Vec<Note>, AllocError>
+    requires { IsPlaced (final_state made.now) places.now }
+    ensures { let whole = whole_of made.now in
+        IfOk result (λ notes. notes.items ≡ flat_map (notes_on whole faults.now items.now) items.now) }
+{
+    notes_in(alloc, places, faults, items)
+}
+
+/// The notes on lines without a fault, which are made into a source.
+fn notes_made(
+    alloc: Global,
+    made: &Source,
+    faults: &[FaultyLine],
+    items: &[Item],
+) -> Result<Vec<Note>, AllocError>
+    ensures { let whole = whole_of made.now in
+        IfOk result (λ notes. notes.items ≡ flat_map (notes_on whole faults.now items.now) items.now) }
+{
+    let (places, _) = place_with_faults(alloc, made)?;
+    notes_placed(alloc, made, &places, faults, items)
+}
+
+/// What is most likely not meant on those lines of the source that lines make, given without their ends, that have no
+/// fault; `faults` are its faulty lines.
+///
+/// In an EXEC statement each argument is an address. So there is a note where a halfword or a byte is due and the argument
+/// is a number, a length attribute or another absolute expression, and where the command writes and it is a literal. In a
+/// DC there is one on an item of several copies with `*`, which is the same in each. The notes are in the order of the
+/// lines. An error comes only where an allocation failed.
+#[tactic(auto, unfolding(crate::specs::Notes::notes_of))]
+pub fn notes_of(
+    alloc: Global,
+    lines: &[Text],
+    faults: &[FaultyLine],
+) -> Result<Vec<Note>, AllocError>
+    ensures { IfOk result (λ notes. notes.items ≡ notes_of lines.now faults.now) }
+{
+    let (read, _) = source_with_faults(alloc, lines)?;
+    let (made, _) = translate_with_faults(alloc, &read)?;
+    notes_made(alloc, &made, faults, read.items.as_slice())
+}

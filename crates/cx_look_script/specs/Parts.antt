@@ -1,2 +1,0 @@
--- The words of private functions' contracts.
-pub mod Turns

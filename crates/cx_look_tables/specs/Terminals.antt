@@ -1,0 +1,71 @@
+-- What looks write of terminals and of the clock (own).
+use Rattle.std.specs.Prelude.{ℕ, ◌==◌, if◌then◌else◌, Option, Some, None, List, [], ◌∷◌, ◌++◌, codes, length, take}
+use Rattle.std.specs.Fmt.{decimal}
+use Rattle.std.specs.List.{flat_map}
+use Rattle.std.specs.Str.{byte}
+use Rattle.cx_ebcdic.specs.Aids.{key_of}
+use Rattle.cx_base_commands.specs.Conditions.{entry_of, handled_conditions}
+use Rattle.cx_base_commands.specs.declared.conditions.Condition.{Condition}
+use Rattle.cx_base_text.specs.Digits.{digits}
+use Rattle.cx_base_text.specs.Texts.{shown_name}
+use Rattle.cx_region_state.specs.State.{Input, NextTransaction}
+use Rattle.cx_region.specs.State.{RegionState, TerminalState}
+use Rattle.cx_edf.specs.Sessions.{SessionState, Sessions, session_in}
+use Rattle.cx_edf.specs.State.{EdfState}
+use Rattle.cx_edf.specs.Stops.{names}
+use Rattle.cx_edf.specs.declared.modes.Mode.{Mode}
+use Rattle.cx_edf.specs.declared.modes.Mode.TheVariants as mode
+use Rattle.cx_edf.specs.declared.stop_words.Stops.{Stops}
+use Rattle.cx_look_words.specs.Words.{look_line, none_line, written_bytes, written_name, Lines}
+
+-- the time and the date that tasks attached later find
+unfoldable pub clock_line : ℕ → ℕ → Lines
+clock_line time date = look_line (codes "CLOCK" ∷ digits 10 6 time ∷ digits 10 5 date ∷ [])
+
+-- how many bytes there are, and the first 64 of them
+unfoldable pub bytes_word : List ℕ → List ℕ
+bytes_word bytes = decimal (length bytes) ++ codes " " ++ written_bytes (take 64 bytes)
+
+-- ---- what the next key attaches: a transaction, and the COMMAREA that is kept for it
+abbrev pub commarea_word : List ℕ → List ℕ
+commarea_word commarea = if length commarea == 0 then [] else codes " COMMAREA " ++ bytes_word commarea
+
+unfoldable pub next_word : Option NextTransaction → List ℕ
+next_word None = codes "--"
+next_word (Some next) = written_name next.tran ++ commarea_word next.commarea
+
+-- ---- the input that is held, with its key
+unfoldable pub held_word : Option Input → List ℕ
+held_word None = codes "--"
+held_word (Some input) = (key_of input.aid).name ++ codes " " ++ bytes_word input.bytes
+
+-- ---- EDF: its mode, and its stop conditions
+abbrev pub mode_name : Mode → List ℕ
+mode_name mode.Free = codes "FREE"
+mode_name (mode.Stopped stop) = codes "STOPPED"
+mode_name mode.Suppressed = codes "SUPPRESSED"
+
+abbrev pub condition_word : Stops → Condition → List ℕ
+condition_word stops condition = if names stops condition then byte " " ∷ (entry_of condition).name else []
+
+unfoldable pub stops_word : Stops → List ℕ
+stops_word stops =
+    (if stops.abend then codes " ABEND" else []) ++ (if stops.end then codes " END" else [])
+    ++ flat_map (condition_word stops) handled_conditions
+
+unfoldable pub edf_word : Option SessionState → List ℕ
+edf_word None = codes "OFF"
+edf_word (Some session) = mode_name session.mode ++ stops_word session.stops
+
+-- ---- all terminals
+unfoldable pub terminal_line : Sessions → List ℕ × TerminalState → Lines
+terminal_line sessions (name, terminal) =
+    look_line (codes "TERMINAL" ∷ shown_name name ∷ codes "NEXT" ∷ next_word terminal.following ∷ codes "HELD" ∷ held_word terminal.input
+    ∷ codes "EDF" ∷ edf_word (session_in sessions name) ∷ [])
+
+abbrev pub terminal_lines : Sessions → List (List ℕ × TerminalState) → Lines
+terminal_lines sessions [] = none_line (codes "TERMINALS")
+terminal_lines sessions (terminal ∷ terminals) = flat_map (terminal_line sessions) (terminal ∷ terminals)
+
+unfoldable pub terminals_text : EdfState → Lines
+terminals_text state = clock_line state.region.time state.region.date ++ terminal_lines state.sessions state.region.terminals

@@ -1,0 +1,4 @@
+-- The definitions, in reading order.
+pub mod Numbers
+pub mod Readings
+pub mod Texts

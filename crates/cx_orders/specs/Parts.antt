@@ -1,0 +1,24 @@
+-- The vocabulary of private functions.
+use Rattle.std.specs.Prelude.{◌≡◌, ℕ, Bool, true, false, Some, slice_get}
+use Rattle.cx_region.specs.Sound.{IsSound}
+use Rattle.cx_region.specs.State.{TerminalState}
+use Rattle.cx_look_tasks.specs.Activities.{IsActivity}
+use Rattle.cx_look_tasks.specs.declared.activities.Activity.{Activity}
+use Rattle.cx_look_tasks.specs.declared.activities.Activity.TheVariants.{Due, Running}
+use Rattle.cx_orders.specs.declared.moves.Asked.{Asked}
+use Rattle.cx_orders.specs.declared.states.OrdersState.{OrdersState}
+
+-- the next turn runs instructions, or performs a command
+abbrev pub is_acting : Activity → Bool
+is_acting Running = true
+is_acting (Due command) = true
+is_acting _ = false
+
+-- what the terminal with that number is doing, and how many of its keys came
+pub record IsAsked (from : OrdersState) (number : ℕ) (asked : Asked) : Type 0 where
+  pub same : asked.number ≡ number
+  pub sound : IsSound from.region
+  pub terminal : TerminalState
+  pub at : slice_get from.region.terminals number ≡ Some (asked.name, terminal)
+  pub come : slice_get from.come number ≡ Some asked.came
+  pub is : IsActivity from.region terminal asked.doing

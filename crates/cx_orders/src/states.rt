@@ -1,0 +1,101 @@
+//! The states that orders lead to.
+
+ghost use Rattle.std.specs.Prelude.{◌≡◌, ◌↔◌, ◌≤◌, IsTrue, length};
+
+use cx_base_copies::{Same, are_same_items};
+use cx_base_lists::List;
+use cx_code::Bytes;
+use cx_ebcdic::{Aid, Name4};
+use cx_region::KeyReply;
+use cx_region_snapshot::RegionSnapshot;
+use std::hash::{Hash, Hasher};
+
+/// A key that is to come: a terminal's, with the bytes that it sends.
+#[derive(Drop)]
+pub struct KeyLine {
+    pub name: Name4,
+    pub aid: Aid,
+    pub bytes: Bytes,
+    pub ghost few: { length bytes ≤ 1920 },
+}
+
+/// What is kept of a terminal's way.
+#[derive(Clone, Copy, Debug)]
+pub enum Incident {
+    /// A task of it ended by an abend of that code.
+    Abended(Name4),
+    /// A key of it was answered so: neither Attached nor Given.
+    Refused(KeyReply),
+}
+
+/// What was kept of the terminal with that number, in the order of their definition, from 0.
+#[derive(Clone, Copy, Debug)]
+pub struct IncidentAt {
+    pub number: usize,
+    pub incident: Incident,
+}
+
+/// A state: the region, how many of each terminal's keys came, and what is kept of the way.
+#[derive(Drop)]
+pub struct OrdersState {
+    pub region: RegionSnapshot,
+    pub come: List<usize>,
+    pub incidents: List<IncidentAt>,
+}
+
+impl Same for Incident {
+    fn is_same(&self, other: &Self) -> bool {
+        match (self, other) {
+            (Incident::Abended(one), Incident::Abended(other)) => one.is_same(other),
+            (Incident::Refused(one), Incident::Refused(other)) => one == other,
+            _ => false,
+        }
+    }
+}
+
+impl Same for IncidentAt {
+    fn is_same(&self, other: &Self) -> bool {
+        self.number == other.number && self.incident.is_same(&other.incident)
+    }
+}
+
+impl Same for OrdersState {
+    fn is_same(&self, other: &Self) -> bool {
+        self.come.as_slice() == other.come.as_slice()
+            && are_same_items(self.incidents.as_slice(), other.incidents.as_slice())
+            && self.region.is_same(&other.region)
+    }
+}
+
+impl PartialEq for OrdersState {
+    ghost use Rattle.cx_orders.specs.Facts.Same.{same_state, same_laws};
+
+    ghost eq = { same_state };
+
+    ghost laws = { same_laws };
+
+    #[tactic(auto, using(crate::specs::Facts::Same::same_as))]
+    fn eq(&self, other: &OrdersState) -> bool {
+        self.is_same(other)
+    }
+}
+
+impl Eq for OrdersState {
+    ghost use Rattle.cx_orders.specs.Facts.Same.{same_equivalence};
+
+    ghost laws = { same_equivalence };
+}
+
+impl Hash for OrdersState {
+    ghost use Rattle.std.specs.Hash as fed;
+    ghost use Rattle.cx_region_snapshot.specs.Hash.{region_hash};
+    ghost use Rattle.cx_orders.specs.Facts.Same.{hash_alike};
+
+    ghost hash_input = { λ state. fed.u64 (region_hash state.region) };
+
+    ghost respects_eq = { hash_alike };
+
+    fn hash<H: Hasher>(&self, state: &mut H) {
+        state.write_u64(self.region.hash());
+    }
+}
