@@ -136,7 +136,7 @@ class Session:
 
     def __init__(self, command: Sequence[str]) -> None:
         self.name, self.typed, self.unread, self.left, self.stops = " ".join(command), "nothing", b"", ANSWERED, 0
-        self.until = time.monotonic() + SECONDS
+        self.until, self.seconds, self.count = time.monotonic() + SECONDS, SECONDS, 0  # of lines that were typed
         self.reported = os.memfd_create("reported")
         self.process = subprocess.Popen(command, stdin=subprocess.PIPE, stdout=subprocess.PIPE, stderr=self.reported)
         assert self.process.stdin and self.process.stdout
@@ -160,10 +160,11 @@ class Session:
     def wait_for(self, readers: Sequence[int] = (), writers: Sequence[int] = ()) -> None:
         """Waits until one of these can be read or written."""
         if not any(select.select(readers, writers, [], max(0, self.until - time.monotonic()))):
-            raise self.overdue(f"no answer within {SECONDS} seconds")
+            raise self.overdue(f"no answer within {self.seconds} seconds")
 
     def type(self, *lines: str) -> None:
         *_, self.typed = (line for line in lines if line != CLOCK)
+        self.count += len(lines)
         keys = "".join(f"{line}\n" for line in lines).encode(errors="surrogateescape")
         while keys:
             self.wait_for(writers=[self.keys])
@@ -178,7 +179,7 @@ class Session:
         piece = os.read(self.screen, 65536)
         self.unread, self.left = self.unread + piece, self.left - len(piece)
         if self.left < 0:
-            raise self.overdue(f"more than {ANSWERED} bytes are answered")
+            raise self.overdue("too many bytes are answered")
         return piece
 
     def read_to(self, length: int) -> None:

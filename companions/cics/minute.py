@@ -104,10 +104,16 @@ def pressed_in(transcript: list[str], keys: list[str]) -> list[Pressed]:
     return found
 
 
+def fields_before(script: list[str], cicslook: str) -> list[str]:
+    """What FIELDS writes in front of the abend with which the last line of a script ends, a RUN; the program's own fields."""
+    asked = [*script[:-1], f"{script[-1]} BEFORE ABEND", f"FIELDS {AT}"]
+    found = [line[2:] for line in run_script(asked, cicslook) if line.startswith("> FIELD")]
+    end = next((at for at, line in enumerate(found) if f"{AT} 'DFHEIBLK' " in line), len(found))
+    return [line for line in found[:end] if not line.split(" ")[2].startswith("'DFHEI")]
+
+
 def run_script(script: list[str], cicslook: str) -> list[str]:
     ended = run([cicslook], encoded(script))
     if not ended.is_well():
-        number = ended.reported.decode(errors="replace").partition("line ")[2].partition(":")[0]
-        line = script[int(number) - 1] if number.isdigit() and int(number) <= len(script) else ""
-        raise Failure(f"{ended.reported.decode(errors='replace').strip()} {line}".strip())
+        raise Failure(" ".join(ended.reported.decode(errors="replace").splitlines()))
     return ended.out.decode("latin-1").rstrip("\n").split("\n")

@@ -85,7 +85,7 @@ def plain(name: str) -> tuple[bytes, Ended]:
     fault = FAULT.fullmatch(due.reported)
     if fault and fault[3].startswith(b": BadLook"):
         return text_of(script), Ended(0, text_of(transcript), b"")
-    reported = b"%s%d%s" % (fault[1], numbers[int(fault[2]) - 1], fault[3]) if fault else due.reported
+    reported = b"%s%d%s\n" % (fault[1], numbers[int(fault[2]) - 1], fault[3].partition(b"\n")[0]) if fault else due.reported
     return text_of(script), Ended(due.status, text_of(transcript), reported)
 
 

@@ -6,6 +6,7 @@ to a turn that is answered Idle or Waiting, round by round until no terminal goe
 import os
 import re
 import time
+from collections.abc import Iterator
 from dataclasses import dataclass, field
 
 from cics.child import ANSWERED, SECONDS, Overdue, Session, is_of_page
@@ -17,6 +18,7 @@ REST = ("Idle", "Waiting")
 NOBODY = "TURN $$$$"  # no terminal of a script has this name: its answer ends what is answered to the line in front
 MOST_OF_QUEUES = 16 * ANSWERED  # bytes that are answered, at most, with queues
 BLOCKS, TAKEN = ("IMAGE", "SOURCE", "FAULTS"), ("IMAGE", "SOURCE", "TRANSACTION", "TERMINAL", "CLOCK", "KEY")
+ANY_CASE = ("FAULTS",)  # words of `cicslook` that may be in lower case
 QUEUE = re.compile(r"> QUEUE (?P<shown>'.*'|X'[0-9A-F]{16}') ITEMS (?P<items>\d+) BYTES \d+ READ \d+")
 
 
@@ -28,6 +30,11 @@ class Restless(Exception):
     """A terminal that doesn't come to rest."""
 
 
+def word_of(line: str) -> str:
+    word = line.split(" ", 1)[0]
+    return word.upper() if word.upper() in ANY_CASE else word
+
+
 @dataclass(frozen=True)
 class Step:
     """What is asked: the number of its first line in the script, and its lines."""
@@ -36,7 +43,7 @@ class Step:
     lines: list[str]
 
     def word(self) -> str:
-        return self.lines[0].split(" ", 1)[0]
+        return word_of(self.lines[0])
 
     def is_key(self) -> bool:
         return self.word() == "KEY"
@@ -72,7 +79,7 @@ def steps_of(script: list[str], sources: Sources) -> list[Step]:
     steps, at = [], 0
     while at < len(script):
         number, taken = at + 1, [script[at]]
-        word = script[at].split(" ", 1)[0]
+        word = word_of(script[at])
         if word in BLOCKS:
             while taken[-1] != "/*" and at + 1 < len(script):
                 at += 1
@@ -121,9 +128,9 @@ class Region:
                 ends += [f"{terminal} {answer}" for answer in answers if answer.startswith(("Ended", "Abended"))]
         return ends
 
-    def renew(self, answered: int) -> None:
+    def renew(self, answered: int, seconds: int = SECONDS) -> None:
         """Lets the next questions take their time."""
-        self.session.until, self.session.left = time.monotonic() + SECONDS, answered
+        self.session.until, self.session.left, self.session.seconds = time.monotonic() + seconds, answered, seconds
 
     def pressed(self, key: str) -> list[str]:
         """What is to be seen after a key: its answer, how tasks ended, all screens and queues."""
@@ -157,6 +164,10 @@ class Region:
         if lines[0].startswith("TERMINAL "):
             self.terminals.append(lines[0].split()[1])
 
+    def loaded_all(self, loaders: list[Loader]) -> None:
+        for at, loader in enumerate(loaders):
+            self.loaded(loader, is_first=at == 0)
+
     def loaded(self, loader: Loader, *, is_first: bool) -> None:
         """Loads test data at a terminal of its own, which is none of those that are compared."""
         first = [f"TERMINAL {TERMINAL}"] if is_first else []
@@ -171,25 +182,35 @@ class Region:
             raise Fault(last[0] if last else f"{TERMINAL} doesn't end")
 
 
+def reported_by(session: Session) -> str:
+    """The first line that a program wrote on standard error."""
+    return os.pread(session.reported, 4096, 0).decode(errors="replace").partition("\n")[0].strip()
+
+
+def pages_of(region: Region, steps: list[Step], loaders: list[Loader], *, is_last_loaded: bool = False) -> Iterator[Page]:
+    """What is to be seen after each key, up to one after which a terminal doesn't come to rest. Test data is loaded before the first; or
+    after the last step where there is no key."""
+    left = loaders
+    for step in steps:
+        if not step.is_key():
+            region.defined(step.lines)
+            continue
+        region.loaded_all(left)
+        left = []
+        page = Page(step.number, step.lines[0], region.pressed(step.lines[0]))
+        yield page
+        if page.lines[-1].endswith(" turns"):
+            return
+    region.loaded_all(left if is_last_loaded else [])
+
+
 def seen(command: list[str], steps: list[Step], loaders: list[Loader], *, has_looks: bool) -> list[Page]:
-    """What is to be seen after each key, up to one after which a terminal doesn't come to rest. Test data is loaded before the first."""
-    pages: list[Page] = []
+    """What is to be seen after each key of a script."""
     with Session(command) as session:
-        region = Region(session, has_looks=has_looks)
         try:
-            for step in steps:
-                if not step.is_key():
-                    region.defined(step.lines)
-                    continue
-                for at, loader in enumerate(loaders if not pages else []):
-                    region.loaded(loader, is_first=at == 0)
-                pages.append(Page(step.number, step.lines[0], region.pressed(step.lines[0])))
-                if pages[-1].lines[-1].endswith(" turns"):
-                    break
+            return [*pages_of(Region(session, has_looks=has_looks), steps, loaders)]
         except Overdue as why:
-            reported = os.pread(session.reported, 4096, 0).decode(errors="replace").strip()
-            raise Fault(reported or str(why)) from None
-    return pages
+            raise Fault(reported_by(session) or str(why)) from None
 
 
 @dataclass(frozen=True)

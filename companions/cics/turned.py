@@ -2,7 +2,7 @@
 
 What RUN did is read from the transcript: each of its turns wrote a TURN line. It ended (docs/LOOKS.md, "RUN") at one that was answered Idle,
 Waiting, Held, Ended, Abended or NoSuchTerminal; at one after which EDF stopped the task, so that a further turn would be answered Held; or
-where it says that the task is still running.
+where it says that the task is still running, or that it stopped in front of an abend.
 """
 import re
 from dataclasses import dataclass, field
@@ -10,9 +10,11 @@ from dataclasses import dataclass, field
 from cics.child import is_of_page
 
 OF_CICSLOOK = {"RUN", "QUEUES", "QUEUE", "PROGRAMS", "TASKS", "RESOURCES", "COMMAND", "TASK", "AREAS", "STORAGE", "ABEND", "SYMBOL", "SYMBOLS",
-               "XREF", "FAULTS", "HELP", "TERMINALS", "AHEAD", "FIELD", "FIELDS"}
+               "XREF", "FAULTS", "HELP", "TERMINALS", "AHEAD", "FIELD", "FIELDS",
+               "WHERE"}
 BLOCKS = ("IMAGE", "SOURCE", "FAULTS")
-RUN = re.compile(r"RUN [A-Z0-9@#$]{1,4}(?: ([0-9]{1,5}))?")
+RUN = re.compile(r"RUN [A-Z0-9@#$]{1,4}(?: ([0-9]{1,5}))?(?: BEFORE ABEND)?")
+RUN_ENDED = re.compile(r"> RUN \S+ (?:STOPPED|STILL) ")
 MOST_TURNS = 4096
 PAGED = ("SCREEN", "DISPLAY")
 ENDS = ("Idle", "Waiting", "Held", "Ended", "Abended", "NoSuchTerminal")
@@ -55,8 +57,8 @@ class Action:
         return ">" if self.is_look() else "CLOCK SET" if word == "CLOCK" else " ".join([first, *names[:1]])
 
     def is_answered(self) -> bool:
-        """Whether its answer is there, where one is due: a faulty line has none."""
-        return self.is_silent() or any(is_head(line, self.head()) for line in self.answer)
+        """Whether its answer is there, where one is due: a faulty line has none. A RUN may end in front of its first turn."""
+        return self.is_silent() or any(is_head(line, self.head()) or self.is_run() for line in self.answer)
 
 
 def actions_of(lines: list[str]) -> list[Action]:
@@ -88,7 +90,7 @@ def taken_by(action: Action, left: list[str]) -> int:
     if action.is_silent():
         return 0
     if action.is_look():
-        return next((at for at, line in enumerate(left) if not line.startswith("> ")), len(left))
+        return next((at for at, line in enumerate(left) if not line.startswith("> ") or RUN_ENDED.match(line)), len(left))
     if action.is_run():
         return taken_by_run(action.words()[1], left)
     at = next((at for at, line in enumerate(left) if is_head(line, action.head())), None)
@@ -103,7 +105,7 @@ def taken_by(action: Action, left: list[str]) -> int:
 def taken_by_run(terminal: str, left: list[str]) -> int:
     for at, line in enumerate(left):
         *head, reply = line.split(" ")[:3]
-        if line == f"> RUN {terminal} STILL RUNNING":
+        if line.startswith(f"> RUN {terminal} "):
             return at + 1
         if head != ["TURN", terminal] or (at and reply == "Held"):
             return at

@@ -13,12 +13,18 @@ from film.sources import Source, source_of, with_fields
 MOST_EVENTS = 10_000
 CWA = ("001000", 512)
 SHOWN, IN_AREA = 4_096, 256  # bytes of a DFHEISTG, and of another area
+MOST_ITEMS, ITEM_BYTES = 24, 512  # of a queue, that are shown as bytes too
+MOST_AHEAD = 300_000  # bytes of tasks' areas and of queues: with more AHEAD, which copies all, isn't asked
 OWN, OTHER, OTHERS = 16_384, 4_096, 32_768  # bytes of a task's areas; at an event of another terminal; of all such tasks together
 LEVEL = re.compile(r"> LEVEL \d\d PROGRAM (\S+) R14 ([0-9A-F]{6}) ")
 AREA = re.compile(r"> AREA ([0-9A-F]{6}) LENGTH ([0-9A-F]{6}) (?:DFHEISTG (\d+)|GETMAIN|OTHER) OWNER \S+")
+ITEM = re.compile(r"> ITEM (\d+) LENGTH (\d+) ")
+INSTRUCTION = re.compile(r"> INSTRUCTION [0-9A-F]{6} ([^ +]+)\+[0-9A-F]{6} \S+ LINE (\d+)")
+MOST_INSTRUCTIONS = 256  # of a half-turn, the last ones, whose statements are tinted
+BYTES = re.compile(r" BYTES (\d+) READ \d+$")
 NEXT = re.compile(r"> CC \d NEXT ([0-9A-F]{6}) ")
 ABENDED = [re.compile(r"> NEXT \S+ (?P<program>[^ +]+)\+\S+ LINE (?P<line>\d+)", re.M),
-           re.compile(r"> COMMAND .* LINE (?P<line>\d+)\n> R14 \S+ (?P<program>[^ +]+)\+", re.M)]
+           re.compile(r"> COMMAND .* LIST [0-9A-F]{6} LINE (?P<line>\d+).*\n(?:> (?!R14 ).*\n)*?> R14 \S+ (?P<program>[^ +]+)\+", re.M)]
 LAST_OF_RUN = ("Idle", "Waiting", "Held", "Ended", "Abended", "NoSuchTerminal")
 
 Lines = list[str]
@@ -64,7 +70,10 @@ class Camera:
         self.areas: dict[str, dict[str, str]] = {}  # of each terminal's task: what is asked of its areas, those of its last level first
         self.places: dict[str, tuple[tuple[str, int], bool]] = {}  # of each terminal's task: where it is; after an EXEC's command
         self.queues: dict[str, str] = {}  # of each queue: its line
+        self.items: dict[str, dict[str, str]] = {}  # of each queue: what is asked of its items
+        self.bytes: dict[str, int] = {}  # of each terminal's task: how many bytes its areas have
         self.lines_left, self.named = 0, set[str]()  # of sources that FIELDS may still look through; of which terminals it was asked
+        self.has_instructions = False  # whether AHEAD has the instructions of the next turn
         self.done = 0
 
     def perform(self, actions: list[Action]) -> None:
@@ -75,8 +84,8 @@ class Camera:
                 self.act(action)
             except Ended as end:
                 found = re.search(r"line (\d+): ", end.said)
-                # the child counts the lines that it was given: those of this action come after `began`
-                at = int(found[1]) - began - 1 if found and not action.turns else 0
+                # the child counts the lines that it was given: those of a block come after `began`
+                at = int(found[1]) - began - 1 if found and len(action.lines) > 1 else 0
                 self.film.fault = (action.line + max(0, at), re.sub(r".*?line \d+: ", "", end.said) or f"status {end.status}")
                 return
 
@@ -97,10 +106,17 @@ class Camera:
         found = RUN.fullmatch(action.text)
         assert found
         for turn in range(1, turns + 1):
+            if found[3] and self.would_abend(found[1]):
+                return
             answer = self.event(action, [f"TURN {found[1]}"], found[1], turn)
             stopped = f"display {found[1]}" in self.shown
             if stopped or answer[-1:] and answer[-1].split(" ")[2] in LAST_OF_RUN:
                 return
+
+    def would_abend(self, terminal: str) -> bool:
+        """Whether the next turn of a terminal would be answered as an abend. One that EDF holds is none."""
+        first, *_ = self.child.ask([[f"AHEAD {terminal}"]])[0]
+        return f"display {terminal}" not in self.shown and first.split(" ")[3] in ("Abended", "TookExit")
 
     def define(self, action: Action) -> None:
         """Defines a program; of a source the listing is asked for, which isn't shown as answer."""
@@ -124,12 +140,14 @@ class Camera:
         is_first = self.done == self.skipped + 1 and self.skipped > 0
         self.shown = {} if is_first else self.shown
         asked = self.questions(set(self.film.terminals) if is_first else {terminal or ""} - {""})
+        before_it = self.instructions_ahead(lines, terminal)
+        ahead = self.child.ask([before_it])[0] if before_it else []
         answer, *given = self.child.ask([lines, *([it] for it in asked.values())])
         self.note_terminal(action, answer)
         shown = dict(zip(asked, given))
         shown.update(self.more(shown, terminal))
         before = self.shown
-        kept = {key: lines for key, lines in before.items() if key not in shown}
+        kept = {key: lines for key, lines in before.items() if key not in shown and not key.startswith("ahead ")}
         now = {key: lines for key, lines in {**kept, **shown}.items() if self.lives(key) and is_there(lines)}
         self.shown = now
         if is_first:
@@ -139,12 +157,20 @@ class Camera:
         answer_shown = [it for it in answer if not it.startswith("> ")]
         event = Event(action.line, turn, lines[0] if turn else action.text, terminal, answer_shown[-1:], changes, action.comments if turn < 2 else [])
         if terminal:
-            self.note_place(event, terminal, answer_shown[-1:])
+            self.note_place(event, terminal, answer_shown[-1:], [it for it in map(INSTRUCTION.match, ahead) if it])
         self.film.events.append(event)
         return answer
 
-    def note_place(self, event: Event, terminal: str, answer: Lines) -> None:
-        """Notes where the task is after an event, and what a turn surely did since it was there."""
+    def instructions_ahead(self, lines: Lines, terminal: str | None) -> Lines:
+        """What is asked in front of a turn that runs instructions: which these are."""
+        if not self.has_instructions or not lines[0].startswith("TURN ") or terminal not in self.places or self.kept_bytes() > MOST_AHEAD:
+            return []
+        _, is_due = self.address_of(terminal)
+        return [] if is_due else [f"AHEAD {terminal} {MOST_INSTRUCTIONS}"]
+
+    def note_place(self, event: Event, terminal: str, answer: Lines, ahead: list[re.Match[str]]) -> None:
+        """Notes where the task is after an event, and what a turn did since it was there: by its instructions where these are known, and
+        else what it surely did."""
         before, (address, is_due) = self.places.pop(terminal, None), self.address_of(terminal)
         event.ran = self.place_of(terminal, address)
         abended = [it for it in (form.search("\n".join(self.shown.get(f"abend {terminal}", []))) for form in ABENDED) if it]
@@ -155,6 +181,9 @@ class Camera:
         if before and event.text.startswith("TURN "):
             (program, line), is_done = before
             event.passed = self.film.sources[program].path(line, event.ran[1] if event.ran and event.ran[0] == program else None, is_done)
+            known = [int(it[2]) for it in ahead if it[1] == program and (it[1], int(it[2])) != event.ran]
+            # of a long run the first lines aren't among the last instructions
+            event.passed = sorted({*event.passed, *known} if len(ahead) == MOST_INSTRUCTIONS else {*known}) if known else event.passed
 
     def note_terminal(self, action: Action, answer: Lines) -> None:
         if action.word == "TERMINAL" and answer and answer[-1].endswith(" DEFINED"):
@@ -167,6 +196,8 @@ class Camera:
         for terminal in sorted(terminals):
             for name in ("SCREEN", "DISPLAY", "ABEND"):
                 asked[f"{name.lower()} {terminal}"] = f"{name} {terminal}"
+            if self.kept_bytes() <= MOST_AHEAD:
+                asked[f"ahead {terminal}"] = f"AHEAD {terminal}{' 1' if self.has_instructions else ''}"
         for it in sorted({*terminals, *self.levels}):
             asked[f"task {it}"], asked[f"command {it}"] = f"TASK {it}", f"COMMAND {it}"
         asked |= {f"areas {terminal}": f"AREAS {terminal}" for terminal in terminals}
@@ -188,11 +219,24 @@ class Camera:
                 self.levels.pop(name, None)
                 self.levels.update({name: (it[1], int(it[2], 16)) for it in [it for it in map(LEVEL.match, lines) if it][-1:]})
             elif word == "areas":
+                self.bytes[name] = sum(int(it[2], 16) for it in map(AREA.match, lines) if it)
                 old, self.areas[name] = self.areas.get(name, {}), areas_in(name, shown.pop(key))
                 more.update({area: question for area, question in self.areas[name].items() if old.get(area) != question})
                 self.named = {*self.named, name} if self.has_names(name) else self.named - {name}
                 more.update({f"fields {name}": f"FIELDS {name}"} if name in self.named else {})
-        return dict(zip(more, self.child.ask([[it] for it in more.values()]))) if more else {}
+        found = self.asked(more)
+        for key in [it for it in found if it.startswith("queue ")]:
+            self.items[key] = items_in(key, found[key])
+            found |= self.asked(self.items[key])
+        return found
+
+    def asked(self, questions: dict[str, str]) -> Shown:
+        return dict(zip(questions, self.child.ask([[it] for it in questions.values()]))) if questions else {}
+
+    def kept_bytes(self) -> int:
+        """How many bytes tasks' areas and queues have, as far as that was seen."""
+        queues = (BYTES.search(line) for line in self.queues.values())
+        return sum(self.bytes.values()) + sum(int(it[1]) for it in queues if it)
 
     def has_names(self, terminal: str) -> bool:
         """Whether the fields of a task's areas are asked for, which takes the longer the longer the source is."""
@@ -209,7 +253,10 @@ class Camera:
             return key in self.areas.get(rest.split(" ")[0], {})
         if word == "queue":
             return key in self.queues
-        return rest in self.named if word == "fields" else word not in ("task", "command") or rest in self.levels
+        if word == "item":
+            queue = f"queue {rest.split(' ')[0]}"
+            return queue in self.queues and key in self.items.get(queue, {})
+        return rest in self.named if word == "fields" else word not in ("task", "command", "ahead") or rest in self.levels
 
     def address_of(self, terminal: str) -> tuple[int, bool]:
         """Where a terminal's task is: its next instruction's address, or where a command is due that of the last byte of its EXEC."""
@@ -244,6 +291,12 @@ def areas_in(terminal: str, lines: Lines) -> dict[str, str]:
     others = [(f"area {terminal} {it[1]}", it, IN_AREA) for it in found if not it[3]]
     ordered = [*storages[:1], *others, *storages[1:]]
     return within({key: f"STORAGE {it[1]} {min(int(it[2], 16), most)}" for key, it, most in ordered}, OWN)
+
+
+def items_in(key: str, lines: Lines) -> dict[str, str]:
+    """What is asked of a queue's items, by what QUEUE writes: the bytes of the first ones."""
+    name, found = key.split(" ")[1], [it for it in map(ITEM.match, lines) if it]
+    return {f"item {name} {it[1]}": f"QUEUE {name} {it[1]}" for it in found[:MOST_ITEMS] if int(it[2]) <= ITEM_BYTES}
 
 
 def queue_word(line: str) -> str:

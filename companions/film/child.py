@@ -96,4 +96,5 @@ class Child:
     def ended(self) -> Ended:
         status = self.process.wait()
         self.reported.seek(0)
-        return Ended(status, decoded(self.reported.read()).strip(), self.taken())
+        said = decoded(self.reported.read()).partition("\n")[0]  # what follows is the line itself
+        return Ended(status, said.strip(), self.taken())

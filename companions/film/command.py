@@ -77,11 +77,11 @@ def events_of(actions: list[Action], path: str, mark: str) -> int:
 
 
 @functools.cache
-def has_fields(path: str) -> bool:
-    """Whether a program has the look FIELDS, by which areas are shown by names."""
+def has_look(path: str, look: str) -> bool:
+    """Whether a program has a look: of a line that is none it says what is meant."""
     child = Child(path, MARKS[0])
     try:
-        return child.ask([[f"FIELDS {MARKS[0]}"]]) == [[f"> FIELDS {MARKS[0]} NONE"]]
+        return not child.ask([[f"{look.replace('TERM', MARKS[0])}"]])[0][0].startswith("> ? ")
     except Ended:
         return False
     finally:
@@ -102,7 +102,8 @@ def filmed(name: str, text: str, path: str) -> Film:
     child = Child(path, mark)
     try:
         camera = Camera(child, film, skipped, progress(name, events))
-        camera.lines_left = MOST_LINES if has_fields(path) else 0
+        camera.lines_left = MOST_LINES if has_look(path, "FIELDS TERM") else 0
+        camera.has_instructions = has_look(path, "AHEAD TERM 1")
         camera.perform(actions)
     finally:
         child.close()

@@ -151,7 +151,7 @@ for (const [first, text] of [[0x81, "abcdefghi"], [0x91, "jklmnopqr"], [0xa2, "s
 }
 const characters = (digits) => (digits.match(/../g) || []).map((it) => CODES.get(parseInt(it, 16)) ?? ".").join("");
 
-/** A field's value by the letter of its type: a number of F and H, of packed digits, else none. */
+/** A field's value by the letter of its type, as FIELDS has it: a number of F and H, of packed digits, of zoned ones in C; else none. */
 function worded(type, digits) {
   if (digits.includes("-") || !digits) return "";
   if (type === "F" || type === "H") {
@@ -159,6 +159,9 @@ function worded(type, digits) {
     return bits <= 32 ? String(bits === 32 ? parseInt(digits, 16) | 0 : (parseInt(digits, 16) << (32 - bits)) >> (32 - bits)) : "";
   }
   if (type === "P" && /^[0-9]+[A-F]$/.test(digits)) return (/[BD]$/.test(digits) ? "-" : "") + String(BigInt(digits.slice(0, -1) || "0"));
+  if (type === "C" && digits.length <= 32 && /^(F[0-9])*[A-F][0-9]$/.test(digits)) {
+    return `zoned ${/[BD].$/.test(digits) ? "-" : ""}${BigInt(digits.replace(/.(.)/g, "$1"))}`;
+  }
   return "";
 }
 
@@ -270,12 +273,47 @@ function fieldsTable(film, fields, key) {
   return table;
 }
 
+function sourceOfLevel(film, terminal, level) {
+  const line = film.lines(view.at, `task ${terminal}`).find((it) => it.startsWith(`> LEVEL ${String(level).padStart(2, "0")} PROGRAM `));
+  return film.data.sources[line?.split(" ")[4]];
+}
+
 function fieldsCard(film, terminal, key) {
   const level = Number(key.split(" ")[2]);
-  const line = film.lines(view.at, `task ${terminal}`).find((it) => it.startsWith(`> LEVEL ${String(level).padStart(2, "0")} PROGRAM `));
-  const source = film.data.sources[line?.split(" ")[4]];
+  const source = sourceOfLevel(film, terminal, level);
   if (!source?.fields.length) return card(`DFHEISTG of level ${level}`, raw(film, key, true));
   return card(`Fields of ${source.name}, level ${level} at ${terminal}`, fieldsTable(film, source.fields, key), raw(film, key));
+}
+
+/** Where the fields are that have names at a terminal: those of each level's DFHEISTG, of areas, and of the CWA. */
+function placesOf(film, terminal) {
+  const found = [];
+  const add = (key, fields) => {
+    const base = /^> ([0-9A-F]{6})  /.exec(film.lines(view.at, key)[0] || "");
+    if (base) found.push(...fields.map((it) => ({ name: it.name, at: parseInt(base[1], 16) + it.offset, length: it.length })));
+  };
+  for (const key of film.names(view.at, `storage ${terminal}`).reverse()) add(key, sourceOfLevel(film, terminal, Number(key.split(" ")[2]))?.fields || []);
+  add("cwa", sourceOfCwa(film, terminal)?.cwa || []);
+  const named = film.lines(view.at, `fields ${terminal}`).map((line) => NAMED.exec(line)).filter(Boolean);
+  return found.concat(named.map(([, name, at, length]) => ({ name, at: parseInt(at, 16), length: Number(length) })));
+}
+
+const CHANGES = /^> CHANGES ([0-9A-F]{6}) (\d+) FROM (\S+) TO (\S+)$/;
+
+/** What the next turn of a terminal would do now: its answer, and the bytes that it would change, with the names of the fields there. */
+function aheadCard(film, terminal) {
+  const [first, ...rows] = film.lines(view.at, `ahead ${terminal}`).filter((line) => !/^> INSTRUCTIONS? /.test(line));
+  if (!first) return null;
+  const places = placesOf(film, terminal);
+  const namesIn = (at, length) => new Set(places.filter((it) => it.at < at + length && at < it.at + it.length).map((it) => it.name));
+  const spaced = (digits) => digits.replace(/.{8}(?=.)/g, "$& ");
+  const table = make("table", "ahead", make("tr", "", ...["Bytes", "Fields", "Now", "Then"].map((it) => make("th", "", it))));
+  for (const found of rows.map((row) => CHANGES.exec(row)).filter(Boolean)) {
+    const names = [...namesIn(parseInt(found[1], 16), Number(found[2]))].join(" ");
+    table.append(make("tr", "", ...[`${found[1]} ${found[2]}`, names, spaced(found[3]), spaced(found[4])].map((text, k) => make("td", k ? "long" : "", text))));
+  }
+  const details = make("details", "", make("summary", "", `${rows.length} ${rows.length === 1 ? "row" : "rows"} of bytes`), table);
+  return card(`The next turn at ${terminal} would be answered ${first.split(" ").slice(3).join(" ")}`, rows.length ? details : null);
 }
 
 const NAMED = /^> FIELD \S+ '(.+)' AT ([0-9A-F]{6}) LENGTH (\d+) /;
@@ -292,10 +330,29 @@ function areaCard(film, terminal, key) {
   return it;
 }
 
+/** A queue: its items in characters; and of each that isn't all characters the bytes, which are asked by themselves. */
+function queueCard(film, key) {
+  const name = key.slice(6);
+  const it = linesCard(film, key, `Queue ${name}`);
+  for (const line of film.lines(view.at, key).filter((it) => /^> ITEM \d+ LENGTH (?:\d+ .*\.|\d{3,} )/.test(it))) {
+    const number = line.split(" ")[2];
+    const item = `item ${name} ${number}`;
+    const question = { type: "whole", key: item };
+    if (!film.lines(view.at, item).length) continue;
+    const rows = film.lines(view.at, item).slice(1).map((line) => make("span", "row", `${number.padStart(3)}  ${line.replace(/^> /, "")}`));
+    it.append(asked(make("pre", isNew(film, question) ? "lines item new" : "lines item", ...rows), film, question));
+  }
+  return it;
+}
+
 /** The CWA, by the names that the program at a terminal has for it, or else another program. */
-function cwaCard(film, terminal) {
+function sourceOfCwa(film, terminal) {
   const sources = [film.data.sources[film.states[view.at + 1]?.ran[terminal]?.[0]], ...Object.values(film.data.sources)];
-  const source = sources.find((it) => it?.cwa.length);
+  return sources.find((it) => it?.cwa.length);
+}
+
+function cwaCard(film, terminal) {
+  const source = sourceOfCwa(film, terminal);
   if (!film.lines(view.at, "cwa").length) return null;
   if (!source) return card("CWA", raw(film, "cwa"));
   return card(`Fields of the CWA, as ${source.name} has them`, fieldsTable(film, source.cwa, "cwa"), raw(film, "cwa"));
@@ -342,9 +399,10 @@ function cardsOf(film) {
   const has = (key) => film.lines(view.at, key).length;
   const lines = (key, title) => linesCard(film, key, title);
   const seen = [terminal && screenCard(film, `screen ${terminal}`, `Screen of ${terminal}`, true), has(`display ${terminal}`) && screenCard(film, `display ${terminal}`, `EDF at ${terminal}`)];
-  const program = [lines(`abend ${terminal}`, `Last abend at ${terminal}`), lines(`command ${terminal}`, `Command that is due at ${terminal}`), sourceCard(film, terminal)];
+  const program = [lines(`abend ${terminal}`, `Last abend at ${terminal}`), lines(`command ${terminal}`, `Command that is due at ${terminal}`), sourceCard(film, terminal),
+    aheadCard(film, terminal)];
   const fields = film.names(view.at, `storage ${terminal}`).reverse().map((key) => fieldsCard(film, terminal, key));
-  const queues = film.names(view.at, "queue").map((key) => lines(key, `Queue ${key.slice(6)}`));
+  const queues = film.names(view.at, "queue").map((key) => queueCard(film, key));
   const gotten = film.names(view.at, `area ${terminal}`).map((key) => areaCard(film, terminal, key));
   const data = [...fields, ...gotten, registersCard(film, terminal), waitsCard(film), lines("resources", "Resources"), cwaCard(film, terminal),
     lines("queues", "Queues"), ...queues];
@@ -496,7 +554,7 @@ async function copy() {
 }
 
 /** What a run shows outside after an event: screens, and queues with their items. */
-const outside = (film, at) => ["screen", "queue"].flatMap((word) => film.names(at, word).map((key) => `${key} ${film.lines(at, key).join("\n")}`)).join("\n");
+const outside = (film, at) => ["screen", "queue", "item"].flatMap((word) => film.names(at, word).map((key) => `${key} ${film.lines(at, key).join("\n")}`)).join("\n");
 
 /** The place of the first event at which two films differ, in what was answered, on a screen or in a queue; -1: none. */
 function firstDifference([one, other]) {

@@ -19,7 +19,9 @@ LOOKS: dict[str, list[str]] = {
     "AREAS": [],
     "AREAS term": [],
     "STORAGE address length": [],
+    "WHERE address": [],
     "ABEND term": [],
+    "ABEND term STORAGE": [],
     "SYMBOL program program": [],
     "SYMBOLS program": [],
     "XREF program": [],
@@ -37,7 +39,7 @@ OPERANDS = {
     "queue": "(?:[A-Z0-9@#$]{1,8}|[0-9A-F]{16})",
     "address": "[0-9A-F]{6}",
     "level": "(?:[1-9]|1[0-6])",
-    "word": "(?:RUN|QUEUES?|PROGRAMS|TASKS?|RESOURCES|TERMINALS|COMMAND|AHEAD|FIELDS?|AREAS|STORAGE|ABEND|SYMBOLS?|XREF|FAULTS|HELP)",
+    "word": "(?:RUN|QUEUES?|PROGRAMS|TASKS?|RESOURCES|TERMINALS|COMMAND|AHEAD|FIELDS?|AREAS|STORAGE|WHERE|ABEND|SYMBOLS?|XREF|FAULTS|HELP)",
     "number": "(?:[1-9][0-9]{0,3}|[12][0-9]{4}|3[01][0-9]{3}|32[0-6][0-9]{2}|327[0-5][0-9]|3276[0-7])",  # to 32767
     "length": "(?:[1-9][0-9]{0,2}|[1-3][0-9]{3}|40[0-8][0-9]|409[0-6])",  # to 4096
 }
@@ -51,8 +53,8 @@ HEAD, SHOWN = 80, 352  # of a working storage: what every program has, and what 
 IN_AREA, IN_FIELD = 64, 16  # bytes that are shown of each
 
 # Where a program is: at a level's last command, at the command that abended, at the next instruction.
-PLACES = [re.compile(r"^LEVEL \d\d PROGRAM (?P<program>\S+) R14 .* COMMAND LINE (?P<line>\d+)", re.M),
-          re.compile(r"^COMMAND .* LINE (?P<line>\d+)\nR14 \S+ (?P<program>[^ +]+)\+", re.M),
+PLACES = [re.compile(r"^LEVEL (\d\d) PROGRAM (?P<program>\S+) R14 .*\nLEVEL \1 COMMAND LINE (?P<line>\d+)", re.M),
+          re.compile(r"^COMMAND .* LIST [0-9A-F]{6} LINE (?P<line>\d+).*\n(?:(?!R14 ).*\n)*?R14 \S+ (?P<program>[^ +]+)\+", re.M),
           re.compile(r"\bNEXT \S+ (?P<program>[^ +]+)\+\S+ LINE (?P<line>\d+)")]
 LEVEL = re.compile(r"LEVEL \d\d PROGRAM (\S+) .*DFHEISTG (\S+) LENGTH (\S+) .*")
 SYMBOL = re.compile(r"SYMBOL '(\S+)' VALUE ([0-9A-F]{6}) SECTION '(\S+)' LENGTH (\d+) LINE (\d+)( AT \S+)?")

@@ -164,7 +164,7 @@ class Region:
             pass
         status = self.child.wait()
         self.error.seek(0)
-        reported = self.error.read(4096).decode(errors="replace").strip()
+        reported = self.error.read(4096).decode(errors="replace").partition("\n")[0].strip()  # what follows is the line itself
         with contextlib.suppress(Fault):  # it was reported before
             self.keep(f"* The transcript has {self.received} bytes, SHA-256 {self.digest.hexdigest()}.\n".encode())
         return reported or f"status {status}"

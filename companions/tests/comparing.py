@@ -51,6 +51,8 @@ FILES = {"w.script": script(WRITER), "w.asm": WRITER, "o.asm": OTHER, "o.script"
 CALLS = [
     Call("a queue", "cics-same", ["w.script", "P", "w.asm", "o.asm"], 1,
          ["line 10, KEY T001 ENTER T:", "old: > 0000 D6D5C5 *", "new: > 0000 E3E6D6 *"], FILES),
+    Call("queues left out", "cics-same", ["--screens", "w.script", "P", "w.asm", "o.asm"], 0,
+         ["after each of 1 keys the same answers, ends of tasks and screens; *"], FILES),
     Call("two scripts", "cics-same", ["w.script", "o.script"], 1, ["line *", "old: *", "new: *"], FILES),
     Call("a script and itself", "cics-same", ["w.script", "w.script"], 0, SAME, FILES),
     Call("several sources", "cics-same", ["c.script", "--source", "CALLER=caller.asm:later.asm", "--source", "CALLEE=callee.asm:called.asm"], 0, SAME, FILES),

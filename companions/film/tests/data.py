@@ -14,7 +14,7 @@ from concurrent.futures import ThreadPoolExecutor
 from typing import Any
 
 from film.child import Child, Ended
-from film.command import filmed
+from film.command import filmed, has_look
 from film.page import film_data, fit, json_of
 from film.script import encoded
 from film.tests.trials import PROGRAM, TOP, Data, data_of, expect, lines_to, page, page_or_line, scripts, states_of, text_of
@@ -30,7 +30,8 @@ def question(key: str, shown: dict[str, list[str]]) -> str:
         found = re.search(r"> AREA ([0-9A-F]{6}) LENGTH ([0-9A-F]{6}) ", "\n".join(shown[key]))
         assert found
         return f"STORAGE {found[1]} {min(int(found[2], 16), 4096 if word == 'storage' else 256)}"
-    return {"cwa": "STORAGE 001000 512"}.get(word, word.upper() + (f" {rest}" if rest else ""))
+    ahead = f"AHEAD {rest}{' 1' if has_look(PROGRAM, 'AHEAD TERM 1') else ''}"
+    return {"cwa": "STORAGE 001000 512", "item": f"QUEUE {rest}", "ahead": ahead}.get(word, word.upper() + (f" {rest}" if rest else ""))
 
 
 def written(lines: list[str], questions: list[str]) -> list[list[str]]:
@@ -57,7 +58,7 @@ def reported_of(path: str) -> str:
 
 def ends_it(reported: str) -> bool:
     """Whether what is reported is a fault that ended the script: a bad look, which films leave out as they do looks, doesn't."""
-    return bool(reported) and not reported.endswith(": BadLook\n")
+    return bool(reported) and ": BadLook\n" not in reported
 
 
 def data_is_what_looks_write() -> None:
@@ -158,10 +159,13 @@ def long_runs_are_quick() -> None:
 
 
 def statements_of_half_turns() -> None:
-    """Which lines a half-turn surely did, worked out by hand: up to a command, along B, after a command's own statements, up to BZ."""
+    """Which lines a half-turn did, worked out by hand: up to a command, along B, after a command's own statements, and beyond BZ by AHEAD's
+    instructions; where AHEAD has none, those that it surely did, up to BZ."""
     lost, chain = (film_of(f"{TOP}/examples/lessons/{name}.script")["events"] for name in ("06-lost-update/lost", "11-chain/chain"))
+    is_known = has_look(PROGRAM, "AHEAD TERM 1")
+    first, last = ([26, 29, 31, 33, 34, 35, 36, 41, 42, 43, 44, 45, 46], [*range(48, 62)]) if is_known else ([29, 31, 33, 34, 35, 36], [*range(48, 53)])
     for events, at, lines in ((lost, 10, [8, 10]), (lost, 15, [8, 10, 11, 12]), (lost, 16, [13]), (lost, 17, [15, 16, 17, 18, 19, 20, 21]),
-                              (chain, 21, [29]), (chain, 22, [29, 31, 33, 34, 35, 36]), (chain, 31, [27]), (chain, 32, [48, 49, 50, 51, 52])):
+                              (chain, 21, [29]), (chain, 22, first), (chain, 31, [27]), (chain, 32, last)):
         expect(f"the statements of event {at}", events[at - 1].get("passed") == lines, events[at - 1])
     found = film_of(f"{TOP}/examples/lessons/09-abends/found.script")["events"]
     expect("where a task abended", [it["ran"] for it in found if " Abended " in it["answer"]][:1] == [["PAY", 18]], found)

@@ -4,7 +4,7 @@ from __future__ import annotations
 import tempfile
 from typing import Any
 
-from film.command import has_fields
+from film.command import has_look
 from film.tests.browser import ELEMENT, Browser
 from film.tests.data import HOSTILE
 from film.tests.trials import LESSONS, PROGRAM, data_of, expect, page, states_of, text_of
@@ -131,6 +131,9 @@ def overwritten_field(pages: Pages) -> None:
         expect("the statements of that half-turn are tinted", any("MVC   NAME(12),INPUT+5" in it for it in tinted), tinted)
         due = browser.text(".source .here")
         expect("what comes next is marked", "EXEC  CICS WRITEQ TS" in due, due)
+    browser.open(f"{address}#e6")
+    ahead = pages.state("return [...document.querySelectorAll('.ahead tr')].map((it) => it.textContent)")
+    expect("the next turn's bytes have names", ahead[-1].startswith("2000CC 12NAME LIMIT00000000 00000000 00000064C1D5D5C5"), ahead)
     for what in ("td.asked", ".screen .row", "h2.asked"):
         browser.click(browser.elements(what)[0])
         expect(f"{what} is asked", "changed by" in browser.text("#said"), browser.text("#said"))
@@ -158,8 +161,17 @@ def areas_of_a_chain(pages: Pages) -> None:
     for address, debtor in (("200140", "MILLER"), ("200160", "ADAMS"), ("200180", "CARTER")):
         expect(f"the area {address}", debtor in cards.get(f"Area {address} of T001", ""), cards.keys())
     fields = pages.state("return [...document.querySelectorAll('.card')].filter((it) => it.textContent.startsWith('Area 200180')).flatMap((it) => [...it.querySelectorAll('tr')].map((row) => [row.firstChild.textContent, row.lastChild.textContent]))")
-    wanted = [["Field", "Value"], ["NEXT", ""], ["DEBT", "300"], ["DEBTOR", ""]] if has_fields(PROGRAM) else []
+    wanted = [["Field", "Value"], ["NEXT", ""], ["DEBT", "300"], ["DEBTOR", ""]] if has_look(PROGRAM, "FIELDS TERM") else []
     expect("the fields of an area", fields == wanted, fields)
+
+
+def values_by_their_types(pages: Pages) -> None:
+    """What a field's value is, by its type and its bytes."""
+    pages.lesson("08-overwrite/overwrite")
+    for kind, digits, value in (("F", "FFFFFFFB", "-5"), ("H", "8000", "-32768"), ("H", "0007", "7"), ("P", "00123D", "-123"), ("P", "0012", ""), ("P", "1C", "1"),
+                                ("C", "F0F1F2D2", "zoned -122"), ("C", "F1F2C3", "zoned 123"), ("C", "C1C2", ""), ("C", "F0", "zoned 0"), ("X", "F0", ""), ("F", "0000--", "")):
+        expect(f"the value of {kind} {digits}", pages.state("return worded(arguments[0], arguments[1])", kind, digits) == value,
+               pages.state("return worded(arguments[0], arguments[1])", kind, digits))
 
 
 def states_are_worked_out(pages: Pages) -> None:
@@ -216,7 +228,9 @@ def readable(pages: Pages) -> None:
 def pages_are_used() -> None:
     with tempfile.TemporaryDirectory() as folder, Browser() as browser:
         pages = Pages(browser, folder)
-        for use in (keys_and_clicks, overwritten_field, who_waits_for_whom, areas_of_a_chain, states_are_worked_out, two_films, every_text_is_shown, readable):
+        for use in (keys_and_clicks, overwritten_field, who_waits_for_whom, areas_of_a_chain, values_by_their_types,
+                    states_are_worked_out, two_films,
+                    every_text_is_shown, readable):
             use(pages)
         expect("nothing is written on the console", not browser.said(), browser.said())
         asked = [it for it in browser.asked() if not it.startswith(("file:", "data:", "chrome", "about:"))]

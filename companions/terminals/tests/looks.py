@@ -97,7 +97,7 @@ def a_look_at_a_stop() -> None:
         bright = [rows[at // 80] for at, attribute in terminal.attributes.items() if attribute == 0xF8 and at < 1760]
         expect("line", [re.sub(" +", " ", row).strip() for row in bright], ["6 EXEC CICS GETMAIN SET(9) LENGTH(=H'500') INITIMG(=C'*')"])
         expect_page_line(terminal, r"NAME +20 2000B0  00000000 .*")
-        expect_page_line(terminal, r"LEVEL 01 PROGRAM FLDS R14 01002E FLDS\+00002E COMMAND LINE 00006 DFHEISTG 200060")
+        expect_page_line(terminal, r"LEVEL 01 PROGRAM FLDS R14 01002E FLDS\+00002E DFHEISTG 200060 .*")
         expect("main", terminal.enter("", "CLEAR").rows(), main)
         terminal.enter().enter("", "PF14")
         expect_page_line(terminal, r"2001C0  00000000 .*")  # what is after the storage page's last line
@@ -155,9 +155,10 @@ def words_of_operators() -> None:
         expect("keys", [line for line in session.lines() if "CE" in line], ["KEY T001 ENTER CEBR JOBS", "KEY T001 ENTER CEBR"])
 
 
-LOOKED_AT = ["QUEUES", "QUEUE JOBS", "QUEUE D1D6C2E240404040", "QUEUE JOBS 32767", "PROGRAMS", "TASKS", "RESOURCES", "COMMAND T001", "AHEAD T001",
+LOOKED_AT = ["QUEUES", "QUEUE JOBS", "QUEUE D1D6C2E240404040", "QUEUE JOBS 32767", "PROGRAMS", "TASKS", "RESOURCES", "COMMAND T001",
+             "AHEAD T001",
              "TASK T001", "AREAS", "AREAS T001", "STORAGE 010000 4096", "ABEND T001", "SYMBOL JOBS LINE", "SYMBOLS JOBS", "XREF JOBS",
-             "TERMINALS", "HELP", "HELP FIELD", "FIELD T001 LINE", "FIELD T001 LINE 16", "FIELDS T001", "FIELDS T001 2"]
+             "TERMINALS", "HELP", "HELP FIELD", "FIELD T001 LINE", "FIELD T001 LINE 16", "FIELDS T001", "FIELDS T001 2", "WHERE 2000B4"]
 
 
 @test

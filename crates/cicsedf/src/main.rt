@@ -8,11 +8,15 @@ use std::process::ExitCode;
 /// The line on standard error where the words are refused.
 const USAGE: &str = "cicsedf: usage: cicsedf [FILE]";
 
+/// A fault is reported alone, without the line of the script that it is of.
+const SHOWS_LINES: bool = false;
+
 fn main(rt: HostRuntime) -> ExitCode {
     start(
         &mut Machine::new(&rt),
         rt.alloc(),
         edf_stage(rt.alloc()),
         USAGE,
+        SHOWS_LINES,
     )
 }

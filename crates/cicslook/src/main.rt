@@ -8,11 +8,15 @@ use std::process::ExitCode;
 /// The line on standard error where the words are refused.
 const USAGE: &str = "cicslook: usage: cicslook [FILE]";
 
+/// The line of the script that a fault is of is reported too.
+const SHOWS_LINES: bool = true;
+
 fn main(rt: HostRuntime) -> ExitCode {
     start(
         &mut Machine::new(&rt),
         rt.alloc(),
         look_stage(rt.alloc()),
         USAGE,
+        SHOWS_LINES,
     )
 }

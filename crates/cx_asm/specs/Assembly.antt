@@ -38,7 +38,8 @@ size_of source = option_map_or (λ control. control.length) (control_section (fi
 
 -- the entry that the first END writes, or the section's start
 abbrev pub entry_by : Whole → PlacedStatement → ℕ
-entry_by whole s = unwrap_or (result_ok (entry_in whole.control (directive_context whole none_in_use s) s.stmt.operand)) 0
+entry_by whole s =
+    unwrap_or (result_ok (entry_in whole.control (directive_context whole none_in_use s) s.stmt.operand)) 0
 
 unfoldable pub section_of : Source → AssembledParts
 section_of source =

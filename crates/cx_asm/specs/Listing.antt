@@ -29,7 +29,8 @@ object_length s role = 0
 -- Those in the control section are listed with their bytes, and the gaps between items as zeros.
 abbrev pub object_of : Whole → List ℕ → PlacedStatement → List ℕ
 object_of whole text s =
-    if is_control s.place.section whole.control then take (object_length s (role_in s.stmt)) (drop s.place.offset text) else []
+    if is_control s.place.section whole.control then take (object_length s (role_in s.stmt)) (drop s.place.offset text)
+    else []
 
 -- the line of a line with this statement, if it has one
 abbrev pub line_with : Whole → List ℕ → ℕ → List ℕ → Option PlacedStatement → List ℕ

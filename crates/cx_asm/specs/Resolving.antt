@@ -57,7 +57,8 @@ relocated_offsets at count is_relocated = if is_relocated then words_at at count
 -- a constant, by what one copy of it is; at fault it is nothing
 abbrev pub constant_standing : ℕ → Result Constant FaultKind → Result CopyOfConstant FaultKind → Standing
 constant_standing at (Ok item) (Ok made) =
-    standing (data_line at (repeat item.duplication made.bytes)) (relocated_offsets at item.duplication made.is_relocated)
+    standing (data_line at (repeat item.duplication made.bytes))
+    (relocated_offsets at item.duplication made.is_relocated)
 constant_standing at item made = empty_section
 
 -- an item of a DC, or a literal, at an offset
@@ -76,7 +77,8 @@ item_standing whole false s item = data_standing whole (location_counter s.place
 -- items, one after the other
 abbrev pub items_standing : Whole → Bool → PlacedStatement → List (List ℕ × ℕ) → Standing
 items_standing whole is_ds s [] = empty_section
-items_standing whole is_ds s (item ∷ items) = join_sections (item_standing whole is_ds s item) (items_standing whole is_ds s items)
+items_standing whole is_ds s (item ∷ items) =
+    join_sections (item_standing whole is_ds s item) (items_standing whole is_ds s items)
 
 -- ---- literals
 -- In a literal the location counter is at the statement that uses it first.
@@ -86,7 +88,8 @@ counter_at statements user = option_and_then counter_of (slice_get statements us
 abbrev pub pool_standing : Whole → List PlacedStatement → PlacedLiterals → Standing
 pool_standing whole statements [] = empty_section
 pool_standing whole statements (e ∷ pool) =
-    join_sections (data_standing whole (counter_at statements e.1.user) e.0 e.1.offset) (pool_standing whole statements pool)
+    join_sections (data_standing whole (counter_at statements e.1.user) e.0 e.1.offset)
+    (pool_standing whole statements pool)
 
 -- ---- statements
 abbrev pub instruction_standing : Whole → Bases → PlacedStatement → Operation → Standing
@@ -104,7 +107,8 @@ role_standing whole statements bases s role = empty_section
 -- what a statement makes, where these bases are in use: nothing outside the control section
 unfoldable pub statement_standing : Whole → List PlacedStatement → Bases → PlacedStatement → Standing
 statement_standing whole statements bases s =
-    if is_control s.place.section whole.control then role_standing whole statements bases s (role_in s.stmt) else empty_section
+    if is_control s.place.section whole.control then role_standing whole statements bases s (role_in s.stmt)
+    else empty_section
 
 -- ---- the section
 -- the literals that no LTORG has placed are at its end
@@ -115,4 +119,5 @@ last_pool whole = unwrap_or (slice_get whole.pools (length whole.pools - 1)) []
 abbrev pub standing_from : Whole → List PlacedStatement → Bases → List PlacedStatement → Standing
 standing_from whole statements bases [] = pool_standing whole statements (last_pool whole)
 standing_from whole statements bases (s ∷ rest) =
-    join_sections (statement_standing whole statements bases s) (standing_from whole statements (bases_after whole bases s) rest)
+    join_sections (statement_standing whole statements bases s)
+    (standing_from whole statements (bases_after whole bases s) rest)

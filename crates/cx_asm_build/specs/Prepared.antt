@@ -25,7 +25,8 @@ output_lines listing disassembly assembly =
 -- One stage after the other, each on what the one before gave: the assembly, the translation, the source.
 abbrev pub by_assembly : Bool → Bool → Result AssemblyParts AsmFault → Result Prepared PrepareFault
 by_assembly listing disassembly (Err fault) = Err (of_assembly fault)
-by_assembly listing disassembly (Ok assembly) = Ok (record { text = output_lines listing disassembly assembly; image = assembly.section.image })
+by_assembly listing disassembly (Ok assembly) =
+    Ok (record { text = output_lines listing disassembly assembly; image = assembly.section.image })
 
 abbrev pub by_translation : Bool → Bool → Result Source TransFault → Result Prepared PrepareFault
 by_translation listing disassembly (Err fault) = Err (of_translation fault)

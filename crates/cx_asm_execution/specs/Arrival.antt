@@ -100,7 +100,8 @@ pub record ComesBack (site : Site) (image : Image) (at : ℕ) (s : Statement) (e
   pub named : register_in (context_in site (lines_after site (call_of site)) (load register)) register ≡ Ok number
   pub gets : (before loaded : Storage) (program : Loaded) (sections : Sections) (regs : List ℕ) (m : Machine) (word : ℕ)
       → IsFit image → IsLoaded before image program loaded → HoldsBase sections regs (bases_of site) argument.base
-      → IsMachine m → m.next ≡ address_after program.at (at + code_length (made_code s)) → AreKept loaded m.storage m.next 4
+      → IsMachine m → m.next ≡ address_after program.at (at + code_length (made_code s))
+      → AreKept loaded m.storage m.next 4
       → HoldsBase sections m.regs (bases_of site) argument.base
       → word_at m.storage (argument_address regs argument) ≡ Some word
       → Steps m Done (record m { regs = slice_set m.regs number word; next = address_after m.next 4 })

@@ -76,13 +76,15 @@ lines_after site statements = reverse (lines site.line statements) ++ reverse si
 -- what the operand of a statement after such lines is read by
 abbrev pub context_in : Site → List Item → Stmt → Context
 context_in site before s =
-    instruction_context (whole_of site.source) (bases_of site) (placed_statement site.line s (place_in s (state_after before)))
+    instruction_context (whole_of site.source) (bases_of site)
+    (placed_statement site.line s (place_in s (state_after before)))
 
 -- The statement is at an offset, and is resolved to an instruction.
 abbrev pub IsResolved : Site → List Item → ℕ → Stmt → Instruction → Type 0
 IsResolved site before at s made =
     ((place_in s (state_after before)).offset ≡ at)
-    × (option_map (λ o. instruction_or_fault o (context_in site before s) s.operand) (operation_named s.operation) ≡ Some (Ok made))
+    × (option_map (λ o. instruction_or_fault o (context_in site before s) s.operand) (operation_named s.operation)
+    ≡ Some (Ok made))
 
 -- So are statements, each right after the one before it.
 unfoldable pub AreResolved : Site → List Item → ℕ → List Stmt → List Instruction → Type 0

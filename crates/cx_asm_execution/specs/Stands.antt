@@ -52,7 +52,8 @@ IsWord regs list k place = (place.base ≢ 0) × (address_reached regs place ≡
 -- the list's address before; and with what they hold, each word of the list is reached.
 pub record IsAddressed (m : Machine) (s : Statement) : Type 0 where
   pub block : s.block.base ≢ 0
-  pub words : AllByRecursion (λ e. IsWord m.regs (address_reached m.regs s.list) e.0 e.1.word) (enumerate_from 0 (words_of s))
+  pub words : AllByRecursion (λ e. IsWord m.regs (address_reached m.regs s.list) e.0 e.1.word)
+      (enumerate_from 0 (words_of s))
   pub last : IsWord m.regs (address_reached m.regs s.list) (length s.arguments) s.last
   pub list : s.list.base ≢ 0
   pub entry : s.entry.base ≢ 0

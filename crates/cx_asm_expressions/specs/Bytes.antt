@@ -35,16 +35,19 @@ plain_made kind modifier body =
 -- load address is added to it.
 abbrev pub address_constant : ℕ → Option (List ℕ) → Option (List ℕ) → ℤ → Result CopyOfConstant FaultKind
 address_constant n control None number =
-    if is_below n number (2 ^ (8 * n)) then Ok (copy_of_constant (integer_bytes n number) false) else Err ValueOutOfRange
+    if is_below n number (2 ^ (8 * n)) then Ok (copy_of_constant (integer_bytes n number) false)
+    else Err ValueOutOfRange
 address_constant n control (Some section) number =
-    if n == 4 && stands_in section control then Ok (copy_of_constant (integer_bytes 4 number) true) else Err NotRelocatable
+    if n == 4 && stands_in section control then Ok (copy_of_constant (integer_bytes 4 number) true)
+    else Err NotRelocatable
 
 abbrev pub address_made : ℕ → Option (List ℕ) → Result Value FaultKind → Result CopyOfConstant FaultKind
 address_made n control (Ok value) = address_constant n control value.section value.number
 address_made n control (Err fault) = Err fault
 
 -- ---- a constant
-abbrev pub body_made : (List ℕ → Option Value) → Option Value → Option (List ℕ) → ConstantKind → Option ℕ → Option (List ℕ) → Result CopyOfConstant FaultKind
+abbrev pub body_made : (List ℕ → Option Value) → Option Value → Option (List ℕ) → ConstantKind → Option ℕ
+    → Option (List ℕ) → Result CopyOfConstant FaultKind
 body_made find here control kind modifier None = Ok (copy_of_constant [] false)
 body_made find here control Address modifier (Some body) =
     address_made (value_length Address modifier body) control (value_of find here body)
@@ -52,5 +55,6 @@ body_made find here control kind modifier (Some body) = plain_made kind modifier
 
 -- One copy of a constant, where `find` knows the symbols, `here` is where the location counter is and `control` is the
 -- control section; or the lowest fault of its values.
-unfoldable pub made_of : (List ℕ → Option Value) → Option Value → Option (List ℕ) → Constant → Result CopyOfConstant FaultKind
+unfoldable pub made_of : (List ℕ → Option Value) → Option Value → Option (List ℕ) → Constant
+    → Result CopyOfConstant FaultKind
 made_of find here control item = body_made find here control item.kind item.modifier item.value

@@ -42,11 +42,13 @@ value_or_fault (Some number) (Some section) length = Ok (record { section = sect
 -- a sum of values: its number, the section it is a place in, the length attribute of its leftmost term
 unfoldable pub sum_of_values : List Signed → Result Value FaultKind
 sum_of_values values =
-    value_or_fault (sum_from (pos 0) values) (relocation values) (option_map_or (λ (v : Signed). v.value.length) (slice_get values 0) 1)
+    value_or_fault (sum_from (pos 0) values) (relocation values)
+    (option_map_or (λ (v : Signed). v.value.length) (slice_get values 0) 1)
 
 abbrev pub sum_of_terms : (List ℕ → Option Value) → Option Value → Option (List Term) → Result Value FaultKind
 sum_of_terms find here None = Err BadOperand
-sum_of_terms find here (Some terms) = option_map_or Err (lowest_fault find here terms) (sum_of_values (filter_map (signed_value find here) terms))
+sum_of_terms find here (Some terms) =
+    option_map_or Err (lowest_fault find here terms) (sum_of_values (filter_map (signed_value find here) terms))
 
 -- The value of an expression, where `find` knows the symbols and `here` is where the location counter is. A text that
 -- is no expression is BadOperand alone; else the lowest of its terms' faults; then a sum out of bounds; then one that

@@ -25,7 +25,8 @@ pub record Constant : Type 0 where
   pub value : Option (List ℕ)
 
 abbrev pub constant : ℕ → ConstantKind → Option ℕ → Option (List ℕ) → Constant
-constant duplication kind modifier value = record { duplication = duplication; kind = kind; modifier = modifier; value = value }
+constant duplication kind modifier value =
+    record { duplication = duplication; kind = kind; modifier = modifier; value = value }
 
 -- ---- reading an item
 -- what follows the digits that a text begins with
@@ -36,7 +37,8 @@ after_digits text = drop (prefix_len (is_digit 10) text) text
 abbrev pub parenthesized_body : List ℕ → Option (List ℕ)
 parenthesized_body value =
     let after = drop 1 value in
-    if slice_index value 0 == byte "(" && first_mark Closing after + 1 == length after then Some (take (first_mark Closing after) after) else None
+    if slice_index value 0 == byte "(" && first_mark Closing after + 1 == length after
+    then Some (take (first_mark Closing after) after) else None
 
 abbrev pub body_in : Style → List ℕ → Option (List ℕ)
 body_in Expression value = parenthesized_body value
@@ -47,7 +49,8 @@ body_in style value = if slice_index value 0 == byte "'" then before_apostrophe 
 abbrev pub value_in : Bool → ConstantKind → Bool → List ℕ → Option (Option (List ℕ))
 value_in is_ds kind modified value =
     if length value == 0 then (if is_ds then Some None else None)
-    else option_and_then (λ body. if not (length body == 0) && (row_of kind).is_whole modified body then Some (Some body) else None)
+    else option_and_then
+    (λ body. if not (length body == 0) && (row_of kind).is_whole modified body then Some (Some body) else None)
     (body_in (row_of kind).style value)
 
 -- ---- the limits
@@ -59,7 +62,8 @@ abbrev pub modifier_in : Bool → ConstantKind → Option (List ℕ) → Option 
 modifier_in is_ds kind None = Some None
 modifier_in is_ds kind (Some digits) =
     let most = if is_ds then (row_of kind).greatest_in_ds else (row_of kind).greatest_in_dc in
-    option_map Some (option_and_then (λ number. if number == 0 then None else Some number) (at_most most (number_in 10 digits)))
+    option_map Some
+    (option_and_then (λ number. if number == 0 then None else Some number) (at_most most (number_in 10 digits)))
 
 abbrev pub constant_or_fault : Option ℕ → Option (Option ℕ) → ConstantKind → Option (List ℕ) → Result Constant FaultKind
 constant_or_fault (Some duplication) (Some modifier) kind value = Ok (constant duplication kind modifier value)
@@ -85,7 +89,8 @@ with_modifier is_ds duplication kind rest =
 unfoldable pub constant_in : Bool → List ℕ → Result Constant FaultKind
 constant_in is_ds text =
     let rest = after_digits text in
-    option_map_or (λ kind. with_modifier is_ds (take_while (is_digit 10) text) kind (drop 1 rest)) (kind_of (slice_index rest 0))
+    option_map_or (λ kind. with_modifier is_ds (take_while (is_digit 10) text) kind (drop 1 rest))
+    (kind_of (slice_index rest 0))
     (Err BadOperand)
 
 -- ---- alignment and length

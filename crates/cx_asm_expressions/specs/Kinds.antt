@@ -17,20 +17,24 @@ use Rattle.cx_asm_expressions.specs.declared.kinds.Style.TheVariants.{Text, Valu
 
 -- ---- half bytes, counted from the right; those that aren't written are zero
 abbrev pub digit_from_right : List ℕ → ℕ → ℕ
-digit_from_right digits j = if nat_lt j (length digits) then digit_value (slice_index digits (length digits - 1 - j)) else 0
+digit_from_right digits j =
+    if nat_lt j (length digits) then digit_value (slice_index digits (length digits - 1 - j)) else 0
 
 abbrev pub bit_from_right : List ℕ → ℕ → ℕ
-bit_from_right digits j = if nat_lt j (length digits) && slice_index digits (length digits - 1 - j) == byte "1" then 1 else 0
+bit_from_right digits j =
+    if nat_lt j (length digits) && slice_index digits (length digits - 1 - j) == byte "1" then 1 else 0
 
 -- four bits
 abbrev pub bits_from_right : List ℕ → ℕ → ℕ
 bits_from_right digits j =
-    8 * bit_from_right digits (4 * j + 3) + 4 * bit_from_right digits (4 * j + 2) + 2 * bit_from_right digits (4 * j + 1) + bit_from_right digits (4 * j)
+    8 * bit_from_right digits (4 * j + 3) + 4 * bit_from_right digits (4 * j + 2)
+    + 2 * bit_from_right digits (4 * j + 1) + bit_from_right digits (4 * j)
 
 -- the sign of a packed decimal, D for a minus and else C, and left of it the digits
 abbrev pub packed_from_right : List ℕ → ℕ → ℕ
 packed_from_right field j =
-    if j == 0 then (if slice_index field 0 == byte "-" then 13 else 12) else digit_from_right (without_sign field) (j - 1)
+    if j == 0 then (if slice_index field 0 == byte "-" then 13 else 12)
+    else digit_from_right (without_sign field) (j - 1)
 
 abbrev pub half_byte : ConstantKind → List ℕ → ℕ → ℕ
 half_byte Binary value j = bits_from_right value j
@@ -40,7 +44,8 @@ half_byte kind value j = digit_from_right value j
 -- n bytes of two half bytes each, the highest first
 abbrev pub half_bytes : ConstantKind → List ℕ → ℕ → List ℕ
 half_bytes kind value zero = []
-half_bytes kind value (suc r) = (half_byte kind value (r * 2 + 1) * 16 + half_byte kind value (r * 2)) ∷ half_bytes kind value r
+half_bytes kind value (suc r) =
+    (half_byte kind value (r * 2 + 1) * 16 + half_byte kind value (r * 2)) ∷ half_bytes kind value r
 
 -- ---- binary numbers
 -- binary numbers have 1 to 4 bytes
@@ -58,7 +63,8 @@ integer_bytes n number = if is_word n then big_bytes n (low_bytes w128 n number)
 -- the number that a decimal writes; None beyond the bound of all numbers
 abbrev pub bounded_decimal : List ℕ → Option ℤ
 bounded_decimal value =
-    option_map (λ n. if slice_index value 0 == byte "-" then neg_ℤ (pos n) else pos n) (at_most bound (number_in 10 (without_sign value)))
+    option_map (λ n. if slice_index value 0 == byte "-" then neg_ℤ (pos n) else pos n)
+    (at_most bound (number_in 10 (without_sign value)))
 
 -- ---- one value: whether its text is whole, what is wrong with it in n bytes, and else its bytes
 abbrev pub is_whole_text : Bool → List ℕ → Bool
@@ -70,7 +76,8 @@ bad_unless is_good value n = if is_good value then None else Some BadOperand
 abbrev pub integer_fault : List ℕ → ℕ → Option FaultKind
 integer_fault value n =
     option_or (bad_unless is_decimal value n)
-    (if option_map_or (λ number. is_below n number (2 ^ (8 * n - 1))) (bounded_decimal value) false then None else Some ValueOutOfRange)
+    (if option_map_or (λ number. is_below n number (2 ^ (8 * n - 1))) (bounded_decimal value) false then None
+    else Some ValueOutOfRange)
 
 abbrev pub decimal_bytes : List ℕ → ℕ → List ℕ
 decimal_bytes value n = integer_bytes n (unwrap_or (bounded_decimal value) (pos 0))
@@ -100,22 +107,36 @@ pub record Row : Type 0 where
 abbrev pub row : ℕ → ℕ → ℕ → ℕ → Style → (Bool → List ℕ → Bool) → (List ℕ → ℕ)
     → (List ℕ → ℕ → Option FaultKind) → (List ℕ → ℕ → List ℕ) → Row
 row letter alignment in_dc in_ds style is_whole own_length fault bytes =
-    record { letter = letter; alignment = alignment; greatest_in_dc = in_dc; greatest_in_ds = in_ds; style = style; is_whole = is_whole; own_length = own_length; fault = fault; bytes = bytes }
+    record {
+      letter = letter;
+      alignment = alignment;
+      greatest_in_dc = in_dc;
+      greatest_in_ds = in_ds;
+      style = style;
+      is_whole = is_whole;
+      own_length = own_length;
+      fault = fault;
+      bytes = bytes;
+    }
 
 abbrev pub row_of : ConstantKind → Row
 row_of Character =
     row (byte "C") 1 256 65535 Text (λ _. is_paired) (λ v. length (characters v)) (bad_unless has_codes) character_bytes
 row_of Hexadecimal =
-    row (byte "X") 1 256 65535 Text is_whole_text (λ v. (length v + 1) / 2) (bad_unless (is_number 16)) (half_bytes Hexadecimal)
-row_of Binary = row (byte "B") 1 256 256 Text is_whole_text (λ v. (length v + 7) / 8) (bad_unless (is_number 2)) (half_bytes Binary)
+    row (byte "X") 1 256 65535 Text is_whole_text (λ v. (length v + 1) / 2) (bad_unless (is_number 16))
+    (half_bytes Hexadecimal)
+row_of Binary =
+    row (byte "B") 1 256 256 Text is_whole_text (λ v. (length v + 7) / 8) (bad_unless (is_number 2)) (half_bytes Binary)
 row_of Fullword = row (byte "F") 4 4 4 Values is_whole_text (λ v. 4) integer_fault decimal_bytes
 row_of Halfword = row (byte "H") 2 4 4 Values is_whole_text (λ v. 2) integer_fault decimal_bytes
 row_of Packed =
-    row (byte "P") 1 16 16 Values (λ modified v. is_whole_text modified v && (modified || list_all is_decimal (fields v)))
+    row (byte "P") 1 16 16 Values
+    (λ modified v. is_whole_text modified v && (modified || list_all is_decimal (fields v)))
     (λ v. length (without_sign v) / 2 + 1) (bad_unless is_decimal) (half_bytes Packed)
 row_of Address = row (byte "A") 4 4 4 Expression (λ _ v. true) (λ v. 4) (λ v n. None) (λ v n. [])
 row_of External =
-    row (byte "V") 4 0 0 Expression (λ _ v. true) (λ v. 4) (bad_unless (λ v. bytes_eq v (codes "DFHEI1"))) (λ v n. 0 ∷ 0 ∷ 8 ∷ 0 ∷ [])
+    row (byte "V") 4 0 0 Expression (λ _ v. true) (λ v. 4) (bad_unless (λ v. bytes_eq v (codes "DFHEI1")))
+    (λ v n. 0 ∷ 0 ∷ 8 ∷ 0 ∷ [])
 row_of Doubleword = row (byte "D") 8 0 0 Nothing is_whole_text (λ v. 8) (λ v n. None) (λ v n. [])
 
 -- every type

@@ -7,12 +7,14 @@ use Rattle.cx_ebcdic.specs.Characters.{code_of}
 
 -- what precedes the apostrophe that ends a text
 abbrev pub before_apostrophe : List ℕ → Option (List ℕ)
-before_apostrophe after = if slice_index after (length after - 1) == byte "'" then Some (take (length after - 1) after) else None
+before_apostrophe after =
+    if slice_index after (length after - 1) == byte "'" then Some (take (length after - 1) after) else None
 
 -- A mark comes in twos alone; `opened` says that one precedes already.
 abbrev pub is_doubled : ℕ → Bool → List ℕ → Bool
 is_doubled mark opened [] = not opened
-is_doubled mark opened (c ∷ cs) = if c == mark then is_doubled mark (not opened) cs else not opened && is_doubled mark false cs
+is_doubled mark opened (c ∷ cs) =
+    if c == mark then is_doubled mark (not opened) cs else not opened && is_doubled mark false cs
 
 -- Apostrophes and ampersands come in twos.
 abbrev pub is_paired : List ℕ → Bool

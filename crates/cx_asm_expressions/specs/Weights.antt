@@ -34,7 +34,8 @@ sections_of values = filter_map (λ (value : Signed). value.value.section) value
 
 abbrev pub weighs_in : List Signed → Option (List ℕ) → Bool
 weighs_in values section =
-    list_all (λ name. int_eq (weight name values) (if stands_in name section then pos 1 else pos 0)) (sections_of values)
+    list_all (λ name. int_eq (weight name values) (if stands_in name section then pos 1 else pos 0))
+    (sections_of values)
 
 unfoldable pub relocation : List Signed → Option (Option (List ℕ))
 relocation values = find (weighs_in values) (None ∷ map Some (sections_of values))

@@ -16,13 +16,15 @@ address register displacement = record { base = register; displacement = displac
 
 -- a number from 0 to `most`
 abbrev pub number_within : ℕ → ℤ → Option ℕ
-number_within most number = if int_le (pos 0) number && int_le number (pos most) then Some (unsigned_abs number) else None
+number_within most number =
+    if int_le (pos 0) number && int_le number (pos most) then Some (unsigned_abs number) else None
 
 -- the address of a place by one register, where it is in use for the place's section and at most 4,095 before the place
 abbrev pub address_by_base : List ℕ → ℤ → ℕ → Option Base → Option Address
 address_by_base section number register None = None
 address_by_base section number register (Some base) =
-    if is_same base.section section then option_map (address register) (number_within 4095 (number -ℤ base.number)) else None
+    if is_same base.section section then option_map (address register) (number_within 4095 (number -ℤ base.number))
+    else None
 
 -- Of two addresses the one with the smaller displacement; of equal ones the second, whose register is higher.
 abbrev pub nearer : Option Address → Option Address → Option Address
@@ -33,7 +35,8 @@ nearer (Some one) (Some other) = if nat_lt one.displacement other.displacement t
 -- The address of a place: of the registers in use for its section that reach it, the one with the smallest
 -- displacement, and of those the highest. The law `an_implied_address_is_nearest` says it without a walk.
 unfoldable pub nearest_address : Bases → List ℕ → ℤ → Option Address
-nearest_address bases section number = fold nearer None (map (λ e. address_by_base section number e.0 e.1) (enumerate_from 0 bases))
+nearest_address bases section number =
+    fold nearer None (map (λ e. address_by_base section number e.0 e.1) (enumerate_from 0 bases))
 
 -- An absolute number stands for itself, with register 0 as base, whatever is in use.
 abbrev pub address_in : Bases → Option (List ℕ) → ℤ → Result Address FaultKind

@@ -19,7 +19,8 @@ use Rattle.cx_asm_operands.specs.Forms.{operands_of}
 -- the registers that operands name, or their lowest fault
 abbrev pub registers_in : Context → List (List ℕ) → Result (List ℕ) FaultKind
 registers_in c [] = Ok []
-registers_in c (text ∷ texts) = made_of (λ v. v.0 ∷ v.1) (both_or_lower_fault (register_in c text) (registers_in c texts))
+registers_in c (text ∷ texts) =
+    made_of (λ v. v.0 ∷ v.1) (both_or_lower_fault (register_in c text) (registers_in c texts))
 
 -- ---- USING: a place and a register or more
 -- the base is a place in a section
@@ -28,7 +29,8 @@ place_in value = ok_or (option_map (λ section. (section, value.number)) value.s
 
 abbrev pub using_in : Context → List (List ℕ) → Result UsingStatement FaultKind
 using_in c (base ∷ register ∷ registers) =
-    made_of (λ v. using_with v.0.0 v.0.1 v.1) (both_or_lower_fault (then_check place_in (expression_value c base)) (registers_in c (register ∷ registers)))
+    made_of (λ v. using_with v.0.0 v.0.1 v.1)
+    (both_or_lower_fault (then_check place_in (expression_value c base)) (registers_in c (register ∷ registers)))
 using_in c operands = Err BadOperand
 
 -- ---- DROP: registers, or nothing
@@ -56,7 +58,8 @@ entry_of control value =
     if is_inside then ok_or (number_within 65535 value.number) ValueOutOfRange else Err NotRelocatable
 
 unfoldable pub entry_in : Option (List ℕ) → Context → List ℕ → Result ℕ FaultKind
-entry_in control c operand = if length operand == 0 then Ok 0 else then_check (entry_of control) (expression_value c operand)
+entry_in control c operand =
+    if length operand == 0 then Ok 0 else then_check (entry_of control) (expression_value c operand)
 
 -- ---- COPY: of the member DFHAID alone (own)
 abbrev pub copy_fault : List ℕ → Option FaultKind

@@ -75,8 +75,10 @@ abbrev pub implied_length : ℕ → Value → Result ℕ FaultKind
 implied_length most value = if nat_le value.length most then Ok value.length else Err ValueOutOfRange
 
 abbrev pub counted_by : ℕ → Context → Result Value FaultKind → List (List ℕ) → Result (ℕ × Address) FaultKind
-counted_by most c place [] = both_or_lower_fault (then_check (implied_length most) place) (address_by_subfields c place [])
-counted_by most c place (count ∷ base) = both_or_lower_fault (number_in most c count) (address_by_subfields c place base)
+counted_by most c place [] =
+    both_or_lower_fault (then_check (implied_length most) place) (address_by_subfields c place [])
+counted_by most c place (count ∷ base) =
+    both_or_lower_fault (number_in most c count) (address_by_subfields c place base)
 
 -- the field of a length is one less, where it isn't 0
 abbrev pub address_with_length : ℕ → Context → Operand → Result (ℕ × Address) FaultKind
@@ -91,4 +93,5 @@ unfoldable pub indexed_in : Context → List ℕ → Result (ℕ × Address) Fau
 indexed_in c text = option_map_or (λ o. indexed_by c o.place o.subfields) (operand_in true c text) (Err BadOperand)
 
 unfoldable pub counted_in : ℕ → Bool → Context → List ℕ → Result (ℕ × Address) FaultKind
-counted_in most takes_literal c text = option_map_or (address_with_length most c) (operand_in takes_literal c text) (Err BadOperand)
+counted_in most takes_literal c text =
+    option_map_or (address_with_length most c) (operand_in takes_literal c text) (Err BadOperand)

@@ -60,13 +60,17 @@ directive_name is.Copy = codes "COPY"
 
 -- each of them once
 unfoldable pub branches : List Branch
-branches = on.B ∷ on.Nop ∷ on.Bh ∷ on.Bp ∷ on.Bl ∷ on.Bm ∷ on.Be ∷ on.Bz ∷ on.Bnh ∷ on.Bnp ∷ on.Bnl ∷ on.Bnm ∷ on.Bne ∷ on.Bnz ∷ on.Bo ∷ on.Bno ∷ []
+branches =
+    on.B ∷ on.Nop ∷ on.Bh ∷ on.Bp ∷ on.Bl ∷ on.Bm ∷ on.Be ∷ on.Bz ∷ on.Bnh ∷ on.Bnp ∷ on.Bnl ∷ on.Bnm ∷ on.Bne ∷ on.Bnz
+    ∷ on.Bo ∷ on.Bno ∷ []
 
 unfoldable pub register_branches : List RegisterBranch
 register_branches = to.Br ∷ to.Nopr ∷ []
 
 unfoldable pub directives : List Directive
-directives = is.Csect ∷ is.Dsect ∷ is.Start ∷ is.Using ∷ is.Drop ∷ is.Equ ∷ is.Ds ∷ is.Dc ∷ is.Ltorg ∷ is.End ∷ is.Title ∷ is.Print ∷ is.Eject ∷ is.Space ∷ is.Dfhregs ∷ is.Copy ∷ []
+directives =
+    is.Csect ∷ is.Dsect ∷ is.Start ∷ is.Using ∷ is.Drop ∷ is.Equ ∷ is.Ds ∷ is.Dc ∷ is.Ltorg ∷ is.End ∷ is.Title
+    ∷ is.Print ∷ is.Eject ∷ is.Space ∷ is.Dfhregs ∷ is.Copy ∷ []
 
 -- an operation's name
 abbrev pub operation_name : Operation → List ℕ
@@ -77,7 +81,9 @@ operation_name (kinds.Directive d) = directive_name d
 
 -- every operation
 unfoldable pub operations : List Operation
-operations = map kinds.Machine ops ++ map kinds.Branch branches ++ map kinds.RegisterBranch register_branches ++ map kinds.Directive directives
+operations =
+    map kinds.Machine ops ++ map kinds.Branch branches ++ map kinds.RegisterBranch register_branches
+    ++ map kinds.Directive directives
 
 -- the operation that has a name
 unfoldable pub operation_named : List ℕ → Option Operation

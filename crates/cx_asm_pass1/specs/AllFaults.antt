@@ -12,7 +12,8 @@ abbrev pub with_fault : ℕ → Option FaultKind → List LineFault → List Lin
 with_fault line None faults = faults
 with_fault line (Some kind) [] = line_fault line kind ∷ []
 with_fault line (Some kind) (fault ∷ more) =
-    if line == fault.line then line_fault fault.line (lower_of fault.kind kind) ∷ more else fault ∷ with_fault line (Some kind) more
+    if line == fault.line then line_fault fault.line (lower_of fault.kind kind) ∷ more
+    else fault ∷ with_fault line (Some kind) more
 
 -- the lowest faults of the statements that begin on lines, the latest first
 abbrev pub faults_after : List Item → List LineFault

@@ -35,7 +35,8 @@ value_in_range (Ok value) = if is_in_range value.number then Ok (Some value) els
 value_in_range (Err fault) = Err fault
 
 -- The value that a statement gives to its name, if it gives one. `find` knows the symbols of the statements before.
-abbrev pub value_given : Role → Option (List ℕ) → (List ℕ → Option Value) → Option (List ℕ) → List ℕ → Extent → Result (Option Value) FaultKind
+abbrev pub value_given : Role → Option (List ℕ) → (List ℕ → Option Value) → Option (List ℕ) → List ℕ → Extent
+    → Result (Option Value) FaultKind
 value_given Control name find section operand extent = Ok (Some (place_value name 0 1))
 value_given Dummy name find section operand extent = Ok (Some (place_value name 0 1))
 value_given Equate name find section operand extent =
@@ -48,7 +49,8 @@ value_given _ name find section operand extent = Ok (Some (place_value section e
 -- ---- symbols that are defined together
 -- a name and a number
 abbrev pub row_symbols : List (List ℕ × ℕ) → Symbols
-row_symbols rows = filter_map (λ (row : List ℕ × ℕ). option_map (λ name. (name, absolute (pos row.1))) (symbol_name row.0)) rows
+row_symbols rows =
+    filter_map (λ (row : List ℕ × ℕ). option_map (λ name. (name, absolute (pos row.1))) (symbol_name row.0)) rows
 
 -- the registers, which DFHREGS defines
 abbrev pub register_rows : List (List ℕ × ℕ)
@@ -73,12 +75,15 @@ resumes Dummy name control find =
 resumes _ name control find = false
 
 abbrev pub symbol_entry : Role → Option (List ℕ) → Option (List ℕ) → (List ℕ → Option Value) → Option Value → Symbols
-symbol_entry role (Some name) control find (Some value) = if resumes role name control find then [] else (name, value) ∷ []
+symbol_entry role (Some name) control find (Some value) =
+    if resumes role name control find then [] else (name, value) ∷ []
 symbol_entry role _ control find _ = []
 
-abbrev pub definitions : Role → Option (List ℕ) → Option (List ℕ) → (List ℕ → Option Value) → List ℕ → Option Value → Symbols
+abbrev pub definitions : Role → Option (List ℕ) → Option (List ℕ) → (List ℕ → Option Value) → List ℕ → Option Value
+    → Symbols
 definitions Registers name control find operand value = row_symbols register_rows
-definitions Member name control find operand value = if bytes_eq operand (codes "DFHAID") then row_symbols aid_rows else []
+definitions Member name control find operand value =
+    if bytes_eq operand (codes "DFHAID") then row_symbols aid_rows else []
 definitions role name control find operand value = symbol_entry role name control find value
 
 -- A symbol keeps the value that it was given first; to define it again is a fault.

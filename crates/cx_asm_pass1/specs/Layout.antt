@@ -37,7 +37,8 @@ abbrev pub item_length : StorageItem → ℕ
 item_length read = option_map_or length_of (result_ok read) 1
 
 abbrev pub extent_at : ℕ → List ℕ → ℕ → ℕ → Option FaultKind → Extent
-extent_at offset items end length fault = record { offset = offset; items = items; end = end; length = length; fault = fault }
+extent_at offset items end length fault =
+    record { offset = offset; items = items; end = end; length = length; fault = fault }
 
 -- `size` bytes on a boundary, with a length attribute
 abbrev pub bytes_at : ℕ → ℕ → ℕ → ℕ → Extent
@@ -49,7 +50,8 @@ abbrev pub items_at : List StorageItem → ℕ → Extent
 items_at items at =
     let offsets = scan item_end item_start at items in let end = fold item_end at items in
     let length = option_map_or item_length (slice_get items 0) 1 in
-    extent_at (unwrap_or (slice_get offsets 0) at) offsets end length (lower (lowest (map result_err items)) (fault_beyond end))
+    extent_at (unwrap_or (slice_get offsets 0) at) offsets end length
+    (lower (lowest (map result_err items)) (fault_beyond end))
 
 -- What a statement takes from the next offset on, by what its operation does, the parts of its operand, and how many
 -- bytes the open pool has: an instruction, items, or a literal pool that has literals; every other statement takes

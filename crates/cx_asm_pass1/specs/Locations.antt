@@ -20,7 +20,8 @@ final_state source = state_after (reverse source.items)
 
 -- The last pool is at the control section's end, as at an LTORG.
 abbrev pub last_pool_extent : PassState → Extent
-last_pool_extent state = extent_of Pool [] (pool_extent state.pool) (cap (length_of_section state.control state.lengths))
+last_pool_extent state =
+    extent_of Pool [] (pool_extent state.pool) (cap (length_of_section state.control state.lengths))
 
 abbrev pub all_pools : PassState → List PlacedLiterals
 all_pools state = state.pools ++ closed_pool (cap (last_pool_extent state).offset) state.pool ∷ []

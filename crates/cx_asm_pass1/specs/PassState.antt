@@ -45,7 +45,16 @@ pub record PassState : Type 0 where
 -- without a statement
 abbrev pub at_start : PassState
 at_start =
-    record { section = None; control = None; lengths = λ name. 0; symbols = λ name. None; pool = []; pools = []; places = []; fault = None }
+    record {
+      section = None;
+      control = None;
+      lengths = λ name. 0;
+      symbols = λ name. None;
+      pool = [];
+      pools = [];
+      places = [];
+      fault = None;
+    }
 
 -- ---- a statement
 abbrev pub role_in : Stmt → Role
@@ -69,7 +78,8 @@ abbrev pub extent_in : Stmt → PassState → Extent
 extent_in stmt state = extent_of (role_in stmt) (parts_in stmt) (pool_extent state.pool) (next_in state)
 
 abbrev pub given_in : Stmt → PassState → Result (Option Value) FaultKind
-given_in stmt state = value_given (role_in stmt) (name_in stmt) state.symbols state.section stmt.operand (extent_in stmt state)
+given_in stmt state =
+    value_given (role_in stmt) (name_in stmt) state.symbols state.section stmt.operand (extent_in stmt state)
 
 -- what it defines; an absolute 0 stands for a value at fault
 abbrev pub definitions_in : Stmt → PassState → Symbols
@@ -125,7 +135,8 @@ duplicate_in stmt state = duplicate state.symbols (definitions_in stmt state)
 abbrev pub own_fault : Stmt → PassState → Option FaultKind
 own_fault stmt state =
     lowest (operation_fault (role_in stmt) ∷ name_fault (role_in stmt) stmt.name
-    ∷ section_fault (role_in stmt) (name_in stmt) state.section state.control ∷ (extent_in stmt state).fault ∷ result_err (given_in stmt state)
+    ∷ section_fault (role_in stmt) (name_in stmt) state.section state.control ∷ (extent_in stmt state).fault
+    ∷ result_err (given_in stmt state)
     ∷ duplicate_in stmt state ∷ [])
 
 -- the lowest fault of the statement
@@ -184,7 +195,12 @@ pools_after _ offset pool pools = pools
 -- where it is: its section, offset, its items' offsets, and the number of its pool
 abbrev pub place_in : Stmt → PassState → Place
 place_in stmt state =
-    record { section = state.section; offset = (extent_in stmt state).offset; items = (extent_in stmt state).items; pool = length state.pools }
+    record {
+      section = state.section;
+      offset = (extent_in stmt state).offset;
+      items = (extent_in stmt state).items;
+      pool = length state.pools;
+    }
 
 -- The statement lengthens its own section alone.
 abbrev pub length_after : Option (List ℕ) → ℕ → (List ℕ → ℕ) → List ℕ → ℕ

@@ -31,7 +31,8 @@ used_fault whole number s text literal =
 abbrev pub part_fault : Whole → ℕ → PlacedStatement → List ℕ → Option FaultKind
 part_fault whole number s part =
     let pool = pool_of whole s in
-    option_and_then (λ text. option_and_then (used_fault whole number s text) (lookup (bytes_eq text) pool)) (literal_text part)
+    option_and_then (λ text. option_and_then (used_fault whole number s text) (lookup (bytes_eq text) pool))
+    (literal_text part)
 
 abbrev pub literals_fault : Whole → ℕ → PlacedStatement → Option FaultKind
 literals_fault whole number s = lowest (map (part_fault whole number s) (parts_in s.stmt))
@@ -56,7 +57,8 @@ operand_fault whole bases number s (Some (operation.Directive directive.End)) =
 operand_fault whole bases number s (Some (operation.Directive d)) =
     result_err (bases_in (operation.Directive d) (directive_context whole bases s) s.stmt.operand)
 operand_fault whole bases number s (Some o) =
-    lower (result_err (instruction_or_fault o (instruction_context whole bases s) s.stmt.operand)) (literals_fault whole number s)
+    lower (result_err (instruction_or_fault o (instruction_context whole bases s) s.stmt.operand))
+    (literals_fault whole number s)
 
 unfoldable pub second_fault : Whole → Bases → ℕ → PlacedStatement → Option FaultKind
 second_fault whole bases number s = operand_fault whole bases number s (operation_of s)
@@ -76,4 +78,5 @@ bases_after_all whole (s ∷ before) = bases_after whole (bases_after_all whole 
 abbrev pub second_faults_after : Whole → List PlacedStatement → List LineFault
 second_faults_after whole [] = []
 second_faults_after whole (s ∷ before) =
-    with_fault s.line (second_fault whole (bases_after_all whole before) (length before) s) (second_faults_after whole before)
+    with_fault s.line (second_fault whole (bases_after_all whole before) (length before) s)
+    (second_faults_after whole before)

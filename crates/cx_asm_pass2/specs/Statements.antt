@@ -20,7 +20,8 @@ pub record PlacedItem : Type 0 where
 abbrev pub placed_latest_first : List Item → List PlacedItem
 placed_latest_first [] = []
 placed_latest_first (item ∷ before) =
-    record { item = item; place = option_map (λ s. place_in s (state_after before)) item.stmt } ∷ placed_latest_first before
+    record { item = item; place = option_map (λ s. place_in s (state_after before)) item.stmt }
+    ∷ placed_latest_first before
 
 -- the lines of a source in its order
 unfoldable pub placed_of : Source → List PlacedItem

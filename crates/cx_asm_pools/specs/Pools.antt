@@ -40,7 +40,8 @@ literal_size text = constant_size (constant_in false text)
 -- with an operand of the statement of this number, where it is a literal without a fault
 abbrev pub with_part : ℕ → OpenLiterals → List ℕ → OpenLiterals
 with_part user pool part =
-    let put : List ℕ → OpenLiterals = λ text. with_literal pool text (record { size = literal_size text; user = user }) in
+    let put : List ℕ → OpenLiterals = λ text.
+    with_literal pool text (record { size = literal_size text; user = user }) in
     option_map_or (λ text. if is_ok (constant_in false text) then put text else pool) (literal_text part) pool
 
 -- with all operands of the statement

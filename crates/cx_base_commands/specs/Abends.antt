@@ -1,4 +1,5 @@
--- The abend codes that the region makes, beside those of the conditions (this product's own).
+-- The abend codes that the region makes, beside those of the conditions: ASRA, AICA and the question marks are CICS's
+-- customary ones, those with X are this product's own.
 use Rattle.std.specs.Prelude.{ℕ, Option, List, [], codes, map, unwrap_or}
 use Rattle.cx_ebcdic.specs.Lookup.{each_some}
 use Rattle.cx_ebcdic.specs.Characters.{code_of}

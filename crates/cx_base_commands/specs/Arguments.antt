@@ -26,7 +26,8 @@ arguments_in options first = filter (is_argument first) options
 
 -- the place of an option's argument among those that option byte 1 has, where it has the option and that an argument
 unfoldable pub argument_index : Command → ℕ → OptionName → Option ℕ
-argument_index command first name = position (λ option. is_option option.name name) (arguments_in (row_of command).options first)
+argument_index command first name =
+    position (λ option. is_option option.name name) (arguments_in (row_of command).options first)
 
 -- a command's option of this name, where it has one
 unfoldable pub option_of : Command → OptionName → Option CommandOption
@@ -34,7 +35,8 @@ option_of command name = find (λ option. is_option option.name name) (row_of co
 
 -- an option of the command is there
 unfoldable pub has_option : Command → ℕ → OptionName → Bool
-has_option command first name = list_any (λ option. is_option option.name name && has_bit first option.bit) (row_of command).options
+has_option command first name =
+    list_any (λ option. is_option option.name name && has_bit first option.bit) (row_of command).options
 
 -- the number of bytes that LENGTH gives: its signed value, or none where that is negative
 abbrev pub bytes_of_length : Option ℕ → ℕ

@@ -1,5 +1,6 @@
 -- The table of commands: the argument list that each builds (Application Programmer's Reference Manual, SC33-0077,
--- the syntax of each command; the function values, bits and order are this product's own).
+-- the syntax of each command; the function values are CICS's customary ones, the bits and the order this product's
+-- own).
 use Rattle.std.specs.Prelude.{ℕ, true, false, ◌==◌, List, [], ◌∷◌, ◌++◌, Option, codes}
 use Rattle.std.specs.List.{find}
 use Rattle.std.specs.Option.{option_map, option_or}
@@ -38,21 +39,102 @@ row_of command.HandleCondition = row 0x0204 (codes "HANDLE CONDITION") ([]) ([])
 row_of command.IgnoreCondition = row 0x020A (codes "IGNORE CONDITION") ([]) ([])
 row_of command.PushHandle = row 0x020C (codes "PUSH HANDLE") ([]) ([])
 row_of command.PopHandle = row 0x020E (codes "POP HANDLE") ([]) ([])
-row_of command.Receive = row 0x0402 (codes "RECEIVE") (required_option 0x80 Into BytesWritten ∷ required_option 0x40 Length HalfwordBothWays ∷ []) ([])
-row_of command.WriteqTs = row 0x0A02 (codes "WRITEQ TS") (required_option 0x80 Queue Name8 ∷ required_option 0x40 From BytesRead ∷ required_option 0x20 Length Halfword ∷ optional_option 0x10 Main Flag ∷ optional_option 0x08 Auxiliary Flag ∷ optional_option 0x04 Nosuspend Flag ∷ optional_option 0x02 Item HalfwordOutWithoutRewrite ∷ optional_option 0x01 Rewrite Flag ∷ []) (NotBoth 0x10 0x08 ∷ Needs 0x01 0x02 ∷ [])
-row_of command.ReadqTs = row 0x0A04 (codes "READQ TS") (required_option 0x80 Queue Name8 ∷ optional_option 0x40 Into BytesWritten ∷ required_option 0x20 Length HalfwordBothWaysWithoutSet ∷ optional_option 0x10 Item Halfword ∷ optional_option 0x08 Next Flag ∷ optional_option 0x04 Set Pointer ∷ optional_option 0x02 Numitems HalfwordOut ∷ []) (OneOfTwo 0x40 0x04 ∷ NotBoth 0x10 0x08 ∷ [])
+row_of command.Receive =
+    row 0x0402 (codes "RECEIVE")
+    (required_option 0x80 Into BytesWritten
+    ∷ required_option 0x40 Length HalfwordBothWays
+    ∷ [])
+    []
+row_of command.WriteqTs =
+    row 0x0A02 (codes "WRITEQ TS")
+    (required_option 0x80 Queue Name8
+    ∷ required_option 0x40 From BytesRead
+    ∷ required_option 0x20 Length Halfword
+    ∷ optional_option 0x10 Main Flag
+    ∷ optional_option 0x08 Auxiliary Flag
+    ∷ optional_option 0x04 Nosuspend Flag
+    ∷ optional_option 0x02 Item HalfwordOutWithoutRewrite
+    ∷ optional_option 0x01 Rewrite Flag
+    ∷ [])
+    (NotBoth 0x10 0x08 ∷ Needs 0x01 0x02 ∷ [])
+row_of command.ReadqTs =
+    row 0x0A04 (codes "READQ TS")
+    (required_option 0x80 Queue Name8
+    ∷ optional_option 0x40 Into BytesWritten
+    ∷ required_option 0x20 Length HalfwordBothWaysWithoutSet
+    ∷ optional_option 0x10 Item Halfword
+    ∷ optional_option 0x08 Next Flag
+    ∷ optional_option 0x04 Set Pointer
+    ∷ optional_option 0x02 Numitems HalfwordOut
+    ∷ [])
+    (OneOfTwo 0x40 0x04 ∷ NotBoth 0x10 0x08 ∷ [])
 row_of command.DeleteqTs = row 0x0A06 (codes "DELETEQ TS") (required_option 0x80 Queue Name8 ∷ []) ([])
-row_of command.Getmain = row 0x0C02 (codes "GETMAIN") (required_option 0x80 Set Pointer ∷ required_option 0x40 Length Halfword ∷ optional_option 0x20 Initimg Byte ∷ optional_option 0x10 Nosuspend Flag ∷ []) ([])
+row_of command.Getmain =
+    row 0x0C02 (codes "GETMAIN")
+    (required_option 0x80 Set Pointer
+    ∷ required_option 0x40 Length Halfword
+    ∷ optional_option 0x20 Initimg Byte
+    ∷ optional_option 0x10 Nosuspend Flag
+    ∷ [])
+    []
 row_of command.Freemain = row 0x0C04 (codes "FREEMAIN") (required_option 0x80 Data Address ∷ []) ([])
-row_of command.Link = row 0x0E02 (codes "LINK") (required_option 0x80 Program Name8 ∷ optional_option 0x40 Commarea Address ∷ optional_option 0x20 Length Halfword ∷ []) (Together 0x40 0x20 ∷ [])
-row_of command.Xctl = row 0x0E04 (codes "XCTL") (required_option 0x80 Program Name8 ∷ optional_option 0x40 Commarea BytesRead ∷ optional_option 0x20 Length Halfword ∷ []) (Together 0x40 0x20 ∷ [])
-row_of command.Return = row 0x0E08 (codes "RETURN") (optional_option 0x80 Transid Name4 ∷ optional_option 0x40 Commarea BytesRead ∷ optional_option 0x20 Length Halfword ∷ []) (Together 0x40 0x20 ∷ [])
-row_of command.Abend = row 0x0E0C (codes "ABEND") (optional_option 0x80 Abcode Name4 ∷ optional_option 0x40 Cancel Flag ∷ optional_option 0x20 Nodump Flag ∷ []) ([])
-row_of command.HandleAbend = row 0x0E0E (codes "HANDLE ABEND") (optional_option 0x80 Label Address ∷ optional_option 0x40 Cancel Flag ∷ optional_option 0x20 Reset Flag ∷ []) (OneOfThree 0x80 0x40 0x20 ∷ [])
-row_of command.Enq = row 0x1204 (codes "ENQ") (required_option 0x80 Resource BytesOrAddress ∷ optional_option 0x40 Length Halfword ∷ optional_option 0x20 Nosuspend Flag ∷ []) ([])
-row_of command.Deq = row 0x1206 (codes "DEQ") (required_option 0x80 Resource BytesOrAddress ∷ optional_option 0x40 Length Halfword ∷ []) ([])
+row_of command.Link =
+    row 0x0E02 (codes "LINK")
+    (required_option 0x80 Program Name8
+    ∷ optional_option 0x40 Commarea Address
+    ∷ optional_option 0x20 Length Halfword
+    ∷ [])
+    (Together 0x40 0x20 ∷ [])
+row_of command.Xctl =
+    row 0x0E04 (codes "XCTL")
+    (required_option 0x80 Program Name8
+    ∷ optional_option 0x40 Commarea BytesRead
+    ∷ optional_option 0x20 Length Halfword
+    ∷ [])
+    (Together 0x40 0x20 ∷ [])
+row_of command.Return =
+    row 0x0E08 (codes "RETURN")
+    (optional_option 0x80 Transid Name4
+    ∷ optional_option 0x40 Commarea BytesRead
+    ∷ optional_option 0x20 Length Halfword
+    ∷ [])
+    (Together 0x40 0x20 ∷ [])
+row_of command.Abend =
+    row 0x0E0C (codes "ABEND")
+    (optional_option 0x80 Abcode Name4
+    ∷ optional_option 0x40 Cancel Flag
+    ∷ optional_option 0x20 Nodump Flag
+    ∷ [])
+    []
+row_of command.HandleAbend =
+    row 0x0E0E (codes "HANDLE ABEND")
+    (optional_option 0x80 Label Address
+    ∷ optional_option 0x40 Cancel Flag
+    ∷ optional_option 0x20 Reset Flag
+    ∷ [])
+    (OneOfThree 0x80 0x40 0x20 ∷ [])
+row_of command.Enq =
+    row 0x1204 (codes "ENQ")
+    (required_option 0x80 Resource BytesOrAddress
+    ∷ optional_option 0x40 Length Halfword
+    ∷ optional_option 0x20 Nosuspend Flag
+    ∷ [])
+    []
+row_of command.Deq =
+    row 0x1206 (codes "DEQ")
+    (required_option 0x80 Resource BytesOrAddress
+    ∷ optional_option 0x40 Length Halfword
+    ∷ [])
+    []
 row_of command.Suspend = row 0x1208 (codes "SUSPEND") ([]) ([])
-row_of command.SendText = row 0x1806 (codes "SEND TEXT") (required_option 0x80 From BytesRead ∷ required_option 0x40 Length Halfword ∷ optional_option 0x20 Erase Flag ∷ optional_option 0x10 Freekb Flag ∷ []) ([])
+row_of command.SendText =
+    row 0x1806 (codes "SEND TEXT")
+    (required_option 0x80 From BytesRead
+    ∷ required_option 0x40 Length Halfword
+    ∷ optional_option 0x20 Erase Flag
+    ∷ optional_option 0x10 Freekb Flag
+    ∷ [])
+    []
 
 -- all commands
 abbrev pub all_commands : List Command
@@ -78,9 +160,10 @@ with_blank_between first second = first ++ 0x20 ∷ second
 abbrev pub command_with_words : ℕ → Command → Command × ℕ
 command_with_words words command = (command, words)
 
--- The command that words begin with, and how many of them are its name: both, or else the first alone, or else the first
--- with TS left out.
+-- The command that words begin with, and how many of them are its name: both, or else the first alone, or else the
+-- first with TS left out.
 unfoldable pub command_named : List ℕ → List ℕ → Option (Command × ℕ)
 command_named first second =
     option_or (option_map (command_with_words 2) (command_called (with_blank_between first second)))
-    (option_or (option_map (command_with_words 1) (command_called first)) (option_map (command_with_words 1) (command_called (with_blank_between first (codes "TS")))))
+    (option_or (option_map (command_with_words 1) (command_called first))
+    (option_map (command_with_words 1) (command_called (with_blank_between first (codes "TS")))))

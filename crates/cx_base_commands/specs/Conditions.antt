@@ -1,5 +1,5 @@
 -- Exceptional conditions (Application Programmer's Reference Manual, SC33-0077, "Exceptional conditions").
--- The numbers and abend codes are this product's own.
+-- The numbers and abend codes are CICS's customary ones.
 use Rattle.std.specs.Prelude.{ℕ, ◌==◌, Option, Some, None, List, [], ◌∷◌, codes, option_and_then, unwrap_or}
 use Rattle.std.specs.List.{position}
 use Rattle.cx_ebcdic.specs.Names.{padded_name}
@@ -33,7 +33,9 @@ handled_conditions = Error ∷ Invreq ∷ Nospace ∷ Lengerr ∷ Itemerr ∷ Pg
 
 -- a condition's place among all, from 0, which is NORMAL's
 abbrev pub place_of : Condition → ℕ
-place_of condition = unwrap_or (position (λ other. (entry_of other).number == (entry_of condition).number) (Normal ∷ handled_conditions)) 0
+place_of condition =
+    unwrap_or (position (λ other. (entry_of other).number == (entry_of condition).number) (Normal ∷ handled_conditions))
+    0
 
 -- the abend code as it is in storage
 unfoldable pub abend_code_of : Condition → Option (List ℕ)

@@ -34,7 +34,8 @@ gap from to = if nat_lt from to then record { field = None; len = to - from } �
 abbrev pub pieces_from : ℕ → List EibField → List EibPiece
 pieces_from from [] = gap from eib_len
 pieces_from from (f ∷ fs) =
-    gap from (eib_field f).offset ++ record { field = Some f; len = (eib_field f).len } ∷ pieces_from (end_of (eib_field f)) fs
+    gap from (eib_field f).offset ++ record { field = Some f; len = (eib_field f).len }
+    ∷ pieces_from (end_of (eib_field f)) fs
 
 -- the whole EIB, its fields and gaps in order
 abbrev pub eib_pieces : List EibPiece

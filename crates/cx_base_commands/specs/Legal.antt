@@ -65,14 +65,16 @@ is_legal_second byte = bit_and byte 0x3F == 0
 -- Both option bytes are legal. Where conditions are listed, the first is their number, 1 to 16.
 unfoldable pub is_legal : Command → ℕ → ℕ → Bool
 is_legal command first second =
-    (if lists_conditions command then nat_le 1 first && nat_le first 16 else is_legal_set command first) && is_legal_second second
+    (if lists_conditions command then nat_le 1 first && nat_le first 16 else is_legal_set command first)
+    && is_legal_second second
 
 unfoldable pub is_handled_number : ℕ → Bool
 is_handled_number number = list_any (λ condition. (entry_of condition).number == number) handled_conditions
 
 -- a condition with a label (80), which HANDLE CONDITION alone may give, or without (00)
 unfoldable pub may_list : Command → ListedCondition → Bool
-may_list command listed = is_handled_number listed.number && (listed.label == 0 || (listed.label == 0x80 && is_handle command))
+may_list command listed =
+    is_handled_number listed.number && (listed.label == 0 || (listed.label == 0x80 && is_handle command))
 
 -- some of these conditions has this number
 unfoldable pub is_listed : List ListedCondition → ℕ → Bool
@@ -81,4 +83,5 @@ is_listed conditions number = list_any (λ listed. listed.number == number) cond
 -- the conditions listed after the block: each may be listed, and none twice
 abbrev pub is_legal_list : Command → List ListedCondition → Bool
 is_legal_list command [] = true
-is_legal_list command (listed ∷ rest) = may_list command listed && not (is_listed rest listed.number) && is_legal_list command rest
+is_legal_list command (listed ∷ rest) =
+    may_list command listed && not (is_listed rest listed.number) && is_legal_list command rest

@@ -9,8 +9,8 @@ use crate::options::{ArgumentKind, CommandOption, OptionName, Rule};
 
 /// A command that a program can give by EXEC CICS.
 ///
-/// Application Programmer's Reference Manual, SC33-0077. The function values, the bits of the options
-/// and their order are this product's own.
+/// Application Programmer's Reference Manual, SC33-0077. The function values are CICS's customary
+/// ones; the bits of the options and their order are this product's own.
 #[derive(Clone, Copy, Debug, PartialEq, Eq)]
 pub enum Command {
     Address,

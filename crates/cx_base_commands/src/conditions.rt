@@ -12,7 +12,7 @@ pub const CONDITIONS: usize = 10;
 /// An exceptional condition that a command can meet, or NORMAL.
 ///
 /// Application Programmer's Reference Manual, SC33-0077, "Exceptional conditions".
-/// The numbers and abend codes are this product's own.
+/// The numbers and abend codes are CICS's customary ones.
 #[derive(Clone, Copy, Debug, PartialEq, Eq, Default)]
 pub enum Condition {
     #[default]

@@ -78,7 +78,11 @@ takes_in mode.Suppressed stops stop = takes stops stop
 -- a session that is stopped, with the display taken there: it is the newest of at most ten, and its main page is shown
 abbrev pub stop_session : SessionState → StopPoint → Display → SessionState
 stop_session session stop display =
-    record session { mode = mode.Stopped stop; view = newest; displays = keep_last 10 (session.displays ++ display ∷ []) }
+    record session {
+      mode = mode.Stopped stop;
+      view = newest;
+      displays = keep_last 10 (session.displays ++ display ∷ []);
+    }
 
 -- where a session stops at a turn's reply: at a stop that its mode takes
 abbrev pub stop_of_turn : SessionState → TurnReply → Option StopPoint
@@ -95,8 +99,8 @@ after_reply session reply display_at =
 abbrev pub operators_end : StopPoint
 operators_end = kind.Over (ending.Abended (abend_code Xedf))
 
--- A stopped session whose task was altered, where this is the display that a stop of each kind takes: after Nop the task
--- goes on, and after Abend it is stopped over, whatever its stop conditions are.
+-- A stopped session whose task was altered, where this is the display that a stop of each kind takes: after Nop the
+-- task goes on, and after Abend it is stopped over, whatever its stop conditions are.
 unfoldable pub after_change : SessionState → Change → (StopPoint → Display) → SessionState
 after_change session change.Nop display_at = record session { mode = mode.Free }
 after_change session change.Abend display_at = stop_session session operators_end (display_at operators_end)
@@ -122,8 +126,10 @@ unfoldable pub after_key : SessionState → Aid → List ℕ → Option SessionS
 after_key session aid.Enter bytes = Some (record session { mode = mode.Free })
 after_key session aid.Pf3 bytes = None
 after_key session aid.Pf4 bytes = Some (record session { mode = mode.Suppressed })
-after_key session aid.Pf5 bytes = Some (record session { view = record session.view { page = turned_to page.Storage session.view.page } })
-after_key session aid.Pf6 bytes = Some (record session { view = record session.view { page = turned_to page.User session.view.page } })
+after_key session aid.Pf5 bytes =
+    Some (record session { view = record session.view { page = turned_to page.Storage session.view.page } })
+after_key session aid.Pf6 bytes =
+    Some (record session { view = record session.view { page = turned_to page.User session.view.page } })
 after_key session aid.Pf9 bytes = Some (record session { stops = unwrap_or (stops_named bytes) session.stops })
 after_key session aid.Pf10 bytes = Some (record session { view = older session.view (length session.displays) })
 after_key session other bytes = Some session
@@ -135,4 +141,6 @@ nth_back displays k = if nat_lt k (length displays) then slice_get displays (len
 
 -- in Stopped the display and the page that the view says
 abbrev pub shown_of : SessionState → Option (Display × View)
-shown_of session = if is_stopped session.mode then option_map (λ display. (display, session.view)) (nth_back session.displays session.view.back) else None
+shown_of session =
+    if is_stopped session.mode
+    then option_map (λ display. (display, session.view)) (nth_back session.displays session.view.back) else None

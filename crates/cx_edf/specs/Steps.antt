@@ -31,9 +31,11 @@ pub data Door : Type 0 where
 
 -- the sessions with a terminal's changed so, or ended, where it has one
 abbrev pub with_session_changed : Sessions → List ℕ → (SessionState → Option SessionState) → Sessions
-with_session_changed sessions name change = option_map_or (λ session. with_session sessions name (change session)) (session_in sessions name) sessions
+with_session_changed sessions name change =
+    option_map_or (λ session. with_session sessions name (change session)) (session_in sessions name) sessions
 
--- What EDF does with each event. It keeps EDF ON and EDF OFF, a key met in Stopped, a turn met in Stopped with a live task,
+-- What EDF does with each event. It keeps EDF ON and EDF OFF, a key met in Stopped, a turn met in Stopped with a live
+-- task,
 -- and an alteration met in another mode, except one of an unknown terminal, which is the region's to refuse. PF12 that
 -- ends a task is passed as the alteration that does so.
 unfoldable pub door_of : EdfState → EdfEvent → Door
@@ -47,7 +49,8 @@ door_of old (edf_event.Off name) =
     else Keeps (answer.Edf edf.NotOn) old.sessions
 door_of old (edf_event.Plain (event.Key name aid bytes)) =
     if ends_by_key old name aid then Passes (event.Alter name change.Abend) (Some answer.ToEdf)
-    else if stopped_at old name then Keeps answer.ToEdf (with_session_changed old.sessions name (λ session. after_key session aid bytes))
+    else if stopped_at old name
+    then Keeps answer.ToEdf (with_session_changed old.sessions name (λ session. after_key session aid bytes))
     else Passes (event.Key name aid bytes) None
 door_of old (edf_event.Plain (event.Turn name)) =
     if holds old name then Keeps answer.Held old.sessions else Passes (event.Turn name) None
@@ -89,8 +92,8 @@ AppliesBy make old e given new = DoorAnswers make old (door_of old e) given new
 abbrev pub EdfApplies : EdfState → EdfEvent → Answer → EdfState → Type 0
 EdfApplies = AppliesBy display_of
 
--- The record of an abend to which an event leads: that of the region's turn, where it isn't held; no other event leads to one
--- that has a cause: PF12 and ALTER ABEND are the operator's.
+-- The record of an abend to which an event leads: that of the region's turn, where it isn't held; no other event leads
+-- to one that has a cause: PF12 and ALTER ABEND are the operator's.
 unfoldable pub EdfHasAbendRecord : EdfState → EdfEvent → Option AbendRecord → Type 0
 EdfHasAbendRecord old (edf_event.Plain (event.Turn name)) abend_record =
     MatchBool (holds old name) (abend_record ≡ None) (TurnHasAbendRecord old.region name abend_record)

@@ -25,7 +25,8 @@ is_shown_as text bytes = (length bytes == length text) && list_all (λ p. shown_
 
 -- the stop condition that bytes spell
 unfoldable pub stop_word_of : List ℕ → Option StopWord
-stop_word_of bytes = find (λ w. is_shown_as (stop_word_name w) bytes) (word.Abend ∷ word.End ∷ map word.Met handled_conditions)
+stop_word_of bytes =
+    find (λ w. is_shown_as (stop_word_name w) bytes) (word.Abend ∷ word.End ∷ map word.Met handled_conditions)
 
 -- no stop condition
 abbrev pub no_stops : Stops

@@ -46,11 +46,13 @@ seen_at region name other = option_map seen_of (task_of region name)
 -- line 1: where there is no task, blanks take the place of its names and its number
 abbrev pub heading : List ℕ → List ℕ → List ℕ → List ℕ → List (List ℕ)
 heading tran program number terminal =
-    codes "TRANSACTION " ∷ tran ∷ codes "  PROGRAM " ∷ program ∷ codes "  TASK " ∷ number ∷ codes "  TERMINAL " ∷ terminal ∷ []
+    codes "TRANSACTION " ∷ tran ∷ codes "  PROGRAM " ∷ program ∷ codes "  TASK " ∷ number ∷ codes "  TERMINAL "
+    ∷ terminal ∷ []
 
 abbrev pub task_heading : List ℕ → Option Seen → List (List ℕ)
 task_heading name None = heading (codes "    ") (codes "        ") (codes "       ") (shown_text name)
-task_heading name (Some task) = heading (shown_text task.tran) (shown_text task.program) (digits 10 7 task.number) (shown_text name)
+task_heading name (Some task) =
+    heading (shown_text task.tran) (shown_text task.program) (digits 10 7 task.number) (shown_text name)
 
 -- line 2
 abbrev pub status_of : StopPoint → List ℕ
@@ -97,14 +99,16 @@ arguments storage list (k ∷ ks) =
     []
 
 abbrev pub arguments_due : Storage → Seen → StopPoint → List (ℕ × List (List ℕ))
-arguments_due storage task kind.Before = arguments storage (list_of task) (0 ∷ 1 ∷ 2 ∷ 3 ∷ 4 ∷ 5 ∷ 6 ∷ 7 ∷ 8 ∷ 9 ∷ 10 ∷ [])
+arguments_due storage task kind.Before =
+    arguments storage (list_of task) (0 ∷ 1 ∷ 2 ∷ 3 ∷ 4 ∷ 5 ∷ 6 ∷ 7 ∷ 8 ∷ 9 ∷ 10 ∷ [])
 arguments_due storage task other = []
 
 -- lines 15 to 18: four registers from one on
 abbrev pub registers : List ℕ → ℕ → ℕ × List (List ℕ)
 registers regs k = (
   15 + k / 4,
-  codes "R" ∷ digits 10 2 k ∷ codes " " ∷ digits 16 8 (slice_index regs k) ∷ codes " " ∷ digits 16 8 (slice_index regs (k + 1))
+  codes "R" ∷ digits 10 2 k ∷ codes " " ∷ digits 16 8 (slice_index regs k) ∷ codes " "
+      ∷ digits 16 8 (slice_index regs (k + 1))
       ∷ codes " " ∷ digits 16 8 (slice_index regs (k + 2)) ∷ codes " " ∷ digits 16 8 (slice_index regs (k + 3)) ∷ [],
 )
 
@@ -118,7 +122,8 @@ eib_line storage task =
     codes "EIBFN " ∷ hex_at storage (field_at task eib.Fn) 2 0 ∷ hex_at storage (field_at task eib.Fn) 2 1
     ∷ codes "  EIBRESP " ∷ hex_group storage (field_at task eib.Resp) 4 0
     ∷ codes "  EIBAID " ∷ hex_at storage (field_at task eib.Aid) 1 0
-    ∷ codes "  EIBCALEN " ∷ hex_at storage (field_at task eib.Calen) 2 0 ∷ hex_at storage (field_at task eib.Calen) 2 1 ∷ []
+    ∷ codes "  EIBCALEN " ∷ hex_at storage (field_at task eib.Calen) 2 0 ∷ hex_at storage (field_at task eib.Calen) 2 1
+    ∷ []
 
 -- line 21
 abbrev pub outcome : StopPoint → List (List ℕ)
@@ -136,13 +141,15 @@ abbrev pub task_lines : Storage → StopPoint → Option Seen → List (ℕ × L
 task_lines storage stop None = []
 task_lines storage stop (Some task) =
     (3, codes "COMMAND " ∷ command_text storage task stop ∷ [])
-    ∷ arguments_due storage task stop ++ map (registers task.regs) quarters ++ (19, state_line task) ∷ (20, eib_line storage task) ∷ []
+    ∷ arguments_due storage task stop ++ map (registers task.regs) quarters ++ (19, state_line task)
+    ∷ (20, eib_line storage task) ∷ []
 
 unfoldable pub main_page : Storage → List ℕ → StopPoint → Option Seen → List (List ℕ)
 main_page storage name stop task =
     with_lines
     blank_page
-    ((1, task_heading name task) ∷ (2, codes "STATUS " ∷ status_of stop ∷ []) ∷ task_lines storage stop task ++ (21, outcome stop) ∷ (24, keys ∷ []) ∷ [])
+    ((1, task_heading name task) ∷ (2, codes "STATUS " ∷ status_of stop ∷ [])
+    ∷ task_lines storage stop task ++ (21, outcome stop) ∷ (24, keys ∷ []) ∷ [])
 
 -- ---- the other pages
 -- one of 22 rows of 16 bytes, where the working storage goes so far
@@ -150,17 +157,20 @@ abbrev pub storage_row : Storage → Seen → ℕ → List (List ℕ)
 storage_row storage task row =
     let at = address_after task.stg (16 * row) in let count = task.stg_len - 16 * row in
     digits 16 6 at ∷ codes "  "
-    ∷ hex_group storage at count 0 ∷ codes " " ∷ hex_group storage at count 4 ∷ codes " " ∷ hex_group storage at count 8 ∷ codes " " ∷ hex_group storage at count 12 ∷ codes "  "
+    ∷ hex_group storage at count 0 ∷ codes " " ∷ hex_group storage at count 4 ∷ codes " " ∷ hex_group storage at count 8
+    ∷ codes " " ∷ hex_group storage at count 12 ∷ codes "  "
     ∷ map (character_group storage at count) quarters
 
 unfoldable pub with_row : Storage → Seen → List (List ℕ) → ℕ → List (List ℕ)
-with_row storage task page row = if nat_lt (16 * row) task.stg_len then with_line page (row + 2) (storage_row storage task row) else page
+with_row storage task page row =
+    if nat_lt (16 * row) task.stg_len then with_line page (row + 2) (storage_row storage task row) else page
 
 abbrev pub rows : List ℕ
 rows = 0 ∷ 1 ∷ 2 ∷ 3 ∷ 4 ∷ 5 ∷ 6 ∷ 7 ∷ 8 ∷ 9 ∷ 10 ∷ 11 ∷ 12 ∷ 13 ∷ 14 ∷ 15 ∷ 16 ∷ 17 ∷ 18 ∷ 19 ∷ 20 ∷ 21 ∷ []
 
 abbrev pub storage_heading : Seen → List (List ℕ)
-storage_heading task = codes "WORKING STORAGE " ∷ digits 16 6 task.stg ∷ codes " LENGTH " ∷ digits 16 6 task.stg_len ∷ []
+storage_heading task =
+    codes "WORKING STORAGE " ∷ digits 16 6 task.stg ∷ codes " LENGTH " ∷ digits 16 6 task.stg_len ∷ []
 
 unfoldable pub storage_page : Storage → Option Seen → List (List ℕ)
 storage_page storage None = blank_page

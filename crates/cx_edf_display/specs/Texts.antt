@@ -18,11 +18,14 @@ with_lines page lines = fold (λ page line. with_line page line.0 line.1) page l
 -- shown by hyphens, and blanks stand for what is past the row's end
 unfoldable pub hex_at : Storage → ℕ → ℕ → ℕ → List ℕ
 hex_at storage address count k =
-    if nat_lt k count then option_map_or (digits 16 2) (byte_at storage (address_after address k)) (codes "--") else codes "  "
+    if nat_lt k count then option_map_or (digits 16 2) (byte_at storage (address_after address k)) (codes "--")
+    else codes "  "
 
 unfoldable pub character_at : Storage → ℕ → ℕ → ℕ → List ℕ
 character_at storage address count k =
-    if nat_lt k count then option_map_or (λ byte. shown_as byte ∷ []) (byte_at storage (address_after address k)) (codes "-") else codes " "
+    if nat_lt k count
+    then option_map_or (λ byte. shown_as byte ∷ []) (byte_at storage (address_after address k)) (codes "-")
+    else codes " "
 
 -- four bytes of such a row from the one that is k bytes after the address on, in hexadecimal, and as characters
 abbrev pub four : ℕ → List ℕ

@@ -1,9 +1,11 @@
 -- Instructions in bytes that are lent: what is fetched, and their fields in the front that is kept of them.
-use Rattle.std.proofs.Common.{◌≡◌, ℕ, ◌+◌, ◌*◌, ◌/◌, ◌%◌, bit_or, slice_set, ◌^◌, ◌<◌, ◌≤◌, ◌==◌, ◌++◌, zero, suc, Bool, true, false, List, [], ◌∷◌, length, take, slice_index, slice_range, Option, Some, None, Ok, MatchResult, refl, sym, ap, ◌∙◌, arith, if◌then◌else◌}
+use Rattle.std.proofs.Common.{◌≡◌, ℕ, ◌+◌, ◌*◌, ◌/◌, ◌%◌, bit_or, slice_set, ◌^◌, ◌<◌, ◌≤◌, ◌==◌, ◌++◌, zero, suc, Bool, true, false, List, [], ◌∷◌, length, take, slice_index, get_or, Option, Some, None, Ok, MatchResult, refl, sym, ap, ◌∙◌, arith, if◌then◌else◌}
 use Rattle.std.specs.Option.{option_map}
 use Rattle.std.proofs.lemmas.List.{length-take-le, get_or-take}
-use Rattle.std.specs.Int.{byte_at}
-use Rattle.byteorder.specs.Endian.{big_from, big_bytes, big_number}
+use Rattle.std.specs.Int.{byte_at, w32, w64, to_le_bytes, from_le_bytes, swap_bytes}
+use Rattle.std.proofs.lemmas.Nat.{le_bytes_8}
+use native.Mathlib.Nat as nat
+use Rattle.byteorder.specs.Endian.{big_bytes}
 use Rattle.byteorder.specs.Numbers.{big_from-take}
 use Rattle.cx_storage.specs.Storage.{span}
 use Rattle.cx_storage.specs.Address.{address_after}
@@ -45,23 +47,25 @@ pub front_joined : (b : List ℕ) (low : ℕ) → length b ≡ 8 → take 6 (sli
 front_joined (b0 ∷ b1 ∷ rest) low h = refl
 front_joined _ low h = absurd (omega (arith, h))
 
--- the numbers in the front of eight bytes
-pub first_back : (b : List ℕ) → length b ≡ 8 → big_number 2 (slice_range b 2 4) ≡ big_from 2 2 (take 6 b)
-first_back (b0 ∷ b1 ∷ b2 ∷ b3 ∷ b4 ∷ b5 ∷ rest) h = refl
-first_back _ h = absurd (omega (arith, h))
+-- the front of eight bytes that are kept as a number
+pub front_of : (b : List ℕ) (w : ℕ) → length b ≡ 8 → ((i : ℕ) → get_or b i 0 < 256) → w ≡ from_le_bytes w64 b → take 6 (to_le_bytes w64 w) ≡ take 6 b
+front_of b w h small is = ap (take 6) (le_bytes_8 b w h small is)
 
--- the base and the displacement of the first halfword, in the word that ends with it
-pub base_back : (b : List ℕ) → length b ≡ 8 → slice_index b 2 < 256 → slice_index b 3 < 256 → big_number 4 (slice_range b 0 4) / 4096 % 16 ≡ base_at 2 (take 6 b)
-base_back (b0 ∷ b1 ∷ b2 ∷ b3 ∷ b4 ∷ b5 ∷ rest) h p q = omega (arith, p, q)
-base_back _ h p q = absurd (omega (arith, h))
+-- the numbers in it
+pub code_back : (w : ℕ) → w % 256 ≡ slice_index (take 6 (to_le_bytes w64 w)) 0
+code_back w = omega arith
 
-pub displacement_back : (b : List ℕ) → length b ≡ 8 → big_number 4 (slice_range b 0 4) % 4096 ≡ displacement_at 2 (take 6 b)
-displacement_back (b0 ∷ b1 ∷ b2 ∷ b3 ∷ b4 ∷ b5 ∷ rest) h = omega arith
-displacement_back _ h = absurd (omega (arith, h))
+pub first_base_back : (w : ℕ) → w / 1048576 % 16 ≡ base_at 2 (take 6 (to_le_bytes w64 w))
+first_base_back w = omega (arith, nat.div-div-eq-div-mul w 65536 16)
 
-pub second_back : (b : List ℕ) → length b ≡ 8 → big_number 2 (slice_range b 4 6) ≡ big_from 4 2 (take 6 b)
-second_back (b0 ∷ b1 ∷ b2 ∷ b3 ∷ b4 ∷ b5 ∷ rest) h = refl
-second_back _ h = absurd (omega (arith, h))
+pub first_displacement_back : (w : ℕ) → swap_bytes w32 (w % 4294967296) % 4096 ≡ displacement_at 2 (take 6 (to_le_bytes w64 w))
+first_displacement_back w = omega arith
+
+pub second_base_back : (w : ℕ) → w / 68719476736 % 16 ≡ base_at 4 (take 6 (to_le_bytes w64 w))
+second_base_back w = omega (arith, nat.div-div-eq-div-mul w 4294967296 16)
+
+pub second_displacement_back : (w : ℕ) → swap_bytes w32 (w / 65536 % 4294967296) % 4096 ≡ displacement_at 4 (take 6 (to_le_bytes w64 w))
+second_displacement_back w = omega (arith, nat.div-div-eq-div-mul w 65536 65536, nat.div-div-eq-div-mul w 65536 16777216)
 
 -- the fields of a row are in its own bytes
 fields_front : (f : Format) (n : ℕ) (b : List ℕ) → length_of_format f ≤ n → fields_in f (take n b) ≡ fields_in f b

@@ -102,6 +102,22 @@ pub run_interrupt : (steps left place : ℕ) (cause : Interruption) (m now after
 unfolding Steps
 run_interrupt steps left place cause m now after within some so_far apart run is = interrupt_left steps left place cause m now after within some so_far (apart, run) is
 
+-- a run of one step
+pub one_done : (m after : Machine) → m.next ≢ entry → Runs m (Ok tt) after → Passes 1 m after
+one_done m after apart run = run_more 1 1 m m after (omega arith) (omega arith) (passes_none m) apart run
+
+pub one_interrupted : (place : ℕ) (cause : Interruption) (m after : Machine) → m.next ≢ entry → Runs m (Err cause) after → place ≡ after.next
+    → Advances 1 m (halt.Interrupt cause place) after
+one_interrupted place cause m after apart run is = run_interrupt 1 1 place cause m m after (omega arith) (omega arith) (passes_none m) apart run is
+
+pub none_at_entry : (m : Machine) → m.next ≡ entry → Advances 1 m halt.AtEntry m
+none_at_entry m here = stands_at_entry 1 1 m m (passes_none m) here
+
+pub apart_more : (steps left : ℕ) (m now fetched after : Machine) → left ≤ steps → 0 < left → Passes (steps - left) m now → fetched ≡ now → Passes 1 fetched after
+    → Passes (steps - (left - 1)) m after
+apart_more steps left m now fetched after within some so_far same run =
+    round_passes steps left 1 m now after within (omega (arith, some)) so_far (subst (λ (s : Machine). Passes 1 s after) same run)
+
 -- an instruction except EX runs by the effect of its row
 row_runs : (now : Machine) (op : Op) (prefix : List ℕ) (outcome : Outcome) (after : Machine)
     → instruction_to_perform now ≡ performed_of now (instruction op (fields_at op prefix)) (updated_by now.next (length_of op)) → is_execute op ≡ false

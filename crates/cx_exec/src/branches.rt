@@ -9,7 +9,7 @@ use cx_storage::address_in;
 
 /// Whether a mask has the bit of a condition code.
 #[tactic(auto, unfolding(crate::specs::Branches::selects))]
-fn selects(mask: u8, cc: u8) -> bool
+pub(crate) fn selects(mask: u8, cc: u8) -> bool
     requires { cc ≤ 3 }
     ensures { result ≡ selects mask cc }
 {
@@ -62,6 +62,18 @@ pub(crate) fn link(cpu: &mut Cpu, r: u8, to: u32, updated: Updated) -> Result<()
     ensures next { cpu.new.next ≡ to }
 {
     cpu.regs[r as usize] = link_word(updated, cpu.cc);
+    cpu.next = to;
+    Ok(())
+}
+
+/// Goes on at an address.
+pub(crate) fn go_on(cpu: &mut Cpu, to: u32) -> Result<(), Interruption>
+    requires { to < 2 ^ 24 }
+    ensures done { result ≡ Ok tt }
+    ensures regs { cpu.new.regs ≡ cpu.old.regs }
+    ensures code { cpu.new.cc ≡ cpu.old.cc }
+    ensures next { cpu.new.next ≡ to }
+{
     cpu.next = to;
     Ok(())
 }

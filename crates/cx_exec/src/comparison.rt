@@ -93,10 +93,10 @@ fn string_order(first: &[u8], second: &[u8]) -> u8
 fn clc_copies<S: Store>(
     cpu: &mut Cpu,
     store: &S,
-    n: u32,
     a1: u32,
     a2: u32,
     updated: Updated,
+    n: u32,
 ) -> Result<(), Interruption>
     requires first { a1 < 2 ^ 24 }
     requires second { a2 < 2 ^ 24 }
@@ -125,10 +125,10 @@ fn clc_copies<S: Store>(
 fn clc_by<S: Store>(
     cpu: &mut Cpu,
     store: &S,
-    n: u32,
     a1: u32,
     a2: u32,
     updated: Updated,
+    n: u32,
 ) -> Result<(), Interruption>
     requires first { a1 < 2 ^ 24 }
     requires second { a2 < 2 ^ 24 }
@@ -143,18 +143,37 @@ fn clc_by<S: Store>(
             return set_code(cpu, cc, updated);
         }
     }
-    clc_copies(cpu, store, n, a1, a2, updated)
+    clc_copies(cpu, store, a1, a2, updated, n)
 }
 
-/// CLC. The operands, of `n` bytes, begin at `a1` and `a2`.
+/// CLC of `N` bytes, for which there is code of its own.
 #[inline(never)]
-pub(crate) fn clc<S: Store>(
+fn clc_few<S: Store, const N: u32>(
     cpu: &mut Cpu,
     store: &S,
-    n: u32,
     a1: u32,
     a2: u32,
     updated: Updated,
+) -> Result<(), Interruption>
+    requires first { a1 < 2 ^ 24 }
+    requires second { a2 < 2 ^ 24 }
+    requires count { N ≤ 256 }
+    requires address { updated.address < 2 ^ 24 }
+    ensures { let before = machine cpu.old (S.storage store.now) in let after = machine cpu.new (S.storage store.now) in
+        ComparesStrings N a1 a2 updated before result after }
+{
+    clc_by(cpu, store, a1, a2, updated, N)
+}
+
+/// CLC of any length.
+#[inline(never)]
+fn clc_many<S: Store>(
+    cpu: &mut Cpu,
+    store: &S,
+    a1: u32,
+    a2: u32,
+    updated: Updated,
+    n: u32,
 ) -> Result<(), Interruption>
     requires first { a1 < 2 ^ 24 }
     requires second { a2 < 2 ^ 24 }
@@ -163,15 +182,34 @@ pub(crate) fn clc<S: Store>(
     ensures { let before = machine cpu.old (S.storage store.now) in let after = machine cpu.new (S.storage store.now) in
         ComparesStrings n a1 a2 updated before result after }
 {
-    match n {
-        1 => clc_by(cpu, store, 1, a1, a2, updated),
-        2 => clc_by(cpu, store, 2, a1, a2, updated),
-        3 => clc_by(cpu, store, 3, a1, a2, updated),
-        4 => clc_by(cpu, store, 4, a1, a2, updated),
-        5 => clc_by(cpu, store, 5, a1, a2, updated),
-        6 => clc_by(cpu, store, 6, a1, a2, updated),
-        7 => clc_by(cpu, store, 7, a1, a2, updated),
-        8 => clc_by(cpu, store, 8, a1, a2, updated),
-        _ => clc_by(cpu, store, n, a1, a2, updated),
+    clc_by(cpu, store, a1, a2, updated, n)
+}
+
+/// CLC. The operands, of `l` bytes and one, begin at `a1` and `a2`.
+#[inline(never)]
+pub(crate) fn clc<S: Store>(
+    cpu: &mut Cpu,
+    store: &S,
+    a1: u32,
+    a2: u32,
+    updated: Updated,
+    l: u8,
+) -> Result<(), Interruption>
+    requires first { a1 < 2 ^ 24 }
+    requires second { a2 < 2 ^ 24 }
+    requires address { updated.address < 2 ^ 24 }
+    ensures { let before = machine cpu.old (S.storage store.now) in let after = machine cpu.new (S.storage store.now) in
+        ComparesStrings (l + 1) a1 a2 updated before result after }
+{
+    match l {
+        0 => clc_few::<S, 1>(cpu, store, a1, a2, updated),
+        1 => clc_few::<S, 2>(cpu, store, a1, a2, updated),
+        2 => clc_few::<S, 3>(cpu, store, a1, a2, updated),
+        3 => clc_few::<S, 4>(cpu, store, a1, a2, updated),
+        4 => clc_few::<S, 5>(cpu, store, a1, a2, updated),
+        5 => clc_few::<S, 6>(cpu, store, a1, a2, updated),
+        6 => clc_few::<S, 7>(cpu, store, a1, a2, updated),
+        7 => clc_few::<S, 8>(cpu, store, a1, a2, updated),
+        _ => clc_many(cpu, store, a1, a2, updated, u32::from(l) + 1),
     }
 }

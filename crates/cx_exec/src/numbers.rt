@@ -29,12 +29,13 @@ pub(crate) fn order_code(first: i128, second: i128) -> u8
     u8::from(first < second) + 2 * u8::from(second < first)
 }
 
-/// The code of a word's sign.
-pub(crate) fn sign_code(word: u32) -> u8
-    ensures value { result ≡ sign_code (signed_word word) }
+/// The code of a number's sign.
+#[tactic(auto, unfolding(crate::specs::Numbers::order_code))]
+pub(crate) fn sign_code(x: i32) -> u8
+    ensures value { result ≡ sign_code x }
     ensures short { result ≤ 3 }
 {
-    order_code(i128::from(word.cast_signed()), 0)
+    if x > 0 { 2 } else { u8::from(x < 0) }
 }
 
 /// The code of an exact result: 3 where no word holds it, else that of its sign.

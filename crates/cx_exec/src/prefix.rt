@@ -2,30 +2,31 @@
 
 ghost use Rattle.std.specs.Prelude.{◌≡◌, ◌<◌, ◌≤◌, ◌+◌, ◌*◌, ◌%◌, ◌^◌, ◌++◌, ◌∷◌, length, slice_index, take, Some, IfSome, OnSome};
 ghost use Rattle.std.specs.Option.{option_map};
-ghost use Rattle.byteorder.specs.Endian.{big_bytes, big_from};
+ghost use Rattle.byteorder.specs.Endian.{big_bytes};
 ghost use Rattle.cx_storage.specs.Storage.{span};
 ghost use Rattle.cx_code.specs.Table.{code_of};
 ghost use Rattle.cx_code.specs.Spelling.{format_with, IsWellFormed};
 ghost use Rattle.cx_code.specs.Reading.{base_at, displacement_at, fields_in};
 ghost use Rattle.cx_exec.specs.Step.{joined_second};
 
-use byteorder::{BigEndian, ByteOrder};
 use cx_code::{Fields, Inst, Op};
 use cx_storage::Store;
 use std::marker::Model;
 
-/// Six bytes that an instruction begins with, the first ones of eight: its code and a second byte, and two halfwords.
+/// Six bytes that an instruction begins with, the first ones of eight: its code and a second byte, and two halfwords. The
+/// eight are kept as one number, the first of them lowest, so that the code needs no shift and each field one.
 #[derive(Drop)]
 pub struct Front {
-    bytes: [u8; 8],
+    word: u64,
 }
 
 impl Model for Front {
     ghost use Rattle.std.specs.Prelude.{List, ℕ, take};
+    ghost use Rattle.std.specs.Int.{w64, to_le_bytes};
 
     ghost Value = { List ℕ };
 
-    ghost view = { λ front. take 6 front.bytes };
+    ghost view = { λ front. take 6 (to_le_bytes w64 front.word) };
 }
 
 /// Two fields of four bits as a byte.
@@ -48,11 +49,14 @@ fn address(base: u8, displacement: u16) -> u16
 
 impl Front {
     /// The first six of eight bytes.
+    #[tactic(auto, using(crate::proofs::FrontLemmas::front_of))]
     #[inline(always)]
     pub(crate) fn of(bytes: [u8; 8]) -> Front
         ensures { result ≡ take 6 bytes }
     {
-        Front { bytes }
+        Front {
+            word: u64::from_le_bytes(bytes),
+        }
     }
 
     /// The front of a byte and two halfwords after a code of zero.
@@ -64,18 +68,16 @@ impl Front {
         let first_low = (first_address % 256) as u8;
         let second_high = (second_address / 256) as u8;
         let second_low = (second_address % 256) as u8;
-        Front {
-            bytes: [
-                0,
-                second,
-                first_high,
-                first_low,
-                second_high,
-                second_low,
-                0,
-                0,
-            ],
-        }
+        Front::of([
+            0,
+            second,
+            first_high,
+            first_low,
+            second_high,
+            second_low,
+            0,
+            0,
+        ])
     }
 
     /// A front that has an instruction's fields.
@@ -102,11 +104,12 @@ impl Front {
     }
 
     /// The first byte.
+    #[tactic(auto, using(crate::proofs::FrontLemmas::code_back))]
     #[inline(always)]
     pub(crate) fn first(&self) -> u8
         ensures { result ≡ slice_index self.now 0 }
     {
-        self.bytes[0]
+        (self.word & 0xff) as u8
     }
 
     /// The second byte.
@@ -114,7 +117,7 @@ impl Front {
     pub(crate) fn second(&self) -> u8
         ensures { result ≡ slice_index self.now 1 }
     {
-        self.bytes[1]
+        (self.word >> 8 & 0xff) as u8
     }
 
     /// The front with a byte joined to the second one by OR.
@@ -123,48 +126,49 @@ impl Front {
     pub(crate) fn with_joined(self, low: u8) -> Front
         ensures { result ≡ joined_second low self }
     {
-        let mut bytes = self.bytes;
+        let mut bytes = self.word.to_le_bytes();
         bytes[1] |= low;
-        Front { bytes }
+        Front::of(bytes)
     }
 
-    /// The halfword after it.
-    #[tactic(auto, using(crate::proofs::FrontLemmas::first_back))]
-    #[inline(always)]
-    pub(crate) fn first_address(&self) -> u16
-        ensures { result ≡ big_from 2 2 self.now }
-    {
-        BigEndian::read_u16(&self.bytes[2..4])
-    }
-
-    /// The base that this halfword has.
-    #[tactic(auto, using(crate::proofs::FrontLemmas::base_back))]
+    /// The base that the halfword after it has.
+    #[tactic(auto, using(crate::proofs::FrontLemmas::first_base_back))]
     #[inline(always)]
     pub(crate) fn first_base(&self) -> usize
         ensures value { result ≡ base_at 2 self.now }
         ensures short { result < 16 }
     {
-        let _bytes = (self.bytes[2], self.bytes[3]);
-        BigEndian::read_u32(&self.bytes[0..4]) as usize >> 12 & 15
+        (self.word >> 20) as usize & 15
     }
 
-    /// The displacement that it has.
-    #[tactic(auto, using(crate::proofs::FrontLemmas::displacement_back))]
+    /// The displacement that this has.
+    #[tactic(auto, using(crate::proofs::FrontLemmas::first_displacement_back))]
     #[inline(always)]
     pub(crate) fn first_displacement(&self) -> u32
         ensures value { result ≡ displacement_at 2 self.now }
         ensures short { result < 4096 }
     {
-        BigEndian::read_u32(&self.bytes[0..4]) & 0x0fff
+        ((self.word & 0xffff_ffff) as u32).swap_bytes() & 0x0fff
     }
 
-    /// The halfword after that.
-    #[tactic(auto, using(crate::proofs::FrontLemmas::second_back))]
+    /// The base that the halfword after that has.
+    #[tactic(auto, using(crate::proofs::FrontLemmas::second_base_back))]
     #[inline(always)]
-    pub(crate) fn second_address(&self) -> u16
-        ensures { result ≡ big_from 4 2 self.now }
+    pub(crate) fn second_base(&self) -> usize
+        ensures value { result ≡ base_at 4 self.now }
+        ensures short { result < 16 }
     {
-        BigEndian::read_u16(&self.bytes[4..6])
+        (self.word >> 36) as usize & 15
+    }
+
+    /// The displacement that this has.
+    #[tactic(auto, using(crate::proofs::FrontLemmas::second_displacement_back))]
+    #[inline(always)]
+    pub(crate) fn second_displacement(&self) -> u32
+        ensures value { result ≡ displacement_at 4 self.now }
+        ensures short { result < 4096 }
+    {
+        ((self.word >> 16 & 0xffff_ffff) as u32).swap_bytes() & 0x0fff
     }
 }
 

@@ -12,7 +12,7 @@ ghost use Rattle.cx_exec.specs.Rows.{Effect};
 ghost use Rattle.cx_exec.specs.Parts.{IsPlace, updated_at, has_registers, has_word, has_word_result, has_half, has_address, has_immediate};
 
 use crate::arithmetic::{complement, difference, put_sum, sum};
-use crate::branches::{branch, branch_address, count, link};
+use crate::branches::{branch, branch_address, count, go_on, link, selects};
 use crate::comparison::{byte_order, clc, logical_order, signed_order};
 use crate::decimal::{cvb, cvd};
 use crate::division::divide;
@@ -60,21 +60,6 @@ pub(crate) fn effective(regs: &[u32; 16], index: u8, base: usize, displacement: 
 {
     let a = with_part(regs, base, displacement);
     with_part(regs, index as usize, a) % 0x100_0000
-}
-
-/// The effective address of an index, and of the base and the displacement that a halfword has.
-#[inline(always)]
-fn address_in(cpu: &Cpu, index: u8, halfword: u16) -> u32
-    requires { index < 16 }
-    ensures value { result ≡ effective cpu.now.regs index (halfword / 4096) (halfword % 4096) }
-    ensures short { result < 2 ^ 24 }
-{
-    effective(
-        &cpu.regs,
-        index,
-        halfword as usize >> 12,
-        u32::from(halfword & 0x0fff),
-    )
 }
 
 /// The operands of format RR: two registers, with what they hold.
@@ -199,8 +184,18 @@ fn strings_of(cpu: &Cpu, prefix: &Front, place: Place) -> Strings
 {
     Strings {
         l: prefix.second(),
-        a1: address_in(cpu, 0, prefix.first_address()),
-        a2: address_in(cpu, 0, prefix.second_address()),
+        a1: effective(
+            &cpu.regs,
+            0,
+            prefix.first_base(),
+            prefix.first_displacement(),
+        ),
+        a2: effective(
+            &cpu.regs,
+            0,
+            prefix.second_base(),
+            prefix.second_displacement(),
+        ),
         updated: place.updated(6),
     }
 }
@@ -224,11 +219,11 @@ pub(crate) fn strings_effect<S: Store>(
     match op {
         Op::Mvc => {
             let it = strings_of(cpu, prefix, place);
-            mvc(cpu, store, u32::from(it.l) + 1, it.a1, it.a2, it.updated)
+            mvc(cpu, store, it.a1, it.a2, it.updated, it.l)
         }
         Op::Clc => {
             let it = strings_of(cpu, prefix, place);
-            clc(cpu, store, u32::from(it.l) + 1, it.a1, it.a2, it.updated)
+            clc(cpu, store, it.a1, it.a2, it.updated, it.l)
         }
         Op::Xc => {
             let it = strings_of(cpu, prefix, place);
@@ -305,7 +300,8 @@ pub(crate) fn register_rows<S: Store>(
         }
         Op::Ltr => {
             let it = registers_of(cpu, prefix, place);
-            load_coded(cpu, it.r1, it.second, sign_code(it.second), it.updated)
+            let cc = sign_code(it.second.cast_signed());
+            load_coded(cpu, it.r1, it.second, cc, it.updated)
         }
         Op::Lcr => {
             let it = registers_of(cpu, prefix, place);
@@ -544,8 +540,11 @@ pub(crate) fn indexed_rows<S: Store>(
             count(cpu, it.r1, it.a, it.updated)
         }
         Op::Bc => {
-            let it = indexed_of(cpu, prefix, place);
-            branch(cpu, it.r1, it.a, it.updated)
+            // Where it doesn't branch, no address is needed.
+            if !selects(prefix.second() >> 4, cpu.cc) {
+                return go_on(cpu, place.updated(4).address);
+            }
+            go_on(cpu, indexed_of(cpu, prefix, place).a)
         }
         Op::St => {
             let it = indexed_of(cpu, prefix, place);

@@ -18,8 +18,27 @@ use cx_storage::Store;
 /// The most steps of a round.
 const ROUND: u32 = 256;
 
+/// Performs one instruction, wherever it lies.
+#[tactic(auto, using(crate::proofs::RunLemmas::one_done, crate::proofs::RunLemmas::one_interrupted, crate::proofs::RunLemmas::none_at_entry))]
+#[cold]
+#[inline(never)]
+fn step_apart<S: Store>(cpu: &mut Cpu, store: &mut S) -> Option<Halt>
+    ensures run { let before = machine cpu.old (S.storage store.old) in
+        let after = machine cpu.new (S.storage store.new) in
+        MatchOption result (Passes 1 before after) (λ end. Advances 1 before end after) }
+    ensures ended { result ≢ Some halt.Limit }
+{
+    if cpu.next == ENTRY {
+        return Some(Halt::AtEntry);
+    }
+    match step_slow(cpu, store) {
+        Ok(()) => None,
+        Err(cause) => Some(Halt::Interrupt(cause, cpu.next)),
+    }
+}
+
 /// Performs `steps` instructions, or fewer where the entry is the next address or one is interrupted.
-#[tactic(auto, using(crate::proofs::RunLemmas::run_more, crate::proofs::RunLemmas::run_interrupt, crate::proofs::RunLemmas::stands_at_entry))]
+#[tactic(auto, using(crate::proofs::RunLemmas::round_ends, crate::proofs::RunLemmas::run_more, crate::proofs::RunLemmas::run_interrupt))]
 fn pass<S: Store>(cpu: &mut Cpu, store: &mut S, steps: u32) -> Option<Halt>
     ensures run { let before = machine cpu.old (S.storage store.old) in
         let after = machine cpu.new (S.storage store.new) in
@@ -30,12 +49,8 @@ fn pass<S: Store>(cpu: &mut Cpu, store: &mut S, steps: u32) -> Option<Halt>
     while left > 0 {
         left -= 1;
         let Some(found) = fetch_fast(cpu, store) else {
-            if cpu.next == ENTRY {
-                return Some(Halt::AtEntry);
-            }
-            match step_slow(cpu, store) {
-                Ok(()) => {}
-                Err(cause) => return Some(Halt::Interrupt(cause, cpu.next)),
+            if let Some(end) = step_apart(cpu, store) {
+                return Some(end);
             }
             continue;
         };

@@ -1,6 +1,6 @@
 //! MVC and XC: two operands of one length, from left to right.
 
-ghost use Rattle.std.specs.Prelude.{◌≡◌, ◌≢◌, ℕ, ◌<◌, ◌≤◌, ◌^◌, ◌&&◌, take, true, false, Ok, is_some, length, slice_index, bit_xor};
+ghost use Rattle.std.specs.Prelude.{◌≡◌, ◌≢◌, ℕ, ◌+◌, ◌<◌, ◌≤◌, ◌^◌, ◌&&◌, take, true, false, Ok, is_some, length, slice_index, bit_xor};
 ghost use Rattle.cx_storage.specs.Address.{address_after};
 ghost use Rattle.cx_storage.specs.Storage.{span};
 ghost use Rattle.cx_exec.specs.Machine.{machine};
@@ -104,10 +104,10 @@ fn copy_through<S: Store>(
 fn copy_long<S: Store>(
     cpu: &mut Cpu,
     store: &mut S,
-    n: u32,
     a1: u32,
     a2: u32,
     updated: Updated,
+    n: u32,
 ) -> Result<(), Interruption>
     requires first { a1 < 2 ^ 24 }
     requires second { a2 < 2 ^ 24 }
@@ -174,7 +174,7 @@ fn copy_few<S: Store, const N: usize>(
     if copy_at_hand(cpu, store, a1, a2, &mut new, updated) {
         return Ok(());
     }
-    copy_long(cpu, store, N as u32, a1, a2, updated)
+    copy_long(cpu, store, a1, a2, updated, N as u32)
 }
 
 /// MVC of such operands. The shortest lengths, which are the most frequent, have code of their own.
@@ -182,37 +182,36 @@ fn copy_few<S: Store, const N: usize>(
 fn copy<S: Store>(
     cpu: &mut Cpu,
     store: &mut S,
-    n: u32,
     a1: u32,
     a2: u32,
     updated: Updated,
+    l: u8,
 ) -> Result<(), Interruption>
     requires first { a1 < 2 ^ 24 }
     requires second { a2 < 2 ^ 24 }
-    requires count { n ≤ 256 }
-    requires outside { (j : ℕ) → 0 < j → j < n → a1 ≢ address_after a2 j }
+    requires outside { (j : ℕ) → 0 < j → j < l + 1 → a1 ≢ address_after a2 j }
     requires address { updated.address < 2 ^ 24 }
     ensures { let before = machine cpu.old (S.storage store.old) in let after = machine cpu.new (S.storage store.new) in
-        MvcEffect n a1 a2 updated before result after }
+        MvcEffect (l + 1) a1 a2 updated before result after }
 {
-    match n {
-        1 => copy_few::<S, 1>(cpu, store, a1, a2, updated),
-        2 => copy_few::<S, 2>(cpu, store, a1, a2, updated),
-        3 => copy_few::<S, 3>(cpu, store, a1, a2, updated),
-        4 => copy_few::<S, 4>(cpu, store, a1, a2, updated),
-        5 => copy_few::<S, 5>(cpu, store, a1, a2, updated),
-        6 => copy_few::<S, 6>(cpu, store, a1, a2, updated),
-        7 => copy_few::<S, 7>(cpu, store, a1, a2, updated),
-        8 => copy_few::<S, 8>(cpu, store, a1, a2, updated),
-        9 => copy_few::<S, 9>(cpu, store, a1, a2, updated),
-        10 => copy_few::<S, 10>(cpu, store, a1, a2, updated),
-        11 => copy_few::<S, 11>(cpu, store, a1, a2, updated),
-        12 => copy_few::<S, 12>(cpu, store, a1, a2, updated),
-        13 => copy_few::<S, 13>(cpu, store, a1, a2, updated),
-        14 => copy_few::<S, 14>(cpu, store, a1, a2, updated),
-        15 => copy_few::<S, 15>(cpu, store, a1, a2, updated),
-        16 => copy_few::<S, 16>(cpu, store, a1, a2, updated),
-        _ => copy_long(cpu, store, n, a1, a2, updated),
+    match l {
+        0 => copy_few::<S, 1>(cpu, store, a1, a2, updated),
+        1 => copy_few::<S, 2>(cpu, store, a1, a2, updated),
+        2 => copy_few::<S, 3>(cpu, store, a1, a2, updated),
+        3 => copy_few::<S, 4>(cpu, store, a1, a2, updated),
+        4 => copy_few::<S, 5>(cpu, store, a1, a2, updated),
+        5 => copy_few::<S, 6>(cpu, store, a1, a2, updated),
+        6 => copy_few::<S, 7>(cpu, store, a1, a2, updated),
+        7 => copy_few::<S, 8>(cpu, store, a1, a2, updated),
+        8 => copy_few::<S, 9>(cpu, store, a1, a2, updated),
+        9 => copy_few::<S, 10>(cpu, store, a1, a2, updated),
+        10 => copy_few::<S, 11>(cpu, store, a1, a2, updated),
+        11 => copy_few::<S, 12>(cpu, store, a1, a2, updated),
+        12 => copy_few::<S, 13>(cpu, store, a1, a2, updated),
+        13 => copy_few::<S, 14>(cpu, store, a1, a2, updated),
+        14 => copy_few::<S, 15>(cpu, store, a1, a2, updated),
+        15 => copy_few::<S, 16>(cpu, store, a1, a2, updated),
+        _ => copy_long(cpu, store, a1, a2, updated, u32::from(l) + 1),
     }
 }
 
@@ -359,10 +358,10 @@ fn join<S: Store>(
 fn spread<S: Store>(
     cpu: &mut Cpu,
     store: &mut S,
-    n: u32,
     a1: u32,
     a2: u32,
     updated: Updated,
+    n: u32,
 ) -> Result<(), Interruption>
     requires first { a1 < 2 ^ 24 }
     requires second { a2 < 2 ^ 24 }
@@ -374,13 +373,13 @@ fn spread<S: Store>(
         MvcEffect n a1 a2 updated before result after }
 {
     let Some(byte) = store.byte(a2) else {
-        return fill(cpu, store, n, a1, a2, updated);
+        return fill(cpu, store, a1, a2, updated, n);
     };
     let cc = cpu.cc;
     if fill_at_hand(cpu, store, a1, n as usize, byte, cc, updated) {
         return Ok(());
     }
-    fill(cpu, store, n, a1, a2, updated)
+    fill(cpu, store, a1, a2, updated, n)
 }
 
 /// MVC of operands of which the first may begin inside the second.
@@ -389,10 +388,10 @@ fn spread<S: Store>(
 fn fill<S: Store>(
     cpu: &mut Cpu,
     store: &mut S,
-    n: u32,
     a1: u32,
     a2: u32,
     updated: Updated,
+    n: u32,
 ) -> Result<(), Interruption>
     requires first { a1 < 2 ^ 24 }
     requires second { a2 < 2 ^ 24 }
@@ -483,30 +482,31 @@ fn clear<S: Store>(
     clear_apart(cpu, store, n, a, updated)
 }
 
-/// MVC. The operands, of `n` bytes, begin at `a1` and `a2`.
+/// MVC. The operands, of `l` bytes and one, begin at `a1` and `a2`.
 #[inline(never)]
 pub(crate) fn mvc<S: Store>(
     cpu: &mut Cpu,
     store: &mut S,
-    n: u32,
     a1: u32,
     a2: u32,
     updated: Updated,
+    l: u8,
 ) -> Result<(), Interruption>
     requires first { a1 < 2 ^ 24 }
     requires second { a2 < 2 ^ 24 }
-    requires count { n ≤ 256 }
     requires address { updated.address < 2 ^ 24 }
     ensures { let before = machine cpu.old (S.storage store.old) in let after = machine cpu.new (S.storage store.new) in
-        MvcEffect n a1 a2 updated before result after }
+        MvcEffect (l + 1) a1 a2 updated before result after }
 {
-    if begins_outside(n, a1, a2) {
-        return copy(cpu, store, n, a1, a2, updated);
+    let n = u32::from(l) + 1;
+    let apart = distance(a2, a1);
+    if n <= apart {
+        return copy(cpu, store, a1, a2, updated, l);
     }
-    if n > 0 && distance(a2, a1) == 1 {
-        return spread(cpu, store, n, a1, a2, updated);
+    if apart == 1 {
+        return spread(cpu, store, a1, a2, updated, n);
     }
-    fill(cpu, store, n, a1, a2, updated)
+    fill(cpu, store, a1, a2, updated, n)
 }
 
 /// XC. The operands, of `n` bytes, begin at `a1` and `a2`.

@@ -32,7 +32,9 @@ text_at at image = relocated_text at image.relocs image.text
 pub record IsLoaded (storage : Storage) (image : Image) (loaded : Loaded) (after : Storage) : Type 0 where
   pub place : IsProgramPlace storage (length image.text) (Some loaded.at)
   pub stands : span after loaded.at (length image.text) ≡ Some (text_at loaded.at image)
-  pub storage_after : after ≡ after_write (with_area storage (Some loaded.at) (length image.text) program_owner) loaded.at (text_at loaded.at image)
+  pub storage_after : after
+      ≡ after_write (with_area storage (Some loaded.at) (length image.text) program_owner) loaded.at
+      (text_at loaded.at image)
   pub size : loaded.len ≡ length image.text
   pub entry : loaded.entry ≡ loaded.at + image.entry
   pub stg_len : loaded.stg_len ≡ image.stg_len

@@ -14,6 +14,7 @@ use Rattle.cx_look.specs.declared.look.Subject.TheVariants as subject
 -- the word that a look at each subject begins with, and the words that begin other lines of `cicslook`
 abbrev pub subject_name : Subject → List ℕ
 subject_name subject.Storage = codes "STORAGE"
+subject_name subject.Where = codes "WHERE"
 subject_name subject.Areas = codes "AREAS"
 subject_name subject.Task = codes "TASK"
 subject_name subject.Tasks = codes "TASKS"
@@ -36,9 +37,11 @@ subject_name subject.Help = codes "HELP"
 
 abbrev pub subjects : List Subject
 subjects =
-    subject.Storage ∷ subject.Areas ∷ subject.Task ∷ subject.Tasks ∷ subject.Abend ∷ subject.Queues ∷ subject.Queue ∷ subject.Resources
-    ∷ subject.Programs ∷ subject.Command ∷ subject.Ahead ∷ subject.Symbol ∷ subject.Symbols ∷ subject.Xref ∷ subject.Terminals
-    ∷ subject.Field ∷ subject.Fields ∷ subject.Run ∷ subject.Faults ∷ subject.Help ∷ []
+    subject.Storage ∷ subject.Where ∷ subject.Areas ∷ subject.Task ∷ subject.Tasks ∷ subject.Abend ∷ subject.Queues
+    ∷ subject.Queue
+    ∷ subject.Resources ∷ subject.Programs ∷ subject.Command ∷ subject.Ahead ∷ subject.Symbol ∷ subject.Symbols
+    ∷ subject.Xref
+    ∷ subject.Terminals ∷ subject.Field ∷ subject.Fields ∷ subject.Run ∷ subject.Faults ∷ subject.Help ∷ []
 
 unfoldable pub subject_of : List ℕ → Option Subject
 subject_of text = find (λ s. bytes_eq (subject_name s) text) subjects
@@ -66,21 +69,31 @@ level_of (Some text) = option_map (λ k. Some k) (count_of 16 text)
 
 -- a field of a level of a terminal's task, and all of them
 abbrev pub field_look : List ℕ → List ℕ → Option Look
-field_look term text = option_and_then (λ name. option_map (look.Field term name) (level_of (after_first_blank text))) (padded_name 8 (word text))
+field_look term text =
+    option_and_then (λ name. option_map (look.Field term name) (level_of (after_first_blank text)))
+    (padded_name 8 (word text))
 
 abbrev pub fields_look : List ℕ → Option (List ℕ) → Option Look
 fields_look term text = option_map (look.Fields term) (level_of text)
 
+-- the last abend of a terminal, or its storage
+abbrev pub abend_look : List ℕ → Option (List ℕ) → Option Look
+abend_look name None = Some (look.Abend name)
+abend_look name (Some text) = if bytes_eq text (codes "STORAGE") then Some (look.AbendStorage name) else None
+
 -- a look by its first word, and by the words after it where there are some
 unfoldable pub look_by_word : Subject → Option (List ℕ) → Option Look
 look_by_word subject.Storage (Some text) = two_words look.Storage (hex_number 3) (count_of 4096) text
+look_by_word subject.Where (Some text) = option_map (λ at. look.Where at) (hex_number 3 text)
 look_by_word subject.Areas None = Some look.Areas
 look_by_word subject.Areas (Some text) = option_map (λ name. look.AreasOf name) (padded_name 4 text)
 look_by_word subject.Task (Some text) = option_map (λ name. look.Task name) (padded_name 4 text)
 look_by_word subject.Tasks None = Some look.Tasks
-look_by_word subject.Abend (Some text) = option_map (λ name. look.Abend name) (padded_name 4 text)
+look_by_word subject.Abend (Some text) =
+    option_and_then (λ name. abend_look name (after_first_blank text)) (padded_name 4 (word text))
 look_by_word subject.Queues None = Some look.Queues
-look_by_word subject.Queue (Some text) = option_and_then (λ name. queue_look name (after_first_blank text)) (queue_name_of (word text))
+look_by_word subject.Queue (Some text) =
+    option_and_then (λ name. queue_look name (after_first_blank text)) (queue_name_of (word text))
 look_by_word subject.Resources None = Some look.Resources
 look_by_word subject.Programs None = Some look.Programs
 look_by_word subject.Command (Some text) = option_map (λ name. look.Command name) (padded_name 4 text)
@@ -89,8 +102,10 @@ look_by_word subject.Symbol (Some text) = two_words look.Symbol (padded_name 8) 
 look_by_word subject.Symbols (Some text) = option_map (λ name. look.Symbols name) (padded_name 8 text)
 look_by_word subject.Xref (Some text) = option_map (λ name. look.Xref name) (padded_name 8 text)
 look_by_word subject.Terminals None = Some look.Terminals
-look_by_word subject.Field (Some text) = option_and_then (λ term. option_and_then (field_look term) (after_first_blank text)) (padded_name 4 (word text))
-look_by_word subject.Fields (Some text) = option_and_then (λ term. fields_look term (after_first_blank text)) (padded_name 4 (word text))
+look_by_word subject.Field (Some text) =
+    option_and_then (λ term. option_and_then (field_look term) (after_first_blank text)) (padded_name 4 (word text))
+look_by_word subject.Fields (Some text) =
+    option_and_then (λ term. fields_look term (after_first_blank text)) (padded_name 4 (word text))
 look_by_word subject.Help None = Some (look.Help None)
 look_by_word subject.Help (Some text) = option_map (λ s. look.Help (Some s)) (subject_of text)
 look_by_word _ _ = None

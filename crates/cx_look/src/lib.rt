@@ -2,5 +2,7 @@
 #![tactic(auto)]
 
 mod look;
+mod orders;
 
 pub use look::{Look, SourceLines, Subject, look_of, subject_of};
+pub use orders::{OrdersBlock, OrdersKey, OrdersLine, Sight, orders_block, orders_with, states_of};

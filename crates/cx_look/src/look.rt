@@ -4,7 +4,7 @@ ghost use Rattle.std.specs.List.{find};
 ghost use Rattle.std.specs.Option.{option_copied};
 ghost use Rattle.std.specs.Str.{bytes_eq};
 ghost use Rattle.cx_script_actions.specs.Words.{hex_bytes};
-ghost use Rattle.cx_look.specs.Looks.{count_of, field_look, level_of, look_of, look_by_word, queue_look, queue_name_of, subject_name, subject_of};
+ghost use Rattle.cx_look.specs.Looks.{abend_look, count_of, field_look, level_of, look_of, look_by_word, queue_look, queue_name_of, subject_name, subject_of};
 ghost use Rattle.cx_look.specs.declared.look.Subject.TheVariants as subject;
 
 use cx_base_lists::List;
@@ -40,6 +40,8 @@ pub struct SourceLines {
 pub enum Look {
     /// Storage from an address on, and how many bytes: 1 to 4,096.
     Storage(u32, u32),
+    /// What is at an address.
+    Where(u32),
     /// All areas.
     Areas,
     /// The areas of a terminal's task.
@@ -50,6 +52,8 @@ pub enum Look {
     Tasks,
     /// The last abend of a terminal.
     Abend(Name4),
+    /// The DFHEISTG of the level that abended, as it was then.
+    AbendStorage(Name4),
     /// All queues.
     Queues,
     /// A queue and its items.
@@ -86,6 +90,7 @@ pub enum Look {
 #[derive(Clone, Copy, Debug, PartialEq, Eq)]
 pub enum Subject {
     Storage,
+    Where,
     Areas,
     Task,
     Tasks,
@@ -109,8 +114,9 @@ pub enum Subject {
 
 impl Subject {
     /// All of these words.
-    pub const ALL: [Subject; 20] = [
+    pub const ALL: [Subject; 21] = [
         Subject::Storage,
+        Subject::Where,
         Subject::Areas,
         Subject::Task,
         Subject::Tasks,
@@ -138,6 +144,7 @@ impl Subject {
     {
         match self {
             Subject::Storage => b"STORAGE",
+            Subject::Where => b"WHERE",
             Subject::Areas => b"AREAS",
             Subject::Task => b"TASK",
             Subject::Tasks => b"TASKS",
@@ -312,6 +319,30 @@ fn fields(text: &[u8]) -> Option<Look>
     Some(Look::Fields(term, k))
 }
 
+/// The last abend of a terminal, or its storage, by what follows the terminal.
+fn abend_look(name: Name4, rest: Option<&[u8]>) -> Option<Look>
+    ensures { result ≡ abend_look name (option_copied rest.entry) }
+{
+    let Some(rest) = rest else {
+        return Some(Look::Abend(name));
+    };
+    if rest == b"STORAGE".as_slice() {
+        Some(Look::AbendStorage(name))
+    } else {
+        None
+    }
+}
+
+/// ABEND, by what follows it.
+#[tactic(auto, unfolding(crate::specs::Looks::look_by_word))]
+fn abend(text: &[u8]) -> Option<Look>
+    ensures { result ≡ look_by_word subject.Abend (Some text.now) }
+{
+    let (word, rest) = split_word(text);
+    let name = name4(word)?;
+    abend_look(name, rest)
+}
+
 /// HELP, by what follows it.
 #[tactic(auto, unfolding(crate::specs::Looks::look_by_word))]
 fn help(text: &[u8]) -> Option<Look>
@@ -345,9 +376,10 @@ fn at(subject: Subject, text: &[u8]) -> Option<Look>
 {
     match subject {
         Subject::Storage => storage(text),
+        Subject::Where => hex_address(text).map(|address| Look::Where(address)),
         Subject::Areas => name4(text).map(|name| Look::AreasOf(name)),
         Subject::Task => name4(text).map(|name| Look::Task(name)),
-        Subject::Abend => name4(text).map(|name| Look::Abend(name)),
+        Subject::Abend => abend(text),
         Subject::Queue => queue(text),
         Subject::Command => name4(text).map(|name| Look::Command(name)),
         Subject::Ahead => name4(text).map(|name| Look::Ahead(name)),

@@ -1,5 +1,5 @@
 -- The record of a turn's abend explains its reply, and so an abend is kept.
-use Rattle.std.proofs.Common.{◌≡◌, ℕ, Bool, true, false, Option, Some, None, List, refl, sym, subst, ◌∙◌}
+use Rattle.std.proofs.Common.{◌≡◌, ℕ, Bool, true, false, Option, Some, None, List, refl, sym, subst, ap, ◌∙◌}
 use Rattle.std.specs.Prelude.{MatchBool, MatchOption, if◌then◌else◌}
 use Rattle.std.specs.Option.{option_map_or}
 use Rattle.cx_region_state.specs.declared.replies.TurnReply.{TurnReply}
@@ -21,10 +21,12 @@ use Rattle.cx_edf.specs.Steps.{AppliesBy, DisplayMaker, DoorAnswers, EdfHasAbend
 use Rattle.cx_edf.specs.declared.answers.Answer.TheVariants as answer
 use Rattle.cx_edf.specs.declared.answers.EdfEvent.{EdfEvent}
 use Rattle.cx_edf.specs.declared.answers.EdfEvent.TheVariants as edf_event
-use Rattle.cx_look_abend.specs.Abends.{last_of_turn, kept_task}
+use Rattle.cx_look_abend.specs.Abends.{before_turn, last_of_turn, kept_task}
 use Rattle.cx_look_abend.specs.declared.abends.KeptTask.{KeptTask}
+use Rattle.cx_look_abend.specs.declared.abends.TaskBefore.{TaskBefore}
+use Rattle.cx_look_abend.proofs.DumpLemmas.{RunsAreDecided, dumps_decide}
 use Rattle.cx_look_abend.specs.Laws.{AbendsAreKept, KeepsTurn, NotedDecide}
-use Rattle.cx_look_abend.specs.Noting.{Abends, with_last}
+use Rattle.cx_look_abend.specs.Noting.{Abends, IsTaskBefore, with_last}
 
 turn_explains : AbendRecordsExplain → (old new : RegionState) (name : List ℕ) (given : TurnReply) (abend_record : Option AbendRecord)
     → TakesTurn old name given new → TurnHasAbendRecord old name abend_record → Explains abend_record given
@@ -62,8 +64,8 @@ event_explains law make old new name given abend_record applies recorded = by_he
         let same : reply.Turn given ≡ it.reply = cc in
         passed_explains law old.region new.region name given it.reply abend_record same it.applies that
 
-kept_by : (before : Abends) (region : RegionState) (name : List ℕ) (task : Option KeptTask) (given : TurnReply) (abend_record : Option AbendRecord) → Explains abend_record given
-    → KeepsTurn before name task given (option_map_or (with_last before name) (last_of_turn region name given task abend_record) before)
+kept_by : (before : Abends) (region : RegionState) (name : List ℕ) (task : TaskBefore) (given : TurnReply) (abend_record : Option AbendRecord) → Explains abend_record given
+    → KeepsTurn before name task.task given (option_map_or (with_last before name) (last_of_turn region name given task abend_record) before)
 kept_by before region name task turn.Idle None is = refl
 kept_by before region name task turn.NoSuchTerminal None is = refl
 kept_by before region name task turn.AtCommand None is = refl
@@ -88,8 +90,10 @@ kept_by before region name task (turn.TookLabel condition) (Some abend_record) i
 kept_by before region name task turn.Ended (Some abend_record) is = absurd is
 
 pub abends_are_kept : AbendRecordsExplain → AbendsAreKept
+unfolding IsTaskBefore
 abends_are_kept law old new before after name given it =
-    rw it.kept (kept_by before new.region name (kept_task old.region name) given it.abend_record (event_explains law _ old new name given it.abend_record it.applies it.recorded))
+    let same : it.task.task ≡ kept_task old.region name = ap (λ (b : TaskBefore). b.task) it.taken.1 in
+    rw (it.kept, ← same) (kept_by before new.region name it.task given it.abend_record (event_explains law _ old new name given it.abend_record it.applies it.recorded))
 
 -- ---- what is kept is decided
 turn_abend_records_decide : AbendRecordsDecide → (old : RegionState) (name : List ℕ) (one other : Option AbendRecord) → TurnHasAbendRecord old name one → TurnHasAbendRecord old name other → one ≡ other
@@ -123,8 +127,23 @@ abend_records_decide law old (edf_event.Plain (event.Alter name change)) one oth
 abend_records_decide law old (edf_event.On name) one other h k = h ∙ sym k
 abend_records_decide law old (edf_event.Off name) one other h k = h ∙ sym k
 
-pub noted_decide : EdfEventsDecide → AbendRecordsDecide → NotedDecide
-noted_decide events law old new later before after others e given other h k =
+-- what is kept of a task before an event
+taken_decide : RunsAreDecided → (region : RegionState) (e : EdfEvent) (one other : TaskBefore) → IsTaskBefore region e one → IsTaskBefore region e other → one ≡ other
+unfolding IsTaskBefore
+taken_decide law region (edf_event.Plain (event.Turn name)) one other h k =
+    h.1 ∙ ap (before_turn region name) (dumps_decide law region name one.dump other.dump h.0 k.0) ∙ sym k.1
+taken_decide law region (edf_event.Plain (event.Program name image)) one other h k = h ∙ sym k
+taken_decide law region (edf_event.Plain (event.Transaction tran program)) one other h k = h ∙ sym k
+taken_decide law region (edf_event.Plain (event.Terminal name)) one other h k = h ∙ sym k
+taken_decide law region (edf_event.Plain (event.Clock time date)) one other h k = h ∙ sym k
+taken_decide law region (edf_event.Plain (event.Key name aid bytes)) one other h k = h ∙ sym k
+taken_decide law region (edf_event.Plain (event.Alter name change)) one other h k = h ∙ sym k
+taken_decide law region (edf_event.On name) one other h k = h ∙ sym k
+taken_decide law region (edf_event.Off name) one other h k = h ∙ sym k
+
+pub noted_decide : EdfEventsDecide → AbendRecordsDecide → RunsAreDecided → NotedDecide
+noted_decide events law runs old new later before after others e given other h k =
     let same : (given ≡ other) × (new ≡ later) = events old e given other new later h.applies k.applies in
     let abend_record : h.abend_record ≡ k.abend_record = abend_records_decide law old e h.abend_record k.abend_record h.recorded k.recorded in
-    (same.0, same.1, h.kept ∙ (rw (same.0, same.1, abend_record) refl) ∙ sym k.kept)
+    let task : h.task ≡ k.task = taken_decide runs old.region e h.task k.task h.taken k.taken in
+    (same.0, same.1, h.kept ∙ (rw (same.0, same.1, abend_record, task) refl) ∙ sym k.kept)

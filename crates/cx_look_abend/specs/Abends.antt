@@ -1,22 +1,31 @@
 -- What is kept of a terminal's last abend (own).
-use Rattle.std.specs.Prelude.{ℕ, List, Option, Some, None, map, reverse, slice_index}
-use Rattle.std.specs.Option.{option_and_then, option_map}
+use Rattle.std.specs.Prelude.{ℕ, List, [], Option, Some, None, Result, Ok, Err, if◌then◌else◌, map, reverse, slice_index}
+use Rattle.std.specs.Option.{option_and_then, option_map, option_map_or}
 use Rattle.cx_base_commands.specs.Abends.{abend_code}
 use Rattle.cx_base_commands.specs.declared.abends.Abend.TheVariants.{Xedf}
 use Rattle.cx_program.specs.Levels.{Levels}
 use Rattle.cx_program.specs.declared.level.Level.{Level}
 use Rattle.cx_storage.specs.Address.{address_in}
+use Rattle.cx_storage.specs.Storage.{Storage}
+use Rattle.cx_region_call.specs.Call.{Call, call_of}
+use Rattle.cx_region_call.specs.declared.call.CallFault.{CallFault}
+use Rattle.cx_region_state.specs.State.{TaskState}
 use Rattle.cx_region_state.specs.declared.replies.TurnReply.{TurnReply}
 use Rattle.cx_region_state.specs.declared.replies.TurnReply.TheVariants as turn
 use Rattle.cx_region_task.specs.declared.cause.Cause.{Cause}
 use Rattle.cx_region_task.specs.declared.cause.Cause.TheVariants as cause
 use Rattle.cx_region_task.specs.declared.cause.AbendRecord.{AbendRecord}
+use Rattle.cx_region_task.specs.Performing.{list_of}
 use Rattle.cx_region.specs.State.{RegionState}
 use Rattle.cx_region.specs.Tables.{task_of}
+use Rattle.cx_look_abend.specs.Dumps.{Dump}
 use Rattle.cx_look_abend.specs.declared.abends.Caller.{Caller}
 use Rattle.cx_look_abend.specs.declared.abends.Explanation.{Explanation}
 use Rattle.cx_look_abend.specs.declared.abends.KeptTask.{KeptTask}
 use Rattle.cx_look_abend.specs.declared.abends.LastAbend.{LastAbend}
+use Rattle.cx_look_abend.specs.declared.abends.TaskBefore.{TaskBefore}
+use Rattle.cx_look_command.specs.Commands.{call_text}
+use Rattle.cx_look_words.specs.Words.{Lines}
 use Rattle.cx_look_symbols.specs.Places.{place_of, spot_before}
 use Rattle.cx_look_symbols.specs.declared.places.Place.{Place}
 
@@ -44,13 +53,16 @@ abbrev pub exit_place : RegionState → List ℕ → TurnReply → Option Place
 exit_place region name (turn.TookExit code) = option_map (place_of region.programs) (next_of region name)
 exit_place region name _ = None
 
--- why a turn led to an abend, and where its program was; the byte before a place after a command is the last of the command's EXEC
-abbrev pub explanation_of : RegionState → AbendRecord → Explanation
-explanation_of region abend_record =
+-- why a turn led to an abend, where its program was, the arguments of its command, and its DFHEISTG; the byte before a
+-- place after a command is the last of the command's EXEC
+abbrev pub explanation_of : RegionState → TaskBefore → AbendRecord → Explanation
+explanation_of region before abend_record =
     record {
       abend_record = abend_record;
       place = place_of region.programs (abend_place abend_record);
       before = spot_before region.programs (abend_place abend_record);
+      arguments = before.arguments;
+      dump = before.dump;
     }
 
 -- a level that has called another: its program, and bits 8 to 31 of the R14 that it kept, where it goes on
@@ -67,20 +79,42 @@ kept_task region name =
     option_map (λ task. record { tran = task.tran; number = task.number; callers = callers_of task.levels })
     (task_of region name)
 
+-- the arguments of a task's command that is due, as COMMAND shows them; none where none is due, or its list can't be
+-- read
+abbrev pub call_lines : Storage → Result Call CallFault → Lines
+call_lines s (Ok call) = call_text s call
+call_lines s (Err fault) = []
+
+unfoldable pub due_arguments : Storage → TaskState → Lines
+due_arguments s task = if task.due then call_lines s (call_of s (list_of task)) else []
+
+-- what is kept of a terminal's task before a turn, with the DFHEISTG as it is at an abend to which the turn leads
+abbrev pub before_turn : RegionState → List ℕ → Option Dump → TaskBefore
+before_turn region name dump =
+    record {
+      task = kept_task region name;
+      arguments = option_map_or (due_arguments region.storage) (task_of region name) [];
+      dump = dump;
+    }
+
+-- and before what an operator does
+abbrev pub before_operator : RegionState → List ℕ → TaskBefore
+before_operator region name = record { task = kept_task region name; arguments = []; dump = None }
+
 -- the abend of a turn of this terminal's task with that reply and record, in the region after it
-abbrev pub last_with : RegionState → List ℕ → TurnReply → Option KeptTask → AbendRecord → List ℕ → LastAbend
-last_with region name reply task abend_record code =
+abbrev pub last_with : RegionState → List ℕ → TurnReply → TaskBefore → AbendRecord → List ℕ → LastAbend
+last_with region name reply before abend_record code =
     record {
       code = code;
-      task = task;
-      explanation = Some (explanation_of region abend_record);
+      task = before.task;
+      explanation = Some (explanation_of region before abend_record);
       exit = exit_place region name reply;
     }
 
-abbrev pub last_of_turn : RegionState → List ℕ → TurnReply → Option KeptTask → Option AbendRecord → Option LastAbend
-last_of_turn region name reply task abend_record =
-    option_and_then (λ it. option_map (last_with region name reply task it) (abend_code_in reply)) abend_record
+abbrev pub last_of_turn : RegionState → List ℕ → TurnReply → TaskBefore → Option AbendRecord → Option LastAbend
+last_of_turn region name reply before abend_record =
+    option_and_then (λ it. option_map (last_with region name reply before it) (abend_code_in reply)) abend_record
 
 -- an abend of a task that an operator asked for
-abbrev pub by_operator : Option KeptTask → LastAbend
-by_operator task = record { code = abend_code Xedf; task = task; explanation = None; exit = None }
+abbrev pub by_operator : TaskBefore → LastAbend
+by_operator before = record { code = abend_code Xedf; task = before.task; explanation = None; exit = None }

@@ -1,9 +1,18 @@
 -- Which turns keep an abend; what is kept is decided.
-use Rattle.std.specs.Prelude.{◌≡◌, ℕ, true, is_some, List, Option}
+use Rattle.std.specs.Prelude.{◌≡◌, ℕ, true, is_some, List, Option, Some}
+use Rattle.cx_base_commands.specs.declared.commands.Command.{Command}
+use Rattle.cx_exec.specs.Machine.{Machine}
+use Rattle.cx_region_state.specs.State.{TaskState}
 use Rattle.cx_region_state.specs.declared.replies.TurnReply.{TurnReply}
 use Rattle.cx_region_state.specs.declared.replies.TurnReply.TheVariants as turn
 use Rattle.cx_region.specs.declared.replies.Event.TheVariants as event
 use Rattle.cx_region.specs.declared.replies.Reply.TheVariants as reply
+use Rattle.cx_region.specs.State.{RegionState}
+use Rattle.cx_region.specs.Tables.{task_of}
+use Rattle.cx_region.specs.Turn.{TurnHasAbendRecord}
+use Rattle.cx_region_task.specs.Turn.{abend_record_with}
+use Rattle.cx_region_task.specs.declared.cause.AbendRecord.{AbendRecord}
+use Rattle.cx_region_task.specs.declared.cause.Cause.{Cause}
 use Rattle.cx_edf.specs.State.{EdfState}
 use Rattle.cx_edf.specs.declared.answers.Answer.{Answer}
 use Rattle.cx_edf.specs.declared.answers.Answer.TheVariants as answer
@@ -11,11 +20,13 @@ use Rattle.cx_edf.specs.declared.answers.EdfEvent.{EdfEvent}
 use Rattle.cx_edf.specs.declared.answers.EdfEvent.TheVariants as edf_event
 use Rattle.cx_look_abend.specs.Noting.{Abends, AppliesWithAbends, with_last}
 use Rattle.cx_look_abend.specs.Abends.{kept_task}
+use Rattle.cx_look_abend.specs.Dumps.{Dump, TurnHasDump, dump_in}
 use Rattle.cx_look_abend.specs.declared.abends.LastAbend.{LastAbend}
 use Rattle.cx_look_abend.specs.declared.abends.KeptTask.{KeptTask}
 
 -- an abend of this task with this code, to which a turn led, is the terminal's last one
-pub record IsLast (before : Abends) (name : List ℕ) (task : Option KeptTask) (code : List ℕ) (after : Abends) : Type 0 where
+pub record IsLast (before : Abends) (name : List ℕ) (task : Option KeptTask) (code : List ℕ) (after : Abends)
+    : Type 0 where
   pub last : LastAbend
   pub kept : after ≡ with_last before name last
   pub of_task : last.task ≡ task
@@ -27,6 +38,20 @@ abbrev pub KeepsTurn : Abends → List ℕ → Option KeptTask → TurnReply →
 KeepsTurn before name task (turn.TookExit code) after = IsLast before name task code after
 KeepsTurn before name task (turn.Abended code) after = IsLast before name task code after
 KeepsTurn before name task _ after = after ≡ before
+
+-- the DFHEISTG that is kept of a turn's abend is of the machine whose registers are kept
+pub record IsOfRecord (task : TaskState) (abend_record : AbendRecord) (dump : Dump) : Type 0 where
+  pub command : Option Command
+  pub why : Cause
+  pub machine : Machine
+  pub recorded : abend_record ≡ abend_record_with command machine why
+  pub dumped : Some dump ≡ dump_in machine.storage task.levels.current
+
+abbrev pub DumpsAreOfRecords : Type 0
+DumpsAreOfRecords = (region : RegionState) (name : List ℕ) (task : TaskState) (abend_record : AbendRecord) (dump : Dump)
+    → task_of region name ≡ Some task → TurnHasAbendRecord region name (Some abend_record)
+    → TurnHasDump region name (Some dump)
+    → IsOfRecord task abend_record dump
 
 abbrev pub AbendsAreKept : Type 0
 AbendsAreKept = (old new : EdfState) (before after : Abends) (name : List ℕ) (given : TurnReply)

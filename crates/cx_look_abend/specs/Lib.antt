@@ -1,4 +1,5 @@
 -- The definitions, in reading order.
+pub mod Dumps
 pub mod Abends
 pub mod Noting
 pub mod Texts

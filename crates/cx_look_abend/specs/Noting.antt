@@ -1,11 +1,12 @@
 -- How the last abend of each terminal is kept, by the events that are done (own).
-use Rattle.std.specs.Prelude.{◌≡◌, ℕ, Bool, true, false, ⊤, List, Option, Some, None, Ok, MatchBool, if◌then◌else◌}
+use Rattle.std.specs.Prelude.{◌≡◌, ℕ, Bool, true, false, is_some, ⊤, List, [], Option, Some, None, Ok, MatchBool, if◌then◌else◌}
 use Rattle.std.specs.Map.{set_value}
 use Rattle.std.specs.Option.{option_map_or}
 use Rattle.indexmap.specs.IndexMap.{insert_entry}
 use Rattle.cx_region_task.specs.declared.cause.AbendRecord.{AbendRecord}
 use Rattle.cx_ebcdic.specs.Names.{is_name}
 use Rattle.cx_region.specs.State.{RegionState}
+use Rattle.cx_region.specs.Tables.{task_of}
 use Rattle.cx_region.specs.declared.changes.AlterReply.TheVariants as alter
 use Rattle.cx_region.specs.declared.changes.Change.{Change}
 use Rattle.cx_region.specs.declared.changes.Change.TheVariants as change
@@ -18,9 +19,10 @@ use Rattle.cx_edf.specs.declared.answers.Answer.{Answer}
 use Rattle.cx_edf.specs.declared.answers.Answer.TheVariants as answer
 use Rattle.cx_edf.specs.declared.answers.EdfEvent.{EdfEvent}
 use Rattle.cx_edf.specs.declared.answers.EdfEvent.TheVariants as edf_event
-use Rattle.cx_look_abend.specs.Abends.{by_operator, last_of_turn, kept_task}
+use Rattle.cx_look_abend.specs.Abends.{before_operator, before_turn, by_operator, last_of_turn}
+use Rattle.cx_look_abend.specs.Dumps.{TurnHasDump}
 use Rattle.cx_look_abend.specs.declared.abends.LastAbend.{LastAbend}
-use Rattle.cx_look_abend.specs.declared.abends.KeptTask.{KeptTask}
+use Rattle.cx_look_abend.specs.declared.abends.TaskBefore.{TaskBefore}
 
 -- the terminals that are defined, each with its last abend, where it has had one
 abbrev pub Abends : Type 0
@@ -39,33 +41,39 @@ abbrev pub kept_terminal : Abends → List ℕ → Answer → Abends
 kept_terminal abends name given = if is_defined given then insert_entry is_name abends name None else abends
 
 -- an abend to which a turn led, in the region after it
-abbrev pub kept_turn : Abends → List ℕ → Option KeptTask → Answer → Option AbendRecord → RegionState → Abends
+abbrev pub kept_turn : Abends → List ℕ → TaskBefore → Answer → Option AbendRecord → RegionState → Abends
 kept_turn abends name task (answer.Region (reply.Turn given)) abend_record region =
     option_map_or (with_last abends name) (last_of_turn region name given task abend_record) abends
 kept_turn abends name task _ abend_record region = abends
 
 -- an abend that an operator asked for, by ALTER, or by PF12 that ends a task
-abbrev pub kept_alter : Abends → List ℕ → Option KeptTask → Change → Answer → Abends
-kept_alter abends name task change.Abend (answer.Region (reply.Alter alter.Altered)) = with_last abends name (by_operator task)
+abbrev pub kept_alter : Abends → List ℕ → TaskBefore → Change → Answer → Abends
+kept_alter abends name task change.Abend (answer.Region (reply.Alter alter.Altered)) =
+    with_last abends name (by_operator task)
 kept_alter abends name task _ _ = abends
 
-abbrev pub kept_key : Abends → List ℕ → Option KeptTask → Bool → Abends
+abbrev pub kept_key : Abends → List ℕ → TaskBefore → Bool → Abends
 kept_key abends name task ends = if ends then with_last abends name (by_operator task) else abends
 
--- the task of the terminal that an event names
-abbrev pub task_before : RegionState → EdfEvent → Option KeptTask
-task_before region (edf_event.Plain (event.Turn name)) = kept_task region name
-task_before region (edf_event.Plain (event.Alter name c)) = kept_task region name
-task_before region (edf_event.Plain (event.Key name aid bytes)) = kept_task region name
-task_before region _ = None
+-- what is kept, before an event, of the task of the terminal that it names
+unfoldable pub IsTaskBefore : RegionState → EdfEvent → TaskBefore → Type 0
+IsTaskBefore region (edf_event.Plain (event.Turn name)) before =
+    TurnHasDump region name before.dump × (before ≡ before_turn region name before.dump)
+IsTaskBefore region (edf_event.Plain (event.Alter name c)) before = before ≡ before_operator region name
+IsTaskBefore region (edf_event.Plain (event.Key name aid bytes)) before = before ≡ before_operator region name
+IsTaskBefore region _ before = before ≡ record { task = None; arguments = []; dump = None }
 
--- What is kept after an event with that task that was answered so, with that record of an abend, in the region after it; the flag says
--- that it was PF12 that ends a task.
-abbrev pub kept_after : Abends → Bool → Option KeptTask → EdfEvent → Answer → Option AbendRecord → RegionState → Abends
-kept_after abends ends task (edf_event.Plain (event.Terminal name)) given abend_record region = kept_terminal abends name given
-kept_after abends ends task (edf_event.Plain (event.Turn name)) given abend_record region = kept_turn abends name task given abend_record region
-kept_after abends ends task (edf_event.Plain (event.Alter name c)) given abend_record region = kept_alter abends name task c given
-kept_after abends ends task (edf_event.Plain (event.Key name aid bytes)) given abend_record region = kept_key abends name task ends
+-- What is kept after an event with that task that was answered so, with that record of an abend, in the region after
+-- it; the flag says that it was PF12 that ends a task.
+abbrev pub kept_after : Abends → Bool → TaskBefore → EdfEvent → Answer → Option AbendRecord → RegionState → Abends
+kept_after abends ends task (edf_event.Plain (event.Terminal name)) given abend_record region =
+    kept_terminal abends name given
+kept_after abends ends task (edf_event.Plain (event.Turn name)) given abend_record region =
+    kept_turn abends name task given abend_record region
+kept_after abends ends task (edf_event.Plain (event.Alter name c)) given abend_record region =
+    kept_alter abends name task c given
+kept_after abends ends task (edf_event.Plain (event.Key name aid bytes)) given abend_record region =
+    kept_key abends name task ends
 kept_after abends ends task _ given abend_record region = abends
 
 abbrev pub ends_task : EdfState → EdfEvent → Bool
@@ -73,16 +81,21 @@ ends_task old (edf_event.Plain (event.Key name aid bytes)) = ends_by_key old nam
 ends_task old _ = false
 
 -- an event, and what is kept after it
-pub record AppliesWithAbends (old : EdfState) (before : Abends) (e : EdfEvent) (given : Answer) (new : EdfState) (after : Abends) : Type 0 where
+pub record AppliesWithAbends (old : EdfState) (before : Abends) (e : EdfEvent) (given : Answer) (new : EdfState)
+    (after : Abends) : Type 0 where
   pub abend_record : Option AbendRecord
   pub applies : EdfApplies old e given new
   pub recorded : EdfHasAbendRecord old e abend_record
-  pub kept : after ≡ kept_after before (ends_task old e) (task_before old.region e) e given abend_record new.region
+  pub task : TaskBefore
+  pub taken : IsTaskBefore old.region e task
+  pub kept : after ≡ kept_after before (ends_task old e) task e given abend_record new.region
 
--- A new terminal takes room for its last abend; any other event may take memory as it may without what is kept.
-abbrev pub defines_terminal : EdfEvent → Bool
-defines_terminal (edf_event.Plain (event.Terminal name)) = true
-defines_terminal _ = false
+-- A new terminal takes room for its last abend, and a turn of a task for what is kept of the task before it; any other
+-- event may take memory as it may without what is kept.
+abbrev pub takes_room : RegionState → EdfEvent → Bool
+takes_room region (edf_event.Plain (event.Terminal name)) = true
+takes_room region (edf_event.Plain (event.Turn name)) = is_some (task_of region name)
+takes_room region _ = false
 
 abbrev pub MayTakeNoted : EdfState → EdfEvent → Type 0
-MayTakeNoted old e = MatchBool (defines_terminal e) ⊤ (MayTakeEdf old e)
+MayTakeNoted old e = MatchBool (takes_room old.region e) ⊤ (MayTakeEdf old e)

@@ -1,2 +1,3 @@
 -- The vocabulary of private functions.
 pub mod Callers
+pub mod Terminals

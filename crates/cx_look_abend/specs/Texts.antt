@@ -18,10 +18,11 @@ use Rattle.cx_base_text.specs.Digits.{digits}
 use Rattle.cx_base_text.specs.Texts.{shown_text, shown_name}
 use Rattle.cx_look_words.specs.Registers.{register_lines}
 use Rattle.cx_look_words.specs.Words.{Lines, look_line}
-use Rattle.cx_look_symbols.specs.Lines.{SourcePlaces}
-use Rattle.cx_look_symbols.specs.Places.{address_word, line_word, place_of, place_word, spot_before}
+use Rattle.cx_look_symbols.specs.Places.{address_word, place_of, place_word, spot_before}
+use Rattle.cx_look_symbols.specs.Sources.{Sources, led_by, statement_at}
 use Rattle.cx_look_symbols.specs.declared.places.Place.{Place}
 use Rattle.cx_look_abend.specs.Noting.{Abends}
+use Rattle.cx_look_abend.specs.Dumps.{if_dumped}
 use Rattle.cx_look_abend.specs.declared.abends.Caller.{Caller}
 use Rattle.cx_look_abend.specs.declared.abends.LastAbend.{LastAbend}
 use Rattle.cx_look_abend.specs.declared.abends.Explanation.{Explanation}
@@ -61,23 +62,33 @@ instruction_word bytes =
 
 -- ---- lines
 -- of an interruption or the limit: the next address, and the instruction there
-abbrev pub next_line : SourcePlaces → Explanation → Lines
-next_line sources it = look_line (codes "NEXT" ∷ place_word sources it.place ∷ codes "INSTRUCTION" ∷ instruction_word it.abend_record.bytes ∷ [])
+abbrev pub next_line : Sources → Explanation → Lines
+next_line sources it =
+    look_line
+    (codes "NEXT" ∷ place_word sources.places it.place ∷ codes "INSTRUCTION"
+    ∷ instruction_word it.abend_record.bytes ∷ [])
 
--- of a command: its name, the address of its argument list, and the line of its EXEC, which has the byte before R14's address; and
--- that address, where the program would go on after it
+-- of a command: its name, the address of its argument list, and the line of its EXEC, which has the byte before R14's
+-- address, with its text; and that address, where the program would go on after it
 abbrev pub command_word : Option Command → List ℕ
 command_word command = option_map_or (λ it. (row_of it).name) command (codes "?")
 
-abbrev pub list_word : SourcePlaces → Explanation → List ℕ
-list_word sources it = digits 16 6 (address_in (slice_index it.abend_record.regs 1)) ++ line_word (codes " LINE ") sources it.before
+abbrev pub list_word : Sources → Explanation → List ℕ
+list_word sources it =
+    digits 16 6 (address_in (slice_index it.abend_record.regs 1))
+    ++ led_by (codes " LINE ") (statement_at sources it.before)
 
-abbrev pub command_lines : SourcePlaces → Explanation → Lines
+-- the arguments of one that was refused
+abbrev pub argument_lines : Cause → Lines → Lines
+argument_lines (cause.Refused abend) arguments = arguments
+argument_lines _ arguments = []
+
+abbrev pub command_lines : Sources → Explanation → Lines
 command_lines sources it =
     look_line (codes "COMMAND" ∷ command_word it.abend_record.command ∷ codes "LIST" ∷ list_word sources it ∷ [])
-    ++ look_line (codes "R14" ∷ address_word it.place ∷ [])
+    ++ argument_lines it.abend_record.cause it.arguments ++ look_line (codes "R14" ∷ address_word it.place ∷ [])
 
-abbrev pub where_lines : SourcePlaces → Cause → Explanation → Lines
+abbrev pub where_lines : Sources → Cause → Explanation → Lines
 where_lines sources (cause.Interrupted interruption) it = next_line sources it
 where_lines sources cause.Limit it = next_line sources it
 where_lines sources _ it = command_lines sources it
@@ -85,37 +96,44 @@ where_lines sources _ it = command_lines sources it
 abbrev pub code_line : ℕ → Lines
 code_line code = look_line (codes "CC" ∷ digits 10 1 code ∷ [])
 
-unfoldable pub explanation_lines : SourcePlaces → Explanation → Lines
+unfoldable pub explanation_lines : Sources → Explanation → Lines
 explanation_lines sources it =
     where_lines sources it.abend_record.cause it ++ register_lines it.abend_record.regs ++ code_line it.abend_record.cc
 
 -- where an exit took it
-abbrev pub exit_line : SourcePlaces → Option Place → Lines
-exit_line sources exit = option_map_or (λ place. look_line (codes "EXIT" ∷ place_word sources place ∷ [])) exit []
+abbrev pub exit_line : Sources → Option Place → Lines
+exit_line sources exit =
+    option_map_or (λ place. look_line (codes "EXIT" ∷ place_word sources.places place ∷ [])) exit []
 
--- where a level that had called another goes on, and the line of the byte before that, the last of its command's EXEC
-abbrev pub goes_on_word : SourcePlaces → List (List ℕ × Loaded) → ℕ → List ℕ
+-- where a level that had called another goes on, and the statement of the byte before that, the last of its command's
+-- EXEC
+abbrev pub goes_on_word : Sources → List (List ℕ × Loaded) → ℕ → List ℕ
 goes_on_word sources programs next =
-    address_word (place_of programs next) ++ line_word (codes " COMMAND LINE ") sources (spot_before programs next)
+    address_word (place_of programs next)
+    ++ led_by (codes " COMMAND LINE ") (statement_at sources (spot_before programs next))
 
-abbrev pub caller_line : SourcePlaces → List (List ℕ × Loaded) → Caller → Lines
+abbrev pub caller_line : Sources → List (List ℕ × Loaded) → Caller → Lines
 caller_line sources programs caller =
-    look_line (codes "CALLER" ∷ shown_name caller.program ∷ codes "R14" ∷ goes_on_word sources programs caller.next ∷ [])
+    look_line
+    (codes "CALLER" ∷ shown_name caller.program ∷ codes "R14" ∷ goes_on_word sources programs caller.next ∷ [])
 
 -- the levels that had called the one that abended
-abbrev pub caller_lines : SourcePlaces → List (List ℕ × Loaded) → Option KeptTask → Lines
+abbrev pub caller_lines : Sources → List (List ℕ × Loaded) → Option KeptTask → Lines
 caller_lines sources programs task = option_map_or (λ it. flat_map (caller_line sources programs) it.callers) task []
 
 -- ---- the look
 -- the task that abended
 abbrev pub task_word : Option KeptTask → List ℕ
-task_word task = option_map_or (λ it. codes "TRAN " ++ shown_name it.tran ++ codes " TASK " ++ digits 10 7 it.number) task (codes "TASK --")
+task_word task =
+    option_map_or (λ it. codes "TRAN " ++ shown_name it.tran ++ codes " TASK " ++ digits 10 7 it.number) task
+    (codes "TASK --")
 
 abbrev pub head_line : List ℕ → LastAbend → Lines
 head_line name last =
-    look_line (codes "ABEND" ∷ shown_name name ∷ shown_text last.code ∷ why_word last.explanation ∷ task_word last.task ∷ [])
+    look_line
+    (codes "ABEND" ∷ shown_name name ∷ shown_text last.code ∷ why_word last.explanation ∷ task_word last.task ∷ [])
 
-unfoldable pub last_text : SourcePlaces → List (List ℕ × Loaded) → List ℕ → LastAbend → Lines
+unfoldable pub last_text : Sources → List (List ℕ × Loaded) → List ℕ → LastAbend → Lines
 last_text sources programs name last =
     head_line name last ++ exit_line sources last.exit ++ option_map_or (explanation_lines sources) last.explanation []
     ++ caller_lines sources programs last.task
@@ -126,5 +144,14 @@ none_line name = look_line (codes "ABEND" ∷ shown_name name ∷ codes "NONE" �
 abbrev pub last_of : Abends → List ℕ → Option LastAbend
 last_of abends name = option_and_then (λ last. last) (lookup (is_name name) abends)
 
-unfoldable pub abend_text : SourcePlaces → List (List ℕ × Loaded) → Abends → List ℕ → Lines
-abend_text sources programs abends name = option_map_or (last_text sources programs name) (last_of abends name) (none_line name)
+-- its DFHEISTG
+abbrev pub dumped : LastAbend → Lines
+dumped last = if_dumped (option_and_then (λ it. it.dump) last.explanation)
+
+unfoldable pub abend_storage_text : Abends → List ℕ → Lines
+abend_storage_text abends name =
+    option_map_or (λ last. head_line name last ++ dumped last) (last_of abends name) (none_line name)
+
+unfoldable pub abend_text : Sources → List (List ℕ × Loaded) → Abends → List ℕ → Lines
+abend_text sources programs abends name =
+    option_map_or (last_text sources programs name) (last_of abends name) (none_line name)

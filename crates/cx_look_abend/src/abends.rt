@@ -7,10 +7,12 @@ ghost use Rattle.cx_program.specs.Levels.{all_levels};
 ghost use Rattle.cx_look_abend.specs.Parts.Callers.{caller_at};
 ghost use Rattle.cx_look_abend.specs.Abends.{abend_code_in, abend_place, by_operator, caller_of, callers_of, exit_place, explanation_of, kept_task, last_of_turn, next_of};
 
+use crate::dumps::StorageDump;
 use arrayvec::ArrayVec;
 use cx_base_commands::Abend;
 use cx_ebcdic::{Name4, Name8};
 use cx_look_symbols::{Place, Spot, place_of, spot_before};
+use cx_look_words::Report;
 use cx_program::{Level, LevelStack};
 use cx_region::{AbendRecord, Cause, Region, TurnReply};
 use cx_storage::{Store, address_in};
@@ -18,12 +20,16 @@ use indexmap::IndexMap;
 use std::marker::Model;
 
 /// Why a turn led to an abend, and where its program was: at the next address, or after a command, where R14 leads.
-#[derive(Clone, Copy, Debug, PartialEq, Eq)]
+#[derive(Drop)]
 pub struct Explanation {
     pub abend_record: AbendRecord,
     pub place: Place,
     /// Where the byte before that place is: after a command the last one of the command's EXEC.
     pub before: Option<Spot>,
+    /// The arguments of the command that was due, as COMMAND shows them.
+    pub arguments: Report,
+    /// The DFHEISTG of the level that abended, as it was then.
+    pub dump: Option<StorageDump>,
 }
 
 /// How many levels the one that abended can have above it.
@@ -93,8 +99,19 @@ pub struct KeptTask {
     pub callers: Callers,
 }
 
+/// What is kept of a terminal's task before an event that may lead to an abend.
+#[derive(Drop)]
+pub struct TaskBefore {
+    /// The task, where there is one.
+    pub task: Option<KeptTask>,
+    /// The arguments of the command that is due, as COMMAND shows them; no line where none is due, or its list can't be read.
+    pub arguments: Report,
+    /// The DFHEISTG of its current level, as it is at an abend to which a turn leads.
+    pub dump: Option<StorageDump>,
+}
+
 /// A terminal's last abend.
-#[derive(Debug, Drop)]
+#[derive(Drop)]
 pub struct LastAbend {
     pub code: Name4,
     /// The task that abended.
@@ -246,17 +263,30 @@ fn exit_place<S: Store + Drop>(region: &Region<S>, name: Name4, reply: &TurnRepl
     }
 }
 
-/// Why a turn led to an abend, and where its program was, where the region is as it was after the turn.
-fn explanation_of<S: Store + Drop>(region: &Region<S>, abend_record: AbendRecord) -> Explanation
-    ensures { result ≡ explanation_of region.now abend_record }
+/// Why a turn led to an abend, where its program was, the arguments of its command, and its DFHEISTG, where the region is as it was after
+/// the turn.
+fn explanation_of<S: Store + Drop>(
+    region: &Region<S>,
+    before: TaskBefore,
+    abend_record: AbendRecord,
+) -> (Option<KeptTask>, Explanation)
+    ensures { (result.0 ≡ before.task) × (result.1 ≡ explanation_of region.now before abend_record) }
 {
+    let TaskBefore {
+        task,
+        arguments,
+        dump,
+    } = before;
     let programs = &region.shared().programs;
     let address = abend_place(&abend_record);
-    Explanation {
+    let explanation = Explanation {
         abend_record,
         place: place_of(programs, address),
         before: spot_before(programs, address),
-    }
+        arguments,
+        dump,
+    };
+    (task, explanation)
 }
 
 /// The abend of a turn of a task that was answered so, with that record of an abend, where the region is as it was after the turn.
@@ -264,30 +294,30 @@ pub(crate) fn last_of_turn<S: Store + Drop>(
     region: &Region<S>,
     name: Name4,
     reply: &TurnReply,
-    task: Option<KeptTask>,
+    before: TaskBefore,
     abend_record: &Option<AbendRecord>,
 ) -> Option<LastAbend>
-    ensures { result ≡ last_of_turn region.now name reply.now task abend_record.now }
+    ensures { result ≡ last_of_turn region.now name reply.now before abend_record.now }
 {
     let abend_record = (*abend_record)?;
     let code = abend_code_in(reply)?;
-    let explanation = Some(explanation_of(region, abend_record));
+    let (task, explanation) = explanation_of(region, before, abend_record);
     let exit = exit_place(region, name, reply);
     Some(LastAbend {
         code,
         task,
-        explanation,
+        explanation: Some(explanation),
         exit,
     })
 }
 
 /// An abend of a task that an operator asked for.
-pub(crate) fn by_operator(task: Option<KeptTask>) -> LastAbend
-    ensures { result ≡ by_operator task }
+pub(crate) fn by_operator(before: TaskBefore) -> LastAbend
+    ensures { result ≡ by_operator before }
 {
     LastAbend {
         code: Abend::Xedf.code(),
-        task,
+        task: before.task,
         explanation: None,
         exit: None,
     }

@@ -1,5 +1,5 @@
 //! Which abends are kept.
-ghost use Rattle.cx_look_abend.specs.Laws.{AbendsAreKept, NotedDecide};
+ghost use Rattle.cx_look_abend.specs.Laws.{AbendsAreKept, DumpsAreOfRecords, NotedDecide};
 
 /// Each turn that is answered as an abend is kept as its terminal's last one, with its task, its code and why it came; any other turn leaves
 /// what is kept.
@@ -15,4 +15,13 @@ pub fn noted_events_decide()
 {
     cx_edf::laws::edf_events_decide();
     cx_region_task::laws::abend_records_explain();
+    cx_exec_laws::laws::runs_decide();
+}
+
+/// The storage that is kept of a turn's abend is of the machine whose registers are kept: of a command as it found it, else as the turn's
+/// instructions left it.
+pub fn dumps_are_of_records()
+    ensures { DumpsAreOfRecords }
+{
+    cx_exec_laws::laws::runs_decide();
 }

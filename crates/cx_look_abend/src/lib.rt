@@ -2,10 +2,13 @@
 #![tactic(auto)]
 
 mod abends;
+mod before;
+mod dumps;
 pub mod laws;
 mod noting;
 mod texts;
 
-pub use abends::{Caller, Callers, Explanation, Kept, KeptTask, LastAbend, LastAbends};
+pub use abends::{Caller, Callers, Explanation, Kept, KeptTask, LastAbend, LastAbends, TaskBefore};
+pub use dumps::StorageDump;
 pub use noting::apply_noted;
-pub use texts::abend_text;
+pub use texts::{abend_storage_text, abend_text};

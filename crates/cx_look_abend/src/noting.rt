@@ -5,11 +5,11 @@ ghost use Rattle.indexmap.specs.IndexMap.{spare};
 ghost use Rattle.cx_edf.specs.Runs.{IsAllowedEdf};
 ghost use Rattle.cx_edf.specs.State.{ends_by_key};
 ghost use Rattle.cx_look_abend.specs.Abends.{last_of_turn};
-ghost use Rattle.cx_look_abend.specs.Noting.{AppliesWithAbends, MayTakeNoted, defines_terminal, ends_task, is_defined, kept_after, kept_alter, kept_key, kept_terminal, kept_turn, task_before, with_last};
+ghost use Rattle.cx_look_abend.specs.Noting.{AppliesWithAbends, MayTakeNoted, ends_task, is_defined, kept_after, kept_alter, kept_key, kept_terminal, kept_turn, with_last};
+ghost use Rattle.cx_look_abend.specs.Parts.Terminals.{defines_terminal};
 
-use crate::abends::{
-    KeptTask, LastAbend, LastAbends, by_operator, kept_task, last_of_turn, put_none,
-};
+use crate::abends::{LastAbend, LastAbends, TaskBefore, by_operator, last_of_turn, put_none};
+use crate::before::task_before;
 use cx_ebcdic::{Aid, Name4};
 use cx_edf::{Answer, Debugged, EdfEvent};
 use cx_region::{AbendRecord, AlterReply, Change, Event, Region, Reply, TurnReply};
@@ -50,7 +50,7 @@ fn keep_turn<S: Store + Drop>(
     abends: &mut LastAbends,
     region: &Region<S>,
     name: Name4,
-    task: Option<KeptTask>,
+    task: TaskBefore,
     answer: &Answer,
     abend_record: &Option<AbendRecord>,
 )
@@ -70,7 +70,7 @@ fn keep_turn<S: Store + Drop>(
 fn keep_alter(
     abends: &mut LastAbends,
     name: Name4,
-    task: Option<KeptTask>,
+    task: TaskBefore,
     change: &Change,
     answer: &Answer,
 )
@@ -82,7 +82,7 @@ fn keep_alter(
 }
 
 /// Keeps an abend that an operator asked for by a key.
-fn keep_key(abends: &mut LastAbends, name: Name4, task: Option<KeptTask>, ends: bool)
+fn keep_key(abends: &mut LastAbends, name: Name4, task: TaskBefore, ends: bool)
     ensures { abends.new.entries ≡ kept_key abends.old.entries name task ends }
 {
     if ends {
@@ -90,22 +90,11 @@ fn keep_key(abends: &mut LastAbends, name: Name4, task: Option<KeptTask>, ends: 
     }
 }
 
-/// The task of the terminal that an event names, where the event may lead to an abend.
-fn task_before<S: Store + Drop>(region: &Region<S>, event: &EdfEvent) -> Option<KeptTask>
-    ensures { result ≡ task_before region.now event.now }
-{
-    match event {
-        EdfEvent::Plain(Event::Turn(name) | Event::Alter(name, _) | Event::Key(name, _, _)) =>
-            kept_task(region, *name),
-        _ => None,
-    }
-}
-
-/// Keeps what an event led to that was answered so, with the task before it, where the region is as it was after it.
+/// Keeps what an event led to that was answered so, with what was kept of the task before it, where the region is as it was after it.
 fn keep<S: Store + Drop>(
     abends: &mut LastAbends,
     region: &Region<S>,
-    task: Option<KeptTask>,
+    task: TaskBefore,
     event: &EdfEvent,
     answer: &Answer,
     abend_record: &Option<AbendRecord>,
@@ -160,10 +149,10 @@ fn make_room(abends: &mut LastAbends, event: &EdfEvent) -> Result<(), AllocError
 }
 
 /// Does an event of a region under EDF, and keeps its terminal's last abend, where the event led to one. Room for it is made with
-/// the terminal.
+/// the terminal, and what is kept of a task is taken before its turn.
 ///
-/// An error comes only where an allocation failed: that of a new terminal's room, or one that the event may take. Then
-/// all is as before.
+/// An error comes only where an allocation failed: that of a new terminal's room, of what is kept of a task before its turn, or one that
+/// the event may take. Then all is as before.
 pub fn apply_noted<S: Store + Drop>(
     state: &mut Debugged<S>,
     abends: &mut LastAbends,
@@ -177,7 +166,7 @@ pub fn apply_noted<S: Store + Drop>(
 {
     make_room(abends, event)?;
     let ends = ends_task(state, event);
-    let task = task_before(state.region(), event);
+    let task = task_before(state.region(), event)?;
     let (answer, abend_record) = state.apply_with_cause(event)?;
     keep(
         abends,

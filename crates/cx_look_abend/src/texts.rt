@@ -2,17 +2,19 @@
 ghost use Rattle.std.specs.Prelude.{◌≡◌, ◌++◌, [], IfOk, OnOk, is_some, take};
 ghost use Rattle.std.specs.Option.{option_copied, option_map_or};
 ghost use Rattle.std.specs.List.{flat_map, list_all};
-ghost use Rattle.cx_look_abend.specs.Texts.{abend_text, byte_digits, bytes_word, caller_line, caller_lines, cause_word, code_line, command_lines, command_word, exit_line, explanation_lines, goes_on_word, head_line, instruction_word, interruption_word, last_of, last_text, list_word, next_line, none_line, task_word, where_lines, why_word};
+ghost use Rattle.cx_look_abend.specs.Texts.{abend_storage_text, abend_text, argument_lines, byte_digits, bytes_word, caller_line, caller_lines, cause_word, code_line, command_lines, command_word, dumped, exit_line, explanation_lines, goes_on_word, head_line, instruction_word, interruption_word, last_of, last_text, list_word, next_line, none_line, task_word, where_lines, why_word};
 
 use crate::abends::{Caller, Explanation, KeptTask, LastAbend, LastAbends};
+use crate::dumps::if_dumped;
 use cx_base_commands::Command;
+use cx_base_lists::List;
 use cx_base_text::{decimal, hexadecimal, shown, shown_name};
 use cx_code::instruction_length;
 use cx_ebcdic::{Name4, Name8};
 use cx_exec::Interruption;
 use cx_load::Loaded;
 use cx_look_symbols::{
-    Place, SourcePlaces, address_word, line_word, place_of, place_word, spot_before,
+    Place, Sources, address_word, place_of, place_word, push_led_by, spot_before, statement_at,
 };
 use cx_look_words::{Report, register_lines};
 use cx_region::{AbendRecord, Cause};
@@ -116,14 +118,10 @@ fn next_instruction(alloc: Global, abend_record: &AbendRecord) -> Result<Vec<u8>
 }
 
 /// Adds the line of the next address, with the instruction there.
-fn next_line(
-    report: &mut Report,
-    sources: &SourcePlaces,
-    it: &Explanation,
-) -> Result<(), AllocError>
-    ensures { OnOk result (report.new ≡ report.old ++ next_line sources.now.entries it.now) }
+fn next_line(report: &mut Report, sources: &Sources, it: &Explanation) -> Result<(), AllocError>
+    ensures { OnOk result (report.new ≡ report.old ++ next_line sources.now it.now) }
 {
-    let place = place_word(report.alloc(), sources, &it.place)?;
+    let place = place_word(report.alloc(), sources.places(), &it.place)?;
     let instruction = next_instruction(report.alloc(), &it.abend_record)?;
     report.line(&[b"NEXT", &place, b"INSTRUCTION", &instruction])
 }
@@ -138,37 +136,56 @@ fn command_word(command: &Option<Command>) -> &'static [u8]
     }
 }
 
-/// The address of a command's argument list, and the line of its EXEC.
-fn list_word(alloc: Global, sources: &SourcePlaces, it: &Explanation) -> Result<Vec<u8>, AllocError>
-    ensures { IfOk result (λ text. text.items ≡ list_word sources.now.entries it.now) }
+/// The address of a command's argument list, and the line of its EXEC with its text.
+fn list_word(alloc: Global, sources: &Sources, it: &Explanation) -> Result<Vec<u8>, AllocError>
+    ensures { IfOk result (λ text. text.items ≡ list_word sources.now it.now) }
 {
     let mut text = hexadecimal::<6>(address_in(it.abend_record.regs[1])).to_vec(alloc)?;
-    text.extend_from_slice(&line_word(alloc, b" LINE ", sources, &it.before)?)?;
+    push_led_by(
+        &mut text,
+        b" LINE ",
+        &statement_at(alloc, sources, &it.before)?,
+    )?;
     Ok(text)
 }
 
+/// Adds lines.
+fn push_lines(report: &mut Report, lines: &[List<u8>]) -> Result<(), AllocError>
+    ensures { OnOk result (report.new ≡ report.old ++ lines.now) }
+{
+    let alloc = report.alloc();
+    for line in lines {
+        report.push(line.as_slice().to_vec(alloc)?)?;
+    }
+    Ok(())
+}
+
+/// Adds the arguments of a command that was refused.
+fn argument_lines(report: &mut Report, it: &Explanation) -> Result<(), AllocError>
+    ensures { let more = argument_lines it.now.abend_record.cause it.now.arguments in
+        OnOk result (report.new ≡ report.old ++ more) }
+{
+    match it.abend_record.cause {
+        Cause::Refused(_abend) => push_lines(report, it.arguments.lines()),
+        _ => Ok(()),
+    }
+}
+
 /// Adds the lines of a command.
-fn command_lines(
-    report: &mut Report,
-    sources: &SourcePlaces,
-    it: &Explanation,
-) -> Result<(), AllocError>
-    ensures { OnOk result (report.new ≡ report.old ++ command_lines sources.now.entries it.now) }
+fn command_lines(report: &mut Report, sources: &Sources, it: &Explanation) -> Result<(), AllocError>
+    ensures { OnOk result (report.new ≡ report.old ++ command_lines sources.now it.now) }
 {
     let command = command_word(&it.abend_record.command);
     let list = list_word(report.alloc(), sources, it)?;
     report.line(&[b"COMMAND", command, b"LIST", &list])?;
+    argument_lines(report, it)?;
     let place = address_word(report.alloc(), &it.place)?;
     report.line(&[b"R14", &place])
 }
 
 /// Adds the lines that say where the program was.
-fn where_lines(
-    report: &mut Report,
-    sources: &SourcePlaces,
-    it: &Explanation,
-) -> Result<(), AllocError>
-    ensures { let more = where_lines sources.now.entries it.now.abend_record.cause it.now in
+fn where_lines(report: &mut Report, sources: &Sources, it: &Explanation) -> Result<(), AllocError>
+    ensures { let more = where_lines sources.now it.now.abend_record.cause it.now in
         OnOk result (report.new ≡ report.old ++ more) }
 {
     match it.abend_record.cause {
@@ -188,10 +205,10 @@ fn code_line(report: &mut Report, code: u8) -> Result<(), AllocError>
 #[tactic(auto, unfolding(crate::specs::Texts::explanation_lines))]
 fn explanation_lines(
     report: &mut Report,
-    sources: &SourcePlaces,
+    sources: &Sources,
     explanation: &Explanation,
 ) -> Result<(), AllocError>
-    ensures { OnOk result (report.new ≡ report.old ++ explanation_lines sources.now.entries explanation.now) }
+    ensures { OnOk result (report.new ≡ report.old ++ explanation_lines sources.now explanation.now) }
 {
     where_lines(report, sources, explanation)?;
     register_lines(report, &explanation.abend_record.regs)?;
@@ -199,44 +216,40 @@ fn explanation_lines(
 }
 
 /// Adds the line of an exit, where there is one.
-fn exit_line(
-    report: &mut Report,
-    sources: &SourcePlaces,
-    exit: &Option<Place>,
-) -> Result<(), AllocError>
-    ensures { OnOk result (report.new ≡ report.old ++ exit_line sources.now.entries exit.now) }
+fn exit_line(report: &mut Report, sources: &Sources, exit: &Option<Place>) -> Result<(), AllocError>
+    ensures { OnOk result (report.new ≡ report.old ++ exit_line sources.now exit.now) }
 {
     let Some(place) = exit else {
         return Ok(());
     };
-    let place = place_word(report.alloc(), sources, place)?;
+    let place = place_word(report.alloc(), sources.places(), place)?;
     report.line(&[b"EXIT", &place])
 }
 
-/// Where a level that had called another goes on, with the line of its command: that of the byte before it, the last of the command's
-/// EXEC.
+/// Where a level that had called another goes on, with the statement of its command: that of the byte before it, the last of the
+/// command's EXEC.
 fn goes_on_word(
     alloc: Global,
-    sources: &SourcePlaces,
+    sources: &Sources,
     programs: &IndexMap<Name8, Loaded>,
     next: u32,
 ) -> Result<Vec<u8>, AllocError>
-    ensures { IfOk result (λ word. word.items ≡ goes_on_word sources.now.entries programs.now.entries next) }
+    ensures { IfOk result (λ word. word.items ≡ goes_on_word sources.now programs.now.entries next) }
 {
     let mut word = address_word(alloc, &place_of(programs, next))?;
-    let before = spot_before(programs, next);
-    word.extend_from_slice(&line_word(alloc, b" COMMAND LINE ", sources, &before)?)?;
+    let command = statement_at(alloc, sources, &spot_before(programs, next))?;
+    push_led_by(&mut word, b" COMMAND LINE ", &command)?;
     Ok(word)
 }
 
 /// Adds the line of a level that had called another.
 fn caller_line(
     report: &mut Report,
-    sources: &SourcePlaces,
+    sources: &Sources,
     programs: &IndexMap<Name8, Loaded>,
     caller: &Caller,
 ) -> Result<(), AllocError>
-    ensures { let line = caller_line sources.now.entries programs.now.entries caller.now in
+    ensures { let line = caller_line sources.now programs.now.entries caller.now in
         OnOk result (report.new ≡ report.old ++ line) }
 {
     let program = shown_name(report.alloc(), caller.program)?;
@@ -247,11 +260,11 @@ fn caller_line(
 /// Adds the lines of some of them.
 fn lines_of_callers(
     report: &mut Report,
-    sources: &SourcePlaces,
+    sources: &Sources,
     programs: &IndexMap<Name8, Loaded>,
     callers: &[Caller],
 ) -> Result<(), AllocError>
-    ensures { let more = flat_map (caller_line sources.now.entries programs.now.entries) callers.now in
+    ensures { let more = flat_map (caller_line sources.now programs.now.entries) callers.now in
         OnOk result (report.new ≡ report.old ++ more) }
 {
     for caller in callers {
@@ -263,11 +276,11 @@ fn lines_of_callers(
 /// Adds the lines of the levels that had called the one that abended.
 fn caller_lines(
     report: &mut Report,
-    sources: &SourcePlaces,
+    sources: &Sources,
     programs: &IndexMap<Name8, Loaded>,
     task: &Option<KeptTask>,
 ) -> Result<(), AllocError>
-    ensures { let more = caller_lines sources.now.entries programs.now.entries task.now in
+    ensures { let more = caller_lines sources.now programs.now.entries task.now in
         OnOk result (report.new ≡ report.old ++ more) }
 {
     match task {
@@ -304,10 +317,10 @@ fn head_line(report: &mut Report, name: Name4, last: &LastAbend) -> Result<(), A
 /// Adds the lines of what a turn led to, where it was a turn.
 fn if_explained(
     report: &mut Report,
-    sources: &SourcePlaces,
+    sources: &Sources,
     explanation: &Option<Explanation>,
 ) -> Result<(), AllocError>
-    ensures { let more = option_map_or (explanation_lines sources.now.entries) explanation.now [] in
+    ensures { let more = option_map_or (explanation_lines sources.now) explanation.now [] in
         OnOk result (report.new ≡ report.old ++ more) }
 {
     match explanation {
@@ -320,12 +333,12 @@ fn if_explained(
 #[tactic(auto, unfolding(crate::specs::Texts::last_text))]
 fn last_text(
     report: &mut Report,
-    sources: &SourcePlaces,
+    sources: &Sources,
     programs: &IndexMap<Name8, Loaded>,
     name: Name4,
     last: &LastAbend,
 ) -> Result<(), AllocError>
-    ensures { let more = last_text sources.now.entries programs.now.entries name last.now in
+    ensures { let more = last_text sources.now programs.now.entries name last.now in
         OnOk result (report.new ≡ report.old ++ more) }
 {
     head_line(report, name, last)?;
@@ -350,19 +363,52 @@ fn last_of(abends: &LastAbends, name: Name4) -> Option<&LastAbend>
     kept.last()
 }
 
+/// The DFHEISTG of an abend, where it was kept.
+fn dumped(report: &mut Report, last: &LastAbend) -> Result<(), AllocError>
+    ensures { OnOk result (report.new ≡ report.old ++ dumped last.now) }
+{
+    match &last.explanation {
+        Some(explanation) => if_dumped(report, &explanation.dump),
+        None => if_dumped(report, &None),
+    }
+}
+
+/// Looks at the DFHEISTG of the level of a terminal's last abend: as the command found it that abended, or as the instructions of the
+/// turn left it; NONE where the terminal has had no abend, or there is no such terminal.
+///
+/// An error comes only where memory for the report was refused.
+#[tactic(auto, unfolding(crate::specs::Texts::abend_storage_text))]
+pub fn abend_storage_text(
+    alloc: Global,
+    abends: &LastAbends,
+    name: Name4,
+) -> Result<Report, AllocError>
+    ensures { IfOk result (λ report. report ≡ abend_storage_text abends.now.entries name) }
+{
+    let mut report = Report::new(alloc);
+    match last_of(abends, name) {
+        Some(last) => {
+            head_line(&mut report, name, last)?;
+            dumped(&mut report, last)?;
+        }
+        None => none_line(&mut report, name)?,
+    }
+    Ok(report)
+}
+
 /// Looks at a terminal's last abend; NONE where it has had none, or there is no such terminal. A place in a program that a source
-/// defined is shown with the line of the statement whose bytes hold it.
+/// defined is shown with the line of the statement whose bytes hold it, and a command with that line's text.
 ///
 /// An error comes only where memory for the report was refused.
 #[tactic(auto, unfolding(crate::specs::Texts::abend_text))]
 pub fn abend_text(
     alloc: Global,
-    sources: &SourcePlaces,
+    sources: &Sources,
     programs: &IndexMap<Name8, Loaded>,
     abends: &LastAbends,
     name: Name4,
 ) -> Result<Report, AllocError>
-    ensures { let text = abend_text sources.now.entries programs.now.entries abends.now.entries name in
+    ensures { let text = abend_text sources.now programs.now.entries abends.now.entries name in
         IfOk result (λ report. report ≡ text) }
 {
     let mut report = Report::new(alloc);

@@ -18,7 +18,8 @@ use Rattle.cx_look_ahead.specs.declared.rows.Row.{Row}
 
 -- how the turn ends, in the words that are written for the turn
 abbrev pub end_line : List ℕ → TurnReply → Lines
-end_line name reply = look_line (codes "AHEAD" ∷ shown_name name ∷ turn_reply_name reply ∷ option_to_list (turn_reply_detail reply))
+end_line name reply =
+    look_line (codes "AHEAD" ∷ shown_name name ∷ turn_reply_name reply ∷ option_to_list (turn_reply_detail reply))
 
 -- the first k bytes from an address on; hyphens for one that isn't there
 abbrev pub bytes_word : Storage → ℕ → ℕ → List ℕ

@@ -13,7 +13,8 @@ use Rattle.cx_look_ahead.specs.declared.rows.Row.{Row}
 -- what is written is that of the region's next turn: its reply, and what it changes
 abbrev pub NextTurnIsShown : Type 0
 NextTurnIsShown = (region new : RegionState) (name : List ℕ) (reply : TurnReply) (lines : Lines)
-    → AheadText region name lines → TakesTurn region name reply new → TurnText name reply region.storage new.storage lines
+    → AheadText region name lines → TakesTurn region name reply new
+    → TurnText name reply region.storage new.storage lines
 
 -- a byte is in one of the rows exactly where it differs
 abbrev pub RowsAreTheDifference : Type 0
@@ -22,7 +23,11 @@ RowsAreTheDifference = (before after : Storage) (rows : List Row) (a : ℕ) → 
 
 -- there is one list of rows, and one text
 abbrev pub RowsDecide : Type 0
-RowsDecide = (before after : Storage) (one other : List Row) → AreRows before after 0 one → AreRows before after 0 other → one ≡ other
+RowsDecide =
+    (before after : Storage) (one other : List Row) → AreRows before after 0 one → AreRows before after 0 other
+    → one ≡ other
 
 abbrev pub AheadDecides : Type 0
-AheadDecides = (region : RegionState) (name : List ℕ) (one other : Lines) → AheadText region name one → AheadText region name other → one ≡ other
+AheadDecides =
+    (region : RegionState) (name : List ℕ) (one other : Lines) → AheadText region name one → AheadText region name other
+    → one ≡ other

@@ -46,17 +46,21 @@ reads_halfword _ has = false
 abbrev pub value_by : ArgumentKind → Bool → Storage → Call → OptionName → List ℕ
 value_by kind.Name4 is_read s call name = name_value (bytes_of s call name 4)
 value_by kind.Name8 is_read s call name = name_value (bytes_of s call name 8)
-value_by _ is_read s call name = if is_read then halfword_value (halfword_of s call name) else address_value (place_of call name)
+value_by _ is_read s call name =
+    if is_read then halfword_value (halfword_of s call name) else address_value (place_of call name)
 
 unfoldable pub option_value : Storage → Call → CommandOption → List ℕ
-option_value s call option = value_by option.kind (reads_halfword option.kind (has_option call.command call.first)) s call option.name
+option_value s call option =
+    value_by option.kind (reads_halfword option.kind (has_option call.command call.first)) s call option.name
 
 -- NAME(value)
 abbrev pub with_value : List ℕ → List ℕ → List ℕ
 with_value name value = name ++ codes "(" ++ value ++ codes ")"
 
 unfoldable pub option_word : Storage → Call → CommandOption → List ℕ
-option_word s call option = if takes_argument option.kind then with_value (option_name option.name) (option_value s call option) else option_name option.name
+option_word s call option =
+    if takes_argument option.kind then with_value (option_name option.name) (option_value s call option)
+    else option_name option.name
 
 -- the command's options that are there, in the order of its row
 unfoldable pub option_words : Storage → Call → List CommandOption → List (List ℕ)
@@ -81,7 +85,8 @@ resp_words call = option_map_or (λ place. with_value (codes "RESP") (digits 16 
 unfoldable pub command_line : Storage → Call → Lines
 command_line s call =
     look_line
-    ((row_of call.command).name ∷ option_words s call (row_of call.command).options ++ map condition_word (listed_of call)
+    ((row_of call.command).name
+    ∷ option_words s call (row_of call.command).options ++ map condition_word (listed_of call)
     ++ nohandle_words call ++ resp_words call)
 
 -- ---- what it reads beside names and halfwords: its first 64 bytes
@@ -103,7 +108,8 @@ count_read s call option =
 
 unfoldable pub input_line : Storage → Call → CommandOption → Lines
 input_line s call option =
-    look_line (option_name option.name ∷ bytes_value (bytes_of s call option.name (min 64 (count_read s call option))) ∷ [])
+    look_line
+    (option_name option.name ∷ bytes_value (bytes_of s call option.name (min 64 (count_read s call option))) ∷ [])
 
 -- the data options that are there, of which some byte is read
 unfoldable pub is_input : Storage → Call → CommandOption → Bool

@@ -32,4 +32,5 @@ abbrev pub task_due : RegionState → List ℕ → Option TaskState
 task_due region name = option_and_then if_due (task_of region name)
 
 unfoldable pub command_text : RegionState → List ℕ → Lines
-command_text region name = option_map_or (due_text region.storage name) (task_due region name) (command_look_line name (codes "NONE"))
+command_text region name =
+    option_map_or (due_text region.storage name) (task_due region name) (command_look_line name (codes "NONE"))

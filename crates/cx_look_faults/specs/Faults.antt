@@ -39,7 +39,8 @@ of_pass fault = of_assembly (fault_at fault)
 -- ---- what bases depend on
 -- a USING begins on a line, or a section
 unfoldable pub sets_bases : Item → Bool
-sets_bases item = has_operation (codes "USING") item.stmt || has_operation (codes "DSECT") item.stmt || begins_section item
+sets_bases item =
+    has_operation (codes "USING") item.stmt || has_operation (codes "DSECT") item.stmt || begins_section item
 
 abbrev pub base_lines : List Item → List ℕ
 base_lines items = map (λ item. item.line) (filter sets_bases items)
@@ -54,7 +55,8 @@ loses_bases has lines fault = not has || list_any (λ line. line == fault.line) 
 
 -- the first line by whose fault bases are lost, after one more fault
 unfoldable pub lost_from : Bool → List ℕ → Option ℕ → FaultyLine → Option ℕ
-lost_from has lines from fault = if loses_bases has lines fault then Some (option_map_or (min fault.line) from fault.line) else from
+lost_from has lines from fault =
+    if loses_bases has lines fault then Some (option_map_or (min fault.line) from fault.line) else from
 
 -- After that line NoAddressability isn't reported.
 abbrev pub is_unaddressed : SourceKind → Bool
@@ -81,7 +83,8 @@ abbrev pub stage_lines : List (List ℕ) → Source → Source → List FaultyLi
 stage_lines all read made =
     let earlier = earlier_lines all read made in
     let has = has_section made.items in let lines = base_lines made.items in
-    earlier ++ without_following has lines (fold (lost_from has lines) None earlier) (faulty_lines of_pass (later_faults made))
+    earlier ++ without_following has lines (fold (lost_from has lines) None earlier)
+    (faulty_lines of_pass (later_faults made))
 
 abbrev pub lines_by_stages : List (List ℕ) → List FaultyLine
 lines_by_stages all = stage_lines all (source_read all) (mended_source (source_read all))
@@ -90,11 +93,13 @@ lines_by_stages all = stage_lines all (source_read all) (mended_source (source_r
 -- A line has its place by its number, and keeps the fault that it has.
 unfoldable pub put_line : List (ℕ × SourceKind) → FaultyLine → List (ℕ × SourceKind)
 put_line sorted fault =
-    if is_some (lookup (is_at (nat_cmp fault.line)) sorted) then sorted else insert_entry nat_cmp sorted fault.line fault.kind
+    if is_some (lookup (is_at (nat_cmp fault.line)) sorted) then sorted
+    else insert_entry nat_cmp sorted fault.line fault.kind
 
 abbrev pub by_number : List FaultyLine → List FaultyLine
 by_number faults = map (λ entry. faulty entry.0 entry.1) (fold put_line [] faults)
 
--- the faulty lines of the source that lines make, ascending, each with the lowest fault of the first stage that finds one
+-- the faulty lines of the source that lines make, ascending, each with the lowest fault of the first stage that finds
+-- one
 unfoldable pub faults_of : List (List ℕ) → List FaultyLine
 faults_of all = by_number (lines_by_stages all)

@@ -1,5 +1,5 @@
--- What is accepted and is most likely not meant: in an EXEC statement an address where a value is due, and a literal where
--- the command writes; in a DC `*` in an item of several copies (own).
+-- What is accepted and is most likely not meant: in an EXEC statement an address where a value is due, and a literal
+-- where the command writes; in a DC `*` in an item of several copies (own).
 use Rattle.std.specs.Prelude.{ℕ, Bool, ◌&&◌, false, if◌then◌else◌, is_none, nat_le, nat_lt, Option, Some, None, List, [], ◌++◌, codes, option_and_then, option_map}
 use Rattle.std.specs.List.{filter_map, find, flat_map, list_all, list_any}
 use Rattle.std.specs.Option.{option_map_or}

@@ -95,7 +95,8 @@ abbrev pub part_on : Whole → Bases → PlacedStatement → Option SourceKind �
 part_on whole bases s None = []
 part_on whole bases s (Some kind) =
     option_to_list
-    (option_map (λ part. record { line = s.line; operand = s.stmt.operand; part = part }) (operand_part whole bases s kind))
+    (option_map (λ part. record { line = s.line; operand = s.stmt.operand; part = part })
+    (operand_part whole bases s kind))
 
 -- those of the statements on faulty lines, where these bases are in use before the first
 abbrev pub parts_along : Whole → List FaultyLine → Bases → List PlacedStatement → List OperandPart

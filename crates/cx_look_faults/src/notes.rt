@@ -332,7 +332,8 @@ fn notes_of_words(
 
 /// How many copies an item of a DC has; 0 where it is none.
 fn copies_of(text: &[u8]) -> u32
-    ensures { result ≡ option_map_or (λ (item : ConstantValue). item.duplication) (result_ok (constant_in false text.now)) 0 }
+    ensures { result
+        ≡ option_map_or (λ (item : ConstantValue). item.duplication) (result_ok (constant_in false text.now)) 0 }
 {
     match Constant::read(text, false) {
         Ok(item) => item.duplication(),

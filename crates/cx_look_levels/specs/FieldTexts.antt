@@ -22,11 +22,12 @@ use Rattle.cx_look_levels.specs.declared.fields.Field.{Field}
 use Rattle.cx_look_levels.specs.declared.fields.TypedField.{TypedField}
 use Rattle.cx_look_levels.specs.declared.standing.Standing.{Standing}
 
--- ---- a field: its address, its length, its first 32 bytes in hexadecimal digits and in characters, and the number that they are; hyphens
--- where one of them isn't in storage
+-- ---- a field: its address, its length, its first 32 bytes in hexadecimal digits and in characters, and the number
+-- that they are; hyphens where one of them isn't in storage
 abbrev pub bytes_word : Option Reading → Option (List ℕ) → List ℕ
 bytes_word reading bytes =
-    option_map_or (λ it. hex_digits it ++ codes " " ++ in_apostrophes (shown_text it) ++ value_text reading it) bytes (codes "--")
+    option_map_or (λ it. hex_digits it ++ codes " " ++ in_apostrophes (shown_text it) ++ value_text reading it) bytes
+    (codes "--")
 
 abbrev pub typed : List NamedReading → List ℕ → Field → TypedField
 typed readings name field = record { field = field; reading = reading_named readings name }
@@ -34,7 +35,8 @@ typed readings name field = record { field = field; reading = reading_named read
 unfoldable pub field_line : Storage → List ℕ → List ℕ → TypedField → Lines
 field_line storage term name it =
     look_line (codes "FIELD" ∷ shown_name term ∷ written_name name ∷ codes "AT" ∷ digits 16 6 it.field.address
-    ∷ codes "LENGTH" ∷ decimal it.field.length ∷ bytes_word it.reading (span storage it.field.address (min 32 it.field.length)) ∷ [])
+    ∷ codes "LENGTH" ∷ decimal it.field.length
+    ∷ bytes_word it.reading (span storage it.field.address (min 32 it.field.length)) ∷ [])
 
 abbrev pub no_field : List ℕ → List ℕ → Lines
 no_field term name = look_line (codes "FIELD" ∷ shown_name term ∷ written_name name ∷ codes "NONE" ∷ [])
@@ -46,7 +48,9 @@ typed_in source regs offset name = option_map (typed (readings_of source) name) 
 
 abbrev pub field_there : List (List ℕ) → List ℕ → Standing → Option TypedField
 field_there lines name standing =
-    option_and_then (λ offset. option_and_then (λ source. typed_in source standing.regs offset name) (translated_in lines)) (offset_of standing)
+    option_and_then
+    (λ offset. option_and_then (λ source. typed_in source standing.regs offset name) (translated_in lines))
+    (offset_of standing)
 
 abbrev pub standing_at : RegionState → List ℕ → Option ℕ → Option Standing
 standing_at region term k = option_and_then (λ task. standing_of region.programs task k) (task_of region term)
@@ -57,13 +61,15 @@ program_at region term k = option_map (λ standing. standing.program) (standing_
 
 unfoldable pub field_text : RegionState → List (List ℕ) → List ℕ → List ℕ → Option ℕ → Lines
 field_text region lines term name k =
-    option_map_or (field_line region.storage term name) (option_and_then (field_there lines name) (standing_at region term k)) (no_field term name)
+    option_map_or (field_line region.storage term name)
+    (option_and_then (field_there lines name) (standing_at region term k)) (no_field term name)
 
 -- ---- all fields of dummy sections that a base reaches, in the source's order
 abbrev pub row_line : Storage → List ℕ → List NamedReading → List ℕ → Bases → Option (List ℕ) → List ℕ × Symbol → Lines
 row_line storage term readings regs bases control (name, symbol) =
     if is_field control symbol.value
-    then option_map_or (λ field. field_line storage term name (typed readings name field)) (field_by regs bases symbol.value) [] else []
+    then option_map_or (λ field. field_line storage term name (typed readings name field))
+    (field_by regs bases symbol.value) [] else []
 
 abbrev pub rows_lines : Storage → List ℕ → List NamedReading → List ℕ → Option Bases → Option SourceSymbols → Lines
 rows_lines storage term readings regs (Some bases) (Some named) =
@@ -76,8 +82,10 @@ source_lines storage term regs offset source =
 
 abbrev pub fields_there : Storage → List (List ℕ) → List ℕ → Standing → Lines
 fields_there storage lines term standing =
-    option_map_or (λ offset. option_map_or (source_lines storage term standing.regs offset) (translated_in lines) []) (offset_of standing) []
+    option_map_or (λ offset. option_map_or (source_lines storage term standing.regs offset) (translated_in lines) [])
+    (offset_of standing) []
 
 unfoldable pub fields_text : RegionState → List (List ℕ) → List ℕ → Option ℕ → Lines
 fields_text region lines term k =
-    or_none (codes "FIELDS " ++ shown_name term) (option_map_or (fields_there region.storage lines term) (standing_at region term k) [])
+    or_none (codes "FIELDS " ++ shown_name term)
+    (option_map_or (fields_there region.storage lines term) (standing_at region term k) [])

@@ -1,5 +1,5 @@
--- The fields of a level's source, where its operands would be at the level's place (GC33-4010, "USING -- Use Base Address Register"; which
--- statement a level is at is own).
+-- The fields of a level's source, where its operands would be at the level's place (GC33-4010, "USING -- Use Base
+-- Address Register"; which statement a level is at is own).
 use Rattle.std.specs.Prelude.{ℕ, ◌-◌, ◌==◌, not, ◌&&◌, Bool, false, if◌then◌else◌, Option, Some, None, is_none, is_some, option_and_then, option_map, List, [], ◌∷◌, length, slice_get, slice_index}
 use Rattle.std.specs.Option.{option_map_or}
 use Rattle.std.specs.Result.{result_ok}
@@ -30,14 +30,17 @@ use Rattle.cx_look_levels.specs.declared.standing.Standing.{Standing}
 -- ---- where a level stands: its program, its registers, and a byte of the statement that it is at
 -- a level that has called another is at its last command
 abbrev pub calling : List (List ℕ × Loaded) → Level → Standing
-calling programs level = record { program = level.program; regs = level.regs; spot = spot_before programs (goes_on level) }
+calling programs level =
+    record { program = level.program; regs = level.regs; spot = spot_before programs (goes_on level) }
 
 -- the current one is at the command that is due, or else at its next instruction
 abbrev pub spot_now : List (List ℕ × Loaded) → TaskState → Option Spot
-spot_now programs task = if task.due then spot_before programs (address_in (slice_index task.regs 14)) else spot_of programs task.next
+spot_now programs task =
+    if task.due then spot_before programs (address_in (slice_index task.regs 14)) else spot_of programs task.next
 
 abbrev pub current : List (List ℕ × Loaded) → TaskState → Standing
-current programs task = record { program = task.levels.current.program; regs = task.regs; spot = spot_now programs task }
+current programs task =
+    record { program = task.levels.current.program; regs = task.regs; spot = spot_now programs task }
 
 -- the level of a number, 1 being the highest; without one the current level
 abbrev pub level_numbered : List (List ℕ × Loaded) → TaskState → ℕ → Option Standing
@@ -51,7 +54,8 @@ standing_of programs task (Some k) = level_numbered programs task k
 
 -- the offset in the level's own program
 abbrev pub offset_of : Standing → Option ℕ
-offset_of standing = option_and_then (λ it. if is_name it.program standing.program then Some it.offset else None) standing.spot
+offset_of standing =
+    option_and_then (λ it. if is_name it.program standing.program then Some it.offset else None) standing.spot
 
 -- ---- the bases in use in front of the statement that has the byte at an offset
 abbrev pub stands_at : Whole → ℕ → PlacedStatement → Bool
@@ -68,13 +72,15 @@ bases_in source offset = bases_at (whole_of source) offset none_in_use (statemen
 -- ---- a value's address by the base that the assembler chooses for it, and its length
 unfoldable pub field_by : List ℕ → Bases → Value → Option Field
 field_by regs bases value =
-    option_map (λ a. record { address = effective regs 0 a.base a.displacement; length = value.length }) (result_ok (implied_address bases value))
+    option_map (λ a. record { address = effective regs 0 a.base a.displacement; length = value.length })
+    (result_ok (implied_address bases value))
 
 -- that of a symbol of a source without a fault
 abbrev pub field_in : Source → List ℕ → ℕ → List ℕ → Option Field
 field_in source regs offset name =
     if is_none (final_state source).fault
-    then option_and_then (λ bases. option_and_then (field_by regs bases) ((whole_of source).find name)) (bases_in source offset)
+    then option_and_then (λ bases. option_and_then (field_by regs bases) ((whole_of source).find name))
+    (bases_in source offset)
     else None
 
 -- a symbol of a dummy section

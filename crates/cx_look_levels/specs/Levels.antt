@@ -1,5 +1,5 @@
 -- TASK: what is kept of a level (own).
-use Rattle.std.specs.Prelude.{ℕ, ◌+◌, List, [], ◌∷◌, ◌++◌, length, reverse, slice_index, codes}
+use Rattle.std.specs.Prelude.{ℕ, ◌+◌, Option, List, [], ◌∷◌, ◌++◌, length, reverse, slice_index, codes}
 use Rattle.std.specs.List.{flat_map}
 use Rattle.std.specs.Option.{option_map_or}
 use Rattle.cx_base_commands.specs.Conditions.{entry_of, handled_conditions}
@@ -23,7 +23,8 @@ use Rattle.cx_base_text.specs.Digits.{digits}
 use Rattle.cx_base_text.specs.Texts.{shown_name}
 use Rattle.cx_look_words.specs.Words.{look_line, Lines}
 use Rattle.cx_look_symbols.specs.Lines.{SourcePlaces}
-use Rattle.cx_look_symbols.specs.Places.{address_word, line_word, place_of, place_word, spot_before}
+use Rattle.cx_look_symbols.specs.Places.{address_word, place_of, place_word, spot_before}
+use Rattle.cx_look_symbols.specs.Sources.{Sources, statement_at}
 
 -- a line of a level, with its number
 abbrev pub level_words : List ℕ → List (List ℕ) → Lines
@@ -36,26 +37,30 @@ level_number k = digits 10 2 k
 abbrev pub pushed_number : ℕ → ℕ → List ℕ
 pushed_number k n = level_number k ++ codes " PUSHED " ++ digits 10 2 n
 
--- ---- its program, where it goes on, the line of its last command, its DFHEISTG, the word at DFHEICAP, EIBCALEN, how many PUSH HANDLEs
--- keep something
--- the address in the register 14 that it kept
+-- ---- its program, where it goes on, its DFHEISTG, the word at DFHEICAP, EIBCALEN, how many PUSH HANDLEs keep
+-- something the address in the register 14 that it kept
 abbrev pub goes_on : Level → ℕ
 goes_on level = address_in (slice_index level.regs 14)
 
--- with the line of the byte before it, which is the last of that command's EXEC
-abbrev pub goes_on_word : SourcePlaces → List (List ℕ × Loaded) → ℕ → List ℕ
-goes_on_word sources programs next =
-    address_word (place_of programs next) ++ line_word (codes " COMMAND LINE ") sources (spot_before programs next)
-
 abbrev pub cap_word : Storage → Level → List ℕ
-cap_word s level = option_map_or (digits 16 8) (word_at s (address_after level.stg (eistg_field Eicap).offset)) (codes "--")
+cap_word s level =
+    option_map_or (digits 16 8) (word_at s (address_after level.stg (eistg_field Eicap).offset)) (codes "--")
 
-unfoldable pub level_line : SourcePlaces → SharedState → ℕ → Level → Lines
-level_line sources shared k level =
+unfoldable pub level_line : SharedState → ℕ → Level → Lines
+level_line shared k level =
     level_words (level_number k)
-    (codes "PROGRAM" ∷ shown_name level.program ∷ codes "R14" ∷ goes_on_word sources shared.programs (goes_on level)
-    ∷ codes "DFHEISTG" ∷ digits 16 6 level.stg ∷ codes "LENGTH" ∷ digits 16 6 level.stg_len ∷ codes "DFHEICAP" ∷ cap_word shared.storage level
+    (codes "PROGRAM" ∷ shown_name level.program ∷ codes "R14" ∷ address_word (place_of shared.programs (goes_on level))
+    ∷ codes "DFHEISTG" ∷ digits 16 6 level.stg ∷ codes "LENGTH" ∷ digits 16 6 level.stg_len ∷ codes "DFHEICAP"
+    ∷ cap_word shared.storage level
     ∷ codes "EIBCALEN" ∷ digits 16 4 level.calen ∷ codes "PUSHED" ∷ digits 10 2 (length level.handles.kept) ∷ [])
+
+-- its last command, by the statement of the byte before the place where it goes on: that is the last byte of the
+-- command's EXEC
+abbrev pub command_lines : ℕ → Option (List ℕ) → Lines
+command_lines k command = option_map_or (λ it. level_words (level_number k) (codes "COMMAND" ∷ codes "LINE" ∷ it ∷ [])) command []
+
+unfoldable pub last_line : Sources → List (List ℕ × Loaded) → ℕ → Level → Lines
+last_line sources programs k level = command_lines k (statement_at sources (spot_before programs (goes_on level)))
 
 -- ---- handles, with the number of their level: a condition that is ignored, and one with a label
 abbrev pub ignore_line : List ℕ → Condition → Lines
@@ -87,19 +92,23 @@ exit_line sources programs number (exit.Off label) = exit_words sources programs
 -- ---- what is asked for, and what PUSH HANDLEs from the number n on keep
 unfoldable pub handling_lines : SourcePlaces → List (List ℕ × Loaded) → List ℕ → Handling → Lines
 handling_lines sources programs number handling =
-    handle_lines sources programs number handling.entries handled_conditions ++ exit_line sources programs number handling.exit
+    handle_lines sources programs number handling.entries handled_conditions
+    ++ exit_line sources programs number handling.exit
 
 unfoldable pub pushed_lines : SourcePlaces → List (List ℕ × Loaded) → ℕ → ℕ → List Handling → Lines
 pushed_lines sources programs k n [] = []
 pushed_lines sources programs k n (handling ∷ more) =
     handling_lines sources programs (pushed_number k n) handling ++ pushed_lines sources programs k (n + 1) more
 
--- ---- a level: its line, what it asks for at present, and what its PUSH HANDLEs keep, the first first; and levels from the number k on
-unfoldable pub level_text : SourcePlaces → SharedState → ℕ → Level → Lines
+-- ---- a level: its line, its last command, what it asks for at present, and what its PUSH HANDLEs keep, the first
+-- first; and levels from the number k on
+unfoldable pub level_text : Sources → SharedState → ℕ → Level → Lines
 level_text sources shared k level =
-    level_line sources shared k level ++ handling_lines sources shared.programs (level_number k) level.handles.active
-    ++ pushed_lines sources shared.programs k 1 (reverse level.handles.kept)
+    (level_line shared k level ++ last_line sources shared.programs k level)
+    ++ (handling_lines sources.places shared.programs (level_number k) level.handles.active
+    ++ pushed_lines sources.places shared.programs k 1 (reverse level.handles.kept))
 
-unfoldable pub levels_text : SourcePlaces → SharedState → ℕ → List Level → Lines
+unfoldable pub levels_text : Sources → SharedState → ℕ → List Level → Lines
 levels_text sources shared k [] = []
-levels_text sources shared k (level ∷ levels) = level_text sources shared k level ++ levels_text sources shared (k + 1) levels
+levels_text sources shared k (level ∷ levels) =
+    level_text sources shared k level ++ levels_text sources shared (k + 1) levels

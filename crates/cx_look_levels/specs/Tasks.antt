@@ -16,6 +16,7 @@ use Rattle.cx_look_words.specs.Registers.{register_lines}
 use Rattle.cx_look_words.specs.Words.{look_line, Lines}
 use Rattle.cx_look_symbols.specs.Lines.{SourcePlaces}
 use Rattle.cx_look_symbols.specs.Places.{place_of, place_word}
+use Rattle.cx_look_symbols.specs.Sources.{Sources}
 use Rattle.cx_look_levels.specs.Levels.{levels_text}
 
 -- ---- the task: its transaction, its number, what it is doing
@@ -29,7 +30,9 @@ due_word s task = if task.due then codes "DUE " ++ called_name (call_of s (list_
 
 unfoldable pub task_words : List ℕ → TaskState → List ℕ → Lines
 task_words name task due =
-    look_line (codes "TASK" ∷ shown_name name ∷ codes "TRAN" ∷ shown_name task.tran ∷ codes "NUMBER" ∷ digits 10 7 task.number ∷ due ∷ [])
+    look_line
+    (codes "TASK" ∷ shown_name name ∷ codes "TRAN" ∷ shown_name task.tran ∷ codes "NUMBER" ∷ digits 10 7 task.number
+    ∷ due ∷ [])
 
 abbrev pub task_line : SharedState → List ℕ → TaskState → Lines
 task_line shared name task = task_words name task (due_word shared.storage task)
@@ -37,16 +40,18 @@ task_line shared name task = task_words name task (due_word shared.storage task)
 -- ---- its condition code, and where it goes on
 unfoldable pub state_line : SourcePlaces → SharedState → TaskState → Lines
 state_line sources shared task =
-    look_line (codes "CC" ∷ digits 10 1 task.cc ∷ codes "NEXT" ∷ place_word sources (place_of shared.programs task.next) ∷ [])
+    look_line
+    (codes "CC" ∷ digits 10 1 task.cc ∷ codes "NEXT" ∷ place_word sources (place_of shared.programs task.next) ∷ [])
 
 -- ---- all, with its registers, and its levels from the highest, which is number 1
-abbrev pub text_of : SourcePlaces → SharedState → List ℕ → TaskState → Lines
+abbrev pub text_of : Sources → SharedState → List ℕ → TaskState → Lines
 text_of sources shared name task =
-    task_line shared name task ++ register_lines task.regs ++ state_line sources shared task
+    task_line shared name task ++ register_lines task.regs ++ state_line sources.places shared task
     ++ levels_text sources shared 1 (all_levels task.levels)
 
 abbrev pub none_line : List ℕ → Lines
 none_line name = look_line (codes "TASK" ∷ shown_name name ∷ codes "NONE" ∷ [])
 
-unfoldable pub task_text : SourcePlaces → RegionState → List ℕ → Lines
-task_text sources region name = option_map_or (text_of sources (shared_of region) name) (task_of region name) (none_line name)
+unfoldable pub task_text : Sources → RegionState → List ℕ → Lines
+task_text sources region name =
+    option_map_or (text_of sources (shared_of region) name) (task_of region name) (none_line name)

@@ -1,36 +1,24 @@
 //! The levels of a task.
-ghost use Rattle.std.specs.Prelude.{◌≡◌, ◌++◌, ◌+◌, ◌∷◌, ◌≤◌, IfOk, OnOk, map, codes, length, slice_get};
+ghost use Rattle.std.specs.Prelude.{◌≡◌, ◌++◌, ◌+◌, ◌∷◌, ◌≤◌, [], IfOk, OnOk, map, codes, length, reverse, slice_get};
 ghost use Rattle.cx_program.specs.Levels.{all_levels};
 ghost use Rattle.cx_look_levels.specs.Parts.Levels.{level_at, number_of};
-ghost use Rattle.cx_look_levels.specs.Levels.{cap_word, exit_line, exit_words, goes_on_word, handle_line, handle_lines, handling_lines, ignore_line, label_line, level_line, level_text, levels_text, pushed_lines};
+ghost use Rattle.cx_look_levels.specs.Levels.{cap_word, command_lines, exit_line, exit_words, handle_line, handle_lines, handling_lines, ignore_line, label_line, last_line, level_line, level_number, level_text, level_words, levels_text, pushed_lines};
 ghost use Rattle.cx_look_levels.specs.declared.levels.Handles.TheVariants as handles;
 
 use cx_base_commands::{Condition, EistgField};
+use cx_base_lists::List;
 use cx_base_text::{decimal, hexadecimal, shown_name};
 use cx_ebcdic::Name8;
 use cx_load::Loaded;
-use cx_look_symbols::{SourcePlaces, address_word, line_word, place_of, place_word, spot_before};
+use cx_look_symbols::{
+    SourcePlaces, Sources, address_word, place_of, place_word, spot_before, statement_at,
+};
 use cx_look_words::Report;
 use cx_program::{Entries, Exit, Handler, Handling, Level, LevelStack};
 use cx_region_state::Shared;
 use cx_storage::{Store, address_in, along, word_at};
 use indexmap::IndexMap;
 use std::alloc::{AllocError, Global};
-
-/// Where a level goes on, with the line of its last command: that of the byte before it, the last of the command's EXEC.
-fn goes_on_word(
-    alloc: Global,
-    sources: &SourcePlaces,
-    programs: &IndexMap<Name8, Loaded>,
-    next: u32,
-) -> Result<Vec<u8>, AllocError>
-    ensures { IfOk result (λ word. word.items ≡ goes_on_word sources.now.entries programs.now.entries next) }
-{
-    let mut word = address_word(alloc, &place_of(programs, next))?;
-    let before = spot_before(programs, next);
-    word.extend_from_slice(&line_word(alloc, b" COMMAND LINE ", sources, &before)?)?;
-    Ok(word)
-}
 
 /// The word at DFHEICAP.
 fn cap_word<S: Store>(alloc: Global, store: &S, level: &Level) -> Result<Vec<u8>, AllocError>
@@ -46,18 +34,17 @@ fn cap_word<S: Store>(alloc: Global, store: &S, level: &Level) -> Result<Vec<u8>
 #[tactic(auto, unfolding(crate::specs::Levels::level_line))]
 fn level_line<S: Store + Drop>(
     report: &mut Report,
-    sources: &SourcePlaces,
     shared: &Shared<S>,
     k: u32,
     level: &Level,
 ) -> Result<(), AllocError>
-    ensures { OnOk result (report.new ≡ report.old ++ level_line sources.now.entries shared.now k level.now) }
+    ensures { OnOk result (report.new ≡ report.old ++ level_line shared.now k level.now) }
 {
     let alloc = report.alloc();
     let number = decimal::<2>(k);
     let program = shown_name(alloc, level.program)?;
-    let next = address_in(level.regs[14]);
-    let place = goes_on_word(alloc, sources, &shared.programs, next)?;
+    let goes_on = place_of(&shared.programs, address_in(level.regs[14]));
+    let place = address_word(alloc, &goes_on)?;
     let stg = hexadecimal::<6>(level.stg);
     let len = hexadecimal::<6>(level.stg_len);
     let cap = cap_word(alloc, &shared.store, level)?;
@@ -81,6 +68,41 @@ fn level_line<S: Store + Drop>(
         b"PUSHED",
         &pushed,
     ])
+}
+
+/// Adds the line of a command, by its statement.
+fn command_line(report: &mut Report, k: u32, command: &[u8]) -> Result<(), AllocError>
+    ensures { let words = codes "COMMAND" ∷ codes "LINE" ∷ command.now ∷ [] in
+        OnOk result (report.new ≡ report.old ++ level_words (level_number k) words) }
+{
+    report.line(&[b"LEVEL", &decimal::<2>(k), b"COMMAND", b"LINE", command])
+}
+
+/// Adds it, where there is one.
+fn if_stated(report: &mut Report, k: u32, command: &Option<List<u8>>) -> Result<(), AllocError>
+    ensures { OnOk result (report.new ≡ report.old ++ command_lines k command.now) }
+{
+    match command {
+        Some(command) => command_line(report, k, command.as_slice()),
+        None => Ok(()),
+    }
+}
+
+/// Adds the line of a level's last command, by the byte before the place where it goes on: the last one of the command's EXEC.
+#[tactic(auto, unfolding(crate::specs::Levels::last_line))]
+fn last_line(
+    report: &mut Report,
+    sources: &Sources,
+    programs: &IndexMap<Name8, Loaded>,
+    k: u32,
+    level: &Level,
+) -> Result<(), AllocError>
+    ensures { let line = last_line sources.now programs.now.entries k level.now in
+        OnOk result (report.new ≡ report.old ++ line) }
+{
+    let before = spot_before(programs, address_in(level.regs[14]));
+    let command = statement_at(report.alloc(), sources, &before)?;
+    if_stated(report, k, &command)
 }
 
 /// Which handles of the level of a number: those in force, or what its PUSH HANDLE of a number keeps.
@@ -243,35 +265,64 @@ fn pushed_lines(
     Ok(())
 }
 
-/// Adds the lines of a level.
-#[tactic(auto, unfolding(crate::specs::Levels::level_text))]
-fn level_text<S: Store + Drop>(
+/// Adds the lines of what a level asks for, and of what its PUSH HANDLEs keep.
+fn asked_text(
     report: &mut Report,
-    sources: &SourcePlaces,
+    places: &SourcePlaces,
+    programs: &IndexMap<Name8, Loaded>,
+    k: u32,
+    level: &Level,
+) -> Result<(), AllocError>
+    ensures { let asked = handling_lines places.now.entries programs.now.entries (level_number k) level.now.handles.active in
+        let pushed = pushed_lines places.now.entries programs.now.entries k 1 (reverse level.now.handles.kept) in
+        OnOk result (report.new ≡ report.old ++ (asked ++ pushed)) }
+{
+    let active = level.handles.active();
+    handling_lines(report, places, programs, Handles::InForce(k), active)?;
+    pushed_lines(report, places, programs, k, level.handles.kept())
+}
+
+/// Adds a level's line, and that of its last command.
+fn heading_text<S: Store + Drop>(
+    report: &mut Report,
+    sources: &Sources,
     shared: &Shared<S>,
     k: u32,
     level: &Level,
 ) -> Result<(), AllocError>
-    ensures { OnOk result (report.new ≡ report.old ++ level_text sources.now.entries shared.now k level.now) }
+    ensures { let last = last_line sources.now shared.now.programs k level.now in
+        OnOk result (report.new ≡ report.old ++ (level_line shared.now k level.now ++ last)) }
 {
-    let programs = &shared.programs;
-    let active = level.handles.active();
-    level_line(report, sources, shared, k, level)?;
-    handling_lines(report, sources, programs, Handles::InForce(k), active)?;
-    pushed_lines(report, sources, programs, k, level.handles.kept())
+    level_line(report, shared, k, level)?;
+    last_line(report, sources, &shared.programs, k, level)
+}
+
+/// Adds the lines of a level.
+#[tactic(auto, unfolding(crate::specs::Levels::level_text))]
+fn level_text<S: Store + Drop>(
+    report: &mut Report,
+    sources: &Sources,
+    shared: &Shared<S>,
+    k: u32,
+    level: &Level,
+) -> Result<(), AllocError>
+    ensures { OnOk result (report.new ≡ report.old ++ level_text sources.now shared.now k level.now) }
+{
+    heading_text(report, sources, shared, k, level)?;
+    asked_text(report, sources.places(), &shared.programs, k, level)
 }
 
 /// Adds the lines of the level at an index, counted from 0, where there is one.
 fn level_at<S: Store + Drop>(
     report: &mut Report,
-    sources: &SourcePlaces,
+    sources: &Sources,
     shared: &Shared<S>,
     levels: &LevelStack,
     index: usize,
 ) -> Result<(), AllocError>
     requires { index ≤ 16 }
     ensures { let level = slice_get (all_levels levels.now) index in
-        OnOk result (report.new ≡ report.old ++ level_at sources.now.entries shared.now (index + 1) level) }
+        OnOk result (report.new ≡ report.old ++ level_at sources.now shared.now (index + 1) level) }
 {
     let Some(level) = levels.get(index) else {
         return Ok(());
@@ -282,11 +333,11 @@ fn level_at<S: Store + Drop>(
 /// Adds the lines of all levels, the highest first.
 pub(crate) fn levels_text<S: Store + Drop>(
     report: &mut Report,
-    sources: &SourcePlaces,
+    sources: &Sources,
     shared: &Shared<S>,
     levels: &LevelStack,
 ) -> Result<(), AllocError>
-    ensures { let more = levels_text sources.now.entries shared.now 1 (all_levels levels.now) in
+    ensures { let more = levels_text sources.now shared.now 1 (all_levels levels.now) in
         OnOk result (report.new ≡ report.old ++ more) }
 {
     for index in 0..levels.len() {

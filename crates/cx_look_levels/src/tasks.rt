@@ -7,7 +7,7 @@ ghost use Rattle.cx_look_levels.specs.Tasks.{due_word, none_line, state_line, ta
 use crate::levels::levels_text;
 use cx_base_text::{decimal, shown_name};
 use cx_ebcdic::Name4;
-use cx_look_symbols::{SourcePlaces, place_of, place_word};
+use cx_look_symbols::{SourcePlaces, Sources, place_of, place_word};
 use cx_look_words::{Report, register_lines};
 use cx_region::Region;
 use cx_region_call::read_call;
@@ -74,16 +74,16 @@ fn state_line<S: Store + Drop>(
 /// Adds the lines of a task.
 fn text_of<S: Store + Drop>(
     report: &mut Report,
-    sources: &SourcePlaces,
+    sources: &Sources,
     shared: &Shared<S>,
     name: Name4,
     task: &Task,
 ) -> Result<(), AllocError>
-    ensures { OnOk result (report.new ≡ report.old ++ text_of sources.now.entries shared.now name task.now) }
+    ensures { OnOk result (report.new ≡ report.old ++ text_of sources.now shared.now name task.now) }
 {
     task_line(report, shared, name, task)?;
     register_lines(report, &task.cpu.regs)?;
-    state_line(report, sources, shared, task)?;
+    state_line(report, sources.places(), shared, task)?;
     levels_text(report, sources, shared, &task.levels)
 }
 
@@ -105,17 +105,17 @@ pub(crate) fn task_of<S: Store + Drop>(region: &Region<S>, name: Name4) -> Optio
 
 /// Looks at the task of a terminal: its line, its registers, its condition code and next address, and the lines of each
 /// level, the highest first; NONE where there is no task, or no such terminal. A place in a program that a source
-/// defined is shown with the line of the statement whose bytes hold it.
+/// defined is shown with the line of the statement whose bytes hold it, and a level's last command with that line's text.
 ///
 /// An error comes only where memory for the report was refused.
 #[tactic(auto, unfolding(crate::specs::Tasks::task_text))]
 pub fn task_text<S: Store + Drop>(
     alloc: Global,
-    sources: &SourcePlaces,
+    sources: &Sources,
     region: &Region<S>,
     name: Name4,
 ) -> Result<Report, AllocError>
-    ensures { IfOk result (λ report. report ≡ task_text sources.now.entries region.now name) }
+    ensures { IfOk result (λ report. report ≡ task_text sources.now region.now name) }
 {
     let mut report = Report::new(alloc);
     match task_of(region, name) {

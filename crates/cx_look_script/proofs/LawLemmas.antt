@@ -1,17 +1,19 @@
 -- A look changes nothing.
-use Rattle.std.proofs.Common.{◌≡◌, ℕ, zero, suc, Bool, true, false, MatchBool, cond, List, [], ◌∷◌, ◌++◌, refl, sym, ap, ◌∙◌, subst, append-nil, append_assoc}
+use Rattle.std.proofs.Common.{◌≡◌, ℕ, zero, suc, Bool, true, false, MatchBool, Option, Some, None, List, [], ◌∷◌, ◌++◌, refl, sym, ap, ◌∙◌, subst, append-nil, append_assoc}
+use Rattle.std.specs.Prelude.{MatchOption}
 use Rattle.std.specs.List.{flat_map}
 use Rattle.cx_edf.specs.State.{EdfState}
 use Rattle.cx_script_actions.specs.Effects.{Performs, Replies}
 use Rattle.cx_script_actions.specs.declared.actions.Action.{Action}
 use Rattle.cx_script_actions.specs.declared.actions.Action.TheVariants as edf_action
 use Rattle.cx_script.specs.Transcript.{Runs}
-use Rattle.cx_look_script.specs.Looking.{LookPerforms, NotedPerforms, TakesOneMore}
-use Rattle.cx_look_script.specs.Runs.{still_running}
+use Rattle.cx_look_script.specs.Looking.{LookPerforms, NotedPerforms, RunsTurn, TakesOneMore}
+use Rattle.cx_look_script.specs.Runs.{StopsWith, run_over}
 use Rattle.cx_look_script.specs.State.{LookState}
-use Rattle.cx_look_script.specs.Laws.Looks.{ArePartsOf, ChangesNothing, IsPart, LooksChangeNothing, Part, kept_after, plain_of, text_of, turn_action, written_of}
+use Rattle.cx_look_script.specs.Laws.Looks.{ArePartsOf, ChangesNothing, IsMoreOfRun, IsPart, IsTurnOfRun, LooksChangeNothing, Part, after_turns, kept_after, plain_of, text_of, turn_action, written_of}
 use Rattle.cx_look_script.specs.declared.action.LookAction.{LookAction}
 use Rattle.cx_look_script.specs.declared.action.LookAction.TheVariants as action
+use Rattle.cx_look_script.specs.declared.action.Stop.{Stop}
 
 runs_one : (old : LookState) (a : Action) (text : List ℕ) (new : LookState) → NotedPerforms old a text new → Runs NotedPerforms old (a ∷ []) text new
 unfolding Runs
@@ -33,12 +35,12 @@ record Did (old : LookState) (a : LookAction) (text : List ℕ) (new : LookState
   is : IsPart old a part
   done : LookState
   runs : Runs NotedPerforms old part.plain part.written done
-  kept : new ≡ kept_after old a done
+  kept : new ≡ kept_after old a part.plain done
   whole : text ≡ text_of part
 
 -- an action that is done as one of `cicsedf`
 did_action : (old : LookState) (a : LookAction) (done : Action) (text : List ℕ) (new : LookState) → IsPart old a (let part : Part = record { plain = done ∷ []; written = text; looked = [] } in part)
-    → new ≡ kept_after old a new → NotedPerforms old done text new → Did old a text new
+    → new ≡ kept_after old a (done ∷ []) new → NotedPerforms old done text new → Did old a text new
 did_action old a done text new is kept p =
     record {
       part = record { plain = done ∷ []; written = text; looked = [] };
@@ -49,27 +51,76 @@ did_action old a done text new is kept p =
       whole = sym (append-nil text);
     }
 
--- an action that changes nothing
+-- an action that does none
 did_nothing : (old : LookState) (a : LookAction) (text : List ℕ) (new : LookState) → IsPart old a (let part : Part = record { plain = []; written = []; looked = text } in part)
-    → new ≡ kept_after old a new → new ≡ old → Did old a text new
+    → new ≡ kept_after old a [] old → Did old a text new
 unfolding Runs
-did_nothing old a text new is kept same =
-    record { part = record { plain = []; written = []; looked = text }; is = is; done = new; runs = (refl, same); kept = kept; whole = refl }
+did_nothing old a text new is kept =
+    record { part = record { plain = []; written = []; looked = text }; is = is; done = old; runs = (refl, refl); kept = kept; whole = refl }
+
+-- a turn of RUN, or the line in its place
+record Turned (old : LookState) (name : List ℕ) (s : Stop) (text : List ℕ) (new : LookState) : Type 0 where
+  part : Part
+  is : IsTurnOfRun old name s part
+  done : LookState
+  runs : Runs NotedPerforms old part.plain part.written done
+  kept : new ≡ after_turns part.plain done
+  whole : text ≡ text_of part
+
+turned : (old : LookState) (name : List ℕ) (s : Stop) (text : List ℕ) (new : LookState) (line : Option (List ℕ)) → StopsWith s old.edf name line
+    → MatchOption line (NotedPerforms old (turn_action name) text new) (λ l. (text ≡ l) × (new ≡ run_over old)) → Turned old name s text new
+unfolding Runs
+turned old name s text new None stops p =
+    record {
+      part = record { plain = turn_action name ∷ []; written = text; looked = [] };
+      is = record { line = None; stops = stops; is = (refl, refl) };
+      done = new;
+      runs = runs_one old (turn_action name) text new p;
+      kept = refl;
+      whole = sym (append-nil text);
+    }
+turned old name s text new (Some l) stops p =
+    record {
+      part = record { plain = []; written = []; looked = text };
+      is = record { line = Some l; stops = stops; is = (refl, p.0) };
+      done = old;
+      runs = (refl, refl);
+      kept = p.1;
+      whole = refl;
+    }
+
+did_turn : (old : LookState) (name : List ℕ) (n : ℕ) (s : Stop) (text : List ℕ) (new : LookState) → RunsTurn old name s text new → Did old (action.Run name n s) text new
+did_turn old name n s text new p =
+    let t = turned old name s text new p.line p.stops p.does in
+    record { part = t.part; is = t.is; done = t.done; runs = t.runs; kept = t.kept; whole = t.whole }
 
 -- one more turn of RUN, or its last line
-did_more : (old : LookState) (name : List ℕ) (n : ℕ) (text : List ℕ) (new : LookState) (on : Bool) → old.goes_on ≡ on
-    → MatchBool on (TakesOneMore old name n text new) ((text ≡ []) × (new ≡ old)) → Did old (action.RunOn name n) text new
-did_more old name zero text new true e p =
-    did_nothing old (action.RunOn name zero) text new (refl, p.0 ∙ ap (λ b. cond b (still_running name) []) (sym e)) refl p.1
-did_more old name (suc n) text new true e p =
-    did_action old (action.RunOn name (suc n)) (turn_action name) text new (ap (λ (b : Bool). let l : List Action = cond b (turn_action name ∷ []) [] in l) (sym e), refl) refl p
-did_more old name zero text new false e p =
-    did_nothing old (action.RunOn name zero) text new (refl, p.0 ∙ ap (λ b. cond b (still_running name) []) (sym e)) refl p.1
-did_more old name (suc n) text new false e p =
-    did_nothing old (action.RunOn name (suc n)) text new (ap (λ (b : Bool). let l : List Action = cond b (turn_action name ∷ []) [] in l) (sym e), p.0) refl p.1
+same_over : (old : LookState) → old.goes_on ≡ false → old ≡ run_over old
+same_over old e = ap (λ (b : Bool). let s : LookState = record old { goes_on = b } in s) e
+
+did_more : (old : LookState) (name : List ℕ) (n : ℕ) (s : Stop) (text : List ℕ) (new : LookState) (on : Bool) → old.goes_on ≡ on
+    → MatchBool on (TakesOneMore old name n s text new) ((text ≡ []) × (new ≡ old)) → Did old (action.RunOn name n s) text new
+did_more old name zero s text new true e p =
+    let last : Part = record { plain = []; written = []; looked = text } in
+    did_nothing old (action.RunOn name zero s) text new
+    (subst (λ (on : Bool). MatchBool on (IsMoreOfRun old name zero s last) ((last.plain ≡ []) × (last.looked ≡ []))) (sym e) (refl, p.0)) p.1
+did_more old name (suc n) s text new true e p =
+    let t = turned old name s text new p.line p.stops p.does in
+    record {
+      part = t.part;
+      is = subst (λ (on : Bool). MatchBool on (IsTurnOfRun old name s t.part) ((t.part.plain ≡ []) × (t.part.looked ≡ []))) (sym e) t.is;
+      done = t.done;
+      runs = t.runs;
+      kept = t.kept;
+      whole = t.whole;
+    }
+did_more old name n s text new false e p =
+    let none : Part = record { plain = []; written = []; looked = text } in
+    did_nothing old (action.RunOn name n s) text new
+    (subst (λ (on : Bool). MatchBool on (IsMoreOfRun old name n s none) ((none.plain ≡ []) × (none.looked ≡ []))) (sym e) (refl, p.0)) (p.1 ∙ same_over old e)
 
 did : (old : LookState) (a : LookAction) (text : List ℕ) (new : LookState) → LookPerforms old a text new → Did old a text new
-unfolding LookPerforms Runs
+unfolding LookPerforms
 did old (action.Script a) text new p = did_action old (action.Script a) a text new (refl, refl) refl p
 did old (action.Source name lines a) text new p =
     record {
@@ -80,10 +131,10 @@ did old (action.Source name lines a) text new p =
       kept = p.keeps;
       whole = sym (append-nil text);
     }
-did old (action.Run name n) text new p = did_action old (action.Run name n) (turn_action name) text new (refl, refl) refl p
-did old (action.RunOn name n) text new p = did_more old name n text new old.goes_on refl p
-did old (action.Look l) text new p = did_nothing old (action.Look l) text new (refl, p.0) refl p.1
-did old (action.BadLook number s) text new p = did_nothing old (action.BadLook number s) text new (refl, p.0) refl p.1
+did old (action.Run name n s) text new p = did_turn old name n s text new p
+did old (action.RunOn name n s) text new p = did_more old name n s text new old.goes_on refl p
+did old (action.Look l) text new p = did_nothing old (action.Look l) text new (refl, p.0) p.1
+did old (action.BadLook number s) text new p = did_nothing old (action.BadLook number s) text new (refl, p.0) p.1
 
 append_plain : (old : LookState) (xs : List Action) (s : List ℕ) (mid : LookState) (ys : List Action) (t : List ℕ) (new : LookState)
     → Runs NotedPerforms old xs s mid → Runs Performs mid.edf ys t new.edf → Runs Performs old.edf (xs ++ ys) (s ++ t) new.edf
@@ -93,14 +144,18 @@ append_plain old [] s mid ys t new p q =
 append_plain old (x ∷ xs) s mid ys t new p q =
     (p.0.edf, p.1, p.2 ++ t, performs old x p.1 p.0 p.3, append_plain p.0 xs p.2 mid ys t new p.4 q, ap (λ l. l ++ t) p.5 ∙ append_assoc p.1 p.2 t)
 
--- what is kept of sources is no part of the region under EDF
-kept_same : (old : LookState) (a : LookAction) (done : LookState) → (kept_after old a done).edf ≡ done.edf
-kept_same old (action.Script a) done = refl
-kept_same old (action.Source name lines a) done = refl
-kept_same old (action.Run name n) done = refl
-kept_same old (action.RunOn name n) done = refl
-kept_same old (action.BadLook number s) done = refl
-kept_same old (action.Look l) done = refl
+-- what is kept of sources, and whether RUN is over, is no part of the region under EDF
+after_same : (plain : List Action) (done : LookState) → (after_turns plain done).edf ≡ done.edf
+after_same [] done = refl
+after_same (turn ∷ turns) done = refl
+
+kept_same : (old : LookState) (a : LookAction) (plain : List Action) (done : LookState) → (kept_after old a plain done).edf ≡ done.edf
+kept_same old (action.Script a) plain done = refl
+kept_same old (action.Source name lines a) plain done = refl
+kept_same old (action.Run name n s) plain done = after_same plain done
+kept_same old (action.RunOn name n s) plain done = after_same plain done
+kept_same old (action.BadLook number s) plain done = refl
+kept_same old (action.Look l) plain done = refl
 
 in_front : (old : LookState) (a : LookAction) (first : List ℕ) (between : LookState) (actions : List LookAction) (rest text : List ℕ) (new : LookState)
     → Did old a first between → ChangesNothing between actions rest new → text ≡ first ++ rest → ChangesNothing old (a ∷ actions) text new
@@ -108,7 +163,7 @@ unfolding ArePartsOf
 in_front old a first between actions rest text new d r e =
     let plain : List Action = flat_map plain_of r.parts in
     let written : List ℕ = flat_map written_of r.parts in
-    let same : between.edf ≡ d.done.edf = ap (λ (s : LookState). s.edf) d.kept ∙ kept_same old a d.done in
+    let same : between.edf ≡ d.done.edf = ap (λ (s : LookState). s.edf) d.kept ∙ kept_same old a d.part.plain d.done in
     record {
       parts = d.part ∷ r.parts;
       each = (d.done, between, d.is, d.runs, d.kept, r.each);

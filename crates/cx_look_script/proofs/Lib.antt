@@ -1,4 +1,5 @@
 mod TurnLemmas
+mod StopLemmas
 mod LawLemmas
 mod MarkLemmas
 mod NoteLemmas

@@ -28,7 +28,7 @@ use Rattle.cx_asm_build.specs.declared.program.Prepared.{Prepared}
 
 -- ---- a line begins none
 abbrev IsPlainLine : Line Action → Type 0
-IsPlainLine (line.Lines name) = ⊥
+IsPlainLine (line.Lines heading) = ⊥
 IsPlainLine _ = Unit {0}
 
 mapped : {B : Type 0} (f : B → Line Action) (o : Option B) → ((b : B) → IsPlainLine (f b)) → IfSome (option_map f o) IsPlainLine
@@ -77,7 +77,7 @@ line_plain text = either (is_blank_or_comment text) _ _ tt (chained (line_asked_
 
 -- ---- and so none is left to the next line
 abbrev pub IsPlainBody : Body → Type 0
-IsPlainBody (kind.Lines lines) = ⊥
+IsPlainBody (kind.Lines heading lines) = ⊥
 IsPlainBody _ = Unit {0}
 
 abbrev pub IsPlain : Option Block → Type 0
@@ -93,7 +93,7 @@ line_leaves number None h = tt
 line_leaves number (Some line.Blank) h = tt
 line_leaves number (Some (line.Image name stg_len)) h = tt
 line_leaves number (Some (line.Source name wanted)) h = tt
-line_leaves number (Some (line.Lines name)) h = absurd h
+line_leaves number (Some (line.Lines heading)) h = absurd h
 line_leaves number (Some (line.Action a)) h = tt
 
 source_leaves : (make : Prepared → Option Action) (first : ℕ) (due : Result Prepared PrepareFault)
@@ -101,31 +101,31 @@ source_leaves : (make : Prepared → Option Action) (first : ℕ) (due : Result 
 source_leaves make first (Ok prepared) = tt
 source_leaves make first (Err fault) = tt
 
-end_leaves : (first : ℕ) (name : List ℕ) (has : Body) → LeavesPlain (block_end edf_language first name has)
-end_leaves first name (kind.Image stg_len text) = tt
-end_leaves first name (kind.Lines lines) = tt
-end_leaves first name (kind.Source wanted lines) =
+end_leaves : (first : ℕ) (has : Body) → LeavesPlain (block_end edf_language first has)
+end_leaves first (kind.Image name stg_len text) = tt
+end_leaves first (kind.Lines heading lines) = tt
+end_leaves first (kind.Source name wanted lines) =
     source_leaves (λ made. Some (edf_language.of_source name lines (action.Source name made.text made.image))) first
     (prepared_of wanted.listing wanted.disassembly lines)
 
 more_leaves : (number : ℕ) (block : Block) (has : Body) (text : List ℕ) → IsPlainBody has
-    → LeavesPlain (ok_or (option_map block_step (option_map (λ more. let next : Block = record { line = block.line; name = block.name; body = more } in next) (body_with has text))) (BadLine number))
-more_leaves number block (kind.Image stg_len bytes) text plain = go (hex_bytes text)
+    → LeavesPlain (ok_or (option_map block_step (option_map (λ more. let next : Block = record { line = block.line; body = more } in next) (body_with edf_language has text))) (BadLine number))
+more_leaves number block (kind.Image name stg_len bytes) text plain = go (hex_bytes text)
   where
     go : (spelled : Option (List ℕ))
-        → LeavesPlain (ok_or (option_map block_step (option_map (λ more. let next : Block = record { line = block.line; name = block.name; body = more } in next)
-        (option_map (λ new. kind.Image stg_len (kept_text (bytes ++ new))) spelled))) (BadLine number))
+        → LeavesPlain (ok_or (option_map block_step (option_map (λ more. let next : Block = record { line = block.line; body = more } in next)
+        (option_map (λ new. kind.Image name stg_len (kept_text (bytes ++ new))) spelled))) (BadLine number))
     go None = tt
     go (Some more) = tt
-more_leaves number block (kind.Source wanted lines) text plain = tt
-more_leaves number block (kind.Lines lines) text plain = absurd plain
+more_leaves number block (kind.Source name wanted lines) text plain = tt
+more_leaves number block (kind.Lines heading lines) text plain = absurd plain
 
 in_leaves : (number : ℕ) (block : Option Block) (text : List ℕ) → IsPlain block → LeavesPlain (step_in edf_language number block text)
 in_leaves number None text plain = line_leaves number (line_of text) (line_plain text)
 in_leaves number (Some block) text plain = go (bytes_eq text (codes "/*"))
   where
-    go : (b : Bool) → LeavesPlain (if b then block_end edf_language block.line block.name block.body else ok_or (option_map block_step (with_line block text)) (BadLine number))
-    go true = end_leaves block.line block.name block.body
+    go : (b : Bool) → LeavesPlain (if b then block_end edf_language block.line block.body else ok_or (option_map block_step (with_line edf_language block text)) (BadLine number))
+    go true = end_leaves block.line block.body
     go false = more_leaves number block block.body text plain
 
 pub steps_leave : (number : ℕ) (block : Option Block) (text : List ℕ) → IsPlain block → LeavesPlain (step_at edf_language number block text)

@@ -11,7 +11,7 @@ use Rattle.cx_script_actions.specs.declared.actions.Action.{Action}
 use Rattle.cx_script_actions.specs.declared.actions.Action.TheVariants as script
 use Rattle.cx_script_actions.specs.declared.actions.Line.{Line}
 use Rattle.cx_script_actions.specs.declared.actions.Line.TheVariants as line
-use Rattle.cx_script_blocks.specs.Blocks.{block_step, action_step, block_end, fault_of_line, step_at, step_in, step_of, with_line}
+use Rattle.cx_script_blocks.specs.Blocks.{body_with, block_step, action_step, block_end, fault_of_line, step_at, step_in, step_of, with_line}
 use Rattle.cx_script_blocks.specs.declared.blocks.Block.{Block}
 use Rattle.cx_script_blocks.specs.declared.blocks.Body.{Body}
 use Rattle.cx_script_blocks.specs.declared.blocks.Body.TheVariants as kind
@@ -50,7 +50,7 @@ line_steps : (number : ℕ) (l : Line Action) → IsSameStep (step_of number l) 
 line_steps number line.Blank = (refl, refl)
 line_steps number (line.Image name stg_len) = (refl, refl)
 line_steps number (line.Source name wanted) = (refl, refl)
-line_steps number (line.Lines name) = (refl, refl)
+line_steps number (line.Lines heading) = (refl, refl)
 line_steps number (line.Action a) = (refl, refl)
 
 outside : (number : ℕ) (l : Option (Line Action)) (own : Option (Line LookAction)) → (ok_or (option_map (step_of number) l) (BadLine number) ≡ Err (BadLine number) → ⊥)
@@ -65,12 +65,12 @@ source_steps first make here (Ok prepared) same = (refl, same prepared)
 source_steps first make here (Err fault) same = refl
 
 block_steps : (block : Block) (has : Body) → IsPlainBody has
-    → IsLedSame (block_end edf_language block.line block.name has) (block_end look_language block.line block.name has)
-block_steps block (kind.Image stg_len text) plain = (refl, refl)
-block_steps block (kind.Lines lines) plain = absurd plain
-block_steps block (kind.Source wanted lines) plain =
-    source_steps block.line (λ made. Some (edf_language.of_source block.name lines (script.Source block.name made.text made.image)))
-    (λ made. Some (look_language.of_source block.name lines (script.Source block.name made.text made.image)))
+    → IsLedSame (block_end edf_language block.line has) (block_end look_language block.line has)
+block_steps block (kind.Image name stg_len text) plain = (refl, refl)
+block_steps block (kind.Lines heading lines) plain = absurd plain
+block_steps block (kind.Source name wanted lines) plain =
+    source_steps block.line (λ made. Some (edf_language.of_source name lines (script.Source name made.text made.image)))
+    (λ made. Some (look_language.of_source name lines (script.Source name made.text made.image)))
     (prepared_of wanted.listing wanted.disassembly lines) (λ made. refl)
 
 one_more : (number : ℕ) (next : Option Block) → (ok_or (option_map (λ b. block_step {A = Action} b) next) (BadLine number) ≡ Err (BadLine number) → ⊥)
@@ -78,16 +78,27 @@ one_more : (number : ℕ) (next : Option Block) → (ok_or (option_map (λ b. bl
 one_more number None good = absurd (good refl)
 one_more number (Some block) good = (refl, refl)
 
+-- one more line of a block is the same here
+same_body : (has : Body) (text : List ℕ) → IsPlainBody has → body_with look_language has text ≡ body_with edf_language has text
+same_body (kind.Image name stg_len bytes) text plain = refl
+same_body (kind.Source name wanted lines) text plain = refl
+same_body (kind.Lines heading lines) text plain = absurd plain
+
 within : (number : ℕ) (block : Block) (text : List ℕ) → IsPlainBody block.body → (step_in edf_language number (Some block) text ≡ Err (BadLine number) → ⊥)
     → IsLedSame (step_in edf_language number (Some block) text) (step_in look_language number (Some block) text)
 within number block text plain good = go (bytes_eq text (codes "/*")) good
   where
     go : (b : Bool)
-        → ((if b then block_end edf_language block.line block.name block.body else ok_or (option_map block_step (with_line block text)) (BadLine number)) ≡ Err (BadLine number) → ⊥)
-        → IsLedSame (if b then block_end edf_language block.line block.name block.body else ok_or (option_map block_step (with_line block text)) (BadLine number))
-        (if b then block_end look_language block.line block.name block.body else ok_or (option_map block_step (with_line block text)) (BadLine number))
+        → ((if b then block_end edf_language block.line block.body else ok_or (option_map block_step (with_line edf_language block text)) (BadLine number)) ≡ Err (BadLine number) → ⊥)
+        → IsLedSame (if b then block_end edf_language block.line block.body else ok_or (option_map block_step (with_line edf_language block text)) (BadLine number))
+        (if b then block_end look_language block.line block.body else ok_or (option_map block_step (with_line look_language block text)) (BadLine number))
     go true h = block_steps block block.body plain
-    go false h = one_more number (with_line block text) h
+    go false h =
+        let next : Option Block = with_line edf_language block text in
+        let same : with_line look_language block text ≡ next =
+        ap (λ (more : Option Body). option_map (λ has. let b : Block = record { line = block.line; body = has } in b) more) (same_body block.body text plain) in
+        subst (λ (here : Option Block). IsLedSame (ok_or (option_map block_step next) (BadLine number)) (ok_or (option_map block_step here) (BadLine number))) (sym same)
+        (one_more number next h)
 
 in_block : (number : ℕ) (block : Option Block) (text : List ℕ) → IsPlain block → (step_in edf_language number block text ≡ Err (BadLine number) → ⊥)
     → IsLedSame (step_in edf_language number block text) (step_in look_language number block text)
@@ -123,8 +134,8 @@ record IsSameAsked (a : Option Action) (h : Option LookAction) : Type 0 where
 same_one : (a : Action) (h : LookAction) → plain_action h ≡ Some a → IsSameAsked (Some a) (Some h)
 same_one a (action.Script b) e = record { actions = ap (λ (o : Option Action). o ∷ []) e; good = refl; good_here = refl }
 same_one a (action.Source name lines b) e = record { actions = ap (λ (o : Option Action). o ∷ []) e; good = refl; good_here = refl }
-same_one a (action.Run name n) e = cc
-same_one a (action.RunOn name n) e = cc
+same_one a (action.Run name n s) e = cc
+same_one a (action.RunOn name n s) e = cc
 same_one a (action.Look l) e = cc
 same_one a (action.BadLook number s) e = cc
 
@@ -214,8 +225,8 @@ performs_same old (action.Source name lines a) b text new e p =
     let kept : p.done.edf ≡ new.edf = sym (ap (λ (s : LookState). s.edf) p.keeps) in
     subst (λ (x : Action). Performs old.edf x text new.edf) (some_same a b e)
     (subst (λ (s : EdfState). Performs old.edf a text s) kept (performs old a text p.done p.performs))
-performs_same old (action.Run name n) b text new e p = cc
-performs_same old (action.RunOn name n) b text new e p = cc
+performs_same old (action.Run name n s) b text new e p = cc
+performs_same old (action.RunOn name n s) b text new e p = cc
 performs_same old (action.BadLook number s) b text new e p = cc
 performs_same old (action.Look l) b text new e p = cc
 

@@ -1,19 +1,21 @@
 -- The turns that RUN asks, and what they do one after another.
-use Rattle.std.proofs.Common.{◌≡◌, ℕ, zero, suc, ◌-◌, ◌<◌, Bool, true, false, MatchBool, List, [], ◌∷◌, ◌++◌, refl, sym, ap, ◌∙◌, subst, append-nil, arith}
+use Rattle.std.proofs.Common.{◌≡◌, ℕ, zero, suc, ◌-◌, ◌<◌, Bool, true, false, MatchBool, Option, Some, None, List, [], ◌∷◌, ◌++◌, refl, sym, ap, ◌∙◌, subst, append-nil, arith}
+use Rattle.std.specs.Prelude.{MatchOption}
 use Rattle.cx_edf.specs.declared.answers.Answer.{Answer}
 use Rattle.cx_script.specs.Transcript.{Runs}
 use Rattle.cx_look_script.specs.Looking.{LookPerforms, NotedPerforms}
 use Rattle.cx_look_script.specs.Laws.Looks.{turn_action}
 use Rattle.cx_look_script.specs.Laws.Turns.{RunsOn, RunsTakeTurns}
-use Rattle.cx_look_script.specs.Runs.{AppliesAtLooks, goes_on, turn_of, turns_left}
+use Rattle.cx_look_script.specs.Runs.{StopsWith, goes_on, run_over, turn_of, turns_left}
 use Rattle.cx_look_script.specs.State.{LookState}
 use Rattle.cx_look_script.specs.declared.action.LookAction.TheVariants as action
+use Rattle.cx_look_script.specs.declared.action.Stop.{Stop}
 
-pub one_left : (name : List ℕ) (n : ℕ) → 0 < n → turns_left name n ≡ action.RunOn name n ∷ turns_left name (n - 1)
+pub one_left : (name : List ℕ) (s : Stop) (n : ℕ) → 0 < n → turns_left name s n ≡ action.RunOn name n s ∷ turns_left name s (n - 1)
 unfolding turns_left
-one_left name zero h = let none : ⊥ = omega (arith, h) in absurd none
-one_left name (suc n) h =
-    let same : n ≡ suc n - 1 = omega arith in ap (λ (k : ℕ). action.RunOn name (suc n) ∷ turns_left name k) same
+one_left name s zero h = let none : ⊥ = omega (arith, h) in absurd none
+one_left name s (suc n) h =
+    let same : n ≡ suc n - 1 = omega arith in ap (λ (k : ℕ). action.RunOn name (suc n) s ∷ turns_left name s k) same
 
 by_bool : (b : Bool) (X Y : Type 0) → MatchBool b X Y → b ≡ true → X
 by_bool true X Y h e = h
@@ -24,43 +26,49 @@ by_other true X Y h e = cc
 by_other false X Y h e = h
 
 -- where the last turn isn't to be followed by one more, none of them does anything
-nothing_more : (old : LookState) (name : List ℕ) (n : ℕ) (text : List ℕ) (new : LookState) → Runs LookPerforms old (turns_left name n) text new → old.goes_on ≡ false → (text ≡ []) × (new ≡ old)
+nothing_more : (old : LookState) (name : List ℕ) (s : Stop) (n : ℕ) (text : List ℕ) (new : LookState) → Runs LookPerforms old (turns_left name s n) text new → old.goes_on ≡ false → (text ≡ []) × (new ≡ old)
 unfolding Runs turns_left LookPerforms
-nothing_more old name zero text new p e =
+nothing_more old name s zero text new p e =
     let first = by_other old.goes_on _ _ p.3 e in
     (p.5 ∙ ap (λ l. l ++ p.2) first.0 ∙ p.4.0, p.4.1 ∙ first.1)
-nothing_more old name (suc n) text new p e =
+nothing_more old name s (suc n) text new p e =
     let first = by_other old.goes_on _ _ p.3 e in
     let still : p.0.goes_on ≡ false = ap (λ (s : LookState). s.goes_on) first.1 ∙ e in
-    let rest = nothing_more p.0 name n p.2 new p.4 still in
+    let rest = nothing_more p.0 name s n p.2 new p.4 still in
     (p.5 ∙ ap (λ l. l ++ p.2) first.0 ∙ rest.0, rest.1 ∙ first.1)
 
 -- a turn, and what comes after it
-after_turn : (between : LookState) (name : List ℕ) (n : ℕ) (given : Answer) (rest : List ℕ) (new : LookState) (on : Bool) → on ≡ between.goes_on → on ≡ goes_on between.edf (turn_of name) given
-    → Runs LookPerforms between (turns_left name n) rest new → (between.goes_on ≡ true → RunsOn between name n rest new) → MatchBool (goes_on between.edf (turn_of name) given) (RunsOn between name n rest new) ((rest ≡ []) × (new ≡ between))
-after_turn between name n given rest new true e f p law =
-    subst (λ b. MatchBool b (RunsOn between name n rest new) ((rest ≡ []) × (new ≡ between))) f (law (sym e))
-after_turn between name n given rest new false e f p law =
-    subst (λ b. MatchBool b (RunsOn between name n rest new) ((rest ≡ []) × (new ≡ between))) f (nothing_more between name n rest new p (sym e))
+after_turn : (between : LookState) (name : List ℕ) (s : Stop) (n : ℕ) (given : Answer) (rest : List ℕ) (new : LookState) (on : Bool) → on ≡ between.goes_on → on ≡ goes_on between.edf (turn_of name) given
+    → Runs LookPerforms between (turns_left name s n) rest new → (between.goes_on ≡ true → RunsOn between name s n rest new) → MatchBool (goes_on between.edf (turn_of name) given) (RunsOn between name s n rest new) ((rest ≡ []) × (new ≡ between))
+after_turn between name s n given rest new true e f p law =
+    subst (λ b. MatchBool b (RunsOn between name s n rest new) ((rest ≡ []) × (new ≡ between))) f (law (sym e))
+after_turn between name s n given rest new false e f p law =
+    subst (λ b. MatchBool b (RunsOn between name s n rest new) ((rest ≡ []) × (new ≡ between))) f (nothing_more between name s n rest new p (sym e))
 
-turn_first : (old between : LookState) (name : List ℕ) (n : ℕ) (first rest text : List ℕ) (new : LookState) → NotedPerforms old (turn_action name) first between
-    → ((given : Answer) → AppliesAtLooks old (turn_of name) given between → MatchBool (goes_on between.edf (turn_of name) given) (RunsOn between name n rest new) ((rest ≡ []) × (new ≡ between)))
-    → text ≡ first ++ rest → RunsOn old name (suc n) text new
+-- a turn or the line in its place, and what comes after it
+turn_first : (old between : LookState) (name : List ℕ) (s : Stop) (n : ℕ) (first rest text : List ℕ) (new : LookState) (line : Option (List ℕ)) → StopsWith s old.edf name line
+    → MatchOption line (NotedPerforms old (turn_action name) first between) (λ l. (first ≡ l) × (between ≡ run_over old))
+    → Runs LookPerforms between (turns_left name s n) rest new → (between.goes_on ≡ true → RunsOn between name s n rest new) → text ≡ first ++ rest → RunsOn old name s (suc n) text new
 unfolding NotedPerforms RunsOn
-turn_first old between name n first rest text new p after e = (p.0, between, rest, p.1, after p.0 p.1, e ∙ ap (λ l. l ++ rest) p.2)
+turn_first old between name s n first rest text new None stops p more law e =
+    (None, stops, (p.0, between, rest, p.1, after_turn between name s n p.0 rest new between.goes_on refl p.1.goes_on more law, e ∙ ap (λ l. l ++ rest) p.2))
+turn_first old between name s n first rest text new (Some l) stops p more law e =
+    let over : between.goes_on ≡ false = ap (λ (s : LookState). s.goes_on) p.1 in
+    let left = nothing_more between name s n rest new more over in
+    (Some l, stops, (e ∙ ap (λ r. first ++ r) left.0 ∙ append-nil first ∙ p.0, left.1 ∙ p.1))
 
-goes : (old : LookState) (name : List ℕ) (n : ℕ) (text : List ℕ) (new : LookState) → Runs LookPerforms old (turns_left name n) text new → old.goes_on ≡ true → RunsOn old name n text new
+goes : (old : LookState) (name : List ℕ) (s : Stop) (n : ℕ) (text : List ℕ) (new : LookState) → Runs LookPerforms old (turns_left name s n) text new → old.goes_on ≡ true → RunsOn old name s n text new
 unfolding Runs turns_left LookPerforms RunsOn
-goes old name zero text new p e =
+goes old name s zero text new p e =
     let last = by_bool old.goes_on _ _ p.3 e in
     (p.5 ∙ ap (λ l. p.1 ++ l) p.4.0 ∙ append-nil p.1 ∙ last.0, p.4.1 ∙ last.1)
-goes old name (suc n) text new p e =
-    turn_first old p.0 name n p.1 p.2 text new (by_bool old.goes_on _ _ p.3 e)
-    (λ given h. after_turn p.0 name n given p.2 new p.0.goes_on refl h.goes_on p.4 (goes p.0 name n p.2 new p.4)) p.5
+goes old name s (suc n) text new p e =
+    let turn = by_bool old.goes_on _ _ p.3 e in
+    turn_first old p.0 name s n p.1 p.2 text new turn.line turn.stops turn.does p.4 (goes p.0 name s n p.2 new p.4) p.5
 
 pub runs_take_turns : RunsTakeTurns
 unfolding Runs LookPerforms
-runs_take_turns old name n text new p =
+runs_take_turns old name s n text new p =
     let same : suc n - 1 ≡ n = omega arith in
-    let rest : Runs LookPerforms p.0 (turns_left name n) p.2 new = subst (λ (k : ℕ). Runs LookPerforms p.0 (turns_left name k) p.2 new) same p.4 in
-    turn_first old p.0 name n p.1 p.2 text new p.3 (λ given h. after_turn p.0 name n given p.2 new p.0.goes_on refl h.goes_on rest (goes p.0 name n p.2 new rest)) p.5
+    let rest : Runs LookPerforms p.0 (turns_left name s n) p.2 new = subst (λ (k : ℕ). Runs LookPerforms p.0 (turns_left name s k) p.2 new) same p.4 in
+    turn_first old p.0 name s n p.1 p.2 text new p.3.line p.3.stops p.3.does rest (goes p.0 name s n p.2 new rest) p.5

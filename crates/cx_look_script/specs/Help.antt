@@ -8,7 +8,7 @@ use Rattle.cx_look_words.specs.Words.{look_line, Lines}
 
 -- the line of a word: its form, in which brackets are round what may be left out, and what it does
 abbrev pub form_of : Subject → List ℕ
-form_of subject.Run = codes "RUN term [n]         turns of the terminal, at most n of them"
+form_of subject.Run = codes "RUN term [n] [BEFORE ABEND]  turns of the terminal, at most n of them"
 form_of subject.Queues = codes "QUEUES               the temporary storage queues"
 form_of subject.Queue = codes "QUEUE name [k]       a queue with its items, or its item k as a whole"
 form_of subject.Programs = codes "PROGRAMS             the programs"
@@ -22,7 +22,8 @@ form_of subject.Field = codes "FIELD term name [k]  a field of the current level
 form_of subject.Fields = codes "FIELDS term [k]      all fields of that level"
 form_of subject.Areas = codes "AREAS [term]         all areas of storage, or those of the terminal's task"
 form_of subject.Storage = codes "STORAGE aaaaaa n     n bytes of storage from an address on"
-form_of subject.Abend = codes "ABEND term           the terminal's last abend"
+form_of subject.Where = codes "WHERE aaaaaa         what is at an address, and whose it is"
+form_of subject.Abend = codes "ABEND term [STORAGE] the terminal's last abend, or its working storage then"
 form_of subject.Symbol = codes "SYMBOL program name  a symbol of the program's source"
 form_of subject.Symbols = codes "SYMBOLS program      all symbols of the program's source"
 form_of subject.Xref = codes "XREF program         which lines use its symbols, literals and base registers"
@@ -33,8 +34,9 @@ form_of subject.Help = codes "HELP [word]          this table, or the line of a 
 abbrev pub table : List Subject
 table =
     subject.Run ∷ subject.Queues ∷ subject.Queue ∷ subject.Programs ∷ subject.Tasks ∷ subject.Resources ∷
-    subject.Terminals ∷ subject.Command ∷ subject.Ahead ∷ subject.Task ∷ subject.Field ∷ subject.Fields ∷ subject.Areas ∷
-    subject.Storage ∷
+    subject.Terminals ∷ subject.Command ∷ subject.Ahead ∷ subject.Task ∷ subject.Field ∷ subject.Fields
+    ∷ subject.Areas ∷
+    subject.Storage ∷ subject.Where ∷
     subject.Abend ∷ subject.Symbol ∷ subject.Symbols ∷ subject.Xref ∷ subject.Faults ∷ subject.Help ∷ []
 
 abbrev pub form_lines : List Subject → Lines

@@ -32,10 +32,12 @@ pub use Rattle.cx_look_command.specs.Looks as LooksAtCommands
 pub use Rattle.cx_look_symbols.specs.Symbols
 pub use Rattle.cx_look_symbols.specs.Texts as SymbolTexts
 pub use Rattle.cx_look_symbols.specs.Places
+pub use Rattle.cx_look_symbols.specs.Sources as SourcesKept
 pub use Rattle.cx_look_ahead.specs.Rows
 pub use Rattle.cx_look_ahead.specs.Ahead
 pub use Rattle.cx_look_tasks.specs.Activities
 pub use Rattle.cx_look_tasks.specs.Tasks
+pub use Rattle.cx_look_abend.specs.Dumps
 pub use Rattle.cx_look_abend.specs.Abends as LastAbends
 pub use Rattle.cx_look_abend.specs.Noting
 pub use Rattle.cx_look_abend.specs.Texts as AbendTexts

@@ -1,5 +1,5 @@
 -- What an action of a script with looks does, and what is written for it (own).
-use Rattle.std.specs.Prelude.{◌≡◌, ℕ, zero, suc, MatchBool, Option, List, []}
+use Rattle.std.specs.Prelude.{◌≡◌, ℕ, zero, suc, MatchBool, MatchOption, Option, List, []}
 use Rattle.std.specs.Option.{option_map_or}
 use Rattle.cx_region.specs.Tables.{program_of}
 use Rattle.cx_edf.specs.declared.answers.Answer.{Answer}
@@ -15,21 +15,24 @@ use Rattle.cx_look_tables.specs.Programs.{programs_text}
 use Rattle.cx_look_tables.specs.Terminals.{terminals_text}
 use Rattle.cx_look_ahead.specs.Ahead.{AheadText}
 use Rattle.cx_look_command.specs.Looks.{command_text}
+use Rattle.cx_look_symbols.specs.Sources.{source_lines}
 use Rattle.cx_look_symbols.specs.Texts.{symbol_text, symbols_text}
 use Rattle.cx_look_xref.specs.Texts.{xref_text}
 use Rattle.cx_look_storage.specs.Areas.{areas_text, task_areas_text}
 use Rattle.cx_look_storage.specs.Bytes.{storage_text}
+use Rattle.cx_look_where.specs.Wheres.{where_text}
 use Rattle.cx_look_levels.specs.Tasks.{task_text}
 use Rattle.cx_look_levels.specs.FieldTexts.{field_text, fields_text, program_at}
 use Rattle.cx_look_tasks.specs.Tasks.{ResourcesText, TasksText}
-use Rattle.cx_look_abend.specs.Texts.{abend_text}
+use Rattle.cx_look_abend.specs.Texts.{abend_storage_text, abend_text}
 use Rattle.cx_look_script.specs.State.{LookState}
-use Rattle.cx_look_script.specs.Sources.{source_lines, with_source}
-use Rattle.cx_look_script.specs.Runs.{AppliesAtLooks, still_running, turn_of}
+use Rattle.cx_look_script.specs.Sources.{with_source}
+use Rattle.cx_look_script.specs.Runs.{AppliesAtLooks, StopsWith, run_over, still_running, turn_of}
 use Rattle.cx_look_script.specs.Faults.{faults_text}
 use Rattle.cx_look_script.specs.Help.{bad_look_text, help_text}
 use Rattle.cx_look_script.specs.declared.action.LookAction.{LookAction}
 use Rattle.cx_look_script.specs.declared.action.LookAction.TheVariants as action
+use Rattle.cx_look_script.specs.declared.action.Stop.{Stop}
 
 -- the lines of the source of a level's program
 abbrev pub level_lines : LookState → List ℕ → Option ℕ → List (List ℕ)
@@ -45,12 +48,14 @@ AreLookLines look.Tasks state lines = TasksText state.edf.region lines
 AreLookLines look.Resources state lines = ResourcesText state.edf.region lines
 AreLookLines (look.Command name) state lines = lines ≡ command_text state.edf.region name
 AreLookLines (look.Ahead name) state lines = AheadText state.edf.region name lines
-AreLookLines (look.Task name) state lines = lines ≡ task_text state.sources.places state.edf.region name
+AreLookLines (look.Task name) state lines = lines ≡ task_text state.sources state.edf.region name
 AreLookLines look.Areas state lines = lines ≡ areas_text state.edf.region
 AreLookLines (look.AreasOf name) state lines = lines ≡ task_areas_text state.edf.region name
 AreLookLines (look.Storage at n) state lines = lines ≡ storage_text state.edf.region at n
+AreLookLines (look.Where at) state lines = lines ≡ where_text state.sources state.edf.region at
 AreLookLines (look.Abend name) state lines =
-    lines ≡ abend_text state.sources.places state.edf.region.programs state.abends name
+    lines ≡ abend_text state.sources state.edf.region.programs state.abends name
+AreLookLines (look.AbendStorage name) state lines = lines ≡ abend_storage_text state.abends name
 AreLookLines (look.Faults source) state lines = lines ≡ faults_text source
 AreLookLines (look.Symbol program name) state lines =
     lines ≡ symbol_text (program_of state.edf.region program) (source_lines state.sources program) name
@@ -58,7 +63,8 @@ AreLookLines (look.Symbols program) state lines =
     lines ≡ symbols_text (program_of state.edf.region program) program (source_lines state.sources program)
 AreLookLines (look.Xref program) state lines = lines ≡ xref_text program (source_lines state.sources program)
 AreLookLines look.Terminals state lines = lines ≡ terminals_text state.edf
-AreLookLines (look.Field term name k) state lines = lines ≡ field_text state.edf.region (level_lines state term k) term name k
+AreLookLines (look.Field term name k) state lines =
+    lines ≡ field_text state.edf.region (level_lines state term k) term name k
 AreLookLines (look.Help word) state lines = lines ≡ help_text word
 AreLookLines (look.Fields term k) state lines = lines ≡ fields_text state.edf.region (level_lines state term k) term k
 
@@ -71,12 +77,15 @@ pub record IsLookText (look : Look) (state : LookState) (text : List ℕ) : Type
 -- an action of `cicsedf`: an event as its answer says, and the abend that it led to is kept; any other leaves what is
 -- kept
 unfoldable pub NotedPerforms : LookState → Action → List ℕ → LookState → Type 0
-NotedPerforms old (edf_action.Event e) text new = (given : Answer) × AppliesAtLooks old e given new × (text ≡ answer_text e given)
+NotedPerforms old (edf_action.Event e) text new =
+    (given : Answer) × AppliesAtLooks old e given new × (text ≡ answer_text e given)
 NotedPerforms old a text new =
-    Performs old.edf a text new.edf × (new.abends ≡ old.abends) × (new.sources ≡ old.sources) × (new.goes_on ≡ old.goes_on)
+    Performs old.edf a text new.edf × (new.abends ≡ old.abends) × (new.sources ≡ old.sources)
+    × (new.goes_on ≡ old.goes_on)
 
 -- a source's end: what it does in `cicsedf`, and after that the source's lines are kept, where it defined its program
-pub record SourcePerforms (old : LookState) (name : List ℕ) (lines : List (List ℕ)) (a : Action) (text : List ℕ) (new : LookState) : Type 0 where
+pub record SourcePerforms (old : LookState) (name : List ℕ) (lines : List (List ℕ)) (a : Action) (text : List ℕ)
+    (new : LookState) : Type 0 where
   pub done : LookState
   pub performs : NotedPerforms old a text done
   pub keeps : new ≡ with_source old name lines done
@@ -85,17 +94,24 @@ pub record SourcePerforms (old : LookState) (name : List ℕ) (lines : List (Lis
 abbrev pub TakesTurn : LookState → List ℕ → List ℕ → LookState → Type 0
 TakesTurn old name text new = NotedPerforms old (edf_action.Event (turn_of name)) text new
 
--- one more turn, or where none is left the line that says so
-abbrev pub TakesOneMore : LookState → List ℕ → ℕ → List ℕ → LookState → Type 0
-TakesOneMore old name zero text new = (text ≡ still_running name) × (new ≡ old)
-TakesOneMore old name (suc n) text new = TakesTurn old name text new
+-- a turn of RUN, or the line with which it ends in front of the turn
+pub record RunsTurn (old : LookState) (name : List ℕ) (s : Stop) (text : List ℕ) (new : LookState) : Type 0 where
+  pub line : Option (List ℕ)
+  pub stops : StopsWith s old.edf name line
+  pub does : MatchOption line (TakesTurn old name text new) (λ l. (text ≡ l) × (new ≡ run_over old))
 
--- One action: the state before, the action, what is written for it, and the state after. RUN's first turn is always done, and each
--- further one only where the last is to be followed by one more.
+-- one more turn, or where none is left the line that says so
+abbrev pub TakesOneMore : LookState → List ℕ → ℕ → Stop → List ℕ → LookState → Type 0
+TakesOneMore old name zero s text new = (text ≡ still_running name) × (new ≡ run_over old)
+TakesOneMore old name (suc n) s text new = RunsTurn old name s text new
+
+-- One action: the state before, the action, what is written for it, and the state after. Each further turn of RUN is
+-- done only where the last is to be followed by one more.
 unfoldable pub LookPerforms : LookState → LookAction → List ℕ → LookState → Type 0
 LookPerforms old (action.Script a) text new = NotedPerforms old a text new
 LookPerforms old (action.Source name lines a) text new = SourcePerforms old name lines a text new
-LookPerforms old (action.Run name n) text new = TakesTurn old name text new
-LookPerforms old (action.RunOn name n) text new = MatchBool old.goes_on (TakesOneMore old name n text new) ((text ≡ []) × (new ≡ old))
+LookPerforms old (action.Run name n s) text new = RunsTurn old name s text new
+LookPerforms old (action.RunOn name n s) text new =
+    MatchBool old.goes_on (TakesOneMore old name n s text new) ((text ≡ []) × (new ≡ old))
 LookPerforms old (action.Look l) text new = IsLookText l old text × (new ≡ old)
 LookPerforms old (action.BadLook number s) text new = (text ≡ marked (bad_look_text number s)) × (new ≡ old)

@@ -1,14 +1,19 @@
 -- What a line of a script with looks asks (own).
-use Rattle.std.specs.Prelude.{ℕ, Bool, true, false, nat_le, if◌then◌else◌, Option, Some, None, unwrap_or, List, length, map}
-use Rattle.std.specs.Option.{option_and_then, option_map}
+use Rattle.std.specs.Prelude.{ℕ, Bool, true, false, nat_le, if◌then◌else◌, Option, Some, None, unwrap_or, List, [], ◌∷◌, ◌++◌, length, map, codes}
+use Rattle.std.specs.Option.{option_and_then, option_map, option_map_or}
+use Rattle.std.specs.Str.{bytes_eq}
 use Rattle.std.specs.Char.{to_ascii_uppercase}
 use Rattle.cx_ebcdic.specs.Names.{padded_name}
 use Rattle.cx_script_actions.specs.Words.{after_first_blank, word}
 use Rattle.cx_script_actions.specs.Actions.{line_of}
 use Rattle.cx_script_actions.specs.Language.{Language}
 use Rattle.cx_script_actions.specs.declared.actions.Action.{Action}
+use Rattle.cx_script_actions.specs.declared.actions.Heading.{Heading}
+use Rattle.cx_script_actions.specs.declared.actions.Heading.TheVariants as heading
 use Rattle.cx_script_actions.specs.declared.actions.Line.{Line}
 use Rattle.cx_script_actions.specs.declared.actions.Line.TheVariants as line
+use Rattle.cx_script_blocks.specs.Blocks.{kept_lines}
+use Rattle.cx_look.specs.Orders.{orders_with}
 use Rattle.cx_look.specs.Looks.{count_of, look_of, subject_of}
 use Rattle.cx_look.specs.declared.look.Look.TheVariants as look
 use Rattle.cx_look.specs.declared.look.Subject.{Subject}
@@ -16,11 +21,23 @@ use Rattle.cx_look.specs.declared.look.Subject.TheVariants as subject
 use Rattle.cx_look_script.specs.Runs.{look_actions_of}
 use Rattle.cx_look_script.specs.declared.action.LookAction.{LookAction}
 use Rattle.cx_look_script.specs.declared.action.LookAction.TheVariants as action
+use Rattle.cx_look_script.specs.declared.action.Stop.{Stop}
+use Rattle.cx_look_script.specs.declared.action.Stop.TheVariants as stop
+
+-- what ends a RUN in front of a turn, by the words after its number
+abbrev pub stop_of : Option (List ℕ) → Option Stop
+stop_of None = Some stop.Never
+stop_of (Some text) = if bytes_eq text (codes "BEFORE ABEND") then Some stop.BeforeAbend else None
+
+abbrev pub run_with : List ℕ → ℕ → Option (List ℕ) → Option LookAction
+run_with name n rest = option_map (λ s. action.Run name n s) (stop_of rest)
 
 -- RUN of a terminal: at most as many turns as the number after it says, 1,000 where there is none
 abbrev pub turns_of : List ℕ → Option (List ℕ) → Option LookAction
-turns_of name None = Some (action.Run name 1000)
-turns_of name (Some text) = option_map (λ n. action.Run name n) (count_of 4096 text)
+turns_of name None = run_with name 1000 None
+turns_of name (Some text) =
+    option_map_or (λ n. run_with name n (after_first_blank text)) (count_of 4096 (word text))
+    (run_with name 1000 (Some text))
 
 abbrev pub run_of : List ℕ → Option LookAction
 run_of text = option_and_then (λ name. turns_of name (after_first_blank text)) (padded_name 4 (word text))
@@ -32,15 +49,16 @@ asked_by _ text = option_map (λ l. action.Look l) (look_of text)
 
 -- the line that begins a block of FAULTS
 abbrev pub faults_line : List ℕ → Option (Line LookAction)
-faults_line text = option_map (λ name. line.Lines name) (option_and_then (padded_name 8) (after_first_blank text))
+faults_line text =
+    option_map (λ name. line.Lines (heading.Faults name)) (option_and_then (padded_name 8) (after_first_blank text))
 
 -- That line; RUN or a look; or a bad look, which is reported.
 abbrev pub line_of_subject : ℕ → List ℕ → Subject → Option (Line LookAction)
 line_of_subject number text subject.Faults = faults_line text
 line_of_subject number text s = Some (line.Action (unwrap_or (asked_by s text) (action.BadLook number s)))
 
--- What a line asks that begins with one of the words that no script of `cicsedf` has. Lower case is taken as upper case. A line of more
--- than 4,096 bytes is a bad line.
+-- What a line asks that begins with one of the words that no script of `cicsedf` has. Lower case is taken as upper
+-- case. A line of more than 4,096 bytes is a bad line.
 unfoldable pub own_line : ℕ → List ℕ → Option (Line LookAction)
 own_line number text =
     let read = map to_ascii_uppercase text in
@@ -51,7 +69,7 @@ abbrev pub as_look_line : Line Action → Line LookAction
 as_look_line line.Blank = line.Blank
 as_look_line (line.Image name stg_len) = line.Image name stg_len
 as_look_line (line.Source name wanted) = line.Source name wanted
-as_look_line (line.Lines name) = line.Lines name
+as_look_line (line.Lines h) = line.Lines h
 as_look_line (line.Action a) = line.Action (action.Script a)
 
 abbrev pub line_by : Option (Line Action) → Option (Line LookAction) → Option (Line LookAction)
@@ -62,9 +80,16 @@ line_by None own = own
 unfoldable pub look_line_of : ℕ → List ℕ → Option (Line LookAction)
 look_line_of number text = line_by (line_of text) (own_line number text)
 
--- the end of a block of FAULTS: the line that begins it, the name there, and the source's lines
-abbrev pub faults_asked : ℕ → List ℕ → List (List ℕ) → LookAction
-faults_asked first name lines = action.Look (look.Faults (record { first = first; name = name; lines = lines }))
+-- the lines of a block with one more: one of FAULTS may have any, of which the first 10,001 are kept
+abbrev pub block_with : Heading → List (List ℕ) → List ℕ → Option (List (List ℕ))
+block_with (heading.Faults name) lines text = Some (kept_lines (lines ++ text ∷ []))
+block_with (heading.Orders most) lines text = orders_with lines text
+
+-- what the end of a block asks: by the number of the line that begins it, what this says, and the lines
+abbrev pub block_asks : ℕ → Heading → List (List ℕ) → Option LookAction
+block_asks first (heading.Faults name) lines =
+    Some (action.Look (look.Faults (record { first = first; name = name; lines = lines })))
+block_asks first (heading.Orders most) lines = None
 
 abbrev pub is_bad_look : LookAction → Bool
 is_bad_look (action.BadLook number s) = true
@@ -76,7 +101,8 @@ look_language = record {
   line_of = look_line_of;
   of_block = λ a. action.Script a;
   of_source = λ name lines a. action.Source name lines a;
-  of_lines = λ first name lines. Some (faults_asked first name lines);
+  with_line = block_with;
+  of_lines = block_asks;
   actions_of = look_actions_of;
   is_bad_look = is_bad_look;
 }

@@ -1,19 +1,26 @@
 -- RUN: turns of a terminal, one after another (own).
-use Rattle.std.specs.Prelude.{◌≡◌, ℕ, zero, suc, ◌-◌, Bool, true, false, ◌&&◌, not, List, [], ◌∷◌, codes}
-use Rattle.cx_base_text.specs.Texts.{shown_name}
+use Rattle.std.specs.Prelude.{◌≡◌, ℕ, zero, suc, ◌-◌, Bool, true, false, ◌&&◌, not, MatchBool, Option, None, List, [], ◌∷◌, codes}
+use Rattle.std.specs.Option.{option_map}
+use Rattle.cx_base_text.specs.Texts.{shown_name, shown_text}
+use Rattle.cx_region_state.specs.declared.replies.TurnReply.{TurnReply}
 use Rattle.cx_region_state.specs.declared.replies.TurnReply.TheVariants as turn
+use Rattle.cx_region.specs.State.{RegionState}
+use Rattle.cx_region.specs.Turn.{TakesTurn as RegionTakesTurn}
 use Rattle.cx_region.specs.declared.replies.Event.TheVariants as event
 use Rattle.cx_region.specs.declared.replies.Reply.TheVariants as reply
 use Rattle.cx_edf.specs.declared.answers.Answer.{Answer}
 use Rattle.cx_edf.specs.declared.answers.Answer.TheVariants as answer
 use Rattle.cx_edf.specs.declared.answers.EdfEvent.{EdfEvent}
 use Rattle.cx_edf.specs.declared.answers.EdfEvent.TheVariants as edf_event
-use Rattle.cx_edf.specs.State.{EdfState, stopped_at}
+use Rattle.cx_edf.specs.State.{EdfState, holds, stopped_at}
 use Rattle.cx_look_words.specs.Words.{look_line, marked}
+use Rattle.cx_look_abend.specs.Abends.{abend_code_in}
 use Rattle.cx_look_abend.specs.Noting.{AppliesWithAbends}
 use Rattle.cx_look_script.specs.State.{LookState}
 use Rattle.cx_look_script.specs.declared.action.LookAction.{LookAction}
 use Rattle.cx_look_script.specs.declared.action.LookAction.TheVariants as action
+use Rattle.cx_look_script.specs.declared.action.Stop.{Stop}
+use Rattle.cx_look_script.specs.declared.action.Stop.TheVariants as stop
 
 -- the task goes on with one more turn: it is due at a command, or one was performed, or taken by a label or an exit
 abbrev pub is_midway : Answer → Bool
@@ -43,14 +50,48 @@ pub record AppliesAtLooks (old : LookState) (e : EdfEvent) (given : Answer) (new
   pub sources : new.sources ≡ old.sources
   pub goes_on : new.goes_on ≡ goes_on new.edf e given
 
--- What RUN asks after its first turn, where at most n turns are left: each turn is an action of its own, and so is the line after
--- the last.
-unfoldable pub turns_left : List ℕ → ℕ → List LookAction
-turns_left name zero = action.RunOn name zero ∷ []
-turns_left name (suc n) = action.RunOn name (suc n) ∷ turns_left name n
+-- RUN is over: its last turn isn't to be followed by one more
+abbrev pub run_over : LookState → LookState
+run_over state = record state { goes_on = false }
+
+-- ---- what ends a RUN in front of a turn
+-- the code of the abend as which the region's next turn of a terminal would be answered; None where it would be
+-- answered otherwise
+pub record IsNextAbend (region : RegionState) (name : List ℕ) (code : Option (List ℕ)) : Type 0 where
+  pub reply : TurnReply
+  pub after : RegionState
+  pub turns : RegionTakesTurn region name reply after
+  pub is : code ≡ abend_code_in reply
+
+-- and under EDF, which may hold the turn
+unfoldable pub IsAbendAhead : EdfState → List ℕ → Option (List ℕ) → Type 0
+IsAbendAhead state name code = MatchBool (holds state name) (code ≡ None) (IsNextAbend state.region name code)
+
+-- the line of a RUN that an abend of this code is ahead of
+abbrev pub stopped_before : List ℕ → List ℕ → List ℕ
+stopped_before name code =
+    let words = codes "STOPPED" ∷ codes "BEFORE" ∷ codes "ABEND" ∷ shown_text code ∷ [] in
+    marked (look_line (codes "RUN" ∷ shown_name name ∷ words))
+
+pub record StopsBeforeAbend (state : EdfState) (name : List ℕ) (line : Option (List ℕ)) : Type 0 where
+  pub code : Option (List ℕ)
+  pub ahead : IsAbendAhead state name code
+  pub is : line ≡ option_map (stopped_before name) code
+
+-- the line with which a RUN ends in front of the terminal's next turn; None where it does the turn
+unfoldable pub StopsWith : Stop → EdfState → List ℕ → Option (List ℕ) → Type 0
+StopsWith stop.Never state name line = line ≡ None
+StopsWith stop.BeforeAbend state name line = StopsBeforeAbend state name line
+
+-- ---- its actions
+-- What RUN asks after its first turn, where at most n turns are left: each turn is an action of its own, and so is the
+-- line after the last.
+unfoldable pub turns_left : List ℕ → Stop → ℕ → List LookAction
+turns_left name s zero = action.RunOn name zero s ∷ []
+turns_left name s (suc n) = action.RunOn name (suc n) s ∷ turns_left name s n
 
 -- the actions that a line asks, one after another, by the first of them
 abbrev pub look_actions_of : LookAction → List LookAction
-look_actions_of (action.Run name n) = action.Run name n ∷ turns_left name (n - 1)
-look_actions_of (action.RunOn name n) = turns_left name n
+look_actions_of (action.Run name n s) = action.Run name n s ∷ turns_left name s (n - 1)
+look_actions_of (action.RunOn name n s) = turns_left name s n
 look_actions_of a = a ∷ []

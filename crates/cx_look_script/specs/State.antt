@@ -1,17 +1,12 @@
 -- A region under EDF that is looked at (own).
-use Rattle.std.specs.Prelude.{ℕ, Bool, false, List, []}
+use Rattle.std.specs.Prelude.{Bool, false, []}
 use Rattle.cx_edf.specs.State.{EdfState}
 use Rattle.cx_script_actions.specs.Effects.{fresh_state}
 use Rattle.cx_look_abend.specs.Noting.{Abends}
-use Rattle.cx_look_symbols.specs.Lines.{SourcePlaces}
+use Rattle.cx_look_symbols.specs.Sources.{Sources}
 
--- of each program that a source defined the source's lines, and where its statements are
-pub record Sources : Type 0 where
-  pub lines : List (List ℕ × List (List ℕ))
-  pub places : SourcePlaces
-
--- the region under EDF, each terminal's last abend, what is kept of sources, and whether the last event was a turn that one more
--- turn takes on
+-- the region under EDF, each terminal's last abend, what is kept of sources, and whether the last event was a turn that
+-- one more turn takes on
 pub record LookState : Type 0 where
   pub edf : EdfState
   pub abends : Abends
@@ -20,4 +15,5 @@ pub record LookState : Type 0 where
 
 -- as a script begins it: no terminal is defined, and no program
 abbrev pub fresh_look_state : LookState
-fresh_look_state = record { edf = fresh_state; abends = []; sources = record { lines = []; places = [] }; goes_on = false }
+fresh_look_state =
+    record { edf = fresh_state; abends = []; sources = record { lines = []; places = [] }; goes_on = false }

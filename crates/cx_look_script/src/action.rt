@@ -5,13 +5,16 @@ ghost use Rattle.std.specs.Option.{option_copied, option_map_or};
 ghost use Rattle.cx_script_actions.specs.Allowed.{IsAllowed, IsAllowedLine};
 ghost use Rattle.cx_look.specs.Looks.{count_of};
 ghost use Rattle.cx_look_script.specs.Allowed.{IsAllowedLook};
-ghost use Rattle.cx_look_script.specs.Reading.{asked_by, faults_line, look_language, look_line_of, line_of_subject, own_line, run_of, as_look_line, turns_of};
+ghost use Rattle.cx_look_script.specs.Reading.{asked_by, faults_line, look_language, look_line_of, line_of_subject, own_line, run_of, run_with, stop_of, as_look_line, turns_of};
 ghost use Rattle.cx_look_script.specs.Runs.{look_actions_of};
 
 use cx_base_lists::List;
 use cx_ebcdic::{Name4, Name8};
-use cx_look::{Look, SourceLines, Subject, look_of, subject_of};
-use cx_script_actions::{Action, Line, ScriptAction, line_of, name4, name8, number, split_word};
+use cx_look::{Look, SourceLines, Subject, look_of, orders_with, subject_of};
+use cx_script_actions::{
+    Action, Heading, Line, ScriptAction, line_of, name4, name8, number, split_word,
+};
+use cx_script_blocks::with_text;
 use cx_source::Text;
 use std::alloc::{AllocError, Global};
 
@@ -21,6 +24,15 @@ const TURNS: u16 = 1_000;
 /// The most turns that RUN does.
 const MOST_TURNS: u32 = 4_096;
 
+/// What ends a RUN in front of a turn, before its turns are done.
+#[derive(Clone, Copy, Debug, PartialEq, Eq)]
+pub enum Stop {
+    /// Nothing does.
+    Never,
+    /// The turn would be answered as an abend, or as one that an exit takes.
+    BeforeAbend,
+}
+
 /// What is done for a line of a script with looks.
 #[derive(Drop)]
 pub enum LookAction {
@@ -28,10 +40,10 @@ pub enum LookAction {
     Script(Action),
     /// What the end of a source's block asks there: its program's name, its lines, and what they are made into.
     Source(Name8, List<Text>, Action),
-    /// RUN: the first of at most this many turns of a terminal.
-    Run(Name4, u16),
+    /// RUN: the first of at most this many turns of a terminal, and what ends it before.
+    Run(Name4, u16, Stop),
     /// One more turn of RUN, where at most this many are left; where none is, the line that says so.
-    RunOn(Name4, u16),
+    RunOn(Name4, u16, Stop),
     /// A look.
     Look(Look),
     /// The report of a bad look: the number of its line, and the word that it begins with.
@@ -53,16 +65,39 @@ fn count_of(word: &[u8]) -> Option<u16>
     Some(n as u16)
 }
 
-/// At most as many turns of a terminal as the number after its name says.
+/// What ends a RUN in front of a turn, by the words after its number.
+fn stop_of(rest: Option<&[u8]>) -> Option<Stop>
+    ensures { result ≡ stop_of (option_copied rest.entry) }
+{
+    match rest {
+        None => Some(Stop::Never),
+        Some(words) if words == b"BEFORE ABEND".as_slice() => Some(Stop::BeforeAbend),
+        Some(_) => None,
+    }
+}
+
+/// RUN of a terminal and a number of turns, by the words after the number.
+fn run_with(name: Name4, n: u16, rest: Option<&[u8]>) -> Option<LookAction>
+    ensures value { result ≡ run_with name n (option_copied rest.entry) }
+    ensures allowed { IfSome result IsAllowedLook }
+{
+    let stop = stop_of(rest)?;
+    Some(LookAction::Run(name, n, stop))
+}
+
+/// RUN of a terminal, by what follows its name.
 fn turns_of(name: Name4, rest: Option<&[u8]>) -> Option<LookAction>
     ensures value { result ≡ turns_of name (option_copied rest.entry) }
     ensures allowed { IfSome result IsAllowedLook }
 {
-    let Some(rest) = rest else {
-        return Some(LookAction::Run(name, TURNS));
+    let Some(text) = rest else {
+        return run_with(name, TURNS, rest);
     };
-    let n = count_of(rest)?;
-    Some(LookAction::Run(name, n))
+    let (word, more) = split_word(text);
+    match count_of(word) {
+        Some(n) => run_with(name, n, more),
+        None => run_with(name, TURNS, rest),
+    }
 }
 
 /// RUN, by what follows it.
@@ -95,7 +130,7 @@ fn faults_line(text: &[u8]) -> Option<Line<LookAction>>
 {
     let (_word, rest) = split_word(text);
     let name = name8(rest?)?;
-    Some(Line::Lines(name))
+    Some(Line::Lines(Heading::Faults(name)))
 }
 
 /// What a line asks that begins with one of these words.
@@ -148,7 +183,7 @@ fn scripted(line: Line<Action>) -> Line<LookAction>
         Line::Blank => Line::Blank,
         Line::Image(name, length) => Line::Image(name, length),
         Line::Source(name, wanted) => Line::Source(name, wanted),
-        Line::Lines(name) => Line::Lines(name),
+        Line::Lines(heading) => Line::Lines(heading),
         Line::Action(action) => Line::Action(LookAction::Script(action)),
     }
 }
@@ -183,19 +218,42 @@ impl ScriptAction for LookAction {
         LookAction::Source(name, List::from_vec(lines), action)
     }
 
-    fn of_lines(first: usize, name: Name8, lines: Vec<Text>) -> Option<LookAction> {
-        Some(LookAction::Look(Look::Faults(SourceLines {
-            first,
-            name,
-            lines: List::from_vec(lines),
-        })))
+    fn with_line(
+        alloc: Global,
+        heading: Heading,
+        lines: List<Text>,
+        text: &[u8],
+    ) -> Result<Option<List<Text>>, AllocError> {
+        match heading {
+            Heading::Faults(_) => Ok(Some(with_text(alloc, lines, text)?)),
+            Heading::Orders(_) => orders_with(alloc, lines, text),
+        }
+    }
+
+    fn of_lines(
+        _alloc: Global,
+        first: usize,
+        heading: Heading,
+        lines: List<Text>,
+    ) -> Result<Option<LookAction>, AllocError> {
+        match heading {
+            Heading::Faults(name) => {
+                let look = Look::Faults(SourceLines { first, name, lines });
+                Ok(Some(LookAction::Look(look)))
+            }
+            Heading::Orders(_) => Ok(None),
+        }
     }
 
     #[tactic(auto, using(crate::proofs::TurnLemmas::one_left), unfolding(crate::specs::Runs::turns_left))]
     fn following(&self) -> Option<LookAction> {
         match self {
-            LookAction::Run(name, n) => Some(LookAction::RunOn(*name, n.saturating_sub(1))),
-            LookAction::RunOn(name, n) if *n > 0 => Some(LookAction::RunOn(*name, *n - 1)),
+            LookAction::Run(name, n, stop) => {
+                Some(LookAction::RunOn(*name, n.saturating_sub(1), *stop))
+            }
+            LookAction::RunOn(name, n, stop) if *n > 0 => {
+                Some(LookAction::RunOn(*name, *n - 1, *stop))
+            }
             _ => None,
         }
     }

@@ -8,7 +8,7 @@ use cx_look_words::{Report, decimal};
 use std::alloc::{AllocError, Global};
 
 /// The words in the order of the table.
-const TABLE: [Subject; 20] = [
+const TABLE: [Subject; 21] = [
     Subject::Run,
     Subject::Queues,
     Subject::Queue,
@@ -23,6 +23,7 @@ const TABLE: [Subject; 20] = [
     Subject::Fields,
     Subject::Areas,
     Subject::Storage,
+    Subject::Where,
     Subject::Abend,
     Subject::Symbol,
     Subject::Symbols,
@@ -36,7 +37,7 @@ fn form_of(subject: Subject) -> &'static [u8]
     ensures { result.now ≡ form_of subject }
 {
     match subject {
-        Subject::Run => b"RUN term [n]         turns of the terminal, at most n of them",
+        Subject::Run => b"RUN term [n] [BEFORE ABEND]  turns of the terminal, at most n of them",
         Subject::Queues => b"QUEUES               the temporary storage queues",
         Subject::Queue => b"QUEUE name [k]       a queue with its items, or its item k as a whole",
         Subject::Programs => b"PROGRAMS             the programs",
@@ -53,7 +54,9 @@ fn form_of(subject: Subject) -> &'static [u8]
         Subject::Areas =>
             b"AREAS [term]         all areas of storage, or those of the terminal's task",
         Subject::Storage => b"STORAGE aaaaaa n     n bytes of storage from an address on",
-        Subject::Abend => b"ABEND term           the terminal's last abend",
+        Subject::Where => b"WHERE aaaaaa         what is at an address, and whose it is",
+        Subject::Abend =>
+            b"ABEND term [STORAGE] the terminal's last abend, or its working storage then",
         Subject::Symbol => b"SYMBOL program name  a symbol of the program's source",
         Subject::Symbols => b"SYMBOLS program      all symbols of the program's source",
         Subject::Xref =>

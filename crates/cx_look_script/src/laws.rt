@@ -3,7 +3,7 @@
 ghost use Rattle.cx_look_script.specs.Laws.Looks.{LooksAreMarked, LooksAreReportedOnce, LooksChangeNothing};
 ghost use Rattle.cx_look_script.specs.Laws.Notes.{NotesRefuseNothing};
 ghost use Rattle.cx_look_script.specs.Laws.Scripts.{ActionsStay, ScriptsStay};
-ghost use Rattle.cx_look_script.specs.Laws.Turns.{RunsTakeTurns};
+ghost use Rattle.cx_look_script.specs.Laws.Turns.{RunsEndBeforeAbends, RunsTakeTurns, StopsDecide};
 
 /// A look changes nothing. Each run has for each of its actions a part, in which an action of `cicsedf` stands for itself, RUN for as
 /// many TURNs as it did, and a look for nothing: the actions of all parts are a run of `cicsedf` from the same state to the same
@@ -26,11 +26,20 @@ pub fn looks_are_reported_once()
     cx_look_ahead::laws::the_next_turn_is_shown();
 }
 
-/// The actions of a RUN are turns of its terminal, one after another: up to one that isn't to be followed by one more, or until there are as
-/// many as it may do, and its last line says so.
+/// The actions of a RUN are turns of its terminal, one after another: up to one that isn't to be followed by one more or in front of
+/// which RUN ends, or until there are as many as it may do; in these two cases its last line says so.
 pub fn runs_take_turns()
     ensures { RunsTakeTurns }
 {}
+
+/// A RUN BEFORE ABEND ends in front of a turn exactly where that turn, when it is done, is answered as an abend, and its line names the
+/// code. Whether a RUN ends in front of a turn is a function of the state.
+pub fn runs_end_before_abends()
+    ensures ends { RunsEndBeforeAbends }
+    ensures decides { StopsDecide }
+{
+    cx_region_laws::laws::calls_decide();
+}
 
 /// A script of `cicsedf` without a bad line is the same script here, and its actions do and write the same.
 pub fn scripts_of_cicsedf_stay()

@@ -10,5 +10,5 @@ mod performer;
 mod sources;
 mod turns;
 
-pub use action::LookAction;
+pub use action::{LookAction, Stop};
 pub use performer::{LookStage, Looking, look_stage};

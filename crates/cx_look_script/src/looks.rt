@@ -8,7 +8,7 @@ use crate::help::help_text;
 use crate::performer::Looking;
 use cx_ebcdic::Name4;
 use cx_look::Look;
-use cx_look_abend::abend_text;
+use cx_look_abend::{abend_storage_text, abend_text};
 use cx_look_ahead::ahead_text;
 use cx_look_command::command_text;
 use cx_look_levels::{field_text, fields_text, program_at, task_text};
@@ -16,6 +16,7 @@ use cx_look_storage::{areas_text, storage_text, task_areas_text};
 use cx_look_symbols::{symbol_text, symbols_text};
 use cx_look_tables::{item_text, programs_text, queue_text, queues_text, terminals_text};
 use cx_look_tasks::{resources_text, tasks_text};
+use cx_look_where::where_text;
 use cx_look_words::Report;
 use cx_look_xref::xref_text;
 use cx_source::Text;
@@ -42,13 +43,7 @@ fn abend_lines<S: Store + Drop>(
     ensures { IfOk result (λ report. AreLookLines (look.Abend name) looking.now report) }
 {
     let programs = &looking.state.region().shared().programs;
-    abend_text(
-        alloc,
-        looking.sources.places(),
-        programs,
-        &looking.abends,
-        name,
-    )
+    abend_text(alloc, &looking.sources, programs, &looking.abends, name)
 }
 
 /// What a look has to say.
@@ -70,11 +65,13 @@ fn look_lines<S: Store + Drop>(
         Look::Resources => resources_text(alloc, region),
         Look::Command(name) => command_text(alloc, region, name),
         Look::Ahead(name) => ahead_text(alloc, region, name),
-        Look::Task(name) => task_text(alloc, looking.sources.places(), region, name),
+        Look::Task(name) => task_text(alloc, &looking.sources, region, name),
         Look::Areas => areas_text(alloc, region),
         Look::AreasOf(name) => task_areas_text(alloc, region, name),
         Look::Storage(address, n) => storage_text(alloc, region, address, n),
+        Look::Where(address) => where_text(alloc, &looking.sources, region, address),
         Look::Abend(name) => abend_lines(alloc, looking, name),
+        Look::AbendStorage(name) => abend_storage_text(alloc, &looking.abends, name),
         Look::Faults(source) => faults_text(alloc, &source),
         Look::Symbol(program, name) => {
             let lines = looking.sources.lines_of(program);

@@ -3,20 +3,20 @@ ghost use Rattle.std.specs.Prelude.{◌≡◌, [], false, IfOk, MatchBool};
 ghost use Rattle.cx_edf.specs.Runs.{IsAllowedEdf};
 ghost use Rattle.cx_script_actions.specs.Allowed.{IsAllowed};
 ghost use Rattle.cx_script_actions.specs.declared.actions.Action.TheVariants as edf_action;
-ghost use Rattle.cx_look_script.specs.Looking.{LookPerforms, NotedPerforms, SourcePerforms, TakesOneMore, TakesTurn};
-ghost use Rattle.cx_look_script.specs.Runs.{AppliesAtLooks};
+ghost use Rattle.cx_look_script.specs.Looking.{LookPerforms, NotedPerforms, RunsTurn, SourcePerforms, TakesOneMore, TakesTurn};
+ghost use Rattle.cx_look_script.specs.Runs.{AppliesAtLooks, run_over};
 ghost use Rattle.cx_look_script.specs.State.{fresh_look_state};
 
-use crate::action::LookAction;
+use crate::action::{LookAction, Stop};
 use crate::help::bad_look_text;
 use crate::looks::look_text;
-use crate::sources::{Sources, has_program, is_defined};
-use crate::turns::{goes_on, still_running};
+use crate::sources::{has_program, is_defined};
+use crate::turns::{goes_on, still_running, stop_line};
 use cx_base_lists::List;
 use cx_ebcdic::{Name4, Name8};
 use cx_edf::{Answer, Debugged, EdfEvent};
 use cx_look_abend::{LastAbends, apply_noted};
-use cx_look_symbols::statement_places;
+use cx_look_symbols::{Sources, statement_places};
 use cx_region::Event;
 use cx_script::edf_stage;
 use cx_script_actions::{Action, Performer, answer_text};
@@ -43,13 +43,15 @@ impl<S: Store + Drop> Model for Looking<S> {
 
     ghost Value = { LookState };
 
-    ghost view = { λ held. record { edf = held.state; abends = held.abends.entries; sources = held.sources; goes_on = held.goes_on } };
+    ghost view = { λ held.
+        record { edf = held.state; abends = held.abends.entries; sources = held.sources; goes_on = held.goes_on } };
 }
 
 impl<S: Store + Drop> Looking<S> {
     /// A region under EDF without a terminal and without a program, to be looked at. It takes no memory.
     pub fn new(alloc: Global, state: Debugged<S>) -> Looking<S>
-        ensures { result ≡ record { edf = state; abends = []; sources = record { lines = []; places = [] }; goes_on = false } }
+        ensures { result
+            ≡ record { edf = state; abends = []; sources = record { lines = []; places = [] }; goes_on = false } }
     {
         Looking {
             state,
@@ -86,19 +88,46 @@ impl<S: Store + Drop> Looking<S> {
         self.do_event(alloc, &EdfEvent::Plain(Event::Turn(name)))
     }
 
+    /// Ends a RUN.
+    fn end_run(&mut self)
+        ensures { self.new ≡ run_over self.old }
+    {
+        self.goes_on = false;
+    }
+
+    /// Does a turn of RUN, or writes the line with which RUN ends in front of it.
+    fn run_turn(&mut self, alloc: Global, name: Name4, stop: Stop) -> Result<Vec<u8>, AllocError>
+        ensures { IfOk result (λ text. RunsTurn self.old name stop text.items self.new) }
+    {
+        match stop_line(alloc, &self.state, name, stop)? {
+            Some(line) => {
+                self.end_run();
+                Ok(line)
+            }
+            None => self.do_turn(alloc, name),
+        }
+    }
+
     /// Does one more turn of RUN, or writes that none is left; nothing where the last turn isn't to be followed by one more.
-    fn run_on(&mut self, alloc: Global, name: Name4, n: u16) -> Result<Vec<u8>, AllocError>
+    fn run_on(
+        &mut self,
+        alloc: Global,
+        name: Name4,
+        n: u16,
+        stop: Stop,
+    ) -> Result<Vec<u8>, AllocError>
         ensures { IfOk result (λ text.
-            MatchBool self.old.goes_on (TakesOneMore self.old name n text.items self.new)
+            MatchBool self.old.goes_on (TakesOneMore self.old name n stop text.items self.new)
             ((text.items ≡ []) × (self.new ≡ self.old))) }
     {
         if !self.goes_on {
             return Ok(Vec::new(alloc));
         }
-        match n {
-            0 => still_running(alloc, name),
-            _ => self.do_turn(alloc, name),
+        if n > 0 {
+            return self.run_turn(alloc, name, stop);
         }
+        self.end_run();
+        still_running(alloc, name)
     }
 
     /// Does what a script of `cicsedf` asks too.
@@ -157,8 +186,8 @@ impl<S: Store + Drop> Performer for Looking<S> {
         match action {
             LookAction::Script(action) => self.do_action(alloc, action),
             LookAction::Source(name, lines, action) => self.define(alloc, name, lines, action),
-            LookAction::Run(name, _) => self.do_turn(alloc, name),
-            LookAction::RunOn(name, n) => self.run_on(alloc, name, n),
+            LookAction::Run(name, _, stop) => self.run_turn(alloc, name, stop),
+            LookAction::RunOn(name, n, stop) => self.run_on(alloc, name, n, stop),
             LookAction::Look(look) => look_text(alloc, self, look),
             LookAction::BadLook(number, subject) => bad_look_text(alloc, number, subject),
         }

@@ -1,104 +1,10 @@
-//! What is kept of the sources that programs were defined from.
-ghost use Rattle.std.specs.Prelude.{◌≡◌, ◌≤◌, ◌&&◌, [], if◌then◌else◌, is_some, not, IsOk, OnOk};
-ghost use Rattle.indexmap.specs.IndexMap.{spare};
+//! Which programs a source defined.
+ghost use Rattle.std.specs.Prelude.{◌≡◌, ◌&&◌, is_some, not};
 ghost use Rattle.cx_region.specs.Tables.{program_of};
-ghost use Rattle.cx_look_symbols.specs.Statements.{statement_places};
-ghost use Rattle.cx_look_script.specs.Sources.{source_lines, with_lines};
 
-use cx_base_lists::List;
 use cx_ebcdic::Name8;
-use cx_look_symbols::{SourcePlaces, StatementPlace};
 use cx_region::Region;
-use cx_source::Text;
 use cx_storage::Store;
-use indexmap::IndexMap;
-use std::alloc::{AllocError, Global};
-use std::marker::Model;
-
-/// Of each program that a source defined the source's lines, and where its statements are.
-#[derive(Drop)]
-pub(crate) struct Sources {
-    lines: IndexMap<Name8, List<Text>>,
-    places: SourcePlaces,
-}
-
-impl Model for Sources {
-    ghost use Rattle.cx_look_script.specs.State.{Sources as Kept};
-
-    ghost Value = { Kept };
-
-    ghost view = { λ sources. record { lines = sources.lines.entries; places = sources.places.entries } };
-}
-
-/// Makes room for one more in both tables. An error comes only where one had none.
-fn make_room_in<L: Drop, P: Drop>(
-    lines: &mut IndexMap<Name8, L>,
-    places: &mut IndexMap<Name8, P>,
-) -> Result<(), AllocError>
-    ensures lines { lines.new.entries ≡ lines.old.entries }
-    ensures places { places.new.entries ≡ places.old.entries }
-    ensures room_of_lines { OnOk result (1 ≤ spare lines.new) }
-    ensures room_of_places { OnOk result (1 ≤ spare places.new) }
-    ensures succeeds { 1 ≤ spare lines.old → 1 ≤ spare places.old → IsOk result }
-{
-    lines.reserve(1)?;
-    places.reserve(1)
-}
-
-impl Sources {
-    /// Those of no program. It takes no memory.
-    pub(crate) fn new(alloc: Global) -> Sources
-        ensures { result ≡ record { lines = []; places = [] } }
-    {
-        Sources {
-            lines: IndexMap::new(alloc),
-            places: IndexMap::new(alloc),
-        }
-    }
-
-    /// The lines of a program's source; none of a program that no source defined.
-    pub(crate) fn lines_of(&self, name: Name8) -> &[Text]
-        ensures { result.now ≡ source_lines self.now name }
-    {
-        match self.lines.get(&name) {
-            Some(lines) => lines.as_slice(),
-            None => &[],
-        }
-    }
-
-    /// Where the statements of the programs are.
-    pub(crate) fn places(&self) -> &SourcePlaces
-        ensures { result.now.entries ≡ self.now.places }
-    {
-        &self.places
-    }
-
-    /// Makes room for one program more.
-    pub(crate) fn make_room(&mut self) -> Result<(), AllocError>
-        ensures { self.new ≡ self.old }
-    {
-        make_room_in(&mut self.lines, &mut self.places)
-    }
-
-    /// Keeps a source's lines, and where its statements are, where it defined its program.
-    pub(crate) fn keep(
-        &mut self,
-        name: Name8,
-        lines: List<Text>,
-        places: List<StatementPlace>,
-        is_new: bool,
-    ) -> Result<(), AllocError>
-        requires { places ≡ statement_places lines }
-        ensures { OnOk result (self.new ≡ (if is_new then with_lines self.old name lines else self.old)) }
-    {
-        if !is_new {
-            return Ok(());
-        }
-        self.lines.insert(name, lines)?;
-        self.places.insert(name, places)?;
-        Ok(())
-    }
-}
 
 /// Whether a region has a program.
 pub(crate) fn has_program<S: Store + Drop>(region: &Region<S>, name: Name8) -> bool

@@ -1,12 +1,17 @@
 //! RUN: turns of a terminal, one after another.
 ghost use Rattle.std.specs.Prelude.{◌≡◌, [], IfOk};
-ghost use Rattle.cx_look_script.specs.Runs.{goes_on, is_midway, still_running};
+ghost use Rattle.std.specs.Option.{option_map};
+ghost use Rattle.cx_edf.specs.State.{holds};
+ghost use Rattle.cx_look_abend.specs.Abends.{abend_code_in};
+ghost use Rattle.cx_look_script.specs.Runs.{IsAbendAhead, IsNextAbend, StopsBeforeAbend, StopsWith, goes_on, is_midway, still_running, stopped_before};
 
-use cx_base_text::shown_name;
+use crate::action::Stop;
+use cx_base_text::{shown, shown_name};
 use cx_ebcdic::Name4;
 use cx_edf::{Answer, Debugged, EdfEvent};
 use cx_look_words::Report;
-use cx_region::{Event, Reply, TurnReply};
+use cx_region::{Event, Region, Reply, TurnReply};
+use cx_region_snapshot::turn_apart;
 use cx_storage::Store;
 use std::alloc::{AllocError, Global};
 
@@ -51,4 +56,90 @@ pub(crate) fn still_running(alloc: Global, name: Name4) -> Result<Vec<u8>, Alloc
     let name = shown_name(alloc, name)?;
     report.line(&[b"RUN", &name, b"STILL", b"RUNNING"])?;
     report.marked()
+}
+
+/// The code of the abend as which a turn is answered, where it is.
+fn abend_code_in(reply: TurnReply) -> Option<Name4>
+    ensures { result ≡ abend_code_in reply }
+{
+    match reply {
+        TurnReply::TookExit(code) | TurnReply::Abended(code) => Some(code),
+        _ => None,
+    }
+}
+
+/// The code of the abend as which a region's next turn of a terminal would be answered, where it would be. The turn is done in a
+/// region like this one.
+fn next_abend<S: Store + Drop>(
+    alloc: Global,
+    region: &Region<S>,
+    name: Name4,
+) -> Result<Option<Name4>, AllocError>
+    ensures { IfOk result (λ code. IsNextAbend region.now name code) }
+{
+    let (reply, _after) = turn_apart(alloc, region, name)?;
+    Ok(abend_code_in(reply))
+}
+
+/// Whether EDF holds the turns of a terminal.
+fn is_held<S: Store + Drop>(state: &Debugged<S>, name: Name4) -> bool
+    ensures { result ≡ holds state.now name }
+{
+    state.display(name).is_some() && state.task(name).is_some()
+}
+
+/// The same under EDF, which may hold the turn.
+#[tactic(auto, unfolding(crate::specs::Runs::IsAbendAhead))]
+fn abend_ahead<S: Store + Drop>(
+    alloc: Global,
+    state: &Debugged<S>,
+    name: Name4,
+) -> Result<Option<Name4>, AllocError>
+    ensures { IfOk result (λ code. IsAbendAhead state.now name code) }
+{
+    if is_held(state, name) {
+        return Ok(None);
+    }
+    next_abend(alloc, state.region(), name)
+}
+
+/// The line of a RUN that an abend of this code is ahead of.
+fn stopped_before(alloc: Global, name: Name4, code: Name4) -> Result<Vec<u8>, AllocError>
+    ensures { IfOk result (λ text. text.items ≡ stopped_before name code) }
+{
+    let mut report = Report::new(alloc);
+    let name = shown_name(alloc, name)?;
+    let code = shown(alloc, &code.bytes())?;
+    report.line(&[b"RUN", &name, b"STOPPED", b"BEFORE", b"ABEND", &code])?;
+    report.marked()
+}
+
+/// The line with which a RUN ends in front of an abend; None where the terminal's next turn is none.
+fn stop_before_abend<S: Store + Drop>(
+    alloc: Global,
+    state: &Debugged<S>,
+    name: Name4,
+) -> Result<Option<Vec<u8>>, AllocError>
+    ensures { IfOk result (λ line. StopsBeforeAbend state.now name (option_map (λ text. text.items) line)) }
+{
+    match abend_ahead(alloc, state, name)? {
+        Some(code) => Ok(Some(stopped_before(alloc, name, code)?)),
+        None => Ok(None),
+    }
+}
+
+/// The line with which a RUN ends in front of the terminal's next turn; None where it does the turn.
+#[tactic(auto, unfolding(crate::specs::Runs::StopsWith))]
+pub(crate) fn stop_line<S: Store + Drop>(
+    alloc: Global,
+    state: &Debugged<S>,
+    name: Name4,
+    stop: Stop,
+) -> Result<Option<Vec<u8>>, AllocError>
+    ensures { IfOk result (λ line. StopsWith stop state.now name (option_map (λ text. text.items) line)) }
+{
+    match stop {
+        Stop::Never => Ok(None),
+        Stop::BeforeAbend => stop_before_abend(alloc, state, name),
+    }
 }

@@ -28,4 +28,5 @@ owned_by s (Some terminal) = filter (is_of terminal.slot) (areas_of s)
 
 unfoldable pub task_areas_text : RegionState → List ℕ → Lines
 task_areas_text region name =
-    lines_or (codes "AREAS" ∷ shown_name name ∷ codes "NONE" ∷ []) region (owned_by region.storage (terminal_of region name))
+    lines_or (codes "AREAS" ∷ shown_name name ∷ codes "NONE" ∷ []) region
+    (owned_by region.storage (terminal_of region name))

@@ -15,7 +15,9 @@ use Rattle.cx_look_storage.specs.Uses.{is_met, met_line}
 -- storage page
 unfoldable pub row_line : Storage → ℕ → ℕ → Lines
 row_line s at count =
-    look_line (digits 16 6 at ∷ [] ∷ hex_group s at count 0 ∷ hex_group s at count 4 ∷ hex_group s at count 8 ∷ hex_group s at count 12
+    look_line
+    (digits 16 6 at ∷ [] ∷ hex_group s at count 0 ∷ hex_group s at count 4 ∷ hex_group s at count 8
+    ∷ hex_group s at count 12
     ∷ [] ∷ in_columns 16 (join (map (character_group s at count) quarters)) ∷ [])
 
 -- the first rows of n bytes from an address on
@@ -29,4 +31,5 @@ rows_text s address n = first_rows s address n ((n + 15) / 16)
 -- the bytes, and a line for each area that has one of them
 unfoldable pub storage_text : RegionState → ℕ → ℕ → Lines
 storage_text region address n =
-    rows_text region.storage address n ++ flat_map (met_line region address) (filter (is_met address n) (areas_of region.storage))
+    rows_text region.storage address n
+    ++ flat_map (met_line region address) (filter (is_met address n) (areas_of region.storage))

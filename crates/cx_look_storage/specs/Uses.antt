@@ -65,7 +65,8 @@ unfoldable pub area_owner : RegionState → Area → List ℕ
 area_owner region area = owner_name (owner_of region area)
 
 unfoldable pub area_use : RegionState → Area → List ℕ
-area_use region area = use_of area.owner.kind region.programs (option_and_then (λ t. t.1.task) (owner_of region area)) area.start
+area_use region area =
+    use_of area.owner.kind region.programs (option_and_then (λ t. t.1.task) (owner_of region area)) area.start
 
 -- ---- the line of an area
 unfoldable pub area_line : RegionState → Area → Lines
@@ -85,4 +86,5 @@ offset_of address area = if covers area address then address - area.start else 0
 unfoldable pub met_line : RegionState → ℕ → Area → Lines
 met_line region address area =
     look_line (codes "AREA" ∷ digits 16 6 area.start ∷ codes "LENGTH" ∷ digits 16 6 area.len
-    ∷ codes "OFFSET" ∷ digits 16 6 (offset_of address area) ∷ area_use region area ∷ codes "OWNER" ∷ area_owner region area ∷ [])
+    ∷ codes "OFFSET" ∷ digits 16 6 (offset_of address area) ∷ area_use region area ∷ codes "OWNER"
+    ∷ area_owner region area ∷ [])

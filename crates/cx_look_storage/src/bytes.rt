@@ -58,7 +58,7 @@ fn rows_text<S: Store + Drop>(
 }
 
 /// Adds a line for each of some areas that have bytes from an address on.
-fn met_lines<S: Store + Drop>(
+fn area_lines<S: Store + Drop>(
     report: &mut Report,
     region: &Region<S>,
     address: u32,
@@ -86,6 +86,22 @@ fn met_areas<S: Store>(
     Ok(areas)
 }
 
+/// Adds a line for each area that has one of `n` bytes from an address on, the one at the lowest address first.
+///
+/// An error comes only where memory was refused.
+pub fn met_lines<S: Store + Drop>(
+    report: &mut Report,
+    region: &Region<S>,
+    address: u32,
+    n: u32,
+) -> Result<(), AllocError>
+    ensures { let areas = filter (is_met address n) (areas_of region.now.storage) in
+        OnOk result (report.new ≡ report.old ++ flat_map (met_line region.now address) areas) }
+{
+    let areas = met_areas(report.alloc(), &region.shared().store, address, n)?;
+    area_lines(report, region, address, &areas)
+}
+
 /// Looks at `n` bytes of storage from an address on: sixteen in each line, with hyphens for one that is in no area,
 /// and a line for each area that has one of them, the one at the lowest address first. After X'FFFFFF' they go on at
 /// address 0.
@@ -102,7 +118,6 @@ pub fn storage_text<S: Store + Drop>(
 {
     let mut report = Report::new(alloc);
     rows_text(&mut report, region, address, n)?;
-    let areas = met_areas(alloc, &region.shared().store, address, n)?;
-    met_lines(&mut report, region, address, &areas)?;
+    met_lines(&mut report, region, address, n)?;
     Ok(report)
 }

@@ -1,11 +1,12 @@
 -- The table of values and the lines give the symbols that the statements define.
 use Rattle.std.proofs.Common.{◌≡◌, ℕ, Bool, true, false, cond, Option, Some, None, Result, Ok, Err, List, [], ◌∷◌, ◌++◌, map, refl, sym, subst, ◌∙◌, ap, append_assoc}
-use Rattle.std.specs.Prelude.{pos, ◌||◌, ◌&&◌, ◌==◌, not, length, reverse, codes, if◌then◌else◌, is_some, option_map, unwrap_or}
+use Rattle.std.specs.Prelude.{pos, ◌||◌, ◌&&◌, ◌==◌, not, length, reverse, codes, if◌then◌else◌, is_none, is_some, option_map, unwrap_or}
 use Rattle.std.specs.List.{AllByRecursion, IsDistinct, cons_option}
 use Rattle.std.specs.Map.{keys_of, lookup}
 use Rattle.std.specs.Option.{option_map_or, option_or}
 use Rattle.std.specs.Result.{result_err, result_ok}
 use Rattle.std.specs.Str.{bytes_eq}
+use Rattle.std.proofs.lemmas.Option.{same_Some}
 use Rattle.std.proofs.lemmas.Map.Keys.{IsDistinct-head, IsDistinct-tail}
 use Rattle.indexmap.specs.IndexMap.{insert_entry}
 use Rattle.cx_ebcdic.specs.Facts.Names.{is_name-laws, is_name-decides}
@@ -33,7 +34,8 @@ use Rattle.cx_asm_pass1.specs.declared.places.Places.{Places}
 use Rattle.cx_asm_pass1.specs.declared.roles.Role.{Role}
 use Rattle.cx_asm_pass1.specs.declared.roles.Role.TheVariants.{Unknown, Instruction, Control, Dummy, Equate, Storage, Pool, Registers, Member, Nothing}
 use Rattle.cx_look_symbols.specs.Parts.Rows.{names_among, names_given, table_after, with_name, with_names, with_stmt}
-use Rattle.cx_look_symbols.specs.Symbols.{Rows, named_of, rows_after, rows_on, symbol_of}
+use Rattle.cx_look_symbols.specs.Laws.{AreLookedUp, SymbolsAreLookedUp}
+use Rattle.cx_look_symbols.specs.Symbols.{Rows, SourceSymbols, named_of, rows_after, rows_on, symbol_of}
 use Rattle.cx_look_symbols.specs.declared.rows.Symbol.{Symbol}
 
 -- ---- which names are there
@@ -430,3 +432,43 @@ named_is source places control rows e placed c r =
     c ∙ ap (λ (o : Option ControlSection). option_map (λ (c : ControlSection). c.name) o) placed.control ∙ control_reported state.control (last_pool_extent state).end in
     let same_rows : rows ≡ rows_after (reverse source.items) = r ∙ rows_are (find_in places.symbols) (reverse source.items) e placed.symbols in
     rw (e, same_control, same_rows) refl
+
+-- ---- the symbols are those that are looked up
+joined : {X : Type 0} (P : X → Type 0) (one other : List X) → AllByRecursion P one → AllByRecursion P other → AllByRecursion P (one ++ other)
+joined P [] other h more = more
+joined P (x ∷ one) other h more = (h.0, joined P one other h.1 more)
+
+lined_found : (find : List ℕ → Option Value) (line : ℕ) (symbols : Symbols) → AllByRecursion (λ s. find s.0 ≡ Some s.1) symbols
+    → AllByRecursion (λ row. find row.0 ≡ Some row.1.value) (lined line symbols)
+lined_found find line [] h = tt
+lined_found find line (s ∷ symbols) h = (h.0, lined_found find line symbols h.1)
+
+rows_found : (find : List ℕ → Option Value) (items : List Item) → AllByRecursion (λ s. find s.0 ≡ Some s.1) (definitions_after items)
+    → AllByRecursion (λ row. find row.0 ≡ Some row.1.value) (rows_after items)
+rows_found find [] h = tt
+rows_found find (item ∷ before) h =
+    let defined : Symbols = definitions_at item.stmt (state_after before) in
+    let first = left_of (λ s. find s.0 ≡ Some s.1) (definitions_after before) defined h in
+    let last = right_of (λ s. find s.0 ≡ Some s.1) (definitions_after before) defined h in
+    joined (λ row. find row.0 ≡ Some row.1.value) (rows_after before) (rows_on item.line item.stmt (state_after before)) (rows_found find before first)
+    (subst (AllByRecursion (λ row. find row.0 ≡ Some row.1.value)) (sym (rows_are_lined item.line item.stmt (state_after before)))
+    (lined_found find item.line defined last))
+
+all_looked_up : (items : List Item) → (state_after items).fault ≡ None
+    → AllByRecursion (λ row. (state_after items).symbols row.0 ≡ Some row.1.value) (rows_after items)
+all_looked_up items e =
+    rows_found (state_after items).symbols items
+    (found_by (state_after items).symbols (find_in (definitions_after items)) (λ name. first_value items name) (definitions_after items)
+    (all_found (definitions_after items) (defined_once_after items e)))
+
+pub symbols_are_looked_up : SymbolsAreLookedUp
+symbols_are_looked_up source named e = go (final_state source).fault refl e
+  where
+    all : SourceSymbols
+    all = record { control = (final_state source).control; rows = rows_after (reverse source.items) }
+
+    go : (fault : Option LineFault) → (final_state source).fault ≡ fault → (if is_none fault then Some all else None) ≡ Some named → AreLookedUp source named
+    go (Some fault) none is = absurd (cc)
+    go None none is =
+        subst (AreLookedUp source) (same_Some _ _ is)
+        (record { values = all_looked_up (reverse source.items) none; names = λ name. has_known name (reverse source.items) })

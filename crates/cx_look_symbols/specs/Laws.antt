@@ -1,16 +1,20 @@
--- What is beside a statement in the listing; which line a command has.
-use Rattle.std.specs.Prelude.{◌≡◌, ◌≤◌, ◌<◌, ℕ, ◌+◌, ◌-◌, Option, Some, List, [], Contains, length, option_and_then, take, drop}
+-- What is beside a statement in the listing; which line a command has; which symbols are reported.
+use Rattle.std.specs.Prelude.{◌≡◌, ◌≤◌, ◌<◌, ℕ, ◌+◌, ◌-◌, Option, Some, List, [], Contains, is_some, length, option_and_then, take, drop}
+use Rattle.std.specs.List.{AllByRecursion}
 use Rattle.std.specs.Map.{lookup}
 use Rattle.std.specs.Option.{option_map_or}
 use Rattle.cx_load.specs.declared.program.Loaded.{Loaded}
 use Rattle.cx_asm_expressions.specs.Digits.{bound}
+use Rattle.cx_source.specs.declared.source.Source.{Source}
 use Rattle.cx_asm_expressions.specs.Names.{is_same}
+use Rattle.cx_asm_pass1.specs.Locations.{final_state}
 use Rattle.cx_asm_pass2.specs.Statements.{PlacedStatement}
 use Rattle.cx_asm_pass2.specs.Whole.{Whole}
 use Rattle.cx_asm.specs.Listing.{object_of}
 use Rattle.cx_look_symbols.specs.Lines.{SourcePlaces, line_in}
 use Rattle.cx_look_symbols.specs.Places.{spot_before}
 use Rattle.cx_look_symbols.specs.Statements.{place_of}
+use Rattle.cx_look_symbols.specs.Symbols.{SourceSymbols, named_of}
 use Rattle.cx_look_symbols.specs.declared.statements.StatementPlace.{StatementPlace}
 
 -- the bytes of a section's text at a place; none without one
@@ -22,8 +26,10 @@ abbrev pub ListedThere : Type 0
 ListedThere = (whole : Whole) (text : List ℕ) (s : PlacedStatement) → length text ≤ bound
     → object_of whole text s ≡ bytes_at text (place_of whole.control s)
 
--- The byte before an address is in a program that a source defined, and is one of the bytes of a statement on this line.
-pub record IsBeforeInSource (sources : SourcePlaces) (programs : List (List ℕ × Loaded)) (address line : ℕ) : Type 0 where
+-- The byte before an address is in a program that a source defined, and is one of the bytes of a statement on this
+-- line.
+pub record IsBeforeInSource (sources : SourcePlaces) (programs : List (List ℕ × Loaded)) (address line : ℕ)
+    : Type 0 where
   pub program : List ℕ × Loaded
   pub among : Contains programs program
   pub starts : program.1.at < address
@@ -41,3 +47,11 @@ abbrev pub LinesAreInSources : Type 0
 LinesAreInSources = (sources : SourcePlaces) (programs : List (List ℕ × Loaded)) (address line : ℕ)
     → option_and_then (λ it. line_in sources it.program it.offset) (spot_before programs address) ≡ Some line
     → IsBeforeInSource sources programs address line
+
+-- Each symbol of a source has the value by which the assembler looks its name up, and each name with a value is one.
+pub record AreLookedUp (source : Source) (named : SourceSymbols) : Type 0 where
+  pub values : AllByRecursion (λ row. (final_state source).symbols row.0 ≡ Some row.1.value) named.rows
+  pub names : (name : List ℕ) → is_some (lookup (is_same name) named.rows) ≡ is_some ((final_state source).symbols name)
+
+abbrev pub SymbolsAreLookedUp : Type 0
+SymbolsAreLookedUp = (source : Source) (named : SourceSymbols) → named_of source ≡ Some named → AreLookedUp source named

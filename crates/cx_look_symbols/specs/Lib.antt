@@ -5,6 +5,7 @@ pub mod Texts
 pub mod Statements
 pub mod Lines
 pub mod Places
+pub mod Sources
 -- Statements of laws.
 pub mod Laws
 pub mod Facts

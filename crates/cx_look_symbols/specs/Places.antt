@@ -34,11 +34,12 @@ abbrev pub spot_word : Option Spot → List ℕ
 spot_word None = codes "--"
 spot_word (Some spot) = shown_name spot.program ++ codes "+" ++ digits 16 6 spot.offset
 
--- the line of the statement there, its number in five digits as in the listing, after words that lead to it; nothing where
--- there is none
+-- the line of the statement there, its number in five digits as in the listing, after words that lead to it; nothing
+-- where there is none
 unfoldable pub line_word : List ℕ → SourcePlaces → Option Spot → List ℕ
 line_word words sources spot =
-    option_map_or (λ line. words ++ digits 10 5 line) (option_and_then (λ it. line_in sources it.program it.offset) spot) []
+    option_map_or (λ line. words ++ digits 10 5 line)
+    (option_and_then (λ it. line_in sources it.program it.offset) spot) []
 
 -- an address and where it is, without its line
 unfoldable pub address_word : Place → List ℕ

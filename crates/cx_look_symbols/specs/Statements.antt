@@ -24,7 +24,8 @@ place_of control s =
 -- those of a source in its order, where the first pass finds no fault
 abbrev pub places_in : Source → List StatementPlace
 places_in source =
-    if is_none (final_state source).fault then filter_map (place_of (final_state source).control) (statements_of source) else []
+    if is_none (final_state source).fault then filter_map (place_of (final_state source).control) (statements_of source)
+    else []
 
 -- those of lines; none where these aren't a source without a fault
 unfoldable pub statement_places : List (List ℕ) → List StatementPlace

@@ -35,7 +35,8 @@ pub record SourceSymbols : Type 0 where
 -- where the first pass finds no fault
 abbrev pub named_of : Source → Option SourceSymbols
 named_of source =
-    if is_none (final_state source).fault then Some (record { control = (final_state source).control; rows = rows_after (reverse source.items) })
+    if is_none (final_state source).fault
+    then Some (record { control = (final_state source).control; rows = rows_after (reverse source.items) })
     else None
 
 -- the source that lines make, translated; None where it has a fault

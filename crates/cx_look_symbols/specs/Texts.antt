@@ -21,7 +21,8 @@ use Rattle.cx_look_symbols.specs.declared.rows.Symbol.{Symbol}
 abbrev pub is_below : ℤ → ℕ → Bool
 is_below number high = int_le (pos 0) number && int_lt number (pos high)
 
--- A value in hexadecimal digits: six where it is one of 24 bits, else eight, in two's complement; hyphens for an offset beyond a word.
+-- A value in hexadecimal digits: six where it is one of 24 bits, else eight, in two's complement; hyphens for an offset
+-- beyond a word.
 abbrev pub value_word : ℤ → List ℕ
 value_word number =
     if is_below number (2 ^ 24) then digits 16 6 (unsigned_abs number)
@@ -45,7 +46,9 @@ at_words (Some address) = codes "AT" ∷ digits 16 6 address ∷ []
 -- a symbol: its value, its section, its length attribute, the line that defines it, and its address
 abbrev pub symbol_line : Option (List ℕ) → Option Loaded → List ℕ × Symbol → Lines
 symbol_line control program (name, symbol) =
-    look_line (codes "SYMBOL" ∷ written_name name ∷ codes "VALUE" ∷ value_word symbol.value.number ∷ section_word symbol.value.section
+    look_line
+    (codes "SYMBOL" ∷ written_name name ∷ codes "VALUE" ∷ value_word symbol.value.number
+    ∷ section_word symbol.value.section
     ∷ codes "LENGTH" ∷ decimal symbol.value.length ∷ codes "LINE" ∷ decimal symbol.line
     ∷ at_words (option_and_then (address_in control symbol.value) program))
 
@@ -71,4 +74,5 @@ symbols_among program None = []
 symbols_among program (Some named) = flat_map (symbol_line named.control program) (in_order named.rows)
 
 unfoldable pub symbols_text : Option Loaded → List ℕ → List (List ℕ) → Lines
-symbols_text program name lines = or_none (codes "SYMBOLS " ++ written_name name) (symbols_among program (named_in lines))
+symbols_text program name lines =
+    or_none (codes "SYMBOLS " ++ written_name name) (symbols_among program (named_in lines))

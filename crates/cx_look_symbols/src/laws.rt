@@ -1,5 +1,5 @@
 //! What follows from the definitions.
-ghost use Rattle.cx_look_symbols.specs.Laws.{LinesAreInSources, ListedThere};
+ghost use Rattle.cx_look_symbols.specs.Laws.{LinesAreInSources, ListedThere, SymbolsAreLookedUp};
 
 /// The bytes that the listing has beside a statement are those of the section's text at its place; none where it has no place.
 #[tactic(auto, using(crate::proofs::StatementLemmas::listed_there))]
@@ -11,4 +11,9 @@ pub fn listed_bytes_stand_there()
 /// one of the bytes of a statement on that line.
 pub fn lines_are_in_sources()
     ensures { LinesAreInSources }
+{}
+
+/// The symbols of a source are the names by which the assembler looks values up, each with that value.
+pub fn symbols_are_looked_up()
+    ensures { SymbolsAreLookedUp }
 {}

@@ -3,7 +3,8 @@ use Rattle.std.specs.Prelude.{◌≡◌, ◌↔◌, ℕ, true, List, ◌++◌, c
 use Rattle.cx_edf.specs.State.{EdfState, session_at, stopped_at}
 use Rattle.cx_look_tables.specs.Terminals.{edf_word}
 
--- EDF's word begins with STOPPED, as no other does, exactly where the terminal is stopped: where it has a task its turns are held.
+-- EDF's word begins with STOPPED, as no other does, exactly where the terminal is stopped: where it has a task its
+-- turns are held.
 pub record IsShownAsStopped (word : List ℕ) : Type 0 where
   pub stops : List ℕ
   pub begins : word ≡ codes "STOPPED" ++ stops

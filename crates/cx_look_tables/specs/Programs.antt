@@ -19,8 +19,11 @@ transactions_of transactions program = codes "TRANSACTIONS" ++ flat_map (transac
 -- a program: its place, its length, its entry's address, the length of its working storage, its transactions
 abbrev pub program_line : List (List ℕ × List ℕ) → List ℕ × Loaded → Lines
 program_line transactions (name, loaded) =
-    look_line (codes "PROGRAM" ∷ shown_name name ∷ codes "AT" ∷ digits 16 6 loaded.at ∷ codes "LENGTH" ∷ digits 16 6 loaded.len
-    ∷ codes "ENTRY" ∷ digits 16 6 loaded.entry ∷ codes "STORAGE" ∷ digits 16 6 loaded.stg_len ∷ transactions_of transactions name ∷ [])
+    look_line
+    (codes "PROGRAM" ∷ shown_name name ∷ codes "AT" ∷ digits 16 6 loaded.at ∷ codes "LENGTH"
+    ∷ digits 16 6 loaded.len
+    ∷ codes "ENTRY" ∷ digits 16 6 loaded.entry ∷ codes "STORAGE" ∷ digits 16 6 loaded.stg_len
+    ∷ transactions_of transactions name ∷ [])
 
 unfoldable pub programs_text : List (List ℕ × Loaded) → List (List ℕ × List ℕ) → Lines
 programs_text [] transactions = none_line (codes "PROGRAMS")

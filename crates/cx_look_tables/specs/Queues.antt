@@ -11,7 +11,9 @@ use Rattle.cx_look_words.specs.Words.{in_apostrophes, look_line, none_line, writ
 -- a queue: its name, its items, their bytes together, the number of the item last read
 abbrev pub queue_line : List ℕ × Queue → Lines
 queue_line (name, queue) =
-    look_line (codes "QUEUE" ∷ written_name name ∷ codes "ITEMS" ∷ decimal (length queue.items) ∷ codes "BYTES" ∷ decimal (size_of queue)
+    look_line
+    (codes "QUEUE" ∷ written_name name ∷ codes "ITEMS" ∷ decimal (length queue.items) ∷ codes "BYTES"
+    ∷ decimal (size_of queue)
     ∷ codes "READ" ∷ decimal queue.last_read ∷ [])
 
 unfoldable pub queues_text : Queues → Lines
@@ -22,7 +24,9 @@ queues_text (queue ∷ queues) = flat_map queue_line (queue ∷ queues)
 -- an item: its number, its length, and its first 64 bytes in characters
 abbrev pub item_line : ℕ → List ℕ → Lines
 item_line n item =
-    look_line (codes "ITEM" ∷ decimal n ∷ codes "LENGTH" ∷ decimal (length item) ∷ in_apostrophes (shown_text (take 64 item)) ∷ [])
+    look_line
+    (codes "ITEM" ∷ decimal n ∷ codes "LENGTH" ∷ decimal (length item) ∷ in_apostrophes (shown_text (take 64 item))
+    ∷ [])
 
 abbrev pub items_text : ℕ → List (List ℕ) → Lines
 items_text n [] = []
@@ -39,7 +43,9 @@ queue_text queues name = queue_found name (queue_of queues name)
 -- up to sixteen bytes in hexadecimal digits, in groups of four
 unfoldable pub hex_column : List ℕ → List ℕ
 hex_column row =
-    in_columns 35 (join (hex_digits (take 4 (drop 0 row)) ∷ codes " " ∷ hex_digits (take 4 (drop 4 row)) ∷ codes " " ∷ hex_digits (take 4 (drop 8 row))
+    in_columns 35
+    (join (hex_digits (take 4 (drop 0 row)) ∷ codes " " ∷ hex_digits (take 4 (drop 4 row)) ∷ codes " "
+    ∷ hex_digits (take 4 (drop 8 row))
     ∷ codes " " ∷ hex_digits (take 4 (drop 12 row)) ∷ []))
 
 -- a row of sixteen bytes, of which the last one may have fewer: its offset, its bytes in digits, and in characters
@@ -60,7 +66,9 @@ rows_text bytes = first_rows ((length bytes + 15) / 16) bytes
 abbrev pub item_found : List ℕ → ℕ → Option (List ℕ) → Lines
 item_found name n None = look_line (codes "QUEUE" ∷ written_name name ∷ codes "ITEM" ∷ decimal n ∷ codes "NONE" ∷ [])
 item_found name n (Some item) =
-    look_line (codes "QUEUE" ∷ written_name name ∷ codes "ITEM" ∷ decimal n ∷ codes "LENGTH" ∷ decimal (length item) ∷ []) ++ rows_text item
+    look_line
+    (codes "QUEUE" ∷ written_name name ∷ codes "ITEM" ∷ decimal n ∷ codes "LENGTH" ∷ decimal (length item) ∷ [])
+    ++ rows_text item
 
 unfoldable pub item_text : Queues → List ℕ → ℕ → Lines
 item_text queues name n = item_found name n (item_of queues name n)

@@ -60,7 +60,9 @@ edf_word (Some session) = mode_name session.mode ++ stops_word session.stops
 -- ---- all terminals
 unfoldable pub terminal_line : Sessions → List ℕ × TerminalState → Lines
 terminal_line sessions (name, terminal) =
-    look_line (codes "TERMINAL" ∷ shown_name name ∷ codes "NEXT" ∷ next_word terminal.following ∷ codes "HELD" ∷ held_word terminal.input
+    look_line
+    (codes "TERMINAL" ∷ shown_name name ∷ codes "NEXT" ∷ next_word terminal.following ∷ codes "HELD"
+    ∷ held_word terminal.input
     ∷ codes "EDF" ∷ edf_word (session_in sessions name) ∷ [])
 
 abbrev pub terminal_lines : Sessions → List (List ℕ × TerminalState) → Lines
@@ -68,4 +70,5 @@ terminal_lines sessions [] = none_line (codes "TERMINALS")
 terminal_lines sessions (terminal ∷ terminals) = flat_map (terminal_line sessions) (terminal ∷ terminals)
 
 unfoldable pub terminals_text : EdfState → Lines
-terminals_text state = clock_line state.region.time state.region.date ++ terminal_lines state.sessions state.region.terminals
+terminals_text state =
+    clock_line state.region.time state.region.date ++ terminal_lines state.sessions state.region.terminals

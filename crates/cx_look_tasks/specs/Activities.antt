@@ -25,12 +25,14 @@ Acts r activity = MatchBool r.task.due (ActsByCommand r activity) (activity ≡ 
 
 -- what a terminal's task is doing
 unfoldable pub IsActivity : RegionState → TerminalState → Activity → Type 0
-IsActivity region terminal activity = MatchOption terminal.task (activity ≡ NoTask) (λ task. Acts (context_of region terminal task) activity)
+IsActivity region terminal activity =
+    MatchOption terminal.task (activity ≡ NoTask) (λ task. Acts (context_of region terminal task) activity)
 
 -- of each terminal in turn
 unfoldable pub AreActivities : RegionState → List (List ℕ × TerminalState) → List Activity → Type 0
 AreActivities region [] [] = ⊤
-AreActivities region (entry ∷ entries) (activity ∷ activities) = IsActivity region entry.1 activity × AreActivities region entries activities
+AreActivities region (entry ∷ entries) (activity ∷ activities) =
+    IsActivity region entry.1 activity × AreActivities region entries activities
 AreActivities region _ _ = ⊥
 
 abbrev pub is_waiting : Activity → Bool

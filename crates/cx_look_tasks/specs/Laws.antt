@@ -7,7 +7,7 @@ use Rattle.cx_region.specs.Tables.{terminal_of}
 use Rattle.cx_region.specs.Turn.{TakesTurn}
 use Rattle.cx_look_words.specs.Words.{Lines}
 use Rattle.cx_look_tasks.specs.Activities.{IsActivity, is_waiting}
-use Rattle.cx_look_tasks.specs.Tasks.{ResourcesText, TasksText}
+use Rattle.cx_look_tasks.specs.Tasks.{ResourcesText, TasksText, WaitsText}
 use Rattle.cx_look_tasks.specs.declared.activities.Activity.{Activity}
 
 -- a terminal is reported as waiting exactly where its next turn would be answered Waiting
@@ -30,3 +30,8 @@ TasksTextsDecide = (region : RegionState) (one other : Lines)
 abbrev pub ResourcesTextsDecide : Type 0
 ResourcesTextsDecide = (region : RegionState) (one other : Lines)
     → ResourcesText region one → ResourcesText region other → one ≡ other
+
+-- and what is written of the tasks that wait
+abbrev pub WaitsTextsDecide : Type 0
+WaitsTextsDecide = (region : RegionState) (one other : Lines)
+    → WaitsText region one → WaitsText region other → one ≡ other

@@ -14,7 +14,7 @@ use Rattle.cx_base_text.specs.Digits.{digits}
 use Rattle.cx_base_text.specs.Texts.{shown_name}
 use Rattle.cx_look_words.specs.Terminals.{terminal_at}
 use Rattle.cx_look_words.specs.Words.{look_line, or_none, written_bytes, written_name, Lines}
-use Rattle.cx_look_tasks.specs.Activities.{AreActivities}
+use Rattle.cx_look_tasks.specs.Activities.{AreActivities, is_waiting}
 use Rattle.cx_look_tasks.specs.declared.activities.Activity.{Activity}
 use Rattle.cx_look_tasks.specs.declared.activities.Activity.TheVariants.{Due, NoTask, Running, Waiting}
 use Rattle.cx_region_task.specs.declared.decision.Wait.{Wait}
@@ -23,7 +23,8 @@ use Rattle.cx_region_task.specs.declared.decision.Wait.TheVariants as wait
 -- ---- names; hyphens where there is none
 -- the terminal whose task is an owner
 abbrev pub owner_name : RegionState → ℕ → List ℕ
-owner_name region slot = option_map_or (λ terminal. shown_name terminal.0) (terminal_at region.terminals slot) (codes "--")
+owner_name region slot =
+    option_map_or (λ terminal. shown_name terminal.0) (terminal_at region.terminals slot) (codes "--")
 
 -- a resource: by its bytes, or by its address
 abbrev pub resource_value : ResourceName → List ℕ
@@ -48,7 +49,8 @@ command_word command = option_map_or (λ command. (row_of command).name) command
 -- ---- TASKS
 abbrev pub wait_words : RegionState → Wait → List (List ℕ)
 wait_words region wait.Input = codes "INPUT" ∷ []
-wait_words region (wait.Resource name) = codes "RESOURCE" ∷ resource_word name ∷ codes "OWNER" ∷ owner_word region name ∷ []
+wait_words region (wait.Resource name) =
+    codes "RESOURCE" ∷ resource_word name ∷ codes "OWNER" ∷ owner_word region name ∷ []
 wait_words region (wait.Room name) = codes "ROOM IN QUEUE" ∷ queue_word name ∷ []
 wait_words region wait.Storage = codes "STORAGE" ∷ []
 
@@ -62,14 +64,16 @@ activity_words region (Waiting wait) = codes "WAITING FOR" ∷ wait_words region
 abbrev pub task_words : Option TaskState → List (List ℕ)
 task_words None = []
 task_words (Some task) =
-    shown_name task.tran ∷ codes "TASK" ∷ digits 10 7 task.number ∷ codes "LEVEL" ∷ digits 10 2 (length task.levels.callers + 1) ∷ []
+    shown_name task.tran ∷ codes "TASK" ∷ digits 10 7 task.number ∷ codes "LEVEL"
+    ∷ digits 10 2 (length task.levels.callers + 1) ∷ []
 
 unfoldable pub task_line : RegionState → List ℕ × TerminalState → Activity → Lines
 task_line region entry activity =
     look_line (shown_name entry.0 ∷ task_words entry.1.task ++ activity_words region activity)
 
 -- what is written of each terminal and of what its task is doing, in the order of their definition
-unfoldable pub of_each : (List ℕ × TerminalState → Activity → Lines) → List (List ℕ × TerminalState) → List Activity → Lines
+unfoldable pub of_each : (List ℕ × TerminalState → Activity → Lines) → List (List ℕ × TerminalState) → List Activity
+    → Lines
 of_each lines (entry ∷ entries) (activity ∷ activities) = lines entry activity ++ of_each lines entries activities
 of_each lines _ _ = []
 
@@ -77,6 +81,23 @@ pub record TasksText (region : RegionState) (lines : Lines) : Type 0 where
   pub activities : List Activity
   pub are : AreActivities region region.terminals activities
   pub is : lines ≡ or_none (codes "TASKS") (of_each (task_line region) region.terminals activities)
+
+-- ---- the tasks that wait
+-- the transaction, and the number of its levels
+abbrev pub waiting_words : Option TaskState → List (List ℕ)
+waiting_words None = []
+waiting_words (Some task) = shown_name task.tran ∷ codes "LEVEL" ∷ digits 10 2 (length task.levels.callers + 1) ∷ []
+
+-- as TASKS says, without the task's number
+unfoldable pub waiting_line : RegionState → List ℕ × TerminalState → Activity → Lines
+waiting_line region entry activity =
+    if is_waiting activity
+    then look_line (shown_name entry.0 ∷ waiting_words entry.1.task ++ activity_words region activity) else []
+
+pub record WaitsText (region : RegionState) (lines : Lines) : Type 0 where
+  pub activities : List Activity
+  pub are : AreActivities region region.terminals activities
+  pub is : lines ≡ of_each (waiting_line region) region.terminals activities
 
 -- ---- RESOURCES
 -- the task waits for the resource
@@ -87,10 +108,12 @@ waits_for name _ = false
 abbrev pub hold_line : RegionState → ResourceName → Hold → Lines
 hold_line region name hold =
     look_line
-    (codes "RESOURCE" ∷ resource_value name ∷ codes "OWNER" ∷ owner_name region hold.owner ∷ codes "COUNT" ∷ digits 10 5 hold.count ∷ [])
+    (codes "RESOURCE" ∷ resource_value name ∷ codes "OWNER" ∷ owner_name region hold.owner ∷ codes "COUNT"
+    ∷ digits 10 5 hold.count ∷ [])
 
 abbrev pub waiter_line : ResourceName → List ℕ → Lines
-waiter_line name terminal = look_line (codes "RESOURCE" ∷ resource_value name ∷ codes "WAITER" ∷ shown_name terminal ∷ [])
+waiter_line name terminal =
+    look_line (codes "RESOURCE" ∷ resource_value name ∷ codes "WAITER" ∷ shown_name terminal ∷ [])
 
 -- the line of a terminal whose task waits for the resource
 unfoldable pub waiter_text : ResourceName → List ℕ × TerminalState → Activity → Lines
@@ -98,7 +121,8 @@ waiter_text name entry activity = if waits_for name activity then waiter_line na
 
 -- a resource, and who waits for it
 unfoldable pub resource_lines : RegionState → List Activity → ResourceName × Hold → Lines
-resource_lines region activities entry = hold_line region entry.0 entry.1 ++ of_each (waiter_text entry.0) region.terminals activities
+resource_lines region activities entry =
+    hold_line region entry.0 entry.1 ++ of_each (waiter_text entry.0) region.terminals activities
 
 pub record ResourcesText (region : RegionState) (lines : Lines) : Type 0 where
   pub activities : List Activity

@@ -6,8 +6,10 @@ mod judging;
 pub mod laws;
 mod resources;
 mod tasks;
+mod waits;
 
 pub use activities::{Activity, Wait};
 pub use judging::activity;
 pub use resources::resources_text;
 pub use tasks::{activities_in, tasks_text};
+pub use waits::waits_text;

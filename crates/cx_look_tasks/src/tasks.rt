@@ -150,7 +150,7 @@ fn push_wait<S: Store + Drop>(
 
 /// Adds what a task is doing.
 #[tactic(auto, using(cx_look_words::specs::Facts::Spaced::spaced_first))]
-fn push_activity<S: Store + Drop>(
+pub(crate) fn push_activity<S: Store + Drop>(
     text: &mut Vec<u8>,
     alloc: Global,
     region: &Region<S>,

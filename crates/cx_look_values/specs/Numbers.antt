@@ -36,7 +36,8 @@ packed_number bytes = decimal_number (front (halves bytes)) (last (halves bytes)
 -- zoned: the right half bytes are the digits; left of the last is the sign, and left of each other the zone F
 abbrev pub zoned_number : List ℕ → Option ℤ
 zoned_number bytes =
-    if list_all (λ byte. byte / 16 == 0xF) (front bytes) then decimal_number (map (λ byte. byte % 16) bytes) (last bytes / 16) else None
+    if list_all (λ byte. byte / 16 == 0xF) (front bytes)
+    then decimal_number (map (λ byte. byte % 16) bytes) (last bytes / 16) else None
 
 abbrev pub number_by : Reading → List ℕ → Option ℤ
 number_by Binary bytes = Some (twos_complement (length bytes) (big_number (length bytes) bytes))

@@ -1,4 +1,5 @@
--- How the bytes of a source's fields are read as numbers, by the types of their constants (GC33-4010, "DC -- Define Constant").
+-- How the bytes of a source's fields are read as numbers, by the types of their constants (GC33-4010, "DC -- Define
+-- Constant").
 use Rattle.std.specs.Prelude.{ℕ, Bool, ◌==◌, if◌then◌else◌, Option, Some, None, option_and_then, option_map, List, slice_get, unwrap_or}
 use Rattle.std.specs.List.{filter_map, find}
 use Rattle.std.specs.Result.{result_ok}
@@ -30,7 +31,8 @@ reading_of item = reading_by item.kind (length_of item == unwrap_or item.modifie
 
 -- that of the first item of a DS or a DC
 abbrev pub reading_first : Role → Option (List ℕ) → Option Reading
-reading_first (Storage is_ds) part = option_and_then (λ text. option_and_then reading_of (result_ok (constant_in is_ds text))) part
+reading_first (Storage is_ds) part =
+    option_and_then (λ text. option_and_then reading_of (result_ok (constant_in is_ds text))) part
 reading_first _ part = None
 
 -- that of the name which a statement has
@@ -39,7 +41,8 @@ named name reading = record { name = name; reading = reading }
 
 abbrev pub reading_in : Stmt → Option NamedReading
 reading_in stmt =
-    option_and_then (λ name. option_map (named name) (reading_first (role_in stmt) (slice_get (parts_in stmt) 0))) (name_in stmt)
+    option_and_then (λ name. option_map (named name) (reading_first (role_in stmt) (slice_get (parts_in stmt) 0)))
+    (name_in stmt)
 
 -- those of a source
 abbrev pub readings_of : Source → List NamedReading

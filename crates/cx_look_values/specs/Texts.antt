@@ -14,7 +14,8 @@ reading_word Zoned = codes " ZONED "
 
 -- nothing where the bytes are no number
 abbrev pub number_text : List ℕ → Reading → List ℕ
-number_text bytes reading = option_map_or (λ number. reading_word reading ++ signed_decimal number) (number_of reading bytes) []
+number_text bytes reading =
+    option_map_or (λ number. reading_word reading ++ signed_decimal number) (number_of reading bytes) []
 
 unfoldable pub value_text : Option Reading → List ℕ → List ℕ
 value_text reading bytes = option_map_or (number_text bytes) reading []

@@ -6,7 +6,9 @@ use Rattle.cx_look_words.specs.Words.{Lines, look_line}
 -- four to a line, after the number of the first
 unfoldable pub register_line : List ℕ → ℕ → Lines
 register_line regs k =
-    look_line ((codes "R" ++ digits 10 2 k) ∷ digits 16 8 (slice_index regs k) ∷ digits 16 8 (slice_index regs (k + 1)) ∷ digits 16 8 (slice_index regs (k + 2))
+    look_line
+    ((codes "R" ++ digits 10 2 k) ∷ digits 16 8 (slice_index regs k) ∷ digits 16 8 (slice_index regs (k + 1))
+    ∷ digits 16 8 (slice_index regs (k + 2))
     ∷ digits 16 8 (slice_index regs (k + 3)) ∷ [])
 
 unfoldable pub register_lines : List ℕ → Lines

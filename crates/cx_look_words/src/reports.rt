@@ -84,6 +84,13 @@ impl Report {
         self.alloc
     }
 
+    /// Its lines.
+    pub fn lines(&self) -> &[List<u8>]
+        ensures { result.now ≡ self.now }
+    {
+        self.lines.as_slice()
+    }
+
     /// Adds a line.
     ///
     /// An error comes only where memory for it was refused.

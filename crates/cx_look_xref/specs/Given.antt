@@ -1,4 +1,5 @@
--- The symbols that a source hasn't defined one by one: those of DFHREGS, of COPY DFHAID, and of the EXEC interface block (own).
+-- The symbols that a source hasn't defined one by one: those of DFHREGS, of COPY DFHAID, and of the EXEC interface
+-- block (own).
 use Rattle.std.specs.Prelude.{ℕ, Bool, true, false, ◌||◌, ◌==◌, if◌then◌else◌, Option, List, [], ◌∷◌, codes, option_and_then}
 use Rattle.std.specs.List.{flat_map, list_any}
 use Rattle.std.specs.Option.{option_map_or}
@@ -25,7 +26,8 @@ lines_given source = flat_map line_given source.items
 
 -- a place in the EXEC interface block
 abbrev pub is_of_eib : Option (List ℕ) → Bool
-is_of_eib section = option_map_or (λ name. option_map_or (is_same name) section false) (symbol_name (codes "DFHEIBLK")) false
+is_of_eib section =
+    option_map_or (λ name. option_map_or (is_same name) section false) (symbol_name (codes "DFHEIBLK")) false
 
 abbrev pub is_given : List ℕ → Symbol → Bool
 is_given lines symbol = list_any (λ line. line == symbol.line) lines || is_of_eib symbol.value.section

@@ -1,4 +1,5 @@
--- The literals of a source, and the statements that use them (GC33-4010, "Literals", "Literal Pool" and "Cross-Reference").
+-- The literals of a source, and the statements that use them (GC33-4010, "Literals", "Literal Pool" and
+-- "Cross-Reference").
 use Rattle.std.specs.Prelude.{ℕ, Bool, false, ◌&&◌, ◌==◌, List, drop, map, take}
 use Rattle.std.specs.List.{filter, list_any}
 use Rattle.std.specs.Option.{option_map_or}
@@ -13,7 +14,8 @@ use Rattle.cx_look_xref.specs.References.{each_once}
 
 -- One of an instruction's operands is the literal of a text.
 abbrev pub has_literal : List ℕ → Role → List (List ℕ) → Bool
-has_literal text (Instruction size) parts = list_any (λ part. option_map_or (bytes_eq text) (literal_text part) false) parts
+has_literal text (Instruction size) parts =
+    list_any (λ part. option_map_or (bytes_eq text) (literal_text part) false) parts
 has_literal text role parts = false
 
 -- The statement uses the literal of a text in the pool of a number, from 0.

@@ -1,4 +1,5 @@
--- Which names the statements of a source use (GC33-4010, "Cross-Reference"; that the name is found in the operand's text is own).
+-- Which names the statements of a source use (GC33-4010, "Cross-Reference"; that the name is found in the operand's
+-- text is own).
 use Rattle.std.specs.Prelude.{ℕ, Bool, ◌&&◌, ◌==◌, if◌then◌else◌, Option, Some, None, option_and_then, List, [], ◌∷◌, ◌++◌, drop, fold, map, slice_get, take}
 use Rattle.std.specs.BTreeSet.{insert_key}
 use Rattle.std.specs.List.{filter, flat_map, prefix_len}
@@ -45,8 +46,8 @@ names_of_constant text = names_in (drop (prefix_len is_name_character text) text
 abbrev pub names_of_part : List ℕ → List (List ℕ)
 names_of_part part = option_map_or names_of_constant (literal_text part) (names_in part)
 
--- The names that the operands of an operation use. Those of CSECT, START, DSECT, LTORG, DFHREGS and COPY, and of what changes only the
--- listing, use none.
+-- The names that the operands of an operation use. Those of CSECT, START, DSECT, LTORG, DFHREGS and COPY, and of what
+-- changes only the listing, use none.
 abbrev pub names_used : Option Operation → List (List ℕ) → List (List ℕ)
 names_used (Some (operation.Directive directive.Dc)) parts = flat_map names_of_constant parts
 names_used (Some (operation.Directive directive.Ds)) parts = flat_map names_of_constant parts
@@ -82,7 +83,8 @@ part_stored _ = None
 -- the names that it has in front of its parentheses
 abbrev pub names_stored : Option Operation → List (List ℕ) → List (List ℕ)
 names_stored operation parts =
-    option_map_or (λ part. names_in (take (first_mark Parenthesis part) part)) (option_and_then (slice_get parts) (part_stored operation)) []
+    option_map_or (λ part. names_in (take (first_mark Parenthesis part) part))
+    (option_and_then (slice_get parts) (part_stored operation)) []
 
 -- ---- a source
 abbrev pub reference : ℕ → List ℕ → Reference

@@ -35,14 +35,17 @@ used_word storing lines = codes "USED" ++ with_blanks (line_words storing lines)
 abbrev pub name_line : (List ℕ → List ℕ) → (List ℕ → List ℕ) → List ℕ → List ℕ × Symbol → Lines
 name_line storing used given (name, symbol) =
     if is_given given symbol && (length (used name) == 0) then []
-    else look_line (codes "XREF" ∷ written_name name ∷ codes "LINE" ∷ decimal symbol.line ∷ used_word (storing name) (used name) ∷ [])
+    else look_line
+    (codes "XREF" ∷ written_name name ∷ codes "LINE" ∷ decimal symbol.line ∷ used_word (storing name) (used name)
+    ∷ [])
 
 -- ---- literals
 -- bytes in hexadecimal digits; hyphens where there are none
 abbrev pub bytes_word : List ℕ → List ℕ
 bytes_word bytes = if length bytes == 0 then codes "--" else hex_digits bytes
 
--- a literal in the pool of a number: its offset in the control section, its text, its bytes there, and the lines that use it
+-- a literal in the pool of a number: its offset in the control section, its text, its bytes there, and the lines that
+-- use it
 abbrev pub literal_line : List ℕ → (ℕ → List ℕ → List ℕ) → ℕ → List ℕ × Literal → Lines
 literal_line section used pool (text, literal) =
     look_line (codes "XREF" ∷ codes "LITERAL" ∷ digits 16 6 (literal.offset % 2 ^ 24) ∷ (codes "=" ++ text)
@@ -51,11 +54,12 @@ literal_line section used pool (text, literal) =
 -- those of all pools from the one of a number on
 abbrev pub literals_from : List ℕ → (ℕ → List ℕ → List ℕ) → ℕ → List PlacedLiterals → Lines
 literals_from section used number [] = []
-literals_from section used number (pool ∷ pools) = flat_map (literal_line section used number) pool ++ literals_from section used (number + 1) pools
+literals_from section used number (pool ∷ pools) =
+    flat_map (literal_line section used number) pool ++ literals_from section used (number + 1) pools
 
 -- ---- base registers
--- A register that a USING names: the first line and the last of its use, and the place as the USING writes it. `after` are the statements
--- after the USING.
+-- A register that a USING names: the first line and the last of its use, and the place as the USING writes it. `after`
+-- are the statements after the USING.
 abbrev pub using_line : Whole → ℕ → PlacedStatement → List PlacedStatement → ℕ → Lines
 using_line whole last s after register =
     look_line (codes "XREF" ∷ codes "USING" ∷ decimal register ∷ codes "FROM" ∷ decimal s.line
@@ -63,14 +67,16 @@ using_line whole last s after register =
 
 abbrev pub usings_from : Whole → ℕ → List PlacedStatement → Lines
 usings_from whole last [] = []
-usings_from whole last (s ∷ after) = flat_map (using_line whole last s after) (base_registers whole s (operation_of s)) ++ usings_from whole last after
+usings_from whole last (s ∷ after) =
+    flat_map (using_line whole last s after) (base_registers whole s (operation_of s)) ++ usings_from whole last after
 
 -- ---- all
--- A source with these names, whose control section has this text: its symbols in the order of their names, its literals, and its base
--- registers.
+-- A source with these names, whose control section has this text: its symbols in the order of their names, its
+-- literals, and its base registers.
 abbrev pub xref_made : Source → List ℕ → SourceSymbols → Lines
 xref_made source section named =
-    flat_map (name_line (lines_using (stores_of source)) (lines_using (references_of source)) (lines_given source)) (in_order named.rows)
+    flat_map (name_line (lines_using (stores_of source)) (lines_using (references_of source)) (lines_given source))
+    (in_order named.rows)
     ++ literals_from section (lines_with (statements_of source)) 0 (whole_of source).pools
     ++ usings_from (whole_of source) (last_line source) (statements_of source)
 

@@ -1,4 +1,5 @@
--- The base registers of a source, and the lines in which they are in use (GC33-4010, "USING -- Use Base Address Register", "DROP -- Drop Base
+-- The base registers of a source, and the lines in which they are in use (GC33-4010, "USING -- Use Base Address
+-- Register", "DROP -- Drop Base
 -- Register" and "Cross-Reference").
 use Rattle.std.specs.Prelude.{ℕ, ◌-◌, Bool, false, ◌||◌, ◌==◌, if◌then◌else◌, Option, Some, List, [], ◌∷◌, drop, length}
 use Rattle.std.specs.List.{filter_map, list_any}
@@ -14,7 +15,8 @@ use Rattle.cx_asm_pass2.specs.Whole.{Whole, directive_context}
 
 -- the registers that a statement's operands name
 abbrev pub registers_named : Whole → PlacedStatement → List (List ℕ) → List ℕ
-registers_named whole s parts = filter_map (λ part. result_ok (register_in (directive_context whole none_in_use s) part)) parts
+registers_named whole s parts =
+    filter_map (λ part. result_ok (register_in (directive_context whole none_in_use s) part)) parts
 
 -- the registers of a statement with this operation: a USING's come after the place that they hold
 abbrev pub base_registers : Whole → PlacedStatement → Option Operation → List ℕ
@@ -29,8 +31,8 @@ ends_use whole register s (Some (operation.Directive directive.Drop)) =
     (length s.stmt.operand == 0) || list_any (λ r. r == register) (registers_named whole s (parts_in s.stmt))
 ends_use whole register s operation = false
 
--- The last line of a register's use, by the statements after the one that begins it: the line before the one that ends it, and else the
--- source's last.
+-- The last line of a register's use, by the statements after the one that begins it: the line before the one that ends
+-- it, and else the source's last.
 abbrev pub use_end : Whole → ℕ → ℕ → List PlacedStatement → ℕ
 use_end whole last register [] = last
 use_end whole last register (s ∷ after) =

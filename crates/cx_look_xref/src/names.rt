@@ -208,7 +208,8 @@ fn before_list(part: &[u8]) -> &[u8]
 fn stored_text<'a>(operation: Option<Operation>, parts: &[&'a [u8]]) -> Option<&'a [u8]>
     ensures { let texts = map (λ part. part.now) parts.now in
         option_map (λ text. text.now) result
-        ≡ option_map (λ part. take (first_mark Parenthesis part) part) (option_and_then (slice_get texts) (part_stored operation)) }
+        ≡ option_map (λ part. take (first_mark Parenthesis part) part)
+        (option_and_then (slice_get texts) (part_stored operation)) }
 {
     let k = part_stored(operation)?;
     let part = parts.get(k)?;

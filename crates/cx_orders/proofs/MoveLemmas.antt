@@ -6,7 +6,9 @@ use Rattle.std.proofs.lemmas.Map.Entries.{lookup_from_place}
 use Rattle.std.proofs.lemmas.Option.{none-some, same_Some, slice_get_within}
 use Rattle.cx_search.specs.Moves.{GoesOnly, GoesTo}
 use Rattle.cx_region.specs.Attach.{TakesKey, input_from}
-use Rattle.cx_region.specs.Sound.{IsSound}
+use Rattle.cx_ebcdic.specs.Names.{is_name}
+use Rattle.std.specs.List.{IsDistinct}
+use Rattle.std.specs.Map.{keys_of as names_of}
 use Rattle.cx_region.specs.State.{RegionState, TerminalState}
 use Rattle.cx_region.specs.Tables.{terminal_of}
 use Rattle.cx_region.specs.Turn.{TakesTurn, TaskTakesTurn, context_of}
@@ -22,6 +24,7 @@ use Rattle.cx_look_tasks.specs.Activities.{Acts, ActsByCommand, IsActivity, acti
 use Rattle.cx_look_tasks.specs.Laws.{ActivitiesDecide, WaitsAreReported}
 use Rattle.cx_look_tasks.specs.declared.activities.Activity.{Activity}
 use Rattle.cx_look_tasks.specs.declared.activities.Activity.TheVariants.{Due, NoTask, Running, Waiting}
+use Rattle.cx_orders.specs.Laws.{MovesDecide}
 use Rattle.cx_orders.specs.Incidents.{incident_of_key, incident_of_turn, with_incident}
 use Rattle.cx_orders.specs.Moves.{KeyComes, KeyMoves, Moves, TurnMoves, is_move, is_ready, keys_of}
 use Rattle.cx_orders.specs.Parts.{IsAsked, is_acting}
@@ -29,9 +32,9 @@ use Rattle.cx_orders.specs.declared.moves.Asked.{Asked}
 use Rattle.cx_orders.specs.declared.states.KeyLine.{KeyLine}
 use Rattle.cx_orders.specs.declared.states.OrdersState.{OrdersState}
 
-pub terminal_at : (region : RegionState) (number : ℕ) (name : List ℕ) (terminal : TerminalState) → IsSound region
+pub terminal_at : (region : RegionState) (number : ℕ) (name : List ℕ) (terminal : TerminalState) → IsDistinct is_name (names_of region.terminals)
     → slice_get region.terminals number ≡ Some (name, terminal) → terminal_of region name ≡ Some terminal
-terminal_at region number name terminal sound at = lookup_from_place nat_list_eq_equiv region.terminals number name terminal sound.terminals_distinct at
+terminal_at region number name terminal distinct at = lookup_from_place nat_list_eq_equiv region.terminals number name terminal distinct at
 
 acts_not : (r : TaskContext) (due : Bool) → MatchBool due (ActsByCommand r NoTask) (NoTask ≡ Running) → ⊥
 acts_not r false e = cc
@@ -149,7 +152,7 @@ module _ (reported : WaitsAreReported) (stays : HalfTurnsStay) where
       record {
         reply = reply;
         takes = subst (λ r. TakesTurn from.region it.name reply r) (sym region) there;
-        moves = acting_moves from.region it.name asked.terminal it.doing (terminal_at from.region it.number it.name asked.terminal asked.sound asked.at)
+        moves = acting_moves from.region it.name asked.terminal it.doing (terminal_at from.region it.number it.name asked.terminal asked.sound.terminals_distinct asked.at)
             asked.is acting reply new there;
         come = come;
         incidents = incidents;
@@ -167,6 +170,46 @@ key_some false key is e = absurd (none-some is (sym e))
 same_states : (one other : OrdersState) → one.region ≡ other.region → one.come ≡ other.come → one.incidents ≡ other.incidents → one ≡ other
 same_states one other p q r = λ i. record { region = p i; come = q i; incidents = r i }
 
+module _ (turns : TurnsDecide) (keyed : KeysDecide) (reported : WaitsAreReported) (stays : HalfTurnsStay) where
+  module _ (keys : List KeyLine) (from : OrdersState) (number : ℕ) (name : List ℕ) (terminal : TerminalState) (came : ℕ)
+      (named : terminal_of from.region name ≡ Some terminal) where
+    -- a terminal never has a turn and a key at once
+    not_both : (one other : OrdersState) → TurnMoves from number name one → KeyMoves keys from number name terminal came other → ⊥
+    not_both one other t k =
+        others_stay reported stays from.region name terminal k.ready.activity named k.ready.is (ready_acts_not k.ready.activity k.ready.ready)
+        t.reply one.region t.takes t.moves
+
+    -- two moves of a terminal lead to one state
+    same_by_both : (one other : OrdersState) → TurnMoves from number name one ⊎ KeyMoves keys from number name terminal came one
+        → TurnMoves from number name other ⊎ KeyMoves keys from number name terminal came other → one ≡ other
+    same_by_both one other (inl t) (inr k) = absurd (not_both one other t k)
+    same_by_both one other (inr k) (inl t) = absurd (not_both other one t k)
+    same_by_both one other (inl t) (inl u) =
+        let e = turns from.region name t.reply u.reply one.region other.region t.takes u.takes in
+        same_states one other e.1 (t.come ∙ sym u.come)
+        (t.incidents ∙ ap (λ r. with_incident number (incident_of_turn r) from.incidents) e.0 ∙ sym u.incidents)
+    same_by_both one other (inr k) (inr l) =
+        let same = same_Some k.key l.key (sym k.next ∙ l.next) in
+        let takes = subst (λ (x : KeyLine). TakesKey from.region name (input_from x.aid x.bytes) k.comes.reply one.region) same k.comes.takes in
+        let e = keyed from.region name (input_from l.key.aid l.key.bytes) k.comes.reply l.comes.reply one.region other.region takes l.comes.takes in
+        same_states one other e.1 (k.comes.come ∙ sym l.comes.come)
+        (k.comes.incidents ∙ ap (λ r. with_incident number (incident_of_key r) from.incidents) e.0 ∙ sym l.comes.incidents)
+
+  -- a move is one of the terminal with that number
+  of_it : (keys : List KeyLine) (from to : OrdersState) (number : ℕ) (name : List ℕ) (terminal : TerminalState) (came : ℕ)
+      → slice_get from.region.terminals number ≡ Some (name, terminal) → slice_get from.come number ≡ Some came → Moves keys from number to
+      → TurnMoves from number name to ⊎ KeyMoves keys from number name terminal came to
+  of_it keys from to number name terminal came at come m =
+      let e = same_Some (m.name, m.terminal) (name, terminal) (sym m.at ∙ at) in
+      let c = same_Some m.came came (sym m.come ∙ come) in
+      subst (λ x. TurnMoves from number name to ⊎ KeyMoves keys from number name terminal x to) c
+      (subst (λ (x : List ℕ × TerminalState). TurnMoves from number x.0 to ⊎ KeyMoves keys from number x.0 x.1 m.came to) e m.move)
+
+  pub moves_decide : MovesDecide
+  moves_decide keys from one other number distinct m n =
+      same_by_both keys from number m.name m.terminal m.came (terminal_at from.region number m.name m.terminal distinct m.at) one other m.move
+      (of_it keys from other number m.name m.terminal m.came m.at m.come n)
+
 module _ (turns : TurnsDecide) (keyed : KeysDecide) (reported : WaitsAreReported) (once : ActivitiesDecide) (stays : HalfTurnsStay)
     (keys : List KeyLine) (from : OrdersState) (number : ℕ) (it : Asked) (asked : IsAsked from number it) where
   abbrev name : List ℕ
@@ -182,63 +225,33 @@ module _ (turns : TurnsDecide) (keyed : KeysDecide) (reported : WaitsAreReported
   activity = it.doing
 
   named : terminal_of from.region name ≡ Some terminal
-  named = terminal_at from.region number name terminal asked.sound asked.at
+  named = terminal_at from.region number name terminal asked.sound.terminals_distinct asked.at
 
-  -- a move of it is one of this terminal
-  of_it : (to : OrdersState) → Moves keys from number to → TurnMoves from number name to ⊎ KeyMoves keys from number name terminal came to
-  of_it to m =
-      let e = same_Some (m.name, m.terminal) (name, terminal) (sym m.at ∙ asked.at) in
-      let c = same_Some m.came came (sym m.come ∙ asked.come) in
-      subst (λ x. TurnMoves from number name to ⊎ KeyMoves keys from number name terminal x to) c
-      (subst (λ (x : List ℕ × TerminalState). TurnMoves from number x.0 to ⊎ KeyMoves keys from number x.0 x.1 m.came to) e m.move)
-
-  pub turn_goes : is_acting activity ≡ true → (to : OrdersState) → TurnMoves from number name to → GoesOnly (Moves keys) from number to
-  turn_goes acting to t = record {
-    goes = record { name = name; terminal = terminal; at = asked.at; came = came; come = asked.come; move = inl t };
-    only = λ other m. by other (of_it other m);
-  }
-    where
-      by : (other : OrdersState) → TurnMoves from number name other ⊎ KeyMoves keys from number name terminal came other → other ≡ to
-      by other (inr k) = absurd (not_ready k.ready.activity (ap is_acting (once from.region terminal k.ready.activity activity k.ready.is asked.is) ∙ acting) k.ready.ready)
-      by other (inl u) =
-          let e = turns from.region name u.reply t.reply other.region to.region u.takes t.takes in
-          same_states other to e.1 (u.come ∙ sym t.come)
-          (u.incidents ∙ ap (λ r. with_incident number (incident_of_turn r) from.incidents) e.0 ∙ sym t.incidents)
-
-  pub key_goes : is_acting activity ≡ false → (to : OrdersState) → KeyMoves keys from number name terminal came to → GoesOnly (Moves keys) from number to
-  key_goes acting to t = record {
-    goes = record { name = name; terminal = terminal; at = asked.at; came = came; come = asked.come; move = inr t };
-    only = λ other m. by other (of_it other m);
-  }
-    where
-      by : (other : OrdersState) → TurnMoves from number name other ⊎ KeyMoves keys from number name terminal came other → other ≡ to
-      by other (inl u) = absurd (others_stay reported stays from.region name terminal activity named asked.is acting u.reply other.region u.takes u.moves)
-      by other (inr k) =
-          let same = same_Some k.key t.key (sym k.next ∙ t.next) in
-          let takes = subst (λ (x : KeyLine). TakesKey from.region name (input_from x.aid x.bytes) k.comes.reply other.region) same k.comes.takes in
-          let e = keyed from.region name (input_from t.key.aid t.key.bytes) k.comes.reply t.comes.reply other.region to.region takes t.comes.takes in
-          same_states other to e.1 (k.comes.come ∙ sym t.comes.come)
-          (k.comes.incidents ∙ ap (λ r. with_incident number (incident_of_key r) from.incidents) e.0 ∙ sym t.comes.incidents)
+  -- a turn of it, or a key, leads to that state alone
+  goes_by : (to : OrdersState) → TurnMoves from number name to ⊎ KeyMoves keys from number name terminal came to → GoesOnly (Moves keys) from number to
+  goes_by to move =
+      let goes : Moves keys from number to = record { name = name; terminal = terminal; at = asked.at; came = came; come = asked.come; move = move } in
+      record { goes = goes; only = λ other m. moves_decide turns keyed reported stays keys from other to number asked.sound.terminals_distinct m goes }
 
   -- by a turn, or by a key, that is of the number that was asked
   pub turn_goes_by : is_acting activity ≡ true → (to : OrdersState) → TurnMoves from it.number name to → GoesOnly (Moves keys) from number to
-  turn_goes_by acting to t = turn_goes acting to (subst (λ n. TurnMoves from n name to) asked.same t)
+  turn_goes_by acting to t = goes_by to (inl (subst (λ n. TurnMoves from n name to) asked.same t))
 
   pub key_goes_by : is_acting activity ≡ false → (key : KeyLine) (to : OrdersState)
       → Some key ≡ (if is_ready activity then slice_get (keys_of keys name) came else None) → KeyComes from it.number name came key to
       → GoesOnly (Moves keys) from number to
   key_goes_by acting key to e comes =
       let both = key_some (is_ready activity) (slice_get (keys_of keys name) came) key e in
-      key_goes acting to (record {
+      goes_by to (inr (record {
         ready = record { activity = activity; is = asked.is; ready = both.0 };
         key = key;
         next = both.1;
         comes = subst (λ n. KeyComes from n name came key to) asked.same comes;
-      })
+      }))
 
   -- neither a turn nor a key
   pub none_goes : is_acting activity ≡ false → (is_ready activity ≡ true → slice_get (keys_of keys name) came ≡ None) → (to : OrdersState) → Moves keys from number to → ⊥
-  none_goes acting none to m = by (of_it to m)
+  none_goes acting none to m = by (of_it turns keyed reported stays keys from to number name terminal came asked.at asked.come m)
     where
       by : TurnMoves from number name to ⊎ KeyMoves keys from number name terminal came to → ⊥
       by (inl u) = others_stay reported stays from.region name terminal activity named asked.is acting u.reply to.region u.takes u.moves

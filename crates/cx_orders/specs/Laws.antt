@@ -1,6 +1,8 @@
 -- What follows of orders.
 use Rattle.std.specs.Prelude.{◌≡◌, ℕ, List, length}
-use Rattle.std.specs.List.{AllByRecursion}
+use Rattle.std.specs.List.{AllByRecursion, IsDistinct}
+use Rattle.std.specs.Map.{keys_of as names_of}
+use Rattle.cx_ebcdic.specs.Names.{is_name}
 use Rattle.cx_search.specs.Moves.{Leads}
 use Rattle.cx_region.specs.Events.{Run}
 use Rattle.cx_region.specs.declared.replies.Event.{Event}
@@ -28,3 +30,9 @@ pub record IsRun (from : OrdersState) (many : ℕ) (to : OrdersState) : Type 0 w
 abbrev pub OrdersAreRuns : Type 0
 OrdersAreRuns = (keys : List KeyLine) (from to : OrdersState) (moves : List ℕ) → Leads (Moves keys) from moves to
     → IsRun from (length moves) to
+
+-- where no two terminals have one name, a move leads to one state
+abbrev pub MovesDecide : Type 0
+MovesDecide = (keys : List KeyLine) (from one other : OrdersState) (number : ℕ)
+    → IsDistinct is_name (names_of from.region.terminals)
+    → Moves keys from number one → Moves keys from number other → one ≡ other

@@ -9,5 +9,6 @@ mod states;
 
 #[doc(hidden)]
 pub use moves::Asked;
-pub use moves::Orders;
+pub use moves::{Orders, key_of};
+pub use search::begin;
 pub use states::{Incident, IncidentAt, KeyLine, OrdersState};

@@ -3,11 +3,12 @@
 ghost use Rattle.std.specs.Prelude.{◌≡◌, ◌<◌, IfOk, IfNone, IfSome, None, if◌then◌else◌, slice_get, slice_set, true, length};
 ghost use Rattle.std.specs.Option.{option_copied};
 ghost use Rattle.cx_orders.specs.Parts.{IsAsked, is_acting};
+ghost use Rattle.cx_orders.specs.Incidents.{with_incident};
 ghost use Rattle.cx_orders.specs.Moves.{KeyComes, Moves, TurnMoves, is_ready, keys_of};
 ghost use Rattle.cx_orders.specs.declared.states.OrdersState.{OrdersState as TheState};
 
 use crate::incidents::{incident_of_key, incident_of_turn, with_incident};
-use crate::states::{KeyLine, OrdersState};
+use crate::states::{Incident, KeyLine, OrdersState};
 use cx_base_lists::List;
 use cx_ebcdic::Name4;
 use cx_look_tasks::laws::{activities_decide, waits_are_reported};
@@ -53,7 +54,7 @@ fn is_ready(activity: &Activity) -> bool
 }
 
 /// The key of a terminal before which so many come.
-fn key_of(keys: &[KeyLine], name: Name4, came: usize) -> Option<&KeyLine>
+pub fn key_of(keys: &[KeyLine], name: Name4, came: usize) -> Option<&KeyLine>
     ensures { option_copied result ≡ slice_get (keys_of keys.now name) came }
 {
     let mut left = came;
@@ -107,12 +108,37 @@ impl<S: Store + Drop> Orders<S> {
     /// The key that a terminal may send now.
     fn next_key(&self, asked: &Asked) -> Option<&KeyLine>
         ensures { option_copied result
-            ≡ (if is_ready asked.now.doing then slice_get (keys_of self.now.keys.items asked.now.name) asked.now.came else None) }
+            ≡ (if is_ready asked.now.doing
+            then slice_get (keys_of self.now.keys.items asked.now.name) asked.now.came else None) }
     {
         if !is_ready(&asked.doing) {
             return None;
         }
         key_of(self.keys.as_slice(), asked.name, asked.came)
+    }
+
+    /// The state that a move leads to, by the region after it, how many keys came, and what is kept of the move.
+    ///
+    /// An error comes only where an allocation failed.
+    fn moved(
+        &self,
+        region: &Region<S>,
+        from: &OrdersState,
+        number: usize,
+        come: List<usize>,
+        incident: Option<Incident>,
+    ) -> Result<OrdersState, AllocError>
+        ensures region { IfOk result (λ to. to.region ≡ region.now) }
+        ensures come { IfOk result (λ to. to.come ≡ come) }
+        ensures incidents { IfOk result (λ to. to.incidents ≡ with_incident number incident from.now.incidents) }
+    {
+        let incidents = with_incident(self.alloc, number, incident, from.incidents.as_slice())?;
+        let region = RegionSnapshot::take(self.alloc, region, Some(&from.region))?;
+        Ok(OrdersState {
+            region,
+            come,
+            incidents,
+        })
     }
 
     /// A turn of a terminal, from a state that the region was given.
@@ -134,18 +160,8 @@ impl<S: Store + Drop> Orders<S> {
         let reply = region.turn(asked.name)?;
         let come = List::from_slice(self.alloc, from.come.as_slice())?;
         let incident = incident_of_turn(reply);
-        let incidents = with_incident(
-            self.alloc,
-            asked.number,
-            incident,
-            from.incidents.as_slice(),
-        )?;
-        let region = RegionSnapshot::take(self.alloc, region, Some(&from.region))?;
-        Ok(OrdersState {
-            region,
-            come,
-            incidents,
-        })
+        let to = self.moved(region, from, asked.number, come, incident)?;
+        Ok(to)
     }
 
     /// A key of a terminal, from a state that the region was given.
@@ -164,25 +180,11 @@ impl<S: Store + Drop> Orders<S> {
         ensures { IfOk result (KeyComes from.now asked.now.number asked.now.name asked.now.came key.now) }
     {
         let reply = region.key(asked.name, key.aid, key.bytes.as_slice())?;
-        let come = come_with(
-            self.alloc,
-            from.come.as_slice(),
-            asked.number,
-            asked.came + 1,
-        )?;
+        let came = asked.came + 1;
+        let come = come_with(self.alloc, from.come.as_slice(), asked.number, came)?;
         let incident = incident_of_key(reply);
-        let incidents = with_incident(
-            self.alloc,
-            asked.number,
-            incident,
-            from.incidents.as_slice(),
-        )?;
-        let region = RegionSnapshot::take(self.alloc, region, Some(&from.region))?;
-        Ok(OrdersState {
-            region,
-            come,
-            incidents,
-        })
+        let to = self.moved(region, from, asked.number, come, incident)?;
+        Ok(to)
     }
 }
 

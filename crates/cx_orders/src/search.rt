@@ -14,10 +14,14 @@ use cx_storage::Store;
 use std::alloc::{AllocError, Global};
 use std::marker::PhantomData;
 
-/// The state in which orders begin: no key has come.
+/// The state of a region with so many terminals in which orders begin: no key has come.
 ///
 /// An error comes only where an allocation failed.
-fn begin(alloc: Global, region: RegionSnapshot, terminals: usize) -> Result<OrdersState, AllocError>
+pub fn begin(
+    alloc: Global,
+    region: RegionSnapshot,
+    terminals: usize,
+) -> Result<OrdersState, AllocError>
     requires { terminals ≡ length region.terminals }
     ensures { IfOk result (λ state. state ≡ begun region) }
 {

@@ -10,12 +10,13 @@ use cx_region::KeyReply;
 use cx_region_snapshot::RegionSnapshot;
 use std::hash::{Hash, Hasher};
 
-/// A key that is to come: a terminal's, with the bytes that it sends.
+/// A key that is to come: a terminal's, with the bytes that it sends, and the line of a script that asks for it.
 #[derive(Drop)]
 pub struct KeyLine {
     pub name: Name4,
     pub aid: Aid,
     pub bytes: Bytes,
+    pub line: List<u8>,
     pub ghost few: { length bytes ≤ 1920 },
 }
 

@@ -36,4 +36,5 @@ label_on _ = None
 
 -- no entry for any condition, and no exit
 abbrev pub nothing_asked : Handling
-nothing_asked = record { entries = record { of = replicate (length (Normal ∷ handled_conditions)) NoEntry }; exit = NoExit }
+nothing_asked =
+    record { entries = record { of = replicate (length (Normal ∷ handled_conditions)) NoEntry }; exit = NoExit }

@@ -18,14 +18,16 @@ use Rattle.cx_region.specs.Turn.{put_back, context_of}
 -- ---- refusals: the first that applies
 -- of a task: no command is due that could be dropped, or no area has the byte
 abbrev pub change_refusal : Change → TaskContext → Option AlterReply
-change_refusal (Byte place value) before = if is_some (byte_at before.shared.storage place) then None else Some alter.NoByte
+change_refusal (Byte place value) before =
+    if is_some (byte_at before.shared.storage place) then None else Some alter.NoByte
 change_refusal Nop before = if before.task.due then None else Some alter.NotDue
 change_refusal _ before = None
 
 unfoldable pub alter_refusal : RegionState → List ℕ → Change → Option AlterReply
 alter_refusal region name change =
     option_map_or
-    (λ terminal. option_map_or (λ task. change_refusal change (context_of region terminal task)) terminal.task (Some alter.NoTask))
+    (λ terminal. option_map_or (λ task. change_refusal change (context_of region terminal task)) terminal.task
+    (Some alter.NoTask))
     (terminal_of region name)
     (Some alter.NoSuchTerminal)
 
@@ -33,7 +35,9 @@ alter_refusal region name change =
 -- the levels, of which the current one keeps the value in the register too, where a command is due
 abbrev pub levels_with : TaskState → ℕ → ℕ → Levels
 levels_with task r value =
-    if task.due then with_current task.levels (record task.levels.current { regs = slice_set task.levels.current.regs r value }) else task.levels
+    if task.due
+    then with_current task.levels (record task.levels.current { regs = slice_set task.levels.current.regs r value })
+    else task.levels
 
 -- the task with the value in the register
 abbrev pub with_register : TaskState → ℕ → ℕ → TaskState
@@ -58,12 +62,14 @@ task_left change task = if ends_task change then None else Some task
 -- the region with what is reached after a change of the terminal's task
 abbrev pub altered_at : RegionState → List ℕ → Change → TerminalState → TaskState → RegionState
 altered_at old name change terminal task =
-    let after = after_change change (context_of old terminal task) in put_back old name after (task_left change after.task)
+    let after = after_change change (context_of old terminal task) in
+    put_back old name after (task_left change after.task)
 
 -- the region after a change that isn't refused
 unfoldable pub altered_region : RegionState → List ℕ → Change → RegionState
 altered_region old name change =
-    option_map_or (λ terminal. option_map_or (altered_at old name change terminal) terminal.task old) (terminal_of old name) old
+    option_map_or (λ terminal. option_map_or (altered_at old name change terminal) terminal.task old)
+    (terminal_of old name) old
 
 -- ---- the alteration
 -- it is refused, and all is as before; or it is done

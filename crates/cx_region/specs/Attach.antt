@@ -82,7 +82,12 @@ HasNoTaskPlaces region terminal loaded =
 -- the level with which a task begins: its program, where that is, the copy of its COMMAREA, and its DFHEISTG
 abbrev pub first_level : List ℕ → Loaded → ℕ → Places → NewLevel
 first_level program loaded len areas =
-    record { program = program; loaded = loaded; commarea = option_map (λ at. record { place = at; len = len }) areas.commarea; stg = areas.stg }
+    record {
+      program = program;
+      loaded = loaded;
+      commarea = option_map (λ at. record { place = at; len = len }) areas.commarea;
+      stg = areas.stg;
+    }
 
 unfoldable pub fresh_task : List ℕ → ℕ → ℕ → NewLevel → TaskState
 fresh_task tran number eib level =
@@ -105,8 +110,10 @@ next_number counter = if counter == 9999999 then 1 else counter + 1
 -- the key
 abbrev pub eib_at_attach : RegionState → List ℕ → List ℕ → ℕ → Aid → List Content
 eib_at_attach region name tran len aid =
-    content field.Time (packed_decimal region.time) ∷ content field.Date (packed_decimal region.date) ∷ content field.Trnid tran
-    ∷ content field.Taskn (packed_decimal (next_number region.counter)) ∷ content field.Trmid name ∷ content field.Calen (to_be_bytes w16 len)
+    content field.Time (packed_decimal region.time) ∷ content field.Date (packed_decimal region.date)
+    ∷ content field.Trnid tran
+    ∷ content field.Taskn (packed_decimal (next_number region.counter)) ∷ content field.Trmid name
+    ∷ content field.Calen (to_be_bytes w16 len)
     ∷ content field.Aid ((key_of aid).code ∷ []) ∷ []
 
 -- the bytes of the COMMAREA in its copy, where there is one
@@ -116,34 +123,44 @@ with_copy storage (Some place) bytes = after_write storage place bytes
 
 -- storage with the EIB's fields, the copy of the COMMAREA, and DFHEICAP of DFHEISTG filled
 unfoldable pub with_areas_filled : Storage → Places → List Content → List ℕ → NewLevel → Storage
-with_areas_filled storage areas fields commarea level = with_cap (with_copy (with_fields storage areas.eib fields) areas.commarea commarea) level
+with_areas_filled storage areas fields commarea level =
+    with_cap (with_copy (with_fields storage areas.eib fields) areas.commarea commarea) level
 
 -- the terminal when its task starts: the next transaction is cleared, and the whole input is held
 abbrev pub with_task : TerminalState → Input → TaskState → TerminalState
 with_task terminal input task = record terminal { input = Some input; following = None; task = Some task }
 
 -- the region with a task attached at a terminal: of this transaction, at the entry of its program
-abbrev pub with_task_attached : RegionState → List ℕ → TerminalState → Input → List ℕ → List ℕ → Loaded → Places → RegionState
+abbrev pub with_task_attached : RegionState → List ℕ → TerminalState → Input → List ℕ → List ℕ → Loaded → Places
+    → RegionState
 with_task_attached region name terminal input tran program loaded areas =
     let kept = commarea_kept terminal.following in
     let level = first_level program loaded (length kept) areas in
-    record (with_terminal region name (with_task terminal input (fresh_task tran (next_number region.counter) areas.eib level))) {
-      storage = with_areas_filled (with_task_areas region.storage (system_owner terminal.slot) (length kept) loaded.stg_len areas) areas
+    record (with_terminal region name
+    (with_task terminal input (fresh_task tran (next_number region.counter) areas.eib level))) {
+      storage =
+          with_areas_filled
+          (with_task_areas region.storage (system_owner terminal.slot) (length kept) loaded.stg_len areas) areas
           (eib_at_attach region name tran (length kept) input.aid) kept level;
       counter = next_number region.counter;
     }
 
 -- ---- the key
 -- the task is attached, with its areas in their places
-pub record AttachesTask (old : RegionState) (name : List ℕ) (terminal : TerminalState) (input : Input) (tran program : List ℕ) (loaded : Loaded) (new : RegionState) : Type 0 where
+pub record AttachesTask (old : RegionState) (name : List ℕ) (terminal : TerminalState) (input : Input)
+    (tran program : List ℕ) (loaded : Loaded) (new : RegionState) : Type 0 where
   pub areas : Places
-  pub placed : ArePlaced old.storage (system_owner terminal.slot) (length (commarea_kept terminal.following)) loaded.stg_len areas
+  pub placed : ArePlaced old.storage (system_owner terminal.slot)
+      (length (commarea_kept terminal.following)) loaded.stg_len areas
   pub after : new ≡ with_task_attached old name terminal input tran program loaded areas
 
 -- a task is attached where there are places for its areas; else the answer is NoStorage, and all is as before
-abbrev pub Attaches : RegionState → List ℕ → TerminalState → Input → List ℕ → List ℕ → Loaded → KeyReply → RegionState → Type 0
-Attaches old name terminal input tran program loaded key.Attached new = AttachesTask old name terminal input tran program loaded new
-Attaches old name terminal input tran program loaded key.NoStorage new = HasNoTaskPlaces old terminal loaded × (new ≡ old)
+abbrev pub Attaches : RegionState → List ℕ → TerminalState → Input → List ℕ → List ℕ → Loaded → KeyReply → RegionState
+    → Type 0
+Attaches old name terminal input tran program loaded key.Attached new =
+    AttachesTask old name terminal input tran program loaded new
+Attaches old name terminal input tran program loaded key.NoStorage new =
+    HasNoTaskPlaces old terminal loaded × (new ≡ old)
 Attaches old name terminal input tran program loaded _ new = ⊥
 
 -- the answer, with which all is as before
@@ -160,12 +177,14 @@ Starts old name terminal input tran reply new =
 -- of a terminal with a task: the input is held for it, unless one is held already
 abbrev pub Gives : RegionState → List ℕ → TerminalState → Input → KeyReply → RegionState → Type 0
 Gives old name terminal input reply new =
-    MatchOption terminal.input ((reply ≡ key.Given) × (new ≡ with_terminal old name (record terminal { input = Some input })))
+    MatchOption terminal.input
+    ((reply ≡ key.Given) × (new ≡ with_terminal old name (record terminal { input = Some input })))
     (λ held. OnlyAnswers key.AlreadyHeldInput old reply new)
 
 -- a key of a terminal with its input
 unfoldable pub TakesKey : RegionState → List ℕ → Input → KeyReply → RegionState → Type 0
 TakesKey old name input reply new =
     MatchOption (terminal_of old name) (OnlyAnswers key.NoSuchTerminal old reply new) (λ terminal.
-    MatchOption terminal.task (Starts old name terminal input (transaction_named terminal.following input.bytes) reply new)
+    MatchOption terminal.task
+    (Starts old name terminal input (transaction_named terminal.following input.bytes) reply new)
     (λ task. Gives old name terminal input reply new))

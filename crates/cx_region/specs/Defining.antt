@@ -14,7 +14,8 @@ use Rattle.cx_region.specs.Tables.{fresh_terminal, program_of, transaction_of, t
 
 -- the first refusal: the name is defined, the table is full, or any other
 abbrev pub entry_fault : Bool → ℕ → ℕ → Option DefineFault → Option DefineFault
-entry_fault defined count most other = if defined then Some Duplicate else if nat_le most count then Some Full else other
+entry_fault defined count most other =
+    if defined then Some Duplicate else if nat_le most count then Some Full else other
 
 -- ---- programs
 unfoldable pub program_fault : RegionState → List ℕ → Option DefineFault
@@ -52,7 +53,9 @@ unfoldable pub DefinesTerminal : RegionState → List ℕ → Result (Unit {0}) 
 DefinesTerminal old name result new =
     MatchOption (terminal_fault old name)
     ((result ≡ Ok tt)
-    × (new ≡ record old { terminals = insert_entry is_name old.terminals name (fresh_terminal (length old.terminals + 1)) }))
+    × (new ≡ record old {
+      terminals = insert_entry is_name old.terminals name (fresh_terminal (length old.terminals + 1));
+    }))
     (λ fault. (result ≡ Err fault) × (new ≡ old))
 
 -- ---- a region as it begins: there is the common work area, 512 bytes of the region's own, and nothing is defined

@@ -17,7 +17,8 @@ use Rattle.cx_region.specs.Alter.{Alters, IsAllowedChange}
 -- one event: its reply and the region after it
 unfoldable pub Applies : RegionState → Event → Reply → RegionState → Type 0
 Applies old (event.Program name image) (reply.Program result) new = DefinesProgram old name image result new
-Applies old (event.Transaction tran program) (reply.Transaction result) new = DefinesTransaction old tran program result new
+Applies old (event.Transaction tran program) (reply.Transaction result) new =
+    DefinesTransaction old tran program result new
 Applies old (event.Terminal name) (reply.Terminal result) new = DefinesTerminal old name result new
 Applies old (event.Clock time date) reply.Clock new = new ≡ record old { time = time; date = date }
 Applies old (event.Key name aid bytes) (reply.Key answer) new = TakesKey old name (input_from aid bytes) answer new
@@ -28,24 +29,29 @@ Applies old _ _ new = ⊥
 -- events one after another, with their replies
 unfoldable pub Run : RegionState → List Event → List Reply → RegionState → Type 0
 Run old [] [] new = new ≡ old
-Run old (event ∷ events) (reply ∷ replies) new = (between : RegionState) × Applies old event reply between × Run between events replies new
+Run old (event ∷ events) (reply ∷ replies) new =
+    (between : RegionState) × Applies old event reply between × Run between events replies new
 Run old _ _ new = ⊥
 
--- An event may take memory: a definition only where no refusal meets it, and a program only where storage has a place for it;
--- a key where it holds an input and none is held, or starts a task, whose transaction's program is defined and whose areas have
--- places; a turn where the terminal's task may take some; a clock and an alteration never.
+-- An event may take memory: a definition only where no refusal meets it, and a program only where storage has a place
+-- for it;
+-- a key where it holds an input and none is held, or starts a task, whose transaction's program is defined and whose
+-- areas have places; a turn where the terminal's task may take some; a clock and an alteration never.
 unfoldable pub MayTakeMemory : RegionState → Event → Type 0
-MayTakeMemory region (event.Program name image) = (program_fault region name ≡ None) × (IsProgramPlace region.storage (length image.text) None → ⊥)
+MayTakeMemory region (event.Program name image) =
+    (program_fault region name ≡ None) × (IsProgramPlace region.storage (length image.text) None → ⊥)
 MayTakeMemory region (event.Transaction tran program) = transaction_fault region tran program ≡ None
 MayTakeMemory region (event.Terminal name) = terminal_fault region name ≡ None
 MayTakeMemory region (event.Key name aid bytes) =
     IsSomeAnd (terminal_of region name) (λ terminal.
     let tran = transaction_named terminal.following (input_from aid bytes).bytes in
     MatchOption terminal.task
-    (IsSomeAnd (option_and_then (program_of region) (transaction_of region tran)) (λ loaded. HasNoTaskPlaces region terminal loaded → ⊥))
+    (IsSomeAnd (option_and_then (program_of region) (transaction_of region tran))
+    (λ loaded. HasNoTaskPlaces region terminal loaded → ⊥))
     (λ task. terminal.input ≡ None))
 MayTakeMemory region (event.Turn name) =
-    IsSomeAnd (terminal_of region name) (λ terminal. IsSomeAnd terminal.task (λ task. TakesMemory (context_of region terminal task)))
+    IsSomeAnd (terminal_of region name)
+    (λ terminal. IsSomeAnd terminal.task (λ task. TakesMemory (context_of region terminal task)))
 MayTakeMemory region _ = ⊥
 
 -- What a door for events promises, by what an event does and where it may take memory: it is answered; or it was
@@ -65,7 +71,8 @@ pub record RunStopped {S E R : Type 0} (runs : S → List E → List R → S →
   pub run : runs old (take done events) replies new
   pub due : (done ≡ 0) ⊎ IsSomeAnd (slice_get events done) (may_take new)
 
--- what the calls take: a time and a date of six and five digits, at most 1,920 bytes of input, and a register of the sixteen
+-- what the calls take: a time and a date of six and five digits, at most 1,920 bytes of input, and a register of the
+-- sixteen
 abbrev pub IsAllowed : Event → Type 0
 IsAllowed (event.Clock time date) = (time ≤ 999999) × (date ≤ 99999)
 IsAllowed (event.Key name aid bytes) = length bytes ≤ 1920

@@ -1,5 +1,5 @@
--- What holds of a region in every state that its events reach (this product's own): areas are disjoint, each task has its areas, a terminal
--- without a task owns nothing, names are distinct, and the limits are kept.
+-- What holds of a region in every state that its events reach (this product's own): areas are disjoint, each task has
+-- its areas, a terminal without a task owns nothing, names are distinct, and the limits are kept.
 use Rattle.std.specs.Prelude.{◌≡◌, ℕ, suc, ◌≤◌, Bool, true, ◌&&◌, ◌||◌, ◌==◌, List, [], ◌∷◌, length, Some, is_some, ⊤, MatchOption}
 use Rattle.std.specs.List.{AllByRecursion, IsDistinct, list_any}
 use Rattle.std.specs.Map.{keys_of}
@@ -31,7 +31,8 @@ IsOwned terminals area = (area.owner.slot == 0) || is_live terminals area.owner.
 
 pub record IsSound (region : RegionState) : Type 0 where
   pub storage : IsSoundStorage region.storage
-  pub cwa_stands : area_at region.storage 0x001000 ≡ Some (record { start = 0x001000; len = 512; owner = record { slot = 0; kind = Fixed } })
+  pub cwa_stands : area_at region.storage 0x001000
+      ≡ Some (record { start = 0x001000; len = 512; owner = record { slot = 0; kind = Fixed } })
   pub programs_distinct : IsDistinct is_name (keys_of region.programs)
   pub transactions_distinct : IsDistinct is_name (keys_of region.transactions)
   pub terminals_distinct : IsDistinct is_name (keys_of region.terminals)

@@ -30,13 +30,26 @@ pub record RegionState : Type 0 where
 
 -- what all tasks share
 abbrev pub shared_of : RegionState → SharedState
-shared_of region = record { storage = region.storage; programs = region.programs; queues = region.queues; resources = region.resources }
+shared_of region =
+    record {
+      storage = region.storage;
+      programs = region.programs;
+      queues = region.queues;
+      resources = region.resources;
+    }
 
 -- a terminal without its task
 abbrev pub terminal_entry_of : TerminalState → TerminalEntryState
-terminal_entry_of terminal = record { slot = terminal.slot; screen = terminal.screen; input = terminal.input; following = terminal.following }
+terminal_entry_of terminal =
+    record { slot = terminal.slot; screen = terminal.screen; input = terminal.input; following = terminal.following }
 
 -- the terminal of this entry, with that task
 abbrev pub terminal_with : TerminalEntryState → Option TaskState → TerminalState
 terminal_with terminal_entry task =
-    record { slot = terminal_entry.slot; screen = terminal_entry.screen; input = terminal_entry.input; following = terminal_entry.following; task = task }
+    record {
+      slot = terminal_entry.slot;
+      screen = terminal_entry.screen;
+      input = terminal_entry.input;
+      following = terminal_entry.following;
+      task = task;
+    }

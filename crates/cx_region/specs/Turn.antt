@@ -13,8 +13,8 @@ use Rattle.cx_region.specs.Tables.{terminal_of, with_terminal}
 abbrev pub context_of : RegionState → TerminalState → TaskState → TaskContext
 context_of region terminal task = context (shared_of region) (terminal_entry_of terminal) task
 
--- the region with what was reached put back, and the task that is left: what tasks share and the terminal are as there, all
--- else is as before
+-- the region with what was reached put back, and the task that is left: what tasks share and the terminal are as there,
+-- all else is as before
 abbrev pub put_back : RegionState → List ℕ → TaskContext → Option TaskState → RegionState
 put_back old name reached task =
     record (with_terminal old name (terminal_with reached.terminal_entry task)) {
@@ -29,7 +29,8 @@ abbrev pub task_after : TurnReply → TaskState → Option TaskState
 task_after reply task = if is_over reply then None else Some task
 
 -- the turn of a terminal with a task
-pub record TaskTakesTurn (old : RegionState) (name : List ℕ) (terminal : TerminalState) (task : TaskState) (reply : TurnReply) (new : RegionState) : Type 0 where
+pub record TaskTakesTurn (old : RegionState) (name : List ℕ) (terminal : TerminalState) (task : TaskState)
+    (reply : TurnReply) (new : RegionState) : Type 0 where
   pub reached : TaskContext
   pub half_turn : HalfTurn (context_of old terminal task) reply reached
   pub after : new ≡ put_back old name reached (task_after reply reached.task)
@@ -38,10 +39,12 @@ pub record TaskTakesTurn (old : RegionState) (name : List ℕ) (terminal : Termi
 unfoldable pub TakesTurn : RegionState → List ℕ → TurnReply → RegionState → Type 0
 TakesTurn old name reply new =
     MatchOption (terminal_of old name) ((reply ≡ turn.NoSuchTerminal) × (new ≡ old)) (λ terminal.
-    MatchOption terminal.task ((reply ≡ turn.Idle) × (new ≡ old)) (λ task. TaskTakesTurn old name terminal task reply new))
+    MatchOption terminal.task ((reply ≡ turn.Idle) × (new ≡ old))
+    (λ task. TaskTakesTurn old name terminal task reply new))
 
 -- the record of an abend to which it leads: that of its task's half-turn; without a task, or a terminal, there is none
 unfoldable pub TurnHasAbendRecord : RegionState → List ℕ → Option AbendRecord → Type 0
 TurnHasAbendRecord old name abend_record =
     MatchOption (terminal_of old name) (abend_record ≡ None)
-    (λ terminal. MatchOption terminal.task (abend_record ≡ None) (λ task. HasAbendRecord (context_of old terminal task) abend_record))
+    (λ terminal. MatchOption terminal.task (abend_record ≡ None)
+    (λ task. HasAbendRecord (context_of old terminal task) abend_record))

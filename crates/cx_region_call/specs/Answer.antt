@@ -22,12 +22,13 @@ unfoldable pub with_set : Storage → ℕ → EibField → Option (List ℕ) →
 with_set s eib field None = s
 with_set s eib field (Some bytes) = with_field s eib (content field bytes)
 
--- The EIB at an address. Every command writes EIBFN; EIBRCODE, with the condition's number in its first byte, and zeros;
--- and EIBRESP. EIBRSRCE, EIBAID and EIBCALEN are written where the command sets them.
+-- The EIB at an address. Every command writes EIBFN; EIBRCODE, with the condition's number in its first byte, and
+-- zeros; and EIBRESP. EIBRSRCE, EIBAID and EIBCALEN are written where the command sets them.
 unfoldable pub with_eib : Storage → ℕ → Answer → Storage
 with_eib s eib answer =
     let fields = content Fn (to_be_bytes w16 answer.function)
-    ∷ content Rcode (answer.condition ∷ 0 ∷ 0 ∷ 0 ∷ 0 ∷ 0 ∷ []) ∷ content Resp (to_be_bytes w32 answer.condition) ∷ [] in
+    ∷ content Rcode (answer.condition ∷ 0 ∷ 0 ∷ 0 ∷ 0 ∷ 0 ∷ []) ∷ content Resp (to_be_bytes w32 answer.condition)
+    ∷ [] in
     let named = with_set (with_fields s eib fields) eib Rsrce answer.resource in
     with_calen (with_set named eib Aid (option_map (λ byte. byte ∷ []) answer.aid)) eib answer.calen
 

@@ -102,12 +102,14 @@ has_label listed = listed.label == 0x80
 -- how many arguments there are: one for each present option that has one, one for each label, and RESP's
 unfoldable pub argument_count : Command → ArgumentBlock → List ListedCondition → ℕ
 argument_count command block conditions =
-    length (arguments_in (row_of command).options block.first) + count_by has_label conditions + (if has_resp block.second then 1 else 0)
+    length (arguments_in (row_of command).options block.first) + count_by has_label conditions
+    + (if has_resp block.second then 1 else 0)
 
 -- the n words from a on, where all of them are in storage
 unfoldable pub words_at : Storage → ℕ → ℕ → Option (List ℕ)
 words_at s a zero = Some []
-words_at s a (suc n) = option_and_then (λ word. option_map (λ words. word ∷ words) (words_at s (address_after a 4) n)) (word_at s a)
+words_at s a (suc n) =
+    option_and_then (λ word. option_map (λ words. word ∷ words) (words_at s (address_after a 4) n)) (word_at s a)
 
 -- the first word that has its high bit set is the last one
 unfoldable pub marks_last_alone : List ℕ → Bool
@@ -128,4 +130,10 @@ call_of s list =
     then_result (command_of block) (λ command.
     then_result (conditions_of s command block) (λ conditions.
     then_result (places_of s list (argument_count command block conditions)) (λ places.
-    Ok (record { command = command; first = block.first; second = block.second; conditions = conditions; places = places })))))
+    Ok (record {
+      command = command;
+      first = block.first;
+      second = block.second;
+      conditions = conditions;
+      places = places;
+    })))))

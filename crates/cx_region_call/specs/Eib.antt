@@ -38,7 +38,8 @@ with_fields storage eib (content ∷ contents) = with_fields (with_field storage
 -- what attach writes
 abbrev pub fields_at_attach : Begun → List Content
 fields_at_attach begun =
-    content Time (packed_decimal begun.time) ∷ content Date (packed_decimal begun.date) ∷ content Trnid begun.tran ∷ content Taskn (packed_decimal begun.number)
+    content Time (packed_decimal begun.time) ∷ content Date (packed_decimal begun.date) ∷ content Trnid begun.tran
+    ∷ content Taskn (packed_decimal begun.number)
     ∷ content Trmid begun.terminal ∷ content Calen (to_be_bytes w16 begun.calen) ∷ content Aid (begun.aid ∷ []) ∷ []
 
 -- EIBCALEN, where it is set

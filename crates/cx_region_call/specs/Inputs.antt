@@ -39,7 +39,8 @@ piece_bytes s piece = span s piece.place piece.len
 
 -- what the command reads at an option's argument, by the option's kind
 unfoldable pub input_of : Storage → Call → CommandOption → Option (List ℕ)
-input_of s call option = bytes_of s call option.name (input_len option.kind (has_option call.command call.first) (halfword_of s call Length))
+input_of s call option =
+    bytes_of s call option.name (input_len option.kind (has_option call.command call.first) (halfword_of s call Length))
 
 -- each byte that the command reads is in storage, and so is RESP's word
 unfoldable pub are_inputs_there : Storage → Call → Bool

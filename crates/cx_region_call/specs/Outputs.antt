@@ -27,9 +27,11 @@ with_output s (Some place) bytes = after_write s place bytes
 
 -- each byte of the outputs is in storage; an output whose option isn't there has none
 unfoldable pub can_put : Storage → Call → List ℕ → List Output → Bool
-can_put s call text outputs = list_all (λ output. is_room s (place_of call output.option) (bytes_from text output.source)) outputs
+can_put s call text outputs =
+    list_all (λ output. is_room s (place_of call output.option) (bytes_from text output.source)) outputs
 
 -- storage after the outputs are written in turn
 unfoldable pub put_out : Storage → Call → List ℕ → List Output → Storage
 put_out s call text [] = s
-put_out s call text (output ∷ rest) = put_out (with_output s (place_of call output.option) (bytes_from text output.source)) call text rest
+put_out s call text (output ∷ rest) =
+    put_out (with_output s (place_of call output.option) (bytes_from text output.source)) call text rest

@@ -14,4 +14,5 @@ use Rattle.cx_region_state.specs.declared.verdict.Verdict.{Verdict}
 use Rattle.cx_region_commands.specs.Common.{does, has}
 
 unfoldable pub abend_row : Storage → Call → Verdict
-abend_row storage call = does (AbendsWith (unwrap_or (bytes_of storage call Abcode 4) (abend_code Unnamed)) (has call Cancel))
+abend_row storage call =
+    does (AbendsWith (unwrap_or (bytes_of storage call Abcode 4) (abend_code Unnamed)) (has call Cancel))

@@ -30,7 +30,8 @@ JudgedBy command.HandleCondition call r verdict = verdict ≡ handle_row call
 JudgedBy command.IgnoreCondition call r verdict = verdict ≡ ignore_row call
 JudgedBy command.PushHandle call r verdict = verdict ≡ push_row r.task.levels.current.handles.kept
 JudgedBy command.PopHandle call r verdict = verdict ≡ pop_row r.task.levels.current.handles.kept
-JudgedBy command.Receive call r verdict = verdict ≡ receive_row r.terminal_entry.input (length_option r.shared.storage call)
+JudgedBy command.Receive call r verdict =
+    verdict ≡ receive_row r.terminal_entry.input (length_option r.shared.storage call)
 JudgedBy command.WriteqTs call r verdict = verdict ≡ writeq_row r.shared.storage r.shared.queues call
 JudgedBy command.ReadqTs call r verdict = ReadqRow r.shared.storage r.shared.queues call verdict
 JudgedBy command.DeleteqTs call r verdict = verdict ≡ deleteq_row r.shared.storage r.shared.queues call

@@ -1,6 +1,7 @@
 -- GETMAIN (Application Programmer's Reference Manual, SC33-0077, "Storage Control").
 --   GETMAIN SET(pointer, out) LENGTH(halfword without a sign, in) [INITIMG(byte, in)] [NOSUSPEND]
--- LENGERR: LENGTH is 0 or above 65,520. NOSTG: task storage has no place. Else the task gets an area at the least place, each byte
+-- LENGERR: LENGTH is 0 or above 65,520. NOSTG: task storage has no place. Else the task gets an area at the least
+-- place, each byte
 -- INITIMG or zero; SET gets its address. Reply: Performed.
 use Rattle.std.specs.Prelude.{◌≡◌, ℕ, Bool, ◌&&◌, nat_le, [], ◌∷◌, Option, Some, None, unwrap_or, slice_index, MatchBool}
 use Rattle.std.specs.Option.{option_map_or}
@@ -31,7 +32,8 @@ fill_byte storage call = option_map_or (λ bytes. slice_index bytes 0) (bytes_of
 -- by the area's place
 abbrev pub gets : ℕ → ℕ → Option ℕ → Verdict
 gets len byte None = condition_alone Nostg
-gets len byte (Some place) = Meets Normal (output Set (Word place) ∷ []) (Gets (record { place = place; len = len; fill = Byte byte }))
+gets len byte (Some place) =
+    Meets Normal (output Set (Word place) ∷ []) (Gets (record { place = place; len = len; fill = Byte byte }))
 
 unfoldable pub GetmainRow : Storage → Call → Verdict → Type 0
 GetmainRow storage call verdict =

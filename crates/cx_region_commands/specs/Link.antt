@@ -1,7 +1,7 @@
 -- LINK (Application Programmer's Reference Manual, SC33-0077, "Program Control").
 --   LINK PROGRAM(name) [COMMAREA(address) LENGTH(halfword, in)]
--- LENGERR: LENGTH is negative. PGMIDERR: no such program. A 17th level abends XLVL; no place for DFHEISTG abends XSTG. Else a
--- level of the program begins; it finds the COMMAREA where the caller has it. Reply: Entered.
+-- LENGERR: LENGTH is negative. PGMIDERR: no such program. A 17th level abends XLVL; no place for DFHEISTG abends XSTG.
+-- Else a level of the program begins; it finds the COMMAREA where the caller has it. Reply: Entered.
 use Rattle.std.specs.Prelude.{◌≡◌, ℕ, List, length, nat_lt, Option, Some, None, MatchOption, MatchBool}
 use Rattle.cx_base_commands.specs.declared.abends.Abend.TheVariants as abend
 use Rattle.cx_base_commands.specs.declared.conditions.Condition.TheVariants.{Lengerr, Pgmiderr}
@@ -33,4 +33,5 @@ unfoldable pub LinkRow : Storage → List (List ℕ × Loaded) → Levels → Ca
 LinkRow storage programs levels call verdict =
     MatchBool (is_length_negative storage call)
     (verdict ≡ condition_alone Lengerr)
-    (MatchOption (named_program storage call programs) (verdict ≡ condition_alone Pgmiderr) (λ called. Links storage call levels called verdict))
+    (MatchOption (named_program storage call programs) (verdict ≡ condition_alone Pgmiderr)
+    (λ called. Links storage call levels called verdict))

@@ -1,8 +1,9 @@
 -- RETURN (Application Programmer's Reference Manual, SC33-0077, "Program Control").
 --   RETURN [TRANSID(name)] [COMMAREA(bytes, in) LENGTH(halfword, in)]
--- At a lower level INVREQ: TRANSID or COMMAREA is there; else the level ends, and the linking one goes on. Reply: Returned.
--- At the highest level INVREQ: COMMAREA is there without TRANSID; LENGERR: LENGTH is negative; else the task ends, and TRANSID
--- and a copy of the COMMAREA are kept for the terminal. Reply: Ended.
+-- At a lower level INVREQ: TRANSID or COMMAREA is there; else the level ends, and the linking one goes on. Reply:
+-- Returned.
+-- At the highest level INVREQ: COMMAREA is there without TRANSID; LENGERR: LENGTH is negative; else the task ends, and
+-- TRANSID and a copy of the COMMAREA are kept for the terminal. Reply: Ended.
 use Rattle.std.specs.Prelude.{◌&&◌, ◌||◌, not, List, [], ◌∷◌, Option, if◌then◌else◌}
 use Rattle.std.specs.Option.{option_map}
 use Rattle.cx_base_commands.specs.declared.conditions.Condition.TheVariants.{Invreq, Lengerr}
@@ -18,7 +19,8 @@ use Rattle.cx_region_commands.specs.Common.{commarea_of, does, has, condition_al
 
 -- what the terminal's next key attaches
 unfoldable pub next_of : Storage → Call → Option Next
-next_of storage call = option_map (λ tran. record { tran = tran; commarea = commarea_of storage call }) (bytes_of storage call Transid 4)
+next_of storage call =
+    option_map (λ tran. record { tran = tran; commarea = commarea_of storage call }) (bytes_of storage call Transid 4)
 
 abbrev pub highest_return : Storage → Call → Verdict
 highest_return storage call =

@@ -27,7 +27,7 @@ use Rattle.cx_region_commands.specs.ReadqTs.{ReadqRow, Reads, ReadsItem, item_as
 use Rattle.cx_region_commands.specs.Xctl.{Copies, Transfers, XctlRow, XctlTo, copying_to, replaces}
 use Rattle.cx_region_commands.specs.declared.common.Called.{Called}
 use Rattle.cx_region_commands.specs.declared.readq_ts.Reading.{Reading}
-use Rattle.cx_region_call.specs.Inputs.{bytes_of, is_length_negative}
+use Rattle.cx_region_call.specs.Inputs.{is_length_negative}
 use Rattle.cx_region_call.specs.declared.call.CallFault.{CallFault}
 use Rattle.cx_region_call.specs.declared.inputs.StorageSpan.{StorageSpan}
 use Rattle.cx_region_state.specs.Areas.{bytes_in, first_of_tasks, last_of_tasks, with_copy_area}

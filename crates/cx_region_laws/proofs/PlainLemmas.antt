@@ -15,25 +15,24 @@ use Rattle.cx_program.specs.declared.entries.Handling.{Handling}
 use Rattle.cx_program.specs.declared.level.Level.{Level}
 use Rattle.cx_service.specs.declared.faults.ServiceFault.{ServiceFault}
 use Rattle.cx_service.specs.declared.faults.ServiceFault.TheVariants as fault
-use Rattle.cx_service.specs.declared.resources.ResourceName.{ResourceName}
 use Rattle.cx_service.specs.Queues.{Queues, count_of, read_fault, rewrite_fault, write_fault}
 use Rattle.cx_service.specs.Resources.{enq_fault}
-use Rattle.cx_region_call.specs.Call.{Call, place_of}
+use Rattle.cx_region_call.specs.Call.{Call}
 use Rattle.cx_region_call.specs.declared.inputs.StorageSpan.{StorageSpan}
 use Rattle.cx_region_call.specs.declared.outputs.Output.{Output}
 use Rattle.cx_region_call.specs.declared.outputs.OutputValue.{OutputValue}
 use Rattle.cx_region_call.specs.declared.outputs.OutputValue.TheVariants.{Half, Text, Word}
-use Rattle.cx_region_call.specs.Inputs.{bytes_of, halfword_of, is_length_negative, length_option, piece_of}
+use Rattle.cx_region_call.specs.Inputs.{halfword_of, is_length_negative, length_option}
 use Rattle.cx_region_state.specs.Areas.{IsTaskPlace}
 use Rattle.cx_region_state.specs.State.{Input, TaskContext}
 use Rattle.cx_region_state.specs.declared.verdict.TaskChange.{TaskChange}
 use Rattle.cx_region_state.specs.declared.verdict.TaskChange.TheVariants.{Nothing, Makes, Ends, Gets}
 use Rattle.cx_region_state.specs.declared.verdict.Copying.{Copying}
-use Rattle.cx_region_state.specs.declared.verdict.Ended.TheVariants.{Dequeues, Frees}
+use Rattle.cx_region_state.specs.declared.verdict.Ended.TheVariants.{Frees}
 use Rattle.cx_region_state.specs.declared.verdict.Verdict.{Verdict}
 use Rattle.cx_region_state.specs.declared.verdict.Verdict.TheVariants.{Meets, Refuses, Waits}
 use Rattle.cx_region_commands.specs.declared.common.Called.{Called}
-use Rattle.cx_region_commands.specs.Common.{commarea_of, does, has, name_at, named_program, condition_alone, piece_at, place_at}
+use Rattle.cx_region_commands.specs.Common.{commarea_of, has, name_at, named_program, condition_alone, piece_at, place_at}
 use Rattle.cx_region_commands.specs.Services.{fault_or_verdict}
 use Rattle.cx_region_commands.specs.Abend.{abend_row}
 use Rattle.cx_region_commands.specs.Address.{address_row}

@@ -26,7 +26,7 @@ use Rattle.cx_region_commands.specs.CommandVerdicts.{HasVerdict, JudgedBy}
 use Rattle.cx_region_commands.specs.ReadqTs.{ReadqRow, Reads, ReadsItem, item_asked, reading_of, reads_into}
 use Rattle.cx_region_commands.specs.Return.{highest_return, next_of, return_row}
 use Rattle.cx_region_commands.specs.Suspend.{suspend_row}
-use Rattle.cx_region_commands.specs.Facts.FitsParts.{by_option, by_test}
+use Rattle.cx_region_commands.specs.Facts.FitsParts.{by_test}
 use Rattle.cx_region_task.specs.Facts.Met.{to_be_done}
 use Rattle.cx_region_task.specs.Changes.{change_takes_memory}
 use Rattle.cx_region_laws.specs.Laws.TaskMemory.{OnlyTheseTakeMemory, takes_memory}

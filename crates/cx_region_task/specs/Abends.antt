@@ -26,7 +26,8 @@ task_ended r =
 
 -- an abend's end, at which no exit is looked at, leaves no next transaction
 abbrev pub end_without_next : TaskContext → TaskContext
-end_without_next r = let over = task_ended r in record over { terminal_entry = record over.terminal_entry { following = None } }
+end_without_next r =
+    let over = task_ended r in record over { terminal_entry = record over.terminal_entry { following = None } }
 
 -- ---- exits
 -- the area of a level's DFHEISTG is freed
@@ -42,7 +43,8 @@ pub record Unwound : Type 0 where
 -- current level then
 unfoldable pub unwound : ℕ → List Level → Level → Storage → Unwound
 unwound (suc n) (caller ∷ callers) current storage = unwound n callers caller (without_stg current storage)
-unwound _ callers current storage = record { levels = record { callers = callers; current = current }; storage = storage }
+unwound _ callers current storage =
+    record { levels = record { callers = callers; current = current }; storage = storage }
 
 -- the level with its exit turned off
 abbrev pub with_exit_off : Level → Level
@@ -50,10 +52,13 @@ with_exit_off level = record level { handles = put_exit level.handles (turned_of
 
 -- what is left where the levels below the one at an index, counted from 0, the highest, have ended
 abbrev pub left_at : ℕ → TaskState → Storage → Unwound
-left_at index task storage = unwound (length task.levels.callers - index) task.levels.callers task.levels.current storage
+left_at index task storage =
+    unwound (length task.levels.callers - index) task.levels.callers task.levels.current storage
 
--- The exit of the level at an index takes the abend: the levels below it end. EIBCALEN is the level's length; the task has
--- the registers and code that the level kept, R15 the label, and next the label; the exit is off, and no command is due.
+-- The exit of the level at an index takes the abend: the levels below it end. EIBCALEN is the level's length; the task
+-- has
+-- the registers and code that the level kept, R15 the label, and next the label; the exit is off, and no command is
+-- due.
 unfoldable pub exit_storage : ℕ → TaskState → Storage → Storage
 exit_storage index task storage =
     let left = left_at index task storage in with_calen left.storage task.eib (Some left.levels.current.calen)
@@ -89,7 +94,8 @@ AbendsAt None code before reply after = (reply ≡ turn.Abended code) × (after 
 AbendsAt (Some index) code before reply after = (reply ≡ turn.TookExit code) × (after ≡ exit_taken index before)
 
 -- the task abends with this code; the flag says that no exit is looked at
-pub record Abends (code : List ℕ) (cancel : Bool) (before : TaskContext) (reply : TurnReply) (after : TaskContext) : Type 0 where
+pub record Abends (code : List ℕ) (cancel : Bool) (before : TaskContext) (reply : TurnReply) (after : TaskContext)
+    : Type 0 where
   pub exit : Option ℕ
   pub takes : IsExit cancel before.task.levels exit
   pub ends : AbendsAt exit code before reply after

@@ -1,4 +1,5 @@
--- What each change of a command does (Application Programmer's Reference Manual, SC33-0077, the section of each command).
+-- What each change of a command does (Application Programmer's Reference Manual, SC33-0077, the section of each
+-- command).
 -- What is made is made before the outputs are written, and what is ended or freed after RESP's word.
 use Rattle.std.specs.Prelude.{◌≡◌, ℕ, Bool, true, false, List, [], ◌∷◌, replicate, slice_get, Option, Some, None, is_some, unwrap_or}
 use Rattle.std.specs.Option.{option_map, option_map_or}
@@ -47,7 +48,8 @@ abbrev pub with_resources : TaskContext → Resources → TaskContext
 with_resources r resources = record r { shared = record r.shared { resources = resources } }
 
 abbrev pub with_handles : TaskState → Handles → TaskState
-with_handles task handles = record task { levels = with_current task.levels (record task.levels.current { handles = handles }) }
+with_handles task handles =
+    record task { levels = with_current task.levels (record task.levels.current { handles = handles }) }
 
 -- ---- handles
 -- HANDLE CONDITION: a label takes control; without one the condition has no entry any more
@@ -74,8 +76,10 @@ after_request request.ExitOn handles = put_exit handles (turned_on handles.activ
 -- ---- made: before the outputs
 -- the text is shown, and nothing else changes
 pub record ShowsPiece (piece : StorageSpan) (erase : Bool) (before after : TaskContext) : Type 0 where
-  pub text : ShowsText before.terminal_entry.screen (bytes_in before.shared.storage piece) erase after.terminal_entry.screen
-  pub others : after ≡ record before { terminal_entry = record before.terminal_entry { screen = after.terminal_entry.screen } }
+  pub text : ShowsText before.terminal_entry.screen (bytes_in before.shared.storage piece) erase
+      after.terminal_entry.screen
+  pub others : after
+      ≡ record before { terminal_entry = record before.terminal_entry { screen = after.terminal_entry.screen } }
 
 -- what an area is filled with
 abbrev pub fill_bytes : Fill → ℕ → Queues → List ℕ
@@ -83,7 +87,8 @@ fill_bytes (Byte b) len queues = replicate len b
 fill_bytes (Item name n) len queues = unwrap_or (item_of queues name n) []
 
 unfoldable pub with_got : Storage → Queues → ℕ → Got → Storage
-with_got storage queues slot got = with_filled storage got.place got.len (got_owner slot) (fill_bytes got.fill got.len queues)
+with_got storage queues slot got =
+    with_filled storage got.place got.len (got_owner slot) (fill_bytes got.fill got.len queues)
 
 -- the next transaction, with the COMMAREA's bytes; none without one
 unfoldable pub kept_next : Storage → Option Next → Option NextTransaction
@@ -113,11 +118,14 @@ AppliesBefore (Makes (made.Handles request)) before after =
     after ≡ record before { task = with_handles before.task (after_request request before.task.levels.current.handles) }
 AppliesBefore (Gets got) before after =
     after ≡ with_storage before (with_got before.shared.storage before.shared.queues before.terminal_entry.slot got)
-AppliesBefore (Enters level) before after = after ≡ with_storage before (with_stg before.shared.storage before.terminal_entry.slot level)
+AppliesBefore (Enters level) before after =
+    after ≡ with_storage before (with_stg before.shared.storage before.terminal_entry.slot level)
 AppliesBefore (Replaces copying level) before after =
     after ≡ with_storage before (with_replacement before.shared.storage before.terminal_entry.slot copying level)
 AppliesBefore (TaskEnds next) before after =
-    after ≡ record before { terminal_entry = record before.terminal_entry { following = kept_next before.shared.storage next } }
+    after ≡ record before {
+      terminal_entry = record before.terminal_entry { following = kept_next before.shared.storage next };
+    }
 AppliesBefore _ before after = after ≡ before
 
 -- ---- the outputs, of the text that the command hands over
@@ -125,14 +133,18 @@ unfoldable pub write_outputs : Call → List Output → TaskChange → TaskConte
 write_outputs call outputs change r = with_storage r (put_out r.shared.storage call (handed_over change r) outputs)
 
 -- ---- the report in the EIB, and RESP's word
--- What a change adds to it: RECEIVE the key of its input; a level that begins the length of its COMMAREA; RETURN to a level,
--- which goes on after its LINK, that command and the EIBCALEN of the level.
+-- What a change adds to it: RECEIVE the key of its input; a level that begins the length of its COMMAREA; RETURN to a
+-- level, which goes on after its LINK, that command and the EIBCALEN of the level.
 abbrev pub with_change : TaskChange → TaskContext → Answer → Answer
-with_change (Ends TakesInput) r answer = record answer { aid = option_map (λ held. (key_of held.aid).code) r.terminal_entry.input }
+with_change (Ends TakesInput) r answer =
+    record answer { aid = option_map (λ held. (key_of held.aid).code) r.terminal_entry.input }
 with_change (Enters level) r answer = record answer { calen = Some (length_or_zero level.commarea) }
 with_change (Replaces copying level) r answer = record answer { calen = Some (length_or_zero level.commarea) }
 with_change LevelEnds r answer =
-    record answer { function = (row_of Link).function; calen = option_map (λ caller. caller.calen) (slice_get r.task.levels.callers 0) }
+    record answer {
+      function = (row_of Link).function;
+      calen = option_map (λ caller. caller.calen) (slice_get r.task.levels.callers 0);
+    }
 with_change _ r answer = answer
 
 unfoldable pub report_of : Call → Condition → TaskChange → TaskContext → Answer
@@ -164,10 +176,13 @@ apply_after (Gets got) r = read_for got.fill r
 apply_after _ r = r
 
 -- ---- all of it, in its order: the inputs and the report's resource are those that the command found
-pub record Commits (call : Call) (condition : Condition) (outputs : List Output) (change : TaskChange) (before after : TaskContext) : Type 0 where
+pub record Commits (call : Call) (condition : Condition) (outputs : List Output) (change : TaskChange)
+    (before after : TaskContext) : Type 0 where
   pub made : TaskContext
   pub applied : AppliesBefore change before made
-  pub committed : after ≡ apply_after change (write_report call (report_of call condition change before) (write_outputs call outputs change made))
+  pub committed : after
+      ≡ apply_after change
+      (write_report call (report_of call condition change before) (write_outputs call outputs change made))
 
 -- ---- memory: the changes that take some
 abbrev pub change_takes_memory : TaskChange → Bool

@@ -37,7 +37,8 @@ without_wait _ chosen = chosen
 unfoldable pub choice_for : Call → Entries → Condition → Choice
 choice_for call entries condition =
     without_wait (has_option call.command call.first Nosuspend)
-    (if has_nohandle call.second || is_some (resp_place call) then choice_unhandled condition else choice_by entries condition)
+    (if has_nohandle call.second || is_some (resp_place call) then choice_unhandled condition
+    else choice_by entries condition)
 
 -- ---- the way
 abbrev pub continuation_chosen : Choice → Continuation
@@ -60,7 +61,8 @@ is_normal Normal = true
 is_normal _ = false
 
 unfoldable pub continuation_of : Call → Entries → Condition → TaskChange → Continuation
-continuation_of call entries condition change = if is_normal condition then continuation_by change else continuation_chosen (choice_for call entries condition)
+continuation_of call entries condition change =
+    if is_normal condition then continuation_by change else continuation_chosen (choice_for call entries condition)
 
 abbrev pub is_wait : Continuation → Bool
 is_wait Waits = true
@@ -88,7 +90,8 @@ at_entry task level levels =
 
 -- LINK: the level begins under the current one
 unfoldable pub enter_level : NewLevel → TaskContext → TaskContext
-enter_level level r = record r { task = at_entry r.task level (with_called_level r.task.levels (entry_level level r.task.eib)) }
+enter_level level r =
+    record r { task = at_entry r.task level (with_called_level r.task.levels (entry_level level r.task.eib)) }
 
 -- XCTL: the level begins in place of the current one, whose DFHEISTG is freed
 unfoldable pub replace_level : NewLevel → TaskContext → TaskContext
@@ -98,8 +101,8 @@ replace_level level r =
       task = at_entry r.task level (with_current r.task.levels (entry_level level r.task.eib));
     }
 
--- RETURN: the current level ends, and its DFHEISTG is freed; the linking level goes on after its LINK, with the registers
--- and code that it kept
+-- RETURN: the current level ends, and its DFHEISTG is freed; the linking level goes on after its LINK, with the
+-- registers and code that it kept
 abbrev pub returned_to : List Level → TaskContext → TaskContext
 returned_to [] r = r
 returned_to (caller ∷ callers) r =
@@ -107,7 +110,11 @@ returned_to (caller ∷ callers) r =
       shared = record r.shared { storage = without_stg r.task.levels.current r.shared.storage };
       task =
           gone_on
-          (record r.task { levels = record { callers = callers; current = caller }; regs = caller.regs; cc = caller.cc });
+          (record r.task {
+            levels = record { callers = callers; current = caller };
+            regs = caller.regs;
+            cc = caller.cc;
+          });
     }
 
 unfoldable pub return_to_caller : TaskContext → TaskContext
@@ -116,7 +123,8 @@ return_to_caller r = returned_to r.task.levels.callers r
 -- the task goes its way, with a condition, from the state in which all that the command does is done
 unfoldable pub Goes : Continuation → Condition → TaskContext → TurnReply → TaskContext → Type 0
 Goes GoesOn condition committed reply after = (reply ≡ turn.Performed condition) × (after ≡ on_its_way committed)
-Goes (TakesLabel label) condition committed reply after = (reply ≡ turn.TookLabel condition) × (after ≡ at_label label committed)
+Goes (TakesLabel label) condition committed reply after =
+    (reply ≡ turn.TookLabel condition) × (after ≡ at_label label committed)
 Goes Waits condition committed reply after = (reply ≡ turn.Waiting) × (after ≡ committed)
 Goes (Abends code cancel) condition committed reply after = AbendsWith code cancel committed reply after
 Goes (Enters level) condition committed reply after = (reply ≡ turn.Entered) × (after ≡ enter_level level committed)

@@ -32,7 +32,8 @@ has_room call outputs change r = can_put r.shared.storage call (handed_over chan
 
 -- the way of the task
 abbrev pub continuation_at : Call → Condition → TaskChange → TaskContext → Continuation
-continuation_at call condition change r = continuation_of call r.task.levels.current.handles.active.entries condition change
+continuation_at call condition change r =
+    continuation_of call r.task.levels.current.handles.active.entries condition change
 
 -- the resource that the command names
 abbrev pub resource_waited : Storage → Call → Option ResourceName
@@ -52,7 +53,8 @@ decision_by call (Meets condition outputs change) r =
     let continuation = continuation_at call condition change r in
     if not (has_room call outputs change r) then decision.Refuse (Some call) Xarg
     else if is_wait continuation then decision.Wait call (wait_for condition r.shared.storage call)
-    else decision.Act (record { call = call; condition = condition; outputs = outputs; change = change; continuation = continuation })
+    else decision.Act
+    (record { call = call; condition = condition; outputs = outputs; change = change; continuation = continuation })
 
 -- the command, where its argument list can be read
 abbrev pub command_of : Decision → Option Command

@@ -1,6 +1,7 @@
--- The command that is due is decided, and the decision carried out (Application Programmer's Reference Manual, SC33-0077,
--- "Argument Values"; the order of the tests is this product's own): its list is read as a call, its inputs are tested, and
--- its row judges it.
+-- The command that is due is decided, and the decision carried out (Application Programmer's Reference Manual,
+-- SC33-0077,
+-- "Argument Values"; the order of the tests is this product's own): its list is read as a call, its inputs are tested,
+-- and its row judges it.
 use Rattle.std.specs.Prelude.{◌≡◌, ℕ, false, if◌then◌else◌, MatchBool, MatchResult, Option, Some, None, slice_index}
 use Rattle.cx_base_commands.specs.declared.abends.Abend.{Abend}
 use Rattle.cx_base_commands.specs.declared.abends.Abend.TheVariants as abend
@@ -43,12 +44,13 @@ pub record DecidesCall (call : Call) (r : TaskContext) (decided : Decision) : Ty
   pub judged : HasVerdict call r verdict
   pub is : decided ≡ decision_by call verdict r
 
--- The command that is due: it is refused where its list can't be read, and where an input's byte, or one of RESP's word,
--- isn't in storage.
+-- The command that is due: it is refused where its list can't be read, and where an input's byte, or one of RESP's
+-- word, isn't in storage.
 unfoldable pub Decides : TaskContext → Decision → Type 0
 Decides r decided =
     MatchResult (call_of r.shared.storage (list_of r.task))
-    (λ call. MatchBool (are_inputs_there r.shared.storage call) (DecidesCall call r decided) (decided ≡ decision.Refuse (Some call) abend.Xarg))
+    (λ call. MatchBool (are_inputs_there r.shared.storage call) (DecidesCall call r decided)
+    (decided ≡ decision.Refuse (Some call) abend.Xarg))
     (λ fault. decided ≡ decision.Refuse None (fault_abend fault))
 
 -- ---- carried out
@@ -71,7 +73,8 @@ CarriesOut (decision.Act act) before reply after = Does act before reply after
 -- ---- why it leads to an abend
 -- by the way of the task: an abend without a condition is one that the program asked for
 abbrev pub continuation_cause : Continuation → Condition → Option Cause
-continuation_cause (continuation.Abends code cancel) condition = Some (if is_normal condition then cause.Asked else cause.Met condition)
+continuation_cause (continuation.Abends code cancel) condition =
+    Some (if is_normal condition then cause.Asked else cause.Met condition)
 continuation_cause _ condition = None
 
 abbrev pub decision_cause : Decision → Option Cause

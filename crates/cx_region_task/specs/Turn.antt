@@ -67,7 +67,8 @@ halt_cause (halt.Interrupt interruption place) = Some (cause.Interrupted interru
 halt_cause halt.Limit = Some cause.Limit
 
 -- instructions run; where they lead to an abend, its record is of the machine as they left it
-pub record RunsOn (before : TaskContext) (reply : TurnReply) (abend_record : Option AbendRecord) (after : TaskContext) : Type 0 where
+pub record RunsOn (before : TaskContext) (reply : TurnReply) (abend_record : Option AbendRecord) (after : TaskContext)
+    : Type 0 where
   pub how : Halt
   pub between : TaskContext
   pub advances : Advances most_steps (machine_of before) how (machine_of between)
@@ -75,12 +76,15 @@ pub record RunsOn (before : TaskContext) (reply : TurnReply) (abend_record : Opt
   pub ends : EndsRun how between reply after
   pub recorded : abend_record ≡ option_map (abend_record_with None (machine_of between)) (halt_cause how)
 
--- the command that is due is performed; where it leads to an abend, its record is of the machine as the command found it
-pub record PerformsCommand (before : TaskContext) (reply : TurnReply) (abend_record : Option AbendRecord) (after : TaskContext) : Type 0 where
+-- the command that is due is performed; where it leads to an abend, its record is of the machine as the command found
+-- it
+pub record PerformsCommand (before : TaskContext) (reply : TurnReply) (abend_record : Option AbendRecord)
+    (after : TaskContext) : Type 0 where
   pub decided : Decision
   pub decides : Decides before decided
   pub carries : CarriesOut decided before reply after
-  pub recorded : abend_record ≡ option_map (abend_record_with (command_of decided) (machine_of before)) (decision_cause decided)
+  pub recorded : abend_record
+      ≡ option_map (abend_record_with (command_of decided) (machine_of before)) (decision_cause decided)
 
 -- one half-turn of a live task, with the record of an abend to which it leads
 unfoldable pub HalfTurnWith : TaskContext → TurnReply → Option AbendRecord → TaskContext → Type 0

@@ -50,17 +50,17 @@ source_reported language number block text make (Err prepare.Memory) fault e =
     let same : Memory ≡ fault = cc in subst (Reported language number (Some block) text) same tt
 
 end_reported : {A : Type 0} (language : Language A) (number : ℕ) (block : Block) (text : List ℕ) (has : Body) (fault : RunFault)
-    → block_end language block.line block.name has ≡ Err fault → Reported language number (Some block) text fault
-end_reported language number block text (kind.Image stg_len bytes) fault e = cc
-end_reported language number block text (kind.Lines lines) fault e = cc
-end_reported language number block text (kind.Source wanted lines) fault e =
+    → block_end language block.line has ≡ Err fault → Reported language number (Some block) text fault
+end_reported language number block text (kind.Image name stg_len bytes) fault e = cc
+end_reported language number block text (kind.Lines heading lines) fault e = cc
+end_reported language number block text (kind.Source name wanted lines) fault e =
     source_reported language number block text _ (prepared_of wanted.listing wanted.disassembly lines) fault e
 
 within_reported : {A : Type 0} (language : Language A) (number : ℕ) (block : Block) (text : List ℕ) (end : Bool) (fault : RunFault) → bytes_eq text (codes "/*") ≡ end
-    → cond end (block_end language block.line block.name block.body) (ok_or (option_map block_step (with_line block text)) (BadLine number)) ≡ Err fault → Reported language number (Some block) text fault
+    → cond end (block_end language block.line block.body) (ok_or (option_map block_step (with_line language block text)) (BadLine number)) ≡ Err fault → Reported language number (Some block) text fault
 within_reported language number block text true fault b e = end_reported language number block text block.body fault e
 within_reported language number block text false fault b e =
-    let u = unreported (with_line block text) block_step number fault e in
+    let u = unreported (with_line language block text) block_step number fault e in
     reported language number (Some block) text fault u.1 (inr (b, u.0))
 
 in_reported : {A : Type 0} (language : Language A) (number : ℕ) (block : Option Block) (text : List ℕ) (long : Bool) (fault : RunFault) → long ≡ is_too_long text
@@ -85,7 +85,7 @@ began_line number None step e = cc
 began_line number (Some line.Blank) step e = let same : step_of number line.Blank ≡ step = cc in subst (Began number None) same tt
 began_line number (Some (line.Image name len)) step e = let same : step_of number (line.Image name len) ≡ step = cc in subst (Began number None) same (refl, refl)
 began_line number (Some (line.Source name wanted)) step e = let same : step_of number (line.Source name wanted) ≡ step = cc in subst (Began number None) same (refl, refl)
-began_line number (Some (line.Lines name)) step e = let same : step_of number (line.Lines name) ≡ step = cc in subst (Began number None) same (refl, refl)
+began_line number (Some (line.Lines heading)) step e = let same : step_of number (line.Lines heading) ≡ step = cc in subst (Began number None) same (refl, refl)
 began_line number (Some (line.Action a)) step e = let same : step_of number (line.Action a) ≡ step = cc in subst (Began number None) same tt
 
 began_more : {A : Type 0} (number : ℕ) (block : Block) (more : Option Block) (step : LineStep A) → IfSome more (λ next. next.line ≡ block.line)
@@ -95,7 +95,7 @@ began_more number block (Some next) step h e = let same : block_step next ≡ st
 
 -- one more line leaves a block that the same line began
 line_kept : (block : Block) (more : Option Body)
-    → IfSome (option_map (λ it. let next : Block = record { line = block.line; name = block.name; body = it } in next) more) (λ next. next.line ≡ block.line)
+    → IfSome (option_map (λ it. let next : Block = record { line = block.line; body = it } in next) more) (λ next. next.line ≡ block.line)
 line_kept block None = tt
 line_kept block (Some it) = refl
 
@@ -109,17 +109,17 @@ began_source : {A : Type 0} (language : Language A) (number : ℕ) (block : Bloc
 began_source language number block make (Err fault) step e = cc
 began_source language number block make (Ok prepared) step e = began_done language number block (make prepared) step e
 
-began_end : {A : Type 0} (language : Language A) (number : ℕ) (block : Block) (has : Body) (step : LineStep A) → block_end language block.line block.name has ≡ Ok step → Began number (Some block) step
-began_end language number block (kind.Image stg_len text) step e = began_done language number block _ step e
-began_end language number block (kind.Lines lines) step e = began_done language number block _ step e
-began_end language number block (kind.Source wanted lines) step e =
-    began_source language number block (λ made. Some (language.of_source block.name lines (action.Source block.name made.text made.image)))
+began_end : {A : Type 0} (language : Language A) (number : ℕ) (block : Block) (has : Body) (step : LineStep A) → block_end language block.line has ≡ Ok step → Began number (Some block) step
+began_end language number block (kind.Image name stg_len text) step e = began_done language number block _ step e
+began_end language number block (kind.Lines heading lines) step e = began_done language number block _ step e
+began_end language number block (kind.Source name wanted lines) step e =
+    began_source language number block (λ made. Some (language.of_source name lines (action.Source name made.text made.image)))
     (prepared_of wanted.listing wanted.disassembly lines) step e
 
 began_within : {A : Type 0} (language : Language A) (number : ℕ) (block : Block) (text : List ℕ) (end : Bool) (step : LineStep A)
-    → cond end (block_end language block.line block.name block.body) (ok_or (option_map block_step (with_line block text)) (BadLine number)) ≡ Ok step → Began number (Some block) step
+    → cond end (block_end language block.line block.body) (ok_or (option_map block_step (with_line language block text)) (BadLine number)) ≡ Ok step → Began number (Some block) step
 began_within language number block text true step e = began_end language number block block.body step e
-began_within language number block text false step e = began_more number block (with_line block text) step (line_kept block (body_with block.body text)) e
+began_within language number block text false step e = began_more number block (with_line language block text) step (line_kept block (body_with language block.body text)) e
 
 began_in : {A : Type 0} (language : Language A) (number : ℕ) (block : Option Block) (text : List ℕ) (long : Bool) (step : LineStep A) → cond long (Err (BadLine number)) (step_in language number block text) ≡ Ok step → Began number block step
 began_in language number block text true step e = cc

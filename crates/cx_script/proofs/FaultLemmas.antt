@@ -56,16 +56,16 @@ own_source make first (Ok prepared) h = tt
 own_source make first (Err (prepare.At n k)) h = refl
 own_source make first (Err prepare.Memory) h = absurd (h refl)
 
-own_end : {A : Type 0} (language : Language A) (first : ℕ) (name : List ℕ) (has : Body) → MayBeLed (block_end language first name has)
-own_end language first name (kind.Image stg_len text) = tt
-own_end language first name (kind.Lines lines) = tt
-own_end language first name (kind.Source wanted lines) =
+own_end : {A : Type 0} (language : Language A) (first : ℕ) (has : Body) → MayBeLed (block_end language first has)
+own_end language first (kind.Image name stg_len text) = tt
+own_end language first (kind.Lines heading lines) = tt
+own_end language first (kind.Source name wanted lines) =
     own_source _ first (prepared_of wanted.listing wanted.disassembly lines) (prepared_not_memory wanted.listing wanted.disassembly lines)
 
 own_within : {A : Type 0} (language : Language A) (number : ℕ) (block : Block) (text : List ℕ) (end : Bool)
-    → MayBeLed (cond end (block_end language block.line block.name block.body) (ok_or (option_map block_step (with_line block text)) (BadLine number)))
-own_within language number block text true = own_end language block.line block.name block.body
-own_within language number block text false = own_bad (option_map block_step (with_line block text)) number
+    → MayBeLed (cond end (block_end language block.line block.body) (ok_or (option_map block_step (with_line language block text)) (BadLine number)))
+own_within language number block text true = own_end language block.line block.body
+own_within language number block text false = own_bad (option_map block_step (with_line language block text)) number
 
 own_in : {A : Type 0} (language : Language A) (number : ℕ) (block : Option Block) (text : List ℕ) (long : Bool) → MayBeLed (cond long (Err (BadLine number)) (step_in language number block text))
 own_in language number block text true = refl

@@ -19,8 +19,8 @@ pub record Script (A : Type 0) : Type 0 where
   -- the fault that comes first, where there is one
   pub fault : Option RunFault
 
--- Where no line is left: if the script was read to its end, a block that is not ended is a fault of the line that begins
--- it, and where there is none, the first bad look is a fault. Else that no more was read is the fault.
+-- Where no line is left: if the script was read to its end, a block that is not ended is a fault of the line that
+-- begins it, and where there is none, the first bad look is a fault. Else that no more was read is the fault.
 abbrev pub end_fault : Option Block → Option ℕ → Option RunFault
 end_fault (Some block) bad_look = Some (fault.BadLine block.line)
 end_fault None (Some line) = Some (fault.BadLook line)

@@ -12,14 +12,15 @@ use Rattle.cx_script_io.specs.declared.input.Ending.{Ending}
 use Rattle.cx_script_io.specs.declared.input.Ending.TheVariants.{Failed}
 use Rattle.cx_script.specs.Transcript.{Ends}
 
--- These calls are a run of a script of a language from some state on, over actions that do what `performs` says, with its
--- answer.
+-- These calls are a run of a script of a language from some state on, over actions that do what `performs` says, with
+-- its answer.
 pub record IsSession {A S : Type 0} (language : Language A) (performs : S → A → List ℕ → S → Type 0) (start : S)
     (calls : List Call) (answer : Result Summary RunFault) : Type 0 where
   -- whichever script the reads may be of, the run ended as that script says, and the writes took what is written of it
   pub ends : (ending : Ending) (bytes : List ℕ) → IsReadOf calls ending bytes
       → Ends language performs start ending bytes answer (taken calls)
-  -- before each read there was no reason to read no more, and the lines complete until then were done and their texts written
+  -- before each read there was no reason to read no more, and the lines complete until then were done and their texts
+  -- written
   pub in_time : (before after : List Call) (bytes : Option (List ℕ)) → calls ≡ before ++ Reading bytes ∷ after
       → ((why : Ending) → IsEnding before why → ⊥)
       × Ends language performs start Failed (given before) (Err Read) (taken before)

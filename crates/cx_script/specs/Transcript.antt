@@ -9,8 +9,8 @@ use Rattle.cx_script_blocks.specs.declared.faults.RunFault.{RunFault}
 use Rattle.cx_script_blocks.specs.declared.faults.RunFault.TheVariants.{BadLine, Read, Write, Memory}
 use Rattle.cx_script_blocks.specs.declared.faults.Summary.{Summary}
 
--- Actions one after another on some state, and the transcript: what each writes, in order. `performs` is one action: the
--- state before, the action, what is written for it, and the state after.
+-- Actions one after another on some state, and the transcript: what each writes, in order. `performs` is one action:
+-- the state before, the action, what is written for it, and the state after.
 unfoldable pub Runs : {S A : Type 0} → (S → A → List ℕ → S → Type 0) → S → List A → List ℕ → S → Type 0
 Runs performs old [] text new = (text ≡ []) × (new ≡ old)
 Runs {S} performs old (action ∷ actions) text new =
@@ -33,8 +33,8 @@ IsFront bytes text = (n : ℕ) × (bytes ≡ take n text)
 abbrev pub front_of : {A : Type 0} → Language A → List (List ℕ) → ℕ → Script A
 front_of language lines n = script_from language Failed 1 first_place (take n lines)
 
--- A run without memory stopped at a line: those in front of it have no fault, and are done and written, and so are the actions of
--- the line's own in front of the one that had no memory; and it isn't a bad one.
+-- A run without memory stopped at a line: those in front of it have no fault, and are done and written, and so are the
+-- actions of the line's own in front of the one that had no memory; and it isn't a bad one.
 pub record StoppedAt {A S : Type 0} (language : Language A) (performs : S → A → List ℕ → S → Type 0) (old : S)
     (lines : List (List ℕ)) (written : List ℕ) : Type 0 where
   -- how many are in front of it
@@ -48,9 +48,10 @@ pub record StoppedAt {A S : Type 0} (language : Language A) (performs : S → A 
   pub asked : (front_of language lines (line + 1)).actions ≡ (front_of language lines line).actions ++ own ++ left
   pub done : Wrote (◌≡◌ written) performs old ((front_of language lines line).actions ++ own)
 
--- How a run of the script that these bytes are ended, and what it wrote. Ok: all of its actions are done and written. Without
--- memory it stopped at an action of a line; after a failed write some of its actions are done, and a front of their transcript is written; any
--- other fault is the script's own, and everything in front of it is done and written.
+-- How a run of the script that these bytes are ended, and what it wrote. Ok: all of its actions are done and written.
+-- Without
+-- memory it stopped at an action of a line; after a failed write some of its actions are done, and a front of their
+-- transcript is written; any other fault is the script's own, and everything in front of it is done and written.
 unfoldable pub Ends : {A S : Type 0} → Language A → (S → A → List ℕ → S → Type 0) → S → Ending → List ℕ
     → Result Summary RunFault → List ℕ → Type 0
 Ends language performs old ending bytes (Ok summary) written =

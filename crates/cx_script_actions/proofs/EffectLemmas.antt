@@ -10,7 +10,7 @@ use Rattle.cx_edf.specs.declared.answers.EdfEvent.TheVariants as edf_event
 use Rattle.cx_edf.specs.State.{EdfState}
 use Rattle.cx_edf.specs.Steps.{EdfApplies}
 use Rattle.cx_script_actions.specs.Texts.{answer_text, page_lines, refused_text}
-use Rattle.cx_script_actions.specs.Effects.{ByFault, Performs, Replies, main_page_back, shown_page, shown_screen}
+use Rattle.cx_script_actions.specs.Effects.{ByFault, Performs, Replies, main_page_back, screen_text, shown_page}
 use Rattle.cx_script_actions.specs.declared.actions.Action.TheVariants as action
 
 pub event_replied : (old new : EdfState) (event : EdfEvent) (given : Answer) (text : List ℕ) → EdfApplies old event given new → text ≡ answer_text event given → Replies old event text new
@@ -33,7 +33,7 @@ unfolding Performs
 event_done old new event text h = h
 
 pub screen_shown : (old new : EdfState) (name : List ℕ) (text : List ℕ) → new ≡ old
-    → text ≡ page_lines (codes "SCREEN") name (shown_screen old name) → Performs old (action.Screen name) text new
+    → text ≡ screen_text old.region name → Performs old (action.Screen name) text new
 unfolding Performs
 screen_shown old new name text n t = (t, n)
 

@@ -65,16 +65,20 @@ unfoldable pub line_asked_for : List ℕ → List ℕ → Option (Line Action)
 line_asked_for verb text =
     let is = bytes_eq verb in
     if is (codes "IMAGE") then two_words line.Image (padded_name 8) (number_of 1 9) text
-    else if is (codes "SOURCE") then option_and_then (λ name. source_line name (after_first_blank text)) (padded_name 8 (word text))
-    else if is (codes "TRANSACTION") then two_words (λ t p. does (event.Transaction t p)) (padded_name 4) (padded_name 8) text
+    else if is (codes "SOURCE")
+    then option_and_then (λ name. source_line name (after_first_blank text)) (padded_name 8 (word text))
+    else if is (codes "TRANSACTION")
+    then two_words (λ t p. does (event.Transaction t p)) (padded_name 4) (padded_name 8) text
     else if is (codes "TERMINAL") then option_map (λ name. does (event.Terminal name)) (padded_name 4 text)
     else if is (codes "CLOCK") then two_words (λ t d. does (event.Clock t d)) (number_of 6 6) (number_of 5 5) text
     else if is (codes "KEY") then two_words (λ n key. does (event.Key n key.0 key.1)) (padded_name 4) key_with_text text
     else if is (codes "TURN") then option_map (λ name. does (event.Turn name)) (padded_name 4 text)
     else if is (codes "EDF") then two_words edf_switch (padded_name 4) switch_of text
-    else if is (codes "DISPLAY") then option_and_then (λ name. display_line name (after_first_blank text)) (padded_name 4 (word text))
+    else if is (codes "DISPLAY")
+    then option_and_then (λ name. display_line name (after_first_blank text)) (padded_name 4 (word text))
     else if is (codes "SCREEN") then option_map (λ name. line.Action (action.Screen name)) (padded_name 4 text)
-    else if is (codes "ALTER") then two_words (λ name change. does (event.Alter name change)) (padded_name 4) change_of text
+    else if is (codes "ALTER")
+    then two_words (λ name change. does (event.Alter name change)) (padded_name 4) change_of text
     else None
 
 -- an empty line, or one that begins with an asterisk
@@ -84,4 +88,6 @@ is_blank_or_comment (c ∷ cs) = c == 42
 
 -- What a line asks; None where it is a bad line.
 unfoldable pub line_of : List ℕ → Option (Line Action)
-line_of text = if is_blank_or_comment text then Some line.Blank else option_and_then (line_asked_for (word text)) (after_first_blank text)
+line_of text =
+    if is_blank_or_comment text then Some line.Blank
+    else option_and_then (line_asked_for (word text)) (after_first_blank text)

@@ -24,6 +24,8 @@ change_of text =
     let is = bytes_eq (word text) in
     if bytes_eq text (codes "NOP") then Some Nop
     else if bytes_eq text (codes "ABEND") then Some Abend
-    else if is (codes "REG") then option_and_then (two_words Register register_of (hex_number 4)) (after_first_blank text)
-    else if is (codes "BYTE") then option_and_then (two_words Byte (hex_number 3) (hex_number 1)) (after_first_blank text)
+    else if is (codes "REG")
+    then option_and_then (two_words Register register_of (hex_number 4)) (after_first_blank text)
+    else if is (codes "BYTE")
+    then option_and_then (two_words Byte (hex_number 3) (hex_number 1)) (after_first_blank text)
     else None

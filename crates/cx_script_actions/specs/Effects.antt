@@ -6,6 +6,7 @@ use Rattle.cx_code.specs.declared.image.Image.{Image}
 use Rattle.cx_load.specs.Fault.{fault_name, fault_of}
 use Rattle.cx_load.specs.declared.fault.ImageFault.{ImageFault}
 use Rattle.cx_region.specs.Defining.{fresh_region}
+use Rattle.cx_region.specs.State.{RegionState}
 use Rattle.cx_region.specs.Tables.{terminal_of}
 use Rattle.cx_region.specs.declared.replies.Event.TheVariants as event
 use Rattle.cx_edf_display.specs.declared.displays.Display.{Display}
@@ -34,9 +35,11 @@ abbrev pub ByFault : Option ImageFault → EdfState → List ℕ → Image → L
 ByFault None old name image text new = Replies old (edf_event.Plain (event.Program name image)) text new
 ByFault (Some fault) old name _ text new = (text ≡ refused_text (codes "PROGRAM") name (fault_name fault)) × (new ≡ old)
 
--- the screen of a terminal, as it is shown
-abbrev pub shown_screen : EdfState → List ℕ → Option (List (List ℕ))
-shown_screen state name = option_map (map shown_text) (option_map (λ t. t.screen) (terminal_of state.region name))
+-- what SCREEN writes: the screen of a terminal, as it is shown
+abbrev pub screen_text : RegionState → List ℕ → List ℕ
+screen_text region name =
+    let shown = option_map (map shown_text) (option_map (λ t. t.screen) (terminal_of region name)) in
+    page_lines (codes "SCREEN") name shown
 
 -- the page of a display that has this name
 abbrev pub page_of : Display → PageName → List (List ℕ)
@@ -53,14 +56,15 @@ abbrev pub main_page_back : EdfState → List ℕ → ℕ → Option (List (List
 main_page_back state name k =
     option_map (λ display. display.main) (option_and_then (λ s. nth_back s.displays k) (session_at state name))
 
--- One action: the region under EDF before, the action, what is written for it, and the region after. What is written of a source
--- comes before what its image gives.
+-- One action: the region under EDF before, the action, what is written for it, and the region after. What is written of
+-- a source comes before what its image gives.
 unfoldable pub Performs : EdfState → Action → List ℕ → EdfState → Type 0
 Performs old (action.Image name image) text new = ByFault (fault_of image) old name image text new
 Performs old (action.Source name before image) text new =
     (own : List ℕ) × ByFault (fault_of image) old name image own new × (text ≡ before ++ own)
 Performs old (action.Event event) text new = Replies old event text new
-Performs old (action.Screen name) text new = (text ≡ page_lines (codes "SCREEN") name (shown_screen old name)) × (new ≡ old)
-Performs old (action.Display name) text new = (text ≡ page_lines (codes "DISPLAY") name (shown_page old name)) × (new ≡ old)
+Performs old (action.Screen name) text new = (text ≡ screen_text old.region name) × (new ≡ old)
+Performs old (action.Display name) text new =
+    (text ≡ page_lines (codes "DISPLAY") name (shown_page old name)) × (new ≡ old)
 Performs old (action.Previous name k) text new =
     (text ≡ page_lines (codes "DISPLAY") name (main_page_back old name k)) × (new ≡ old)

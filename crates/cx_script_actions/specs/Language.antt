@@ -2,6 +2,7 @@
 use Rattle.std.specs.Prelude.{ℕ, Bool, false, Option, None, List, [], ◌∷◌}
 use Rattle.cx_script_actions.specs.Actions.{line_of}
 use Rattle.cx_script_actions.specs.declared.actions.Action.{Action}
+use Rattle.cx_script_actions.specs.declared.actions.Heading.{Heading}
 use Rattle.cx_script_actions.specs.declared.actions.Line.{Line}
 
 pub record Language (A : Type 0) : Type 0 where
@@ -11,9 +12,12 @@ pub record Language (A : Type 0) : Type 0 where
   pub of_block : Action → A
   -- the action that the end of a source's block gives: by its program's name, its lines, and what they are made into
   pub of_source : List ℕ → List (List ℕ) → Action → A
-  -- the action that the end of a block of lines gives: by the number of the line that begins it, its name and its lines; None in a
-  -- language without such blocks
-  pub of_lines : ℕ → List ℕ → List (List ℕ) → Option A
+  -- the lines of a block of lines with one more, as far as they are kept, by what begins it; None where it may not have
+  -- that line
+  pub with_line : Heading → List (List ℕ) → List ℕ → Option (List (List ℕ))
+  -- the action that the end of a block of lines gives: by the number of the line that begins it, what this says, and
+  -- the lines that were kept; None in a language without such blocks
+  pub of_lines : ℕ → Heading → List (List ℕ) → Option A
   -- the actions that a line asks, one after another, by the first of them
   pub actions_of : A → List A
   -- whether an action only reports a bad look, with which a script goes on
@@ -26,7 +30,8 @@ edf_language =
       line_of = λ number text. line_of text;
       of_block = λ a. a;
       of_source = λ name lines a. a;
-      of_lines = λ first name lines. None;
+      with_line = λ heading lines text. None;
+      of_lines = λ first heading lines. None;
       actions_of = λ a. a ∷ [];
       is_bad_look = λ a. false;
     }

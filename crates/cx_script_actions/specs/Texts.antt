@@ -64,8 +64,8 @@ reply_text (event.Alter name change) (reply.Alter given) = named_line (codes "AL
 reply_text _ _ = []
 
 -- ---- EDF
--- what is written for an event of the region under EDF: a key may be EDF's, a turn may be held, and an alteration may be of a
--- terminal that isn't in Stopped
+-- what is written for an event of the region under EDF: a key may be EDF's, a turn may be held, and an alteration may
+-- be of a terminal that isn't in Stopped
 unfoldable pub plain_text : Event → Answer → List ℕ
 plain_text e (answer.Region given) = reply_text e given
 plain_text (event.Key name aid bytes) answer.ToEdf = named_line (codes "KEY") name (codes "ToEdf")

@@ -42,6 +42,15 @@ pub enum Action {
     Previous(Name4, usize),
 }
 
+/// What begins a block of lines that are handed over.
+#[derive(Clone, Copy, Debug)]
+pub enum Heading {
+    /// FAULTS: the name.
+    Faults(Name8),
+    /// ORDERS: the most states.
+    Orders(u32),
+}
+
 /// What a line asks where it is not in a block; `A` is an action of the script's language.
 #[derive(Drop)]
 pub enum Line<A> {
@@ -51,8 +60,8 @@ pub enum Line<A> {
     Image(Name8, u32),
     /// It begins the block of a source: its program's name, and what is to be written of it.
     Source(Name8, Wanted),
-    /// It begins a block of lines that are handed over as they are: their name.
-    Lines(Name8),
+    /// It begins a block of lines that are handed over.
+    Lines(Heading),
     /// An action.
     Action(A),
 }

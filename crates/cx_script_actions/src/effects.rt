@@ -2,7 +2,7 @@
 
 ghost use Rattle.std.specs.Prelude.{◌≡◌, IfOk, codes};
 ghost use Rattle.cx_edf.specs.Runs.{IsAllowedEdf};
-ghost use Rattle.cx_script_actions.specs.Effects.{Performs, Replies, main_page_back, page_of, shown_page, shown_screen};
+ghost use Rattle.cx_script_actions.specs.Effects.{Performs, Replies, main_page_back, page_of, screen_text, shown_page};
 ghost use Rattle.cx_script_actions.specs.Texts.{page_lines};
 ghost use Rattle.cx_script_actions.specs.declared.actions.Action.TheVariants as action;
 
@@ -14,7 +14,7 @@ use cx_code::{Bytes, Image};
 use cx_ebcdic::{Name4, Name8};
 use cx_edf::{Debugged, Display, EdfEvent, PageName};
 use cx_load::check;
-use cx_region::Event;
+use cx_region::{Event, Region};
 use cx_storage::Store;
 use std::alloc::{AllocError, Global};
 
@@ -69,14 +69,16 @@ fn define_source<S: Store + Drop>(
     Ok(text)
 }
 
-/// Shows the screen of a terminal.
+/// What SCREEN writes of a terminal.
+///
+/// An error comes only where memory for it was refused.
 #[tactic(auto, using(crate::proofs::ScreenLemmas::screen_is_page))]
-fn show_screen<S: Store + Drop>(
-    region: &Debugged<S>,
+pub fn screen_text<S: Store + Drop>(
     alloc: Global,
+    region: &Region<S>,
     name: Name4,
 ) -> Result<Vec<u8>, AllocError>
-    ensures { IfOk result (λ text. text.items ≡ page_lines (codes "SCREEN") name (shown_screen region.now name)) }
+    ensures { IfOk result (λ text. text.items ≡ screen_text region.now name) }
 {
     match region.screen(name) {
         Some(screen) => page_lines(
@@ -145,7 +147,7 @@ impl<S: Store + Drop> Performer for Debugged<S> {
             Action::Image(name, image) => define_image(self, alloc, name, image),
             Action::Source(name, before, image) => define_source(self, alloc, name, before, image),
             Action::Event(event) => do_event(self, alloc, &event),
-            Action::Screen(name) => show_screen(self, alloc, name),
+            Action::Screen(name) => screen_text(alloc, self.region(), name),
             Action::Display(name) => show_display(self, alloc, name),
             Action::Previous(name, back) => show_previous(self, alloc, name, back),
         }

@@ -9,8 +9,9 @@ mod performer;
 mod texts;
 mod words;
 
-pub use actions::{Action, Line, Wanted, line_of};
+pub use actions::{Action, Heading, Line, Wanted, line_of};
 pub use alterations::hex_address;
+pub use effects::screen_text;
 pub use performer::{Performer, ScriptAction};
 pub use texts::answer_text;
 pub use words::{name4, name8, number, split_word};

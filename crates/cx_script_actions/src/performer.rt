@@ -5,7 +5,7 @@ ghost use Rattle.std.specs.Option.{option_map_or};
 ghost use Rattle.cx_script_actions.specs.Allowed.{IsAllowed, IsAllowedLine};
 ghost use Rattle.cx_script_actions.specs.Language.{Language, edf_language};
 
-use crate::actions::{Action, Line, line_of};
+use crate::actions::{Action, Heading, Line, line_of};
 use cx_base_lists::List;
 use cx_ebcdic::Name8;
 use std::alloc::{AllocError, Global};
@@ -31,11 +31,27 @@ pub trait ScriptAction: Drop {
         ensures value { result ≡ language.of_source name lines.items action }
         ensures allowed { allowed result };
 
-    /// The action that the end of a block of lines gives: by the number of the line that begins it, its name and its lines; None
-    /// in a language without such blocks.
-    fn of_lines(first: usize, name: Name8, lines: Vec<List<u8>>) -> Option<Self>
-        ensures value { result ≡ language.of_lines first name lines.items }
-        ensures allowed { IfSome result allowed };
+    /// The lines of a block of lines with one more, as far as they are kept, by what begins it; None, and never Memory, where it may
+    /// not have that line.
+    fn with_line(
+        alloc: Global,
+        heading: Heading,
+        lines: List<List<u8>>,
+        text: &[u8],
+    ) -> Result<Option<List<List<u8>>>, AllocError>
+        ensures value { IfOk result (λ more. more ≡ language.with_line heading lines text.now) }
+        ensures memory { OnErr result (is_some (language.with_line heading lines text.now) ≡ true) };
+
+    /// The action that the end of a block of lines gives: by the number of the line that begins it, what this says, and the lines
+    /// that were kept; None in a language without such blocks.
+    fn of_lines(
+        alloc: Global,
+        first: usize,
+        heading: Heading,
+        lines: List<List<u8>>,
+    ) -> Result<Option<Self>, AllocError>
+        ensures value { IfOk result (λ action. action ≡ language.of_lines first heading lines) }
+        ensures allowed { IfOk result (λ action. IfSome action allowed) };
 
     /// The action that the same line asks after this one, where it asks another.
     fn following(&self) -> Option<Self>
@@ -71,8 +87,22 @@ impl ScriptAction for Action {
         action
     }
 
-    fn of_lines(_first: usize, _name: Name8, _lines: Vec<List<u8>>) -> Option<Action> {
-        None
+    fn with_line(
+        _alloc: Global,
+        _heading: Heading,
+        _lines: List<List<u8>>,
+        _text: &[u8],
+    ) -> Result<Option<List<List<u8>>>, AllocError> {
+        Ok(None)
+    }
+
+    fn of_lines(
+        _alloc: Global,
+        _first: usize,
+        _heading: Heading,
+        _lines: List<List<u8>>,
+    ) -> Result<Option<Action>, AllocError> {
+        Ok(None)
     }
 
     fn following(&self) -> Option<Action> {

@@ -23,11 +23,11 @@ source_refused make first due prepare.Memory result h f m =
     let no : true ≡ false = sym (ap is_memory (f m)) ∙ m in absurd (cc)
 
 -- a block's end is no bad line
-pub end_is_good : {A : Type 0} (language : Language A) (first : ℕ) (name : List ℕ) (has : Body) (number : ℕ) {P : Type 0}
-    → block_end language first name has ≡ Err (BadLine number) → P
-end_is_good language first name (kind.Image stg_len text) number e = cc
-end_is_good language first name (kind.Lines lines) number e = cc
-end_is_good {A} language first name (kind.Source wanted lines) number e = go _ (prepared_of wanted.listing wanted.disassembly lines) e
+pub end_is_good : {A : Type 0} (language : Language A) (first : ℕ) (has : Body) (number : ℕ) {P : Type 0}
+    → block_end language first has ≡ Err (BadLine number) → P
+end_is_good language first (kind.Image name stg_len text) number e = cc
+end_is_good language first (kind.Lines heading lines) number e = cc
+end_is_good {A} language first (kind.Source name wanted lines) number e = go _ (prepared_of wanted.listing wanted.disassembly lines) e
   where
     go : {P : Type 0} (make : Prepared → LineStep A) (due : Result Prepared PrepareFault) → result_map_both make (fault_of_line first) due ≡ Err (BadLine number) → P
     go make (Ok prepared) e = cc

@@ -33,28 +33,32 @@ block_step block = record { action = None; block = Some block }
 -- a line outside a block, by its number
 abbrev pub step_of : {A : Type 0} → ℕ → Line A → LineStep A
 step_of first line.Blank = action_step None
-step_of first (line.Image name stg_len) = block_step (record { line = first; name = name; body = kind.Image stg_len [] })
-step_of first (line.Source name wanted) = block_step (record { line = first; name = name; body = kind.Source wanted [] })
-step_of first (line.Lines name) = block_step (record { line = first; name = name; body = kind.Lines [] })
+step_of first (line.Image name stg_len) = block_step (record { line = first; body = kind.Image name stg_len [] })
+step_of first (line.Source name wanted) = block_step (record { line = first; body = kind.Source name wanted [] })
+step_of first (line.Lines heading) = block_step (record { line = first; body = kind.Lines heading [] })
 step_of first (line.Action asked) = action_step (Some asked)
 
 -- No more than 65,537 bytes of a text are kept: one that is longer than 65,536 is BadLength, whatever follows.
 unfoldable pub kept_text : List ℕ → List ℕ
 kept_text text = take 65537 text
 
--- No more than 10,001 lines of a source are kept: one that has not ended with the 10,000th is TooLong, whatever follows. So it is
--- of lines that are handed over.
+-- No more than 10,001 lines of a source are kept: one that has not ended with the 10,000th is TooLong, whatever
+-- follows.
 unfoldable pub kept_lines : List (List ℕ) → List (List ℕ)
 kept_lines lines = take 10001 lines
 
--- what a block has with one more line, which in an image's is hexadecimal digits; None where it may not have that line
-abbrev pub body_with : Body → List ℕ → Option Body
-body_with (kind.Image stg_len text) line = option_map (λ new. kind.Image stg_len (kept_text (text ++ new))) (hex_bytes line)
-body_with (kind.Source wanted lines) line = Some (kind.Source wanted (kept_lines (lines ++ line ∷ [])))
-body_with (kind.Lines lines) line = Some (kind.Lines (kept_lines (lines ++ line ∷ [])))
+-- What a block has with one more line, which in an image's is hexadecimal digits; None where it may not have that line.
+-- Of lines that are handed over the language says it.
+abbrev pub body_with : {A : Type 0} → Language A → Body → List ℕ → Option Body
+body_with language (kind.Image name stg_len text) line =
+    option_map (λ new. kind.Image name stg_len (kept_text (text ++ new))) (hex_bytes line)
+body_with language (kind.Source name wanted lines) line =
+    Some (kind.Source name wanted (kept_lines (lines ++ line ∷ [])))
+body_with language (kind.Lines heading lines) line =
+    option_map (λ more. kind.Lines heading more) (language.with_line heading lines line)
 
-abbrev pub with_line : Block → List ℕ → Option Block
-with_line block text = option_map (λ more. record block { body = more }) (body_with block.body text)
+abbrev pub with_line : {A : Type 0} → Language A → Block → List ℕ → Option Block
+with_line language block text = option_map (λ more. record block { body = more }) (body_with language block.body text)
 
 -- an image has entry 0 and no relocated words
 abbrev pub image_of : ℕ → List ℕ → Image
@@ -65,25 +69,26 @@ abbrev pub fault_of_line : ℕ → PrepareFault → RunFault
 fault_of_line first (At number kind) = Source (first + number) kind
 fault_of_line first without.Memory = Memory
 
--- What the line that ends a block leads to, by the line that begins it, its name and what it has. A source is judged there, whole;
--- lines are handed over.
-abbrev pub block_end : {A : Type 0} → Language A → ℕ → List ℕ → Body → Result (LineStep A) RunFault
-block_end language first name (kind.Image stg_len text) =
+-- What the line that ends a block leads to, by the line that begins it and what it has. A source is judged there,
+-- whole; lines are handed over.
+abbrev pub block_end : {A : Type 0} → Language A → ℕ → Body → Result (LineStep A) RunFault
+block_end language first (kind.Image name stg_len text) =
     Ok (action_step (Some (language.of_block (action.Image name (image_of stg_len text)))))
-block_end language first name (kind.Source wanted lines) =
+block_end language first (kind.Source name wanted lines) =
     let action_of = λ (made : Prepared). language.of_source name lines (action.Source name made.text made.image) in
     let judged = prepared_of wanted.listing wanted.disassembly lines in
     result_map_both (λ (made : Prepared). action_step (Some (action_of made))) (fault_of_line first) judged
-block_end language first name (kind.Lines lines) = Ok (action_step (language.of_lines first name lines))
+block_end language first (kind.Lines heading lines) = Ok (action_step (language.of_lines first heading lines))
 
 -- a line outside a block, or inside one: its end, or one more line of it
 abbrev pub step_in : {A : Type 0} → Language A → ℕ → Option Block → List ℕ → Result (LineStep A) RunFault
 step_in language number None text = ok_or (option_map (step_of number) (language.line_of number text)) (BadLine number)
 step_in language number (Some block) text =
-    if bytes_eq text (codes "/*") then block_end language block.line block.name block.body
-    else ok_or (option_map block_step (with_line block text)) (BadLine number)
+    if bytes_eq text (codes "/*") then block_end language block.line block.body
+    else ok_or (option_map block_step (with_line language block text)) (BadLine number)
 
--- What the line with this number leads to in a script of this language: a step, or a fault of its own. That of a bad line is
+-- What the line with this number leads to in a script of this language: a step, or a fault of its own. That of a bad
+-- line is
 -- BadLine with its number.
 unfoldable pub step_at : {A : Type 0} → Language A → ℕ → Option Block → List ℕ → Result (LineStep A) RunFault
 step_at language number block text =

@@ -14,7 +14,7 @@ use cx_asm_build::{PrepareFault, Prepared, prepare};
 use cx_base_lists::List;
 use cx_code::{Bytes, Image, Offsets};
 use cx_ebcdic::Name8;
-use cx_script_actions::{Action, Line, ScriptAction, Wanted};
+use cx_script_actions::{Action, Heading, Line, ScriptAction, Wanted};
 use cx_script_io::is_too_long;
 use cx_source::Text;
 use std::alloc::{AllocError, Global};
@@ -33,21 +33,19 @@ const MOST_LINES: usize = 10_001;
 pub struct Block {
     /// The number of the line that begins it.
     pub line: usize,
-    /// Its name: a program's.
-    pub name: Name8,
-    /// What it has so far, as far as that is kept.
+    /// What that line says, and what it has so far, as far as that is kept.
     pub body: Body,
 }
 
-/// What a block has so far, as far as that is kept.
+/// What the line that begins a block says, and what the block has so far, as far as that is kept.
 #[derive(Drop)]
 pub enum Body {
-    /// An image: the length of its working storage, and its bytes.
-    Image(u32, Bytes),
-    /// A source: what is to be written of it, and its lines.
-    Source(Wanted, List<Text>),
-    /// Lines that are handed over as they are.
-    Lines(List<Text>),
+    /// An image: its program's name, the length of its working storage, and its bytes.
+    Image(Name8, u32, Bytes),
+    /// A source: its program's name, what is to be written of it, and its lines.
+    Source(Name8, Wanted, List<Text>),
+    /// Lines that are handed over: what begins them, and those that are kept.
+    Lines(Heading, List<Text>),
 }
 
 /// The fault of a source that begins after this line. It is Memory only where the source's is, since no source has too many lines
@@ -91,8 +89,8 @@ fn end_source<A: ScriptAction>(
     wanted: Wanted,
     lines: Vec<Text>,
 ) -> Result<LineStep<A>, RunFault>
-    ensures value { let body = Body.Source wanted lines.items in
-        is_memory result ≡ false → result ≡ block_end A.language first name body }
+    ensures value { let body = Body.Source name wanted lines.items in
+        is_memory result ≡ false → result ≡ block_end A.language first body }
     ensures allowed { IfOk result (λ step. IfSome step.action A.allowed) }
     ensures unwritten { is_write result ≡ false }
     ensures unread { is_read result ≡ false }
@@ -108,20 +106,27 @@ fn end_source<A: ScriptAction>(
 
 impl Body {
     /// What it has with one more line, where it may have that line.
-    fn with_line(self, alloc: Global, line: &[u8]) -> Result<Option<Body>, AllocError>
+    fn with_line<A: ScriptAction>(
+        self,
+        alloc: Global,
+        line: &[u8],
+    ) -> Result<Option<Body>, AllocError>
         requires { length line.now ≤ 4096 }
-        ensures value { IfOk result (λ more. more ≡ body_with self line.now) }
-        ensures memory { OnErr result (is_some (body_with self line.now) ≡ true) }
+        ensures value { IfOk result (λ more. more ≡ body_with A.language self line.now) }
+        ensures memory { OnErr result (is_some (body_with A.language self line.now) ≡ true) }
     {
         Ok(match self {
-            Body::Image(stg_len, text) => match with_bytes(text, line)? {
-                Some(text) => Some(Body::Image(stg_len, text)),
+            Body::Image(name, stg_len, text) => match with_bytes(text, line)? {
+                Some(text) => Some(Body::Image(name, stg_len, text)),
                 None => None,
             },
-            Body::Source(wanted, lines) => {
-                Some(Body::Source(wanted, with_text(alloc, lines, line)?))
+            Body::Source(name, wanted, lines) => {
+                Some(Body::Source(name, wanted, with_text(alloc, lines, line)?))
             }
-            Body::Lines(lines) => Some(Body::Lines(with_text(alloc, lines, line)?)),
+            Body::Lines(heading, lines) => match A::with_line(alloc, heading, lines, line)? {
+                Some(lines) => Some(Body::Lines(heading, lines)),
+                None => None,
+            },
         })
     }
 }
@@ -129,20 +134,20 @@ impl Body {
 impl Block {
     /// What its end leads to.
     fn end<A: ScriptAction>(self, alloc: Global) -> Result<LineStep<A>, RunFault>
-        ensures value { is_memory result ≡ false → result ≡ block_end A.language self.line self.name self.body }
+        ensures value { is_memory result ≡ false → result ≡ block_end A.language self.line self.body }
         ensures allowed { IfOk result (λ step. IfSome step.action A.allowed) }
         ensures unwritten { is_write result ≡ false }
         ensures unread { is_read result ≡ false }
     {
-        let Block { line, name, body } = self;
+        let Block { line, body } = self;
         let action = match body {
-            Body::Image(stg_len, text) => {
+            Body::Image(name, stg_len, text) => {
                 Some(A::of_block(image_action(alloc, name, stg_len, text)))
             }
-            Body::Source(wanted, lines) => {
+            Body::Source(name, wanted, lines) => {
                 return end_source(alloc, line, name, wanted, lines.into_vec());
             }
-            Body::Lines(lines) => A::of_lines(line, name, lines.into_vec()),
+            Body::Lines(heading, lines) => A::of_lines(alloc, line, heading, lines)?,
         };
         Ok(LineStep {
             action,
@@ -151,14 +156,18 @@ impl Block {
     }
 
     /// The block with one more line, where it may have that line.
-    fn with_line(self, alloc: Global, text: &[u8]) -> Result<Option<Block>, AllocError>
+    fn with_line<A: ScriptAction>(
+        self,
+        alloc: Global,
+        text: &[u8],
+    ) -> Result<Option<Block>, AllocError>
         requires { length text.now ≤ 4096 }
-        ensures value { IfOk result (λ block. block ≡ with_line self text.now) }
-        ensures memory { OnErr result (is_some (with_line self text.now) ≡ true) }
+        ensures value { IfOk result (λ block. block ≡ with_line A.language self text.now) }
+        ensures memory { OnErr result (is_some (with_line A.language self text.now) ≡ true) }
     {
-        let Block { line, name, body } = self;
-        Ok(match body.with_line(alloc, text)? {
-            Some(body) => Some(Block { line, name, body }),
+        let Block { line, body } = self;
+        Ok(match body.with_line::<A>(alloc, text)? {
+            Some(body) => Some(Block { line, body }),
             None => None,
         })
     }
@@ -172,12 +181,12 @@ pub struct LineStep<A> {
 }
 
 /// A block that begins with this line, which leaves it to the next.
-fn begun<A: ScriptAction>(line: usize, name: Name8, body: Body) -> LineStep<A>
-    ensures { result ≡ block_step (record { line = line; name = name; body = body }) }
+fn begun<A: ScriptAction>(line: usize, body: Body) -> LineStep<A>
+    ensures { result ≡ block_step (record { line = line; body = body }) }
 {
     LineStep {
         action: None,
-        block: Some(Block { line, name, body }),
+        block: Some(Block { line, body }),
     }
 }
 
@@ -192,15 +201,15 @@ fn step_of<A: ScriptAction>(alloc: Global, number: usize, line: Line<A>) -> Line
         },
         Line::Image(name, stg_len) => {
             let text = Bytes::from_vec(Vec::new(alloc));
-            begun(number, name, Body::Image(stg_len, text))
+            begun(number, Body::Image(name, stg_len, text))
         }
         Line::Source(name, wanted) => {
             let lines = List::from_vec(Vec::new(alloc));
-            begun(number, name, Body::Source(wanted, lines))
+            begun(number, Body::Source(name, wanted, lines))
         }
-        Line::Lines(name) => {
+        Line::Lines(heading) => {
             let lines = List::from_vec(Vec::new(alloc));
-            begun(number, name, Body::Lines(lines))
+            begun(number, Body::Lines(heading, lines))
         }
         Line::Action(action) => LineStep {
             action: Some(action),
@@ -245,8 +254,11 @@ fn with_bytes(text: Bytes, line: &[u8]) -> Result<Option<Bytes>, AllocError>
 }
 
 /// The lines of a block with one more, as far as they are kept.
+///
+/// An error comes only where an allocation failed.
 #[tactic(auto, unfolding(crate::specs::Blocks::kept_lines))]
-fn with_text(alloc: Global, lines: List<Text>, line: &[u8]) -> Result<List<Text>, AllocError>
+#[doc(hidden)]
+pub fn with_text(alloc: Global, lines: List<Text>, line: &[u8]) -> Result<List<Text>, AllocError>
     ensures { IfOk result (λ more. more ≡ kept_lines (lines ++ line.now ∷ [])) }
 {
     let mut lines = lines.into_vec();
@@ -274,7 +286,7 @@ fn step_within<A: ScriptAction>(
     if line == b"/*".as_slice() {
         return block.end(alloc);
     }
-    match block.with_line(alloc, line)? {
+    match block.with_line::<A>(alloc, line)? {
         Some(block) => Ok(LineStep {
             action: None,
             block: Some(block),

@@ -5,6 +5,6 @@ mod blocks;
 mod faults;
 
 #[doc(hidden)]
-pub use blocks::{Block, Body, LineStep, step_at};
+pub use blocks::{Block, Body, LineStep, step_at, with_text};
 pub use cx_asm_build::SourceKind;
 pub use faults::{RunFault, Summary, status};

@@ -33,6 +33,7 @@ last_read (Reading bytes ∷ calls) = option_or (last_read calls) (Some bytes)
 last_read (Writing bytes ∷ calls) = last_read calls
 
 -- what a call did, by what a read and a write of these devices do
-abbrev pub did : {D : Type 0} → (D → Option (List ℕ) → D → Type 0) → (D → Option (List ℕ) → D → Type 0) → D → Call → D → Type 0
+abbrev pub did : {D : Type 0} → (D → Option (List ℕ) → D → Type 0) → (D → Option (List ℕ) → D → Type 0) → D → Call → D
+    → Type 0
 did reads writes before (Reading bytes) after = reads before bytes after
 did reads writes before (Writing bytes) after = writes before bytes after

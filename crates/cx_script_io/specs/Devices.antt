@@ -20,7 +20,8 @@ is_refused (Ok n) bytes = n == 0 && nat_lt 0 (length bytes)
 is_refused (Err fault) bytes = true
 
 -- some writes, one after another, took these bytes
-pub record Takes {W : Type 0} (writes : W → Option (List ℕ) → W → Type 0) (before after : W) (bytes : List ℕ) : Type 0 where
+pub record Takes {W : Type 0} (writes : W → Option (List ℕ) → W → Type 0) (before after : W) (bytes : List ℕ)
+    : Type 0 where
   pub calls : List (Option (List ℕ))
   pub made : FoldsTo writes before calls after
   pub whole : taken (map Writing calls) ≡ bytes
@@ -39,11 +40,13 @@ abbrev pub device_output : {W : Type 0} → W → List ℕ → DeviceOutput W
 device_output writer waits = record { writer = writer; waits = waits }
 
 -- a text was written or waits, after what was written and waited before
-pub record Sends {W : Type 0} (writes : W → Option (List ℕ) → W → Type 0) (before after : DeviceOutput W) (text : List ℕ) : Type 0 where
+pub record Sends {W : Type 0} (writes : W → Option (List ℕ) → W → Type 0) (before after : DeviceOutput W)
+    (text : List ℕ) : Type 0 where
   pub sent : List ℕ
   pub written : Takes writes before.writer after.writer sent
   pub whole : before.waits ++ text ≡ sent ++ after.waits
 
 -- a front of what waited and the text was written
-abbrev pub SentFront : {W : Type 0} → (W → Option (List ℕ) → W → Type 0) → DeviceOutput W → DeviceOutput W → List ℕ → Type 0
+abbrev pub SentFront : {W : Type 0} → (W → Option (List ℕ) → W → Type 0) → DeviceOutput W → DeviceOutput W → List ℕ
+    → Type 0
 SentFront writes before after text = TakesFront writes before.writer after.writer (before.waits ++ text)

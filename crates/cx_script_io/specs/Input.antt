@@ -13,14 +13,15 @@ abbrev pub is_failure : Ending → Bool
 is_failure Failed = true
 is_failure _ = false
 
--- why no more of a script is read after these calls: the last read gave no byte or failed, or they gave more than a script may have
+-- why no more of a script is read after these calls: the last read gave no byte or failed, or they gave more than a
+-- script may have
 abbrev pub IsEnding : List Call → Ending → Type 0
 IsEnding calls AtEnd = last_read calls ≡ Some (Some [])
 IsEnding calls Failed = last_read calls ≡ Some None
 IsEnding calls PastBound = most_bytes < length (given calls)
 
--- These bytes, of which no more can be had for this reason, may be the script: it begins with those that the reads gave,
--- at most as many as a script may have, and ends with them where the reads say why.
+-- These bytes, of which no more can be had for this reason, may be the script: it begins with those that the reads
+-- gave, at most as many as a script may have, and ends with them where the reads say why.
 pub record IsReadOf (calls : List Call) (ending : Ending) (bytes : List ℕ) : Type 0 where
   pub rest : List ℕ
   pub whole : bytes ≡ take most_bytes (given calls) ++ rest

@@ -1,2 +1,4 @@
 pub mod WordLemmas
+pub mod KeepLemmas
+pub mod LineLemmas
 pub mod StartLemmas

@@ -6,7 +6,8 @@ abbrev pub is_option : List ℕ → Bool
 is_option (c ∷ d ∷ more) = c == 0x2D
 is_option _ = false
 
--- The file that the words name, where they name one: after the program's own name there is at most one word, and it is no option.
+-- The file that the words name, where they name one: after the program's own name there is at most one word, and it is
+-- no option.
 -- Any others are refused.
 abbrev pub file_of : List (List ℕ) → Option (Option (List ℕ))
 file_of [] = Some None

@@ -2,10 +2,12 @@
 #![tactic(auto)]
 
 mod host;
+mod keeping;
 mod program;
+mod shown;
 mod starting;
 mod words;
 
 pub use host::{Host, Machine};
-pub use program::{Refusal, program_status, run_opened, run_reader};
+pub use program::{Refusal, Run, program_status, run_opened, run_reader};
 pub use starting::start;

@@ -1,11 +1,13 @@
 //! What a program decides: what it runs, and its status.
 
-ghost use Rattle.std.specs.Prelude.{◌≡◌, false, IfOk, OnErr, Err};
+ghost use Rattle.std.specs.Prelude.{◌≡◌, false, IfOk, None, OnErr, Err};
 ghost use Rattle.cx_script_blocks.specs.Faults.{is_read, is_write};
-ghost use Rattle.cx_script_blocks.specs.declared.faults.RunFault.TheVariants.{Memory, Read as ReadFault};
+ghost use Rattle.cx_script_blocks.specs.declared.faults.RunFault.TheVariants.{Memory};
 ghost use Rattle.cx_script.specs.Session.{RanIn};
-ghost use Rattle.cx_script_main.specs.Program.{RanFrom, program_status};
+ghost use Rattle.cx_script_main.specs.Program.{RanFrom, program_status, unread_run};
 
+use crate::keeping::Keeping;
+use cx_base_lists::List;
 use cx_script::{Performer, RunFault, ScriptDevices, Summary, run_script_on, status};
 use std::alloc::{AllocError, Global};
 
@@ -39,32 +41,66 @@ pub fn run_reader<P: Performer + Drop, D: ScriptDevices>(
     run_script_on(performer, alloc, devices)
 }
 
-/// Runs the script of devices, by what opening a file for them answered. Where it can't be opened there is nothing to read and
-/// nothing to write to: it is as one that can't be read.
+/// A run of a script that has ended.
+#[derive(Drop)]
+pub struct Run {
+    /// How it ended.
+    pub answer: Result<Summary, RunFault>,
+    /// The bytes that the reads gave. None where they aren't kept, or memory for them was refused.
+    pub read: Option<List<u8>>,
+}
+
+/// Runs a script from devices, of which what is read is kept where that is asked.
+fn run_keeping<P: Performer + Drop, D: ScriptDevices + Drop>(
+    performer: Result<P, AllocError>,
+    alloc: Global,
+    devices: D,
+    keeps: bool,
+) -> Run
+    requires input { D.ScriptIn.has_failed devices ≡ false }
+    requires output { D.ScriptOut.has_failed devices ≡ false }
+    ensures ran { IfOk performer (λ start.
+        RanFrom P.Action.language P.performs start D.reads D.writes devices result) }
+    ensures unmade { OnErr performer (result.answer ≡ Err Memory) }
+    ensures unkept { keeps ≡ false → result.read ≡ None }
+{
+    let mut devices = Keeping::new(alloc, devices, keeps);
+    let answer = run_reader(performer, alloc, &mut devices);
+    let read = devices.into_kept();
+    Run { answer, read }
+}
+
+/// Runs the script of devices, by what opening a file for them answered, and keeps what is read of it where that is asked. Where it
+/// can't be opened there is nothing to read and nothing to write to: it is as one that can't be read.
 pub fn run_opened<P: Performer + Drop, D: ScriptDevices + Drop, E: Drop>(
     performer: Result<P, AllocError>,
     alloc: Global,
     opened: Result<D, E>,
-) -> Result<Summary, RunFault>
+    keeps: bool,
+) -> Run
     requires input { IfOk opened (λ devices. D.ScriptIn.has_failed devices ≡ false) }
     requires output { IfOk opened (λ devices. D.ScriptOut.has_failed devices ≡ false) }
     ensures ran { IfOk opened (λ devices. IfOk performer (λ start.
         RanFrom P.Action.language P.performs start D.reads D.writes devices result)) }
-    ensures unmade { IfOk opened (λ devices. OnErr performer (result ≡ Err Memory)) }
-    ensures unopened { OnErr opened (result ≡ Err ReadFault) }
+    ensures unmade { IfOk opened (λ devices. OnErr performer (result.answer ≡ Err Memory)) }
+    ensures unkept { IfOk opened (λ devices. keeps ≡ false → result.read ≡ None) }
+    ensures unopened { OnErr opened (result ≡ unread_run) }
 {
     match opened {
-        Ok(mut devices) => run_reader(performer, alloc, &mut devices),
-        Err(_) => Err(RunFault::Read),
+        Ok(devices) => run_keeping(performer, alloc, devices, keeps),
+        Err(_) => Run {
+            answer: Err(RunFault::Read),
+            read: None,
+        },
     }
 }
 
 /// A program's status: that of the run, or where its words are refused 2, or 4 where memory ran out.
-pub fn program_status(outcome: &Result<Result<Summary, RunFault>, Refusal>) -> u8
+pub fn program_status(outcome: &Result<Run, Refusal>) -> u8
     ensures { result ≡ program_status outcome.now }
 {
     match outcome {
-        Ok(answer) => status(answer),
+        Ok(run) => status(&run.answer),
         Err(Refusal::Usage) => USAGE_STATUS,
         Err(Refusal::Memory) => status(&Err(RunFault::Memory)),
     }

@@ -35,8 +35,8 @@ module _ {State : Type 0} (Goes : State → ℕ → State → Type 0) (start : S
     pub enough : length found ≤ done
     pub linked : AreLinked Goes found links done
 
-  -- Each state was found that a list of at most so many moves leads to; those that were found have at most one move more,
-  -- are as many as may be kept, and aren't all of these.
+  -- Each state was found that a list of at most so many moves leads to; those that were found have at most one move
+  -- more, are as many as may be kept, and aren't all of these.
   pub record FindsNearest (most moves : ℕ) : Type 0 where
     pub near : (list : List ℕ) (state : State) → Leads Goes start list state → length list ≤ moves → IsFound found state
     pub far : (place : ℕ) (state : State) (origin : Origin) → slice_get found place ≡ Some (state, origin)

@@ -1,5 +1,5 @@
--- How far a search has come (own): the states that it found, in the order in which they were found, each with how it was
--- first come to.
+-- How far a search has come (own): the states that it found, in the order in which they were found, each with how it
+-- was first come to.
 use Rattle.std.specs.Prelude.{◌≡◌, ℕ, ◌+◌, ◌<◌, ◌≤◌, ◌⊎◌, List, Some, length, slice_get}
 use Rattle.cx_search.specs.declared.found.Origin.{Origin}
 
@@ -28,7 +28,8 @@ pub record ComesFrom {State : Type 0} (Goes : State → ℕ → State → Type 0
   pub more : origin.moves ≡ by.moves + 1
 
 -- the state was found, no later than by that move
-pub record IsFoundBy {State : Type 0} (found : List (State × Origin)) (state : State) (at : ℕ) (number : ℕ) : Type 0 where
+pub record IsFoundBy {State : Type 0} (found : List (State × Origin)) (state : State) (at : ℕ) (number : ℕ)
+    : Type 0 where
   pub place : ℕ
   pub origin : Origin
   pub there : slice_get found place ≡ Some (state, origin)
@@ -37,7 +38,8 @@ pub record IsFoundBy {State : Type 0} (found : List (State × Origin)) (state : 
 -- What a search has found, once all moves from the first `done` states were tried, and `tried` of the next: each state
 -- once, the first with no move, each other by a move from one before it, in the order of these moves; and where each
 -- move leads that was tried.
-pub record Searched {State : Type 0} (Goes : State → ℕ → State → Type 0) (found : List (State × Origin)) (done : ℕ) (tried : ℕ) : Type 0 where
+pub record Searched {State : Type 0} (Goes : State → ℕ → State → Type 0) (found : List (State × Origin)) (done : ℕ)
+    (tried : ℕ) : Type 0 where
   pub start : State
   pub first : Origin
   pub begins : slice_get found 0 ≡ Some (start, first)
@@ -56,7 +58,8 @@ pub record Searched {State : Type 0} (Goes : State → ℕ → State → Type 0)
 
 -- A search was cut: a state isn't among those that were found, to which a move from the next one leads, and no more may
 -- be.
-pub record IsCut {State : Type 0} (Goes : State → ℕ → State → Type 0) (found : List (State × Origin)) (done : ℕ) (most : ℕ) : Type 0 where
+pub record IsCut {State : Type 0} (Goes : State → ℕ → State → Type 0) (found : List (State × Origin)) (done : ℕ)
+    (most : ℕ) : Type 0 where
   pub tried : ℕ
   pub searched : Searched Goes found done tried
   pub full : most ≤ length found

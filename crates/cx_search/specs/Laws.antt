@@ -19,7 +19,8 @@ module _ {State : Type 0} (Goes : State → ℕ → State → Type 0) where
   -- where a list leads to a state that is come to again from itself, there are lists of any length
   abbrev pub LoopsLeadOn : Type 0
   LoopsLeadOn =
-      (from to : State) (moves : List ℕ) → Leads Goes from moves to → Loops Goes to → (least : ℕ) → IsLong Goes from least
+      (from to : State) (moves : List ℕ) → Leads Goes from moves to → Loops Goes to → (least : ℕ)
+      → IsLong Goes from least
 
   -- so no number bounds them
   abbrev pub BoundedNeverLoop : Type 0
@@ -31,5 +32,6 @@ module _ {State : Type 0} (Goes : State → ℕ → State → Type 0) where
   pub record FirstPlacesDecide : Type 0 where
     pub looping : (found : List (State × Origin)) (one other : ℕ) → IsFirstPlaceOf (Loops Goes) found one
         → IsFirstPlaceOf (Loops Goes) found other → one ≡ other
-    pub restless : (found : List (State × Origin)) (one other : ℕ) → IsFirstPlaceOf (λ state. CanRest Goes state → ⊥) found one
+    pub restless : (found : List (State × Origin)) (one other : ℕ)
+        → IsFirstPlaceOf (λ state. CanRest Goes state → ⊥) found one
         → IsFirstPlaceOf (λ state. CanRest Goes state → ⊥) found other → one ≡ other

@@ -37,7 +37,8 @@ Says Goes found All state = IsBounded Goes state
 Says {State = State} Goes found (To target) state = (to : State) → IsAt found target to → LeadsOn Goes state to
 
 -- each mark is right
-abbrev pub AreRight : {State : Type 0} → (State → ℕ → State → Type 0) → List (State × Origin) → Rule → List Bool → Type 0
+abbrev pub AreRight : {State : Type 0} → (State → ℕ → State → Type 0) → List (State × Origin) → Rule → List Bool
+    → Type 0
 AreRight {State = State} Goes found rule marks =
     (place : ℕ) (state : State) → is_marked marks place ≡ true → IsAt found place state → Says Goes found rule state
 
@@ -52,7 +53,8 @@ abbrev pub is_free : List Bool → ℕ → ℕ → Bool
 is_free marks most place = nat_lt place most && not (is_marked marks place)
 
 -- the state at the place that is come to, to which moves lead on from each place that was seen
-pub record IsComeTo {State : Type 0} (Goes : State → ℕ → State → Type 0) (found : List (State × Origin)) (seen : List Bool) (place : ℕ) : Type 0 where
+pub record IsComeTo {State : Type 0} (Goes : State → ℕ → State → Type 0) (found : List (State × Origin))
+    (seen : List Bool) (place : ℕ) : Type 0 where
   pub state : State
   pub at : IsAt found place state
   pub on : (other : ℕ) (from : State) → is_marked seen other ≡ true → IsAt found other from → LeadsOn Goes from state

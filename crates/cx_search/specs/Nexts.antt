@@ -31,5 +31,6 @@ module _ {State : Type 0} (Goes : State → ℕ → State → Type 0) (found : L
   -- of each of the first states, of which there are so many, the places that moves lead to
   pub record AreLinked (links : List (List ℕ)) (done : ℕ) : Type 0 where
     pub many : length links ≡ done
-    pub nexts : (place : ℕ) (state : State) (nexts : List ℕ) → slice_get links place ≡ Some nexts → IsAt found place state
+    pub nexts : (place : ℕ) (state : State) (nexts : List ℕ) → slice_get links place ≡ Some nexts
+        → IsAt found place state
         → AreNexts state nexts

@@ -26,4 +26,5 @@ module _ {State : Type 0} (Goes : State → ℕ → State → Type 0) (found : L
   pub record AreResting (places : List ℕ) : Type 0 where
     pub each : (index place : ℕ) → slice_get places index ≡ Some place → IsResting place
     pub all : (place : ℕ) → IsResting place → IsListed places place
-    pub ordered : (one other p q : ℕ) → one < other → slice_get places one ≡ Some p → slice_get places other ≡ Some q → p < q
+    pub ordered : (one other p q : ℕ) → one < other → slice_get places one ≡ Some p → slice_get places other ≡ Some q
+        → p < q

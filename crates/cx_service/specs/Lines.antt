@@ -59,7 +59,8 @@ ArePartLines part (line ∷ lines) =
 unfoldable pub AreLines : List (List ℕ) → List (List ℕ) → Type 0
 AreLines [] lines = lines ≡ []
 AreLines (part ∷ parts) lines =
-    (own : List (List ℕ)) × (others : List (List ℕ)) × (lines ≡ own ++ others) × ArePartLines part own × AreLines parts others
+    (own : List (List ℕ)) × (others : List (List ℕ)) × (lines ≡ own ++ others) × ArePartLines part own
+    × AreLines parts others
 
 -- the lines of a text
 abbrev pub AreLinesOf : List ℕ → List (List ℕ) → Type 0

@@ -45,7 +45,8 @@ count_at (Some hold) = hold.count
 
 -- ENQ: the count rises; a resource that nobody owned goes last
 unfoldable pub enqueue : Resources → ℕ → ResourceName → Resources
-enqueue resources slot name = insert_entry is_resource resources name (record { owner = slot; count = count_at (hold_of resources name) + 1 })
+enqueue resources slot name =
+    insert_entry is_resource resources name (record { owner = slot; count = count_at (hold_of resources name) + 1 })
 
 -- DEQ, by who holds the resource: its owner's count falls, and at zero it is free; another task's stays
 abbrev pub with_count_down : Resources → ℕ → ResourceName → Option Hold → Resources

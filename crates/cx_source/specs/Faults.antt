@@ -46,7 +46,8 @@ line_faults continues number [] = NoEnd number ∷ []
 line_faults continues number (line ∷ more) =
     let fault = fault_of continues number line in let joined = goes_on continues fault in
     option_to_list fault
-    ++ (if is_last joined (text_of line) then [] else line_faults (is_continued joined (text_of line)) (number + 1) more)
+    ++ (if is_last joined (text_of line) then []
+    else line_faults (is_continued joined (text_of line)) (number + 1) more)
 
 -- a source, or the faults that it has
 abbrev pub unless_faulty : {F : Type 0} → List F → Source → Result Source (List F)
@@ -59,7 +60,8 @@ source_or_faults all = unless_faulty (line_faults false 1 all) (source_from (up_
 
 -- the source that lines make, or its first fault
 unfoldable pub source_in : List (List ℕ) → Result Source SourceFault
-source_in all = option_map_or Err (slice_get (line_faults false 1 all) 0) (Ok (source_from (up_to_end false (map text_of all))))
+source_in all =
+    option_map_or Err (slice_get (line_faults false 1 all) 0) (Ok (source_from (up_to_end false (map text_of all))))
 
 -- The source that bytes make. A line ends with LF, and a CR before it is dropped; the last line needs none.
 unfoldable pub source_of : List ℕ → Result Source SourceFault

@@ -58,4 +58,8 @@ unfoldable pub entries_of : List ℕ → Entries
 entries_of text =
     let body = columns 1 71 text in
     let second = skip_blanks (after_first is_blank body) in
-    record { name = before_first is_blank body; operation = before_first is_blank second; after = after_first is_blank second }
+    record {
+      name = before_first is_blank body;
+      operation = before_first is_blank second;
+      after = after_first is_blank second;
+    }

@@ -58,7 +58,8 @@ is_mark Closing depth c = c == byte ")" && depth == 0
 abbrev pub first_from : Delimiter → Scan → List ℕ → ℕ
 first_from mark scan [] = 0
 first_from mark scan (c ∷ after) =
-    if lies_outside scan c after && is_mark mark scan.depth c then 0 else 1 + first_from mark (scan_after scan c after) after
+    if lies_outside scan c after && is_mark mark scan.depth c then 0
+    else 1 + first_from mark (scan_after scan c after) after
 
 abbrev pub first_mark : Delimiter → List ℕ → ℕ
 first_mark mark text = first_from mark at_start text
@@ -67,7 +68,8 @@ first_mark mark text = first_from mark at_start text
 abbrev pub parts_from : Delimiter → Scan → List ℕ → List ℕ → List (List ℕ)
 parts_from mark scan part [] = part ∷ []
 parts_from mark scan part (c ∷ after) =
-    if lies_outside scan c after && is_mark mark scan.depth c then part ∷ parts_from mark (scan_after scan c after) [] after
+    if lies_outside scan c after && is_mark mark scan.depth c
+    then part ∷ parts_from mark (scan_after scan c after) [] after
     else parts_from mark (scan_after scan c after) (part ++ c ∷ []) after
 
 abbrev pub parts : Delimiter → List ℕ → List (List ℕ)

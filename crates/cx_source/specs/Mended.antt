@@ -8,7 +8,8 @@ use Rattle.cx_source.specs.declared.source.Source.{Source}
 
 -- the next line, if there is one, begins anew where it should continue
 abbrev pub is_cut_off : Bool → ℕ → Option (List ℕ) → Bool
-is_cut_off continues number next = option_map_or (λ line. continues && not (goes_on continues (fault_of continues number line))) next false
+is_cut_off continues number next =
+    option_map_or (λ line. continues && not (goes_on continues (fault_of continues number line))) next false
 
 -- a text, without the mark in column 72 where the next line begins anew
 abbrev pub text_kept : Bool → List ℕ → List ℕ

@@ -44,7 +44,11 @@ operand_in operation written =
 unfoldable pub statement_of : List ℕ → List (List ℕ) → Stmt
 statement_of text more =
     let entries = entries_of text in
-    record { name = entries.name; operation = entries.operation; operand = operand_in entries.operation (entries.after ++ written_on (is_marked text) more) }
+    record {
+      name = entries.name;
+      operation = entries.operation;
+      operand = operand_in entries.operation (entries.after ++ written_on (is_marked text) more);
+    }
 
 -- The lines with their numbers and statements. A statement begins on each line that neither is a comment nor continues
 -- one.

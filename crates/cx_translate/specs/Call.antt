@@ -54,12 +54,14 @@ labels_of words =
 
 -- a condition as it is listed: with a label or without
 abbrev pub listed_condition : Condition → Argument → ListedCondition
-listed_condition condition argument = record { number = (entry_of condition).number; label = if is_some (text_in argument) then 0x80 else 0 }
+listed_condition condition argument =
+    record { number = (entry_of condition).number; label = if is_some (text_in argument) then 0x80 else 0 }
 
 -- the conditions listed, in the order written
 abbrev pub listed_of : List Word → List ListedCondition
 listed_of words =
-    flat_map (λ word. option_to_list (option_map (λ c. listed_condition c word.argument) (condition_called word.name))) words
+    flat_map (λ word. option_to_list (option_map (λ c. listed_condition c word.argument) (condition_called word.name)))
+    words
 
 -- the block's bytes: the function value, the option bytes, and two bytes for each condition
 unfoldable pub block_bytes : Command → List Word → List ℕ
@@ -86,4 +88,5 @@ pointer_by kind argument = []
 
 -- the registers that the command's pointers are loaded into
 abbrev pub pointers_of : List CommandOption → List Word → List (List ℕ)
-pointers_of options words = flat_map (λ option. pointer_by option.kind (argument_of words (option_name option.name))) options
+pointers_of options words =
+    flat_map (λ option. pointer_by option.kind (argument_of words (option_name option.name))) options

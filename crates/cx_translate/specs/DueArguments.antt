@@ -43,7 +43,8 @@ common_due name =
 -- a condition's label, which HANDLE CONDITION alone may give
 unfoldable pub condition_due : Command → List ℕ → Option DueArgument
 condition_due command name =
-    if lists_conditions command && is_some (condition_called name) then Some (if is_handle command then Label else Nothing) else None
+    if lists_conditions command && is_some (condition_called name)
+    then Some (if is_handle command then Label else Nothing) else None
 
 -- what is due with a word of a command: None where the command has no such option
 unfoldable pub due_of : Command → List ℕ → Option DueArgument

@@ -17,7 +17,8 @@ is_quoted text = slice_index (bare_argument text) 0 == byte "'"
 -- first argument says whether an apostrophe precedes that may be the first of a pair.
 abbrev pub closes_from : Bool → List ℕ → Bool
 closes_from pending [] = pending
-closes_from pending (c ∷ cs) = if c == byte "'" then closes_from (not pending) cs else (not pending && closes_from false cs)
+closes_from pending (c ∷ cs) =
+    if c == byte "'" then closes_from (not pending) cs else (not pending && closes_from false cs)
 
 -- How many characters a text stands for: two apostrophes, or two ampersands, stand for one. The first argument is the
 -- character before it, where that waits for its other half, else 0.

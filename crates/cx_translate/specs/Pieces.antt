@@ -18,7 +18,8 @@ depth_after depth is_outside c =
 -- they close.
 unfoldable pub is_cut : ℕ → Bool → ℕ → Bool
 is_cut depth is_outside c =
-    is_outside && (if depth == 0 then c == byte " " || c == byte "(" || c == byte ")" else (depth == 1 && c == byte ")"))
+    is_outside
+    && (if depth == 0 then c == byte " " || c == byte "(" || c == byte ")" else (depth == 1 && c == byte ")"))
 
 -- a word, where there is one
 abbrev pub word : List ℕ → List Token
@@ -37,7 +38,8 @@ abbrev pub pieces_from : ℕ → List ℕ → List Bool → List ℕ → List To
 pieces_from depth part [] cs = last_of depth part
 pieces_from depth part marks [] = last_of depth part
 pieces_from depth part (is_outside ∷ marks) (c ∷ cs) =
-    if is_cut depth is_outside c then end_of_pieces depth part c ++ pieces_from (depth_after depth is_outside c) [] marks cs
+    if is_cut depth is_outside c
+    then end_of_pieces depth part c ++ pieces_from (depth_after depth is_outside c) [] marks cs
     else pieces_from (depth_after depth is_outside c) (part ++ c ∷ []) marks cs
 
 -- the pieces of an operand, in order

@@ -61,7 +61,8 @@ continuation_count continues (item ∷ rest) =
 -- the place after the statement that begins at a place, and after its continuation lines
 unfoldable pub place_after : List Item → ℕ → ℕ
 place_after items place = place + 1
-    + continuation_count (option_map_or (λ item. is_continued false item.text) (slice_get items place) false) (drop (place + 1) items)
+    + continuation_count (option_map_or (λ item. is_continued false item.text) (slice_get items place) false)
+    (drop (place + 1) items)
 
 -- items put in at a place
 abbrev pub insert_items : ℕ → List Item → List Item → List Item

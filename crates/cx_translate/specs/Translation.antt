@@ -23,7 +23,8 @@ is_dropped continues item = continues && is_none item.stmt
 unfoldable pub expansion : Bool → Item → List Item
 expansion continues item =
     if is_dropped continues item then [] else (if begins_exec item
-    then option_map_or (λ exec. lines item.line (made_of exec.name (words_of exec.operand))) item.stmt [] else item ∷ [])
+    then option_map_or (λ exec. lines item.line (made_of exec.name (words_of exec.operand))) item.stmt []
+    else item ∷ [])
 
 -- whether the next line continues an EXEC statement
 unfoldable pub continues_exec : Bool → Item → Bool
@@ -75,10 +76,12 @@ mended_expansion continues item = if is_some (fault_at item) then stand_in item 
 
 abbrev pub mended_items : Bool → List Item → List Item
 mended_items continues [] = []
-mended_items continues (item ∷ rest) = mended_expansion continues item ++ mended_items (continues_exec continues item) rest
+mended_items continues (item ∷ rest) =
+    mended_expansion continues item ++ mended_items (continues_exec continues item) rest
 
 -- what a source is translated to in spite of its faults
 unfoldable pub mended_source : Source → Source
 mended_source source =
-    if list_any begins_exec source.items then record { items = with_eib (with_bases (with_storage (mended_items false source.items))) }
+    if list_any begins_exec source.items
+    then record { items = with_eib (with_bases (with_storage (mended_items false source.items))) }
     else source

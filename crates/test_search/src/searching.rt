@@ -144,3 +144,47 @@ fn a_spin_without_an_end_cannot_rest(rt: HostRuntime) -> Result<(), AllocError> 
     assert!(rt; found_are(rt.alloc(), &outcome, &[(0, &[]), (1, &[0]), (2, &[1])])?);
     Ok(())
 }
+
+// By the lowest moves the spin of 3 is come to first, and 2 was found before it.
+#[test]
+fn the_first_state_found_that_loops_is_given(rt: HostRuntime) -> Result<(), AllocError> {
+    let rows = [
+        row(Some(1), Some(2)),
+        row(Some(3), None),
+        row(Some(2), None),
+        row(Some(3), None),
+    ];
+    let outcome = find(rt.alloc(), &rows, 100)?;
+    assert!(rt; outcome.found.looping()? == Some(2));
+    assert!(rt; outcome.found.restless()? == Some(0));
+    Ok(())
+}
+
+/// Whether these are the places of the states at rest, of all, or of those that at most so many moves lead to.
+fn resting_are(
+    alloc: Global,
+    rows: &[Row],
+    most: usize,
+    wanted: &[usize],
+) -> Result<bool, AllocError> {
+    let graph = Graph {
+        rows: Vec::from_slice(alloc, rows)?,
+    };
+    let outcome = search(&graph, &mut (), 0, most.max(1), alloc)?;
+    let places = outcome.found.resting(&graph, &mut (), outcome.cut)?;
+    Ok(places.as_slice() == wanted)
+}
+
+#[test]
+fn states_at_rest_are_given_in_their_order(rt: HostRuntime) -> Result<(), AllocError> {
+    let rows = [
+        row(Some(1), Some(2)),
+        row(None, None),
+        row(Some(3), Some(2)),
+        row(None, None),
+    ];
+    assert!(rt; resting_are(rt.alloc(), &rows, 100, &[1, 3])?);
+    assert!(rt; resting_are(rt.alloc(), &rows, 3, &[1])?);
+    assert!(rt; resting_are(rt.alloc(), &diamond(), 100, &[3])?);
+    Ok(())
+}

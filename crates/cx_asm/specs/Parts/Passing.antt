@@ -16,7 +16,8 @@ use Rattle.cx_asm.specs.Resolving.{Standing, counter_at, data_standing, empty_se
 -- the fault of a statement except that of a USING or a DROP, which is asked separately
 abbrev pub WithUsing : Whole → Bases → ℕ → PlacedStatement → Option Operation → Option FaultKind → Type 0
 WithUsing whole bases number s operation fault =
-    lower fault (option_and_then (λ o. result_err (bases_in o (directive_context whole bases s) s.stmt.operand)) operation)
+    lower fault
+    (option_and_then (λ o. result_err (bases_in o (directive_context whole bases s) s.stmt.operand)) operation)
     ≡ operand_fault whole bases number s operation
 
 -- what a literal makes, if there is one

@@ -6,7 +6,9 @@ use Rattle.cx_asm.specs.Assembly.{AssemblyParts, assembly_of, standing_of}
 
 -- The disassembly of an accepted source's text by its spans is what is in its control section.
 abbrev pub ComesBack : Type 0
-ComesBack = (source : Source) (made : AssemblyParts) → assembly_of source ≡ Ok made → lines made.section.image.text made.section.spans ≡ (standing_of source).lines
+ComesBack =
+    (source : Source) (made : AssemblyParts) → assembly_of source ≡ Ok made
+    → lines made.section.image.text made.section.spans ≡ (standing_of source).lines
 
 -- It is the resolved lines.
 abbrev pub LinesAreResolved : Type 0

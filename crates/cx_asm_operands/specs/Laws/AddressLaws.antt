@@ -24,7 +24,9 @@ IsPreferred address register displacement =
     (address.displacement < displacement) ⊎ ((address.displacement ≡ displacement) × (register ≤ address.base))
 
 abbrev pub IsNearest : Bases → List ℕ → ℤ → Option Address → Type 0
-IsNearest bases section number None = (register displacement : ℕ) → Reaches bases section number register displacement → ⊥
+IsNearest bases section number None =
+    (register displacement : ℕ) → Reaches bases section number register displacement → ⊥
 IsNearest bases section number (Some address) =
     Reaches bases section number address.base address.displacement
-    × ((register displacement : ℕ) → Reaches bases section number register displacement → IsPreferred address register displacement)
+    × ((register displacement : ℕ) → Reaches bases section number register displacement
+    → IsPreferred address register displacement)

@@ -38,9 +38,11 @@ ItemsStand from (item ∷ items) (at ∷ offsets) end =
 -- What a statement has lies from the offset before it to its end: an instruction on a boundary of two; the items of a
 -- DS or DC; at LTORG the literals of the open pool. All else has nothing.
 abbrev pub Stands : Role → List (List ℕ) → OpenLiterals → ℕ → Extent → Type 0
-Stands (Instruction size) parts pool from extent = (from ≤ extent.offset) × (extent.offset % 2 ≡ 0) × (extent.end ≡ extent.offset + size)
+Stands (Instruction size) parts pool from extent =
+    (from ≤ extent.offset) × (extent.offset % 2 ≡ 0) × (extent.end ≡ extent.offset + size)
 Stands (Storage is_ds) parts pool from extent = ItemsStand from (map (constant_in is_ds) parts) extent.items extent.end
-Stands Pool parts pool from extent = (from ≤ extent.offset) × StandApart extent.offset (closed_pool (cap extent.offset) pool) extent.end
+Stands Pool parts pool from extent =
+    (from ≤ extent.offset) × StandApart extent.offset (closed_pool (cap extent.offset) pool) extent.end
 Stands _ parts pool from extent = (extent.offset ≡ from) × (extent.end ≡ from)
 
 -- ---- all statements
@@ -51,7 +53,8 @@ pub record Stretch : Type 0 where
   pub end : ℕ
 
 abbrev pub stretch_of : Stmt → PassState → Stretch
-stretch_of stmt state = record { section = state.section; offset = (extent_in stmt state).offset; end = (extent_in stmt state).end }
+stretch_of stmt state =
+    record { section = state.section; offset = (extent_in stmt state).offset; end = (extent_in stmt state).end }
 
 -- those of the statements of lines, the latest first
 abbrev pub stretch_before : Option Stmt → PassState → List Stretch → List Stretch
@@ -64,17 +67,23 @@ stretches_after (item ∷ before) = stretch_before item.stmt (state_after before
 
 -- in one section a later one begins at or past the end of an earlier one
 abbrev pub ComesAfter : Stretch → Stretch → Type 0
-ComesAfter later earlier = (name : List ℕ) → later.section ≡ Some name → earlier.section ≡ Some name → earlier.end ≤ later.offset
+ComesAfter later earlier =
+    (name : List ℕ) → later.section ≡ Some name → earlier.section ≡ Some name → earlier.end ≤ later.offset
 
 abbrev pub AreApart : List Stretch → Type 0
 AreApart [] = Unit {0}
-AreApart (stretch ∷ before) = (stretch.offset ≤ stretch.end) × AllByRecursion (ComesAfter stretch) before × AreApart before
+AreApart (stretch ∷ before) =
+    (stretch.offset ≤ stretch.end) × AllByRecursion (ComesAfter stretch) before × AreApart before
 
 -- every one of the control section ends inside it
 abbrev pub EndWithin : PassState → List Stretch → Type 0
-EndWithin state stretches = AllByRecursion (λ stretch. is_control stretch.section state.control ≡ true → stretch.end ≤ (last_pool_extent state).end) stretches
+EndWithin state stretches =
+    AllByRecursion
+    (λ stretch. is_control stretch.section state.control ≡ true → stretch.end ≤ (last_pool_extent state).end)
+    stretches
 
 -- The last pool lies from the control section's end so far to its end.
 pub record ClosesApart (state : PassState) : Type 0 where
   pub begins : control_length state ≤ (last_pool_extent state).offset
-  pub literals : StandApart (last_pool_extent state).offset (closed_pool (cap (last_pool_extent state).offset) state.pool) (last_pool_extent state).end
+  pub literals : StandApart (last_pool_extent state).offset
+      (closed_pool (cap (last_pool_extent state).offset) state.pool) (last_pool_extent state).end

@@ -8,8 +8,13 @@ use Rattle.cx_asm_pass1.specs.declared.faults.Heading.{Heading}
 use Rattle.cx_asm_pass1.specs.declared.checked.Checked.{Checked}
 
 abbrev pub heading_in : Stmt → PassState → Heading
-heading_in stmt state = record { role = role_in stmt; name = name_in stmt; section = state.section; control = state.control }
+heading_in stmt state =
+    record { role = role_in stmt; name = name_in stmt; section = state.section; control = state.control }
 
 unfoldable pub checked_in : Stmt → PassState → Checked
 checked_in stmt state =
-    record { extent = extent_in stmt state; value = unwrap_or (result_ok (given_in stmt state)) (Some (absolute (pos 0))); fault = own_fault stmt state }
+    record {
+      extent = extent_in stmt state;
+      value = unwrap_or (result_ok (given_in stmt state)) (Some (absolute (pos 0)));
+      fault = own_fault stmt state;
+    }

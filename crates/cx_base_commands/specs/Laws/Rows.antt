@@ -29,7 +29,8 @@ bits_of_rule (OneOfThree a b c) = a ∷ b ∷ c ∷ []
 
 -- each rule speaks of bits of these options
 abbrev pub rules_name_options : List CommandOption → List Rule → Bool
-rules_name_options options rules = list_all (λ rule. list_all (λ bit. list_any (λ option. option.bit == bit) options) (bits_of_rule rule)) rules
+rules_name_options options rules =
+    list_all (λ rule. list_all (λ bit. list_any (λ option. option.bit == bit) options) (bits_of_rule rule)) rules
 
 -- no two options have one name
 abbrev pub have_own_names : List CommandOption → Bool
@@ -50,8 +51,10 @@ stands_together one other _ = false
 -- LENGTH is required, or a rule has it given together with the option
 abbrev pub has_length_beside : List CommandOption → List Rule → CommandOption → Bool
 has_length_beside options rules option =
-    list_any (λ other. is_option other.name Length && (other.required || list_any (stands_together option.bit other.bit) rules)) options
+    list_any (λ other. is_option other.name Length
+    && (other.required || list_any (stands_together option.bit other.bit) rules)) options
 
 -- each option with bytes that LENGTH measures has LENGTH beside it
 abbrev pub measured_have_length : List CommandOption → List Rule → Bool
-measured_have_length options rules = list_all (λ option. not (is_measured option.kind) || has_length_beside options rules option) options
+measured_have_length options rules =
+    list_all (λ option. not (is_measured option.kind) || has_length_beside options rules option) options

@@ -20,23 +20,25 @@ use Rattle.cx_edf.specs.State.{EdfState, session_at}
 use Rattle.cx_edf.specs.Erasure.{left_of}
 use Rattle.cx_edf.specs.Runs.{Trace, last_state}
 
--- the stop at which a terminal's session takes a display of what the region did and replied: that of a turn where its mode
--- takes it, and the end by an alteration whatever its mode is
+-- the stop at which a terminal's session takes a display of what the region did and replied: that of a turn where its
+-- mode takes it, and the end by an alteration whatever its mode is
 abbrev pub stop_taken : EdfState → List ℕ → Event → Reply → Option StopPoint
 stop_taken old q (event.Turn name) (reply.Turn r) =
     if is_name name q then option_and_then (λ session. stop_of_turn session r) (session_at old q) else None
-stop_taken old q (event.Alter name change.Abend) (reply.Alter alter.Altered) = if is_name name q then Some operators_end else None
+stop_taken old q (event.Alter name change.Abend) (reply.Alter alter.Altered) =
+    if is_name name q then Some operators_end else None
 stop_taken old q _ _ = None
 
--- All displays of a terminal's session so far, after one more event: it takes one of the region right after the event. There
--- are none where the terminal has no session.
+-- All displays of a terminal's session so far, after one more event: it takes one of the region right after the event.
+-- There are none where the terminal has no session.
 unfoldable pub displays_after : EdfState → EdfEvent → Answer → EdfState → List ℕ → List Display → List Display
 displays_after old e given new q all = if is_some (session_at new q)
     then all ++ map (display_of new.region q) (filter_map (λ p. stop_taken old q p.0 p.1) (left_of old e given)) else []
 
 -- the same after each of some events
 unfoldable pub history : EdfState → List EdfEvent → List Answer → List EdfState → List ℕ → List Display → List Display
-history old (e ∷ events) (given ∷ answers) (new ∷ states) q all = history new events answers states q (displays_after old e given new q all)
+history old (e ∷ events) (given ∷ answers) (new ∷ states) q all =
+    history new events answers states q (displays_after old e given new q all)
 history old _ _ _ q all = all
 
 -- of all displays of a session the last ten are kept; without a session there are none

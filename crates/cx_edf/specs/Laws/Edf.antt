@@ -79,11 +79,12 @@ abbrev pub is_refusal : EdfEvent → Answer → Bool
 is_refusal (edf_event.Plain e) (answer.Region r) = is_refused e r
 is_refusal e given = false
 
--- The replies given under EDF: without EDF's own answers and those of refused alterations, and with Altered for a PF12 that
--- ends a task.
+-- The replies given under EDF: without EDF's own answers and those of refused alterations, and with Altered for a PF12
+-- that ends a task.
 abbrev pub given_by : EdfState → EdfEvent → Answer → List Reply
 given_by old e given =
-    if ends_task old e then reply.Alter alter.Altered ∷ [] else if is_edfs given || is_refusal e given then [] else reply_in given ∷ []
+    if ends_task old e then reply.Alter alter.Altered ∷ []
+    else if is_edfs given || is_refusal e given then [] else reply_in given ∷ []
 
 unfoldable pub given_in : EdfState → List EdfEvent → List Answer → List EdfState → List Reply
 given_in old (e ∷ events) (given ∷ answers) (new ∷ states) = given_by old e given ++ given_in new events answers states
@@ -100,8 +101,8 @@ abbrev pub OwnEventsHaveOwnAnswers : Type 0
 OwnEventsHaveOwnAnswers = (make : DisplayMaker) (old : EdfState) (e : EdfEvent) (given : Answer) (new : EdfState)
     → AppliesBy make old e given new → is_own old e ≡ is_edfs given
 
--- Nothing is left of it exactly where its answer is EDF's own, and it is no PF12 that ends a task; or where it is a refused
--- alteration.
+-- Nothing is left of it exactly where its answer is EDF's own, and it is no PF12 that ends a task; or where it is a
+-- refused alteration.
 abbrev pub ErasedEvents : Type 0
 ErasedEvents = (make : DisplayMaker) (old : EdfState) (e : EdfEvent) (given : Answer) (new : EdfState)
     → AppliesBy make old e given new
@@ -115,7 +116,8 @@ ErasedEventsLeaveTheRegion = (make : DisplayMaker) (old : EdfState) (e : EdfEven
 -- ---- no stop is missed
 -- a stop that a session doesn't take is met under suppression
 abbrev pub StopsAreMissedUnderSuppression : Type 0
-StopsAreMissedUnderSuppression = (old : EdfState) (name : List ℕ) (r : TurnReply) (new : EdfState) (session : SessionState) (stop : StopPoint)
+StopsAreMissedUnderSuppression =
+    (old : EdfState) (name : List ℕ) (r : TurnReply) (new : EdfState) (session : SessionState) (stop : StopPoint)
     → EdfApplies old (edf_event.Plain (event.Turn name)) (answer.Region (reply.Turn r)) new
     → session_at old name ≡ Some session → stop_of r ≡ Some stop
     → takes_in session.mode session.stops stop ≡ false → session.mode ≡ mode.Suppressed

@@ -1,5 +1,5 @@
 -- What always holds of the region under EDF is kept, and an event that was refused memory is none.
-use Rattle.std.specs.Prelude.{◌≡◌, ℕ, ⊤, List, ◌++◌, drop, Result, Err, IfOk}
+use Rattle.std.specs.Prelude.{ℕ, ⊤, List, ◌++◌, drop, Result, Err}
 use Rattle.std.specs.declared.alloc.AllocError.{AllocError}
 use Rattle.cx_region.specs.Events.{IsDone, RunStopped}
 use Rattle.cx_region.specs.Sound.{IsSound}

@@ -32,7 +32,8 @@ AreWatched [] watched = watched ≡ []
 AreWatched (one ∷ plan) watched =
     (entered : Bool) × (rest : List EdfEvent)
     × (watched
-    ≡ map (λ name. edf_event.On name) one.0 ++ ((if entered then enter_before one.1 else []) ++ edf_event.Plain one.1 ∷ rest))
+    ≡ map (λ name. edf_event.On name) one.0
+    ++ ((if entered then enter_before one.1 else []) ++ edf_event.Plain one.1 ∷ rest))
     × AreWatched plan rest
 
 -- There is a list under EDF of these events, with EDF begun before any of them and ENTER where a task is stopped, of

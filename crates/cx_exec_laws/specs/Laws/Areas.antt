@@ -11,4 +11,5 @@ SameAreas m after = areas_of after.storage ≡ areas_of m.storage
 
 -- no instruction makes, frees or moves an area
 abbrev pub RunsKeepAreas : Type 0
-RunsKeepAreas = (limit : ℕ) (m : Machine) (end : Halt) (after : Machine) → Advances limit m end after → SameAreas m after
+RunsKeepAreas =
+    (limit : ℕ) (m : Machine) (end : Halt) (after : Machine) → Advances limit m end after → SameAreas m after

@@ -25,7 +25,9 @@ pub record IsConversion (m : Machine) (cause : Interruption) (after : Machine) :
 
 -- an interruption leaves registers, code, next address and storage as before, except the register of CVB's 9
 abbrev pub InterruptionsLeave : Type 0
-InterruptionsLeave = (m : Machine) (cause : Interruption) (after : Machine) → Steps m (Interrupt cause) after → (after ≡ m) ⊎ IsConversion m cause after
+InterruptionsLeave =
+    (m : Machine) (cause : Interruption) (after : Machine) → Steps m (Interrupt cause) after
+    → (after ≡ m) ⊎ IsConversion m cause after
 
 -- so the code, the next address and storage are always those before
 abbrev pub InterruptionsKeep : Type 0

@@ -13,5 +13,6 @@ DecimalReadsBack = (z : ℤ) → unsigned_abs z < 10 ^ 15 → IsReadAs (decimal_
 -- where no byte of the second operand is one of the first, MVC copies it
 abbrev pub ApartIsCopied : Type 0
 ApartIsCopied = (s : Storage) (a1 a2 n : ℕ) → a1 < 2 ^ 24 → a2 < 2 ^ 24 → n ≤ 2 ^ 24
-    → is_some (span s a1 n) ≡ true → is_some (span s a2 n) ≡ true → ((k : ℕ) → k < n → n ≤ distance a1 (address_after a2 k))
+    → is_some (span s a1 n) ≡ true → is_some (span s a2 n) ≡ true
+    → ((k : ℕ) → k < n → n ≤ distance a1 (address_after a2 k))
     → span (after_write s a1 (stored_by (moved_byte s a1 a2) n)) a1 n ≡ span s a2 n

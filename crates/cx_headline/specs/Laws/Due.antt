@@ -12,9 +12,11 @@ use Rattle.cx_edf.specs.declared.answers.EdfEvent.{EdfEvent}
 use Rattle.cx_edf.specs.State.{EdfState}
 use Rattle.cx_headline.specs.Laws.Runs.{state_after_first}
 
--- wherever a command of a terminal's task is due, the task's current level keeps the registers and the code of its program
+-- wherever a command of a terminal's task is due, the task's current level keeps the registers and the code of its
+-- program
 abbrev pub KeepsWhatIsDue : RegionState → Type 0
-KeepsWhatIsDue region = (name : List ℕ) (task : TaskState) → task_of region name ≡ Some task → task.due ≡ true → Keeps task
+KeepsWhatIsDue region =
+    (name : List ℕ) (task : TaskState) → task_of region name ≡ Some task → task.due ≡ true → Keeps task
 
 -- each event leaves it so, whatever it is
 abbrev pub EventsKeepWhatIsDue : Type 0
@@ -32,4 +34,5 @@ AlwaysKeepsWhatIsDue old events answers states = (n : ℕ) → KeepsWhatIsDue (s
 
 -- that, of a run that begins so
 abbrev pub StillKeepsWhatIsDue : EdfState → List EdfEvent → List Answer → List EdfState → Type 0
-StillKeepsWhatIsDue old events answers states = KeepsWhatIsDue old.region → AlwaysKeepsWhatIsDue old events answers states
+StillKeepsWhatIsDue old events answers states =
+    KeepsWhatIsDue old.region → AlwaysKeepsWhatIsDue old events answers states

@@ -1,5 +1,7 @@
--- What the base registers hold where a program is entered: the addresses of the sections that the translator's USING statements
--- name for them (OS/VS-DOS/VSE-VM/370 Assembler Language, GC33-4010, "USING"; which registers these are is this product's own).
+-- What the base registers hold where a program is entered: the addresses of the sections that the translator's USING
+-- statements
+-- name for them (OS/VS-DOS/VSE-VM/370 Assembler Language, GC33-4010, "USING"; which registers these are is this
+-- product's own).
 use Rattle.std.specs.Prelude.{◌≡◌, ℕ, Ok, Some, List, [], ◌∷◌, ◌++◌, codes, slice_get}
 use Rattle.cx_source.specs.declared.source.Stmt.{Stmt}
 use Rattle.cx_asm_operands.specs.Context.{Context, register_in}
@@ -8,7 +10,8 @@ use Rattle.cx_region_state.specs.Areas.{entry_registers}
 use Rattle.cx_region_state.specs.declared.verdict.NewLevel.{NewLevel}
 use Rattle.cx_region.specs.Attach.{fresh_task}
 
--- A USING statement of a section, as it is written: the register that its second operand is holds the section's address.
+-- A USING statement of a section, as it is written: the register that its second operand is holds the section's
+-- address.
 pub record IsHeld (c : Context) (regs : List ℕ) (using : Stmt) (section : List ℕ) (at : ℕ) : Type 0 where
   pub operation : using.operation ≡ codes "USING"
   pub text : List ℕ
@@ -26,7 +29,8 @@ AreHeld c regs statements sections = ⊥
 -- At a program's entry, the control section's start, so are the control section of any name, DFHEISTG and the EIB.
 abbrev pub HoldTheirBases : List ℕ → ℕ → ℕ → ℕ → Type 0
 HoldTheirBases regs entry stg eib =
-    (c : Context) (name : List ℕ) → AreHeld c regs (bases name) ((name, entry) ∷ (codes "DFHEISTG", stg) ∷ (codes "DFHEIBLK", eib) ∷ [])
+    (c : Context) (name : List ℕ)
+    → AreHeld c regs (bases name) ((name, entry) ∷ (codes "DFHEISTG", stg) ∷ (codes "DFHEIBLK", eib) ∷ [])
 
 -- The registers of an entry do, with which a level begins by LINK and XCTL.
 abbrev pub EntriesHoldTheirBases : Type 0

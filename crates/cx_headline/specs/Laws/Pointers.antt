@@ -1,6 +1,6 @@
 -- What a program gets of a pointer that its command gives, from the EXEC statement to the load after it (Application
--- Programmer's Reference Manual, SC33-0077, SET of GETMAIN and READQ TS, ADDRESS; that pointers are handed over in DFHEITP is
--- this product's own).
+-- Programmer's Reference Manual, SC33-0077, SET of GETMAIN and READQ TS, ADDRESS; that pointers are handed over in
+-- DFHEITP is this product's own).
 use Rattle.std.specs.Prelude.{◌≡◌, ◌≢◌, ℕ, ◌+◌, ◌<◌, false, List, [], ◌∷◌, ◌++◌, codes, slice_set}
 use Rattle.cx_base_commands.specs.declared.conditions.Condition.{Condition}
 use Rattle.cx_base_commands.specs.declared.options.CommandOption.{CommandOption}
@@ -54,7 +54,8 @@ pub record IsPerformed (loaded : Storage) (at load : ℕ) (sections : Sections) 
 -- After the half-turn the program is at the load. Where one of the command's outputs gives the option a pointer, and
 -- none of the four addresses of the argument may be written again, the load gives the register this very pointer, and
 -- all else stays.
-pub record GetsPointer (load place number : ℕ) (option : OptionName) (s : Statement) (m : Machine) (before : TaskContext)
+pub record GetsPointer (load place number : ℕ) (option : OptionName) (s : Statement) (m : Machine)
+    (before : TaskContext)
     (condition : Condition) (after : TaskContext) : Type 0 where
   pub next : after.task.next ≡ load
   pub put : HasPutOut condition before after
@@ -73,9 +74,11 @@ GivesPointer site assembly at s name back =
     (storage loaded : Storage) (program : Loaded) (sections : Sections) (m : Machine) (before : TaskContext)
     (condition : Condition) (after : TaskContext) → IsFit assembly.section.image
     → IsLoaded storage assembly.section.image program loaded
-    → IsPerformed loaded (address_after program.at at) (address_after program.at (at + code_length (instructions_made s))) sections (bases_of site)
+    → IsPerformed loaded (address_after program.at at)
+    (address_after program.at (at + code_length (instructions_made s))) sections (bases_of site)
     back.argument.base s m before condition after
-    → GetsPointer (address_after program.at (at + code_length (instructions_made s))) (argument_address m.regs back.argument) back.number name
+    → GetsPointer (address_after program.at (at + code_length (instructions_made s)))
+    (argument_address m.regs back.argument) back.number name
     s m before condition after
 
 -- So does each EXEC statement that arrives for its pointer, if the register is an operand by itself.

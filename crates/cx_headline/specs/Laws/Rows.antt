@@ -24,8 +24,8 @@ use Rattle.cx_edf.specs.Erasure.{is_own}
 use Rattle.cx_edf.specs.Laws.Edf.{ends_task}
 use Rattle.cx_headline.specs.Laws.Runs.{state_after_first}
 
--- The region is the one before with what a half-turn of the terminal's task reached put back; the answer is its reply; and it is
--- the only half-turn that there is.
+-- The region is the one before with what a half-turn of the terminal's task reached put back; the answer is its reply;
+-- and it is the only half-turn that there is.
 pub record IsHalfTurn (old : RegionState) (name : List ℕ) (terminal : TerminalState) (task : TaskState) (given : Answer)
     (new : RegionState) : Type 0 where
   pub reply : TurnReply
@@ -62,4 +62,5 @@ pub record IsItsRow (before : EdfState) (e : EdfEvent) (given : Answer) (after :
 -- each event of a run, by the state before it, its answer, and the state after it
 abbrev pub EachIsItsRow : EdfState → List EdfEvent → List Answer → List EdfState → Type 0
 EachIsItsRow old events answers states = (n : ℕ) (e : EdfEvent) → slice_get events n ≡ Some e
-    → IsSomeAnd (slice_get answers n) (λ given. IsItsRow (state_after_first old states n) e given (state_after_first old states (n + 1)))
+    → IsSomeAnd (slice_get answers n)
+    (λ given. IsItsRow (state_after_first old states n) e given (state_after_first old states (n + 1)))

@@ -25,10 +25,11 @@ abbrev pub state_after_first : EdfState → List EdfState → ℕ → EdfState
 state_after_first old states n = last_state old (take n states)
 
 -- ---- every list of events
--- what holds of events under EDF, whatever displays are: of the state before them, the events, their answers, and the state after
--- each
+-- what holds of events under EDF, whatever displays are: of the state before them, the events, their answers, and the
+-- state after each
 abbrev pub OfEachRun : (EdfState → List EdfEvent → List Answer → List EdfState → Type 0) → Type 0
-OfEachRun Holds = (make : DisplayMaker) (old : EdfState) (events : List EdfEvent) (answers : List Answer) (states : List EdfState)
+OfEachRun Holds =
+    (make : DisplayMaker) (old : EdfState) (events : List EdfEvent) (answers : List Answer) (states : List EdfState)
     → Trace make old events answers states → Holds old events answers states
 
 -- ---- every script
@@ -37,8 +38,8 @@ abbrev pub WasWritten : Result Summary RunFault → List ℕ → List ℕ → Ty
 WasWritten (Err Write) written text = IsFront written text
 WasWritten answer written text = written ≡ text
 
--- What was done of a script: the first of its actions, and all of them unless memory or the writer stopped the run. Their events
--- are a run under EDF from the fresh region on, and their texts were written.
+-- What was done of a script: the first of its actions, and all of them unless memory or the writer stopped the run.
+-- Their events are a run under EDF from the fresh region on, and their texts were written.
 pub record IsDoneOf (script : Script Action) (answer : Result Summary RunFault) (written : List ℕ) : Type 0 where
   pub count : ℕ
   pub actions : List Action
@@ -49,8 +50,8 @@ pub record IsDoneOf (script : Script Action) (answer : Result Summary RunFault) 
   pub new : EdfState
   pub did : IsRun fresh_state actions text new
 
--- What holds of the run that each script did, however it ended: the premise is what `run_script` ensures of the calls that
--- it made, whatever its devices are.
+-- What holds of the run that each script did, however it ended: the premise is what `run_script` ensures of the calls
+-- that it made, whatever its devices are.
 abbrev pub OfEachScript : (EdfState → List EdfEvent → List Answer → List EdfState → Type 0) → Type 0
 OfEachScript Holds = (calls : List Call) (answer : Result Summary RunFault) (session : IsScriptSession calls answer)
     (ending : Ending) (bytes : List ℕ) → IsReadOf calls ending bytes

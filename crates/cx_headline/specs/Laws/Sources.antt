@@ -20,7 +20,8 @@ pub record IsWrittenBack (listing disassembly : Bool) (block : List (List ℕ)) 
   pub made : AssemblyParts
   pub assembled : assembly_of translated ≡ Ok made
   pub image : prepared.image ≡ made.section.image
-  pub text : prepared.text ≡ where_wanted listing made.listing ++ where_wanted disassembly (map line_text (standing_of translated).lines)
+  pub text : prepared.text
+      ≡ where_wanted listing made.listing ++ where_wanted disassembly (map line_text (standing_of translated).lines)
   pub back : lines prepared.image.text made.section.spans ≡ (standing_of translated).lines
 
 -- so is each block that gives a program

@@ -31,7 +31,8 @@ replies_of_first old events answers states n = region_replies old (take n events
 -- no event ends a task by PF12, and none is answered Altered
 abbrev pub AltersNothing : EdfState → List EdfEvent → List Answer → List EdfState → Type 0
 AltersNothing old events answers states = (n : ℕ) (e : EdfEvent) → slice_get events n ≡ Some e
-    → (ends_task (state_after_first old states n) e ≡ false) × (slice_get answers n ≡ Some (answer.Region (reply.Alter alter.Altered)) → ⊥)
+    → (ends_task (state_after_first old states n) e ≡ false)
+    × (slice_get answers n ≡ Some (answer.Region (reply.Alter alter.Altered)) → ⊥)
 
 -- the events that the region answered, with its replies, except alterations
 abbrev pub answered_of : EdfEvent → Answer → List (Event × Reply)
@@ -44,7 +45,8 @@ answered_in _ _ = []
 
 -- What is left is exactly these, in their order, each as it was given, and so are the replies. Given to the same region
 -- with EDF Off at each terminal, they are answered so, and leave the region that EDF left; and in no other way.
-pub record IsUnaltered (old : EdfState) (events : List EdfEvent) (answers : List Answer) (left : List Event) (replies : List Reply)
+pub record IsUnaltered (old : EdfState) (events : List EdfEvent) (answers : List Answer) (left : List Event)
+    (replies : List Reply)
     (state : EdfState) : Type 0 where
   pub events_left : left ≡ map (λ (p : Event × Reply). p.0) (answered_in events answers)
   pub replies_left : replies ≡ map (λ (p : Event × Reply). p.1) (answered_in events answers)
@@ -56,8 +58,10 @@ pub record IsUnaltered (old : EdfState) (events : List EdfEvent) (answers : List
 -- ---- the same states
 -- The region after each event is that of a plain run of the events that are left up to there, with the region's
 -- replies; and there is no other such run.
-pub record IsAsUnwatched (old : EdfState) (events : List EdfEvent) (answers : List Answer) (states : List EdfState) : Type 0 where
-  pub plain : (n : ℕ) → Run old.region (left_of_first old events answers states n) (replies_of_first old events answers states n)
+pub record IsAsUnwatched (old : EdfState) (events : List EdfEvent) (answers : List Answer) (states : List EdfState)
+    : Type 0 where
+  pub plain : (n : ℕ)
+      → Run old.region (left_of_first old events answers states n) (replies_of_first old events answers states n)
       (state_after_first old states n).region
   pub only : (n : ℕ) (replies : List Reply) (after : RegionState)
       → Run old.region (left_of_first old events answers states n) replies after

@@ -1,11 +1,11 @@
 -- What holds of a fit image, and what is known by the fault of one that isn't.
-use Rattle.std.proofs.Common.{◌≡◌, ℕ, ◌<◌, ◌≤◌, Bool, true, false, cond, Option, Some, None, length, refl, List, [], ◌∷◌}
+use Rattle.std.proofs.Common.{◌≡◌, ◌<◌, ◌≤◌, Bool, true, false, Option, Some, None, length, refl, List, [], ◌∷◌}
 use Rattle.std.specs.Prelude.{◌≢◌, find, not, nat_le, option_map, ◌&&◌}
 use Rattle.std.proofs.lemmas.Bool.{and_from, le-leb, leb-true, lt-ltb, ltb-true}
 use Rattle.cx_code.specs.declared.image.Image.{Image}
 use Rattle.cx_load.specs.declared.fault.ImageFault.{ImageFault}
 use Rattle.cx_load.specs.declared.fault.ImageFault.TheVariants.{BadLength, EntryOutside, RelocOutside, Overlap, StgLength}
-use Rattle.cx_load.specs.Fault.{has_length, has_entry, are_inside, all_apart, has_stg_length, faults_of, IsFit, fault_of}
+use Rattle.cx_load.specs.Fault.{has_length, has_entry, are_inside, all_apart, has_stg_length, IsFit, fault_of}
 use Rattle.cx_load.specs.Laws.Fit.{FitFacts}
 
 both : (a b : Bool) → (a && b) ≡ true → (a ≡ true) × (b ≡ true)

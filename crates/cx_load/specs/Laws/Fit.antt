@@ -1,5 +1,5 @@
 -- What holds of an image without a fault.
-use Rattle.std.specs.Prelude.{ℕ, ◌<◌, ◌≤◌, IsTrue, length}
+use Rattle.std.specs.Prelude.{◌<◌, ◌≤◌, IsTrue, length}
 use Rattle.cx_code.specs.declared.image.Image.{Image}
 use Rattle.cx_load.specs.Fault.{all_apart, are_inside}
 

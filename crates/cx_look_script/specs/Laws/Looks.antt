@@ -1,5 +1,5 @@
 -- A look changes nothing (own).
-use Rattle.std.specs.Prelude.{◌≡◌, ℕ, zero, suc, if◌then◌else◌, List, [], ◌∷◌, ◌++◌}
+use Rattle.std.specs.Prelude.{◌≡◌, ℕ, zero, suc, MatchBool, MatchOption, Option, List, [], ◌∷◌, ◌++◌}
 use Rattle.std.specs.List.{flat_map}
 use Rattle.cx_script_actions.specs.Effects.{Performs}
 use Rattle.cx_script_actions.specs.declared.actions.Action.{Action}
@@ -10,11 +10,12 @@ use Rattle.cx_look.specs.declared.look.Look.{Look}
 use Rattle.cx_look_script.specs.Looking.{IsLookText, LookPerforms, NotedPerforms}
 use Rattle.cx_look_words.specs.Words.{marked}
 use Rattle.cx_look_script.specs.Help.{bad_look_text}
-use Rattle.cx_look_script.specs.Runs.{still_running, turn_of}
+use Rattle.cx_look_script.specs.Runs.{StopsWith, run_over, still_running, turn_of}
 use Rattle.cx_look_script.specs.Sources.{with_source}
 use Rattle.cx_look_script.specs.State.{LookState}
 use Rattle.cx_look_script.specs.declared.action.LookAction.{LookAction}
 use Rattle.cx_look_script.specs.declared.action.LookAction.TheVariants as action
+use Rattle.cx_look_script.specs.declared.action.Stop.{Stop}
 
 -- What became of an action of a script with looks: actions of `cicsedf`, what these wrote, and what a look wrote after
 -- it.
@@ -27,29 +28,47 @@ pub record Part : Type 0 where
 abbrev pub turn_action : List ℕ → Action
 turn_action name = edf_action.Event (turn_of name)
 
--- An action of `cicsedf` is itself, and so is each turn of RUN: the first, and a further one exactly where the last is to be followed by
--- one more; where none is left then, its last line says so. A look is none: its text is that of the state there.
+-- a turn of RUN, or the line with which it ends in front of the turn
+pub record IsTurnOfRun (there : LookState) (name : List ℕ) (s : Stop) (part : Part) : Type 0 where
+  pub line : Option (List ℕ)
+  pub stops : StopsWith s there.edf name line
+  pub is : MatchOption line ((part.plain ≡ turn_action name ∷ []) × (part.looked ≡ []))
+      (λ l. (part.plain ≡ []) × (part.looked ≡ l))
+
+-- one more, or where none is left its last line
+abbrev pub IsMoreOfRun : LookState → List ℕ → ℕ → Stop → Part → Type 0
+IsMoreOfRun there name zero s part = (part.plain ≡ []) × (part.looked ≡ still_running name)
+IsMoreOfRun there name (suc n) s part = IsTurnOfRun there name s part
+
+-- An action of `cicsedf` is itself, and so is each turn of RUN: the first, and a further one exactly where the last is
+-- to be followed by one more. A look is none: its text is that of the state there.
 abbrev pub IsPart : LookState → LookAction → Part → Type 0
 IsPart there (action.Script a) part = (part.plain ≡ a ∷ []) × (part.looked ≡ [])
 IsPart there (action.Source name lines a) part = (part.plain ≡ a ∷ []) × (part.looked ≡ [])
-IsPart there (action.Run name n) part = (part.plain ≡ turn_action name ∷ []) × (part.looked ≡ [])
-IsPart there (action.RunOn name zero) part = (part.plain ≡ []) × (part.looked ≡ (if there.goes_on then still_running name else []))
-IsPart there (action.RunOn name (suc n)) part =
-    (part.plain ≡ (if there.goes_on then turn_action name ∷ [] else [])) × (part.looked ≡ [])
+IsPart there (action.Run name n s) part = IsTurnOfRun there name s part
+IsPart there (action.RunOn name n s) part =
+    MatchBool there.goes_on (IsMoreOfRun there name n s part) ((part.plain ≡ []) × (part.looked ≡ []))
 IsPart there (action.Look look) part = (part.plain ≡ []) × IsLookText look there part.looked
 IsPart there (action.BadLook number s) part = (part.plain ≡ []) × (part.looked ≡ marked (bad_look_text number s))
 
+-- after a part of RUN that has no turn RUN is over
+abbrev pub after_turns : List Action → LookState → LookState
+after_turns [] new = run_over new
+after_turns (turn ∷ turns) new = new
+
 -- after the actions of a source's part its lines are kept
-abbrev pub kept_after : LookState → LookAction → LookState → LookState
-kept_after old (action.Source name lines a) new = with_source old name lines new
-kept_after old _ new = new
+abbrev pub kept_after : LookState → LookAction → List Action → LookState → LookState
+kept_after old (action.Source name lines a) plain new = with_source old name lines new
+kept_after old (action.Run name n s) plain new = after_turns plain new
+kept_after old (action.RunOn name n s) plain new = after_turns plain new
+kept_after old _ plain new = new
 
 -- a part for each action, from the state that those before leave, with the last abends that their events lead to
 unfoldable pub ArePartsOf : LookState → List LookAction → List Part → LookState → Type 0
 ArePartsOf old [] [] new = new ≡ old
 ArePartsOf old (a ∷ actions) (part ∷ parts) new =
     (done between : LookState) × IsPart old a part × Runs NotedPerforms old part.plain part.written done
-    × (between ≡ kept_after old a done) × ArePartsOf between actions parts new
+    × (between ≡ kept_after old a part.plain done) × ArePartsOf between actions parts new
 ArePartsOf old _ _ new = ⊥
 
 abbrev pub plain_of : Part → List Action
@@ -62,8 +81,8 @@ written_of part = part.written
 abbrev pub text_of : Part → List ℕ
 text_of part = part.written ++ part.looked
 
--- There is a part for each action so that: the actions of all parts are a run of `cicsedf`, from the same state to the same
--- state; and the text is what this writes, with that of each look at its place.
+-- There is a part for each action so that: the actions of all parts are a run of `cicsedf`, from the same state to the
+-- same state; and the text is what this writes, with that of each look at its place.
 pub record ChangesNothing (old : LookState) (actions : List LookAction) (text : List ℕ) (new : LookState) : Type 0 where
   pub parts : List Part
   pub each : ArePartsOf old actions parts new

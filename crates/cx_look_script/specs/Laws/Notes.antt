@@ -11,6 +11,9 @@ use Rattle.cx_look_script.specs.Faults.{faults_text, note_line}
 
 -- NONE, and then its notes
 abbrev pub NotesRefuseNothing : Type 0
-NotesRefuseNothing = (listing disassembly : Bool) (source : SourceLines) → result_err (prepared_of listing disassembly source.lines) ≡ None
+NotesRefuseNothing =
+    (listing disassembly : Bool) (source : SourceLines)
+    → result_err (prepared_of listing disassembly source.lines) ≡ None
     → faults_text source
-    ≡ look_line (codes "FAULTS" ∷ shown_name source.name ∷ codes "NONE" ∷ []) ++ flat_map (note_line source) (notes_of source.lines [])
+    ≡ look_line (codes "FAULTS" ∷ shown_name source.name ∷ codes "NONE" ∷ [])
+    ++ flat_map (note_line source) (notes_of source.lines [])

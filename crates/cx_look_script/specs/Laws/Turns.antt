@@ -1,23 +1,51 @@
 -- RUN as a whole: turns of a terminal, one after another (own).
-use Rattle.std.specs.Prelude.{◌≡◌, ℕ, zero, suc, MatchBool, List, [], ◌++◌}
+use Rattle.std.specs.Prelude.{◌≡◌, ℕ, zero, suc, MatchBool, MatchOption, Option, None, List, [], ◌++◌}
+use Rattle.std.specs.Option.{option_map}
+use Rattle.cx_region.specs.declared.replies.Reply.TheVariants as reply
+use Rattle.cx_edf.specs.State.{EdfState}
 use Rattle.cx_edf.specs.declared.answers.Answer.{Answer}
+use Rattle.cx_edf.specs.declared.answers.Answer.TheVariants as answer
 use Rattle.cx_script_actions.specs.Texts.{answer_text}
 use Rattle.cx_script.specs.Transcript.{Runs}
+use Rattle.cx_look_abend.specs.Abends.{abend_code_in}
 use Rattle.cx_look_script.specs.Looking.{LookPerforms}
-use Rattle.cx_look_script.specs.Runs.{AppliesAtLooks, goes_on, look_actions_of, still_running, turn_of}
+use Rattle.cx_look_script.specs.Runs.{AppliesAtLooks, StopsWith, goes_on, look_actions_of, run_over, still_running, stopped_before, turn_of}
 use Rattle.cx_look_script.specs.State.{LookState}
 use Rattle.cx_look_script.specs.declared.action.LookAction.TheVariants as action
+use Rattle.cx_look_script.specs.declared.action.Stop.{Stop}
+use Rattle.cx_look_script.specs.declared.action.Stop.TheVariants as stop
 
--- At most n turns of a terminal, one after another: the state before, what is written for them, and the state after. One more follows
--- exactly where the last is to be followed by one more.
-unfoldable pub RunsOn : LookState → List ℕ → ℕ → List ℕ → LookState → Type 0
-RunsOn old name zero text new = (text ≡ still_running name) × (new ≡ old)
-RunsOn old name (suc n) text new =
-    (given : Answer) × (between : LookState) × (rest : List ℕ) × AppliesAtLooks old (turn_of name) given between
-    × MatchBool (goes_on between.edf (turn_of name) given) (RunsOn between name n rest new) ((rest ≡ []) × (new ≡ between))
-    × (text ≡ answer_text (turn_of name) given ++ rest)
+-- At most n turns of a terminal, one after another: the state before, what is written for them, and the state after.
+-- One more follows exactly where the last is to be followed by one more, and RUN doesn't end in front of it.
+unfoldable pub RunsOn : LookState → List ℕ → Stop → ℕ → List ℕ → LookState → Type 0
+RunsOn old name s zero text new = (text ≡ still_running name) × (new ≡ run_over old)
+RunsOn old name s (suc n) text new =
+    (line : Option (List ℕ)) × StopsWith s old.edf name line
+    × MatchOption line
+    ((given : Answer) × (between : LookState) × (rest : List ℕ) × AppliesAtLooks old (turn_of name) given between
+    × MatchBool (goes_on between.edf (turn_of name) given) (RunsOn between name s n rest new)
+    ((rest ≡ []) × (new ≡ between))
+    × (text ≡ answer_text (turn_of name) given ++ rest))
+    (λ l. (text ≡ l) × (new ≡ run_over old))
 
 -- so the actions of a RUN of n turns are
 abbrev pub RunsTakeTurns : Type 0
-RunsTakeTurns = (old : LookState) (name : List ℕ) (n : ℕ) (text : List ℕ) (new : LookState)
-    → Runs LookPerforms old (look_actions_of (action.Run name (suc n))) text new → RunsOn old name (suc n) text new
+RunsTakeTurns = (old : LookState) (name : List ℕ) (s : Stop) (n : ℕ) (text : List ℕ) (new : LookState)
+    → Runs LookPerforms old (look_actions_of (action.Run name (suc n) s)) text new → RunsOn old name s (suc n) text new
+
+-- the code of the abend as which an event is answered
+abbrev pub abend_in : Answer → Option (List ℕ)
+abend_in (answer.Region (reply.Turn given)) = abend_code_in given
+abend_in _ = None
+
+-- RUN BEFORE ABEND ends in front of a turn exactly where the turn is answered as an abend when it is done, and names
+-- its code
+abbrev pub RunsEndBeforeAbends : Type 0
+RunsEndBeforeAbends = (old new : LookState) (name : List ℕ) (line : Option (List ℕ)) (given : Answer)
+    → StopsWith stop.BeforeAbend old.edf name line → AppliesAtLooks old (turn_of name) given new
+    → line ≡ option_map (stopped_before name) (abend_in given)
+
+-- whether RUN ends there, and with which line, is a function of the state
+abbrev pub StopsDecide : Type 0
+StopsDecide = (s : Stop) (state : EdfState) (name : List ℕ) (one other : Option (List ℕ))
+    → StopsWith s state name one → StopsWith s state name other → one ≡ other

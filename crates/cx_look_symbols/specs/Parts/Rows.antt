@@ -22,7 +22,8 @@ names_among texts = filter_map symbol_name texts
 -- the names that a statement may define
 abbrev pub names_given : Role → Option (List ℕ) → List ℕ → List (List ℕ)
 names_given Registers name operand = names_among (map (λ row. row.0) register_rows)
-names_given Member name operand = if bytes_eq operand (codes "DFHAID") then names_among (map (λ row. row.0) aid_rows) else []
+names_given Member name operand =
+    if bytes_eq operand (codes "DFHAID") then names_among (map (λ row. row.0) aid_rows) else []
 names_given Nothing name operand = []
 names_given _ name operand = cons_option name []
 
@@ -37,7 +38,8 @@ with_names find line rows names = fold (with_name find line) rows names
 
 abbrev pub with_stmt : (List ℕ → Option Value) → ℕ → Option Stmt → Rows → Rows
 with_stmt find line None rows = rows
-with_stmt find line (Some stmt) rows = with_names find line rows (names_given (role_in stmt) (name_in stmt) stmt.operand)
+with_stmt find line (Some stmt) rows =
+    with_names find line rows (names_given (role_in stmt) (name_in stmt) stmt.operand)
 
 abbrev pub table_after : (List ℕ → Option Value) → List Item → Rows
 table_after find [] = []

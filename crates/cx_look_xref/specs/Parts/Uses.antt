@@ -29,7 +29,8 @@ is_literal pool text literal = (pool == literal.pool) && bytes_eq text literal.t
 -- Operands of an instruction, whose pool has the number `place`, use the literal of a text in the pool of a second
 -- number.
 abbrev pub uses_part : ℕ → List ℕ → ℕ → List (List ℕ) → Bool
-uses_part pool text place parts = (pool == place) && list_any (λ part. option_map_or (bytes_eq text) (literal_text part) false) parts
+uses_part pool text place parts =
+    (pool == place) && list_any (λ part. option_map_or (bytes_eq text) (literal_text part) false) parts
 
 -- those of a literal
 abbrev pub lines_of_literal : List (PoolText × BTreeSet ℕ) → ℕ → List ℕ → List ℕ

@@ -16,11 +16,19 @@ use Rattle.cx_region.specs.declared.asking.Places.{Places}
 -- a task to be attached
 abbrev pub start_of : TerminalState → List ℕ → List ℕ → Loaded → Asked
 start_of terminal tran program loaded =
-    Attach (record { slot = terminal.slot; tran = tran; program = program; loaded = loaded; calen = length (commarea_kept terminal.following) })
+    Attach (record {
+      slot = terminal.slot;
+      tran = tran;
+      program = program;
+      loaded = loaded;
+      calen = length (commarea_kept terminal.following);
+    })
 
 unfoldable pub start_asked : RegionState → TerminalState → List ℕ → Asked
 start_asked region terminal tran =
-    option_map_or (λ program. option_map_or (start_of terminal tran program) (program_of region program) (Answer key.NoSuchTransaction))
+    option_map_or
+    (λ program. option_map_or (start_of terminal tran program) (program_of region program)
+    (Answer key.NoSuchTransaction))
     (transaction_of region tran) (Answer key.NoSuchTransaction)
 
 abbrev pub input_asked : Option Input → Asked
@@ -40,7 +48,8 @@ unfoldable pub KeyTakesMemory : RegionState → List ℕ → List ℕ → Type 0
 KeyTakesMemory region name bytes =
     IsSomeAnd (terminal_of region name) (λ terminal.
     MatchOption terminal.task
-    (IsSomeAnd (option_and_then (program_of region) (transaction_of region (transaction_named terminal.following bytes)))
+    (IsSomeAnd
+    (option_and_then (program_of region) (transaction_of region (transaction_named terminal.following bytes)))
     (λ loaded. HasNoTaskPlaces region terminal loaded → ⊥))
     (λ task. terminal.input ≡ None))
 

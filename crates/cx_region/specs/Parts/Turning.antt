@@ -13,26 +13,31 @@ abbrev pub Terminals : Type 0
 Terminals = List (List ℕ × TerminalState)
 
 -- a half-turn of a terminal's task
-pub record PartTurned (shared : SharedState) (terminal : TerminalState) (task : TaskState) (reply : TurnReply) (after : SharedState) (left : TerminalState) : Type 0 where
+pub record PartTurned (shared : SharedState) (terminal : TerminalState) (task : TaskState) (reply : TurnReply)
+    (after : SharedState) (left : TerminalState) : Type 0 where
   pub reached : TaskContext
   pub half_turn : HalfTurn (context shared (terminal_entry_of terminal) task) reply reached
   pub shared_is : after ≡ reached.shared
   pub terminal_is : left ≡ terminal_with reached.terminal_entry (task_after reply reached.task)
 
 -- of a terminal without a task
-pub record PartIdle (shared : SharedState) (terminal : TerminalState) (reply : TurnReply) (after : SharedState) (left : TerminalState) : Type 0 where
+pub record PartIdle (shared : SharedState) (terminal : TerminalState) (reply : TurnReply) (after : SharedState)
+    (left : TerminalState) : Type 0 where
   pub answer : reply ≡ turn.Idle
   pub shared_stays : after ≡ shared
   pub terminal_stays : left ≡ terminal
 
 unfoldable pub TurnedAt : SharedState → TerminalState → TurnReply → SharedState → TerminalState → Type 0
 TurnedAt shared terminal reply after left =
-    MatchOption terminal.task (PartIdle shared terminal reply after left) (λ task. PartTurned shared terminal task reply after left)
+    MatchOption terminal.task (PartIdle shared terminal reply after left)
+    (λ task. PartTurned shared terminal task reply after left)
 
 unfoldable pub TakesMemoryAt : SharedState → TerminalState → Type 0
-TakesMemoryAt shared terminal = IsSomeAnd terminal.task (λ task. TakesMemory (context shared (terminal_entry_of terminal) task))
+TakesMemoryAt shared terminal =
+    IsSomeAnd terminal.task (λ task. TakesMemory (context shared (terminal_entry_of terminal) task))
 
 -- why it leads to an abend
 unfoldable pub HasAbendRecordAt : SharedState → TerminalState → Option AbendRecord → Type 0
 HasAbendRecordAt shared terminal abend_record =
-    MatchOption terminal.task (abend_record ≡ None) (λ task. HasAbendRecord (context shared (terminal_entry_of terminal) task) abend_record)
+    MatchOption terminal.task (abend_record ≡ None)
+    (λ task. HasAbendRecord (context shared (terminal_entry_of terminal) task) abend_record)

@@ -29,22 +29,30 @@ arguments_of call = arguments_in (row_of call.command).options call.first
 -- The argument list at an address is that of this call.
 pub record IsCallAt (s : Storage) (list : ℕ) (call : Call) : Type 0 where
   -- word 0 addresses the block: the function value in two bytes, and the two option bytes
-  pub block : bytes_of_block s list 0 4 ≡ Some ((row_of call.command).function / 256 ∷ (row_of call.command).function % 256 ∷ call.first ∷ call.second ∷ [])
+  pub block : bytes_of_block s list 0 4
+      ≡ Some ((row_of call.command).function / 256 ∷ (row_of call.command).function % 256 ∷ call.first ∷ call.second
+      ∷ [])
   pub options : IsTrue (is_legal call.command call.first call.second)
   -- the conditions that HANDLE and IGNORE CONDITION list follow the block
   pub conditions : MatchBool (lists_conditions call.command)
-      ((option_map listed_in (bytes_of_block s list 4 (2 * call.first)) ≡ Some call.conditions) × IsTrue (is_legal_list call.command call.conditions))
+      ((option_map listed_in (bytes_of_block s list 4 (2 * call.first)) ≡ Some call.conditions)
+      × IsTrue (is_legal_list call.command call.conditions))
       (call.conditions ≡ [])
   -- there is an address for each present option with an argument, for each label, and for RESP
-  pub count : length call.places ≡ length (arguments_of call) + count_by has_label call.conditions + (if has_resp call.second then 1 else 0)
+  pub count : length call.places
+      ≡ length (arguments_of call) + count_by has_label call.conditions + (if has_resp call.second then 1 else 0)
   -- word 0 and a word for each address are in storage, and the last alone has its high bit set
-  pub words : (k : ℕ) → k ≤ length call.places → IsSomeAnd (list_word s list k) (λ word. has_high_bit word ≡ (k == length call.places))
+  pub words : (k : ℕ) → k ≤ length call.places
+      → IsSomeAnd (list_word s list k) (λ word. has_high_bit word ≡ (k == length call.places))
   -- the addresses are those in the words after word 0
-  pub places : (k : ℕ) → k < length call.places → option_map address_in (list_word s list (k + 1)) ≡ slice_get call.places k
+  pub places : (k : ℕ) → k < length call.places
+      → option_map address_in (list_word s list (k + 1)) ≡ slice_get call.places k
 
 -- a call is read exactly where the list has all that
 abbrev pub CallIsRead : Type 0
-CallIsRead = (s : Storage) (list : ℕ) (call : Call) → IsSound s → list < 2 ^ 24 → (call_of s list ≡ Ok call) ↔ IsCallAt s list call
+CallIsRead =
+    (s : Storage) (list : ℕ) (call : Call) → IsSound s → list < 2 ^ 24
+    → (call_of s list ≡ Ok call) ↔ IsCallAt s list call
 
 -- The k-th present option with an argument has the k-th address: that in word k + 1.
 abbrev pub ArgumentsHavePlaces : Type 0
@@ -64,7 +72,8 @@ LabelsHavePlaces = (s : Storage) (list : ℕ) (call : Call) (k : ℕ) (listed : 
     → slice_get call.conditions k ≡ Some listed
     → IsSomeAnd (slice_get (listed_of call) k) (λ found. ((entry_of found.condition).number ≡ listed.number)
     × (is_some found.label ≡ has_label listed)
-    × (found.label ≡ (if has_label listed then option_map address_in (list_word s list (labels_before call k + 1)) else None)))
+    × (found.label
+    ≡ (if has_label listed then option_map address_in (list_word s list (labels_before call k + 1)) else None)))
 
 -- RESP has an address exactly where it is there: it is that in the word after those of the options and of the labels,
 -- the last.
@@ -72,4 +81,5 @@ abbrev pub RespHasItsPlace : Type 0
 RespHasItsPlace = (s : Storage) (list : ℕ) (call : Call) → IsCallAt s list call
     → (is_some (resp_place call) ≡ has_resp call.second)
     × (resp_place call ≡ (if has_resp call.second
-    then option_map address_in (list_word s list (length (arguments_of call) + count_by has_label call.conditions + 1)) else None))
+    then option_map address_in (list_word s list (length (arguments_of call) + count_by has_label call.conditions + 1))
+    else None))

@@ -7,4 +7,6 @@ use Rattle.cx_region_commands.specs.CommandVerdicts.{HasVerdict}
 
 -- a call is judged in one way
 abbrev pub JudgedOnce : Type 0
-JudgedOnce = (call : Call) (r : TaskContext) (one other : Verdict) → HasVerdict call r one → HasVerdict call r other → one ≡ other
+JudgedOnce =
+    (call : Call) (r : TaskContext) (one other : Verdict) → HasVerdict call r one → HasVerdict call r other
+    → one ≡ other

@@ -20,13 +20,15 @@ use Rattle.cx_region_laws.specs.Laws.Regions.{OthersAsBefore}
 -- ---- one outcome
 -- two outcomes of one alteration are equal
 abbrev pub AlterationsDecide : Type 0
-AlterationsDecide = (old : RegionState) (name : List ℕ) (change : Change) (reply other : AlterReply) (new later : RegionState)
+AlterationsDecide =
+    (old : RegionState) (name : List ℕ) (change : Change) (reply other : AlterReply) (new later : RegionState)
     → Alters old name change reply new → Alters old name change other later → (reply ≡ other) × (new ≡ later)
 
 -- ---- what stays
 -- every answer but Altered leaves the region
 abbrev pub RefusedAlterationsLeaveTheRegion : Type 0
-RefusedAlterationsLeaveTheRegion = (old : RegionState) (name : List ℕ) (change : Change) (reply : AlterReply) (new : RegionState)
+RefusedAlterationsLeaveTheRegion =
+    (old : RegionState) (name : List ℕ) (change : Change) (reply : AlterReply) (new : RegionState)
     → Alters old name change reply new → reply ≢ alter.Altered → new ≡ old
 
 -- the byte that a change sets
@@ -54,7 +56,8 @@ pub record AlterKeepsStorage (old : RegionState) (change : Change) (new : Region
 -- and what it leaves where it ends the task: the areas, with their bytes, and the resources of all others
 pub record AlterKeepsOthers (old : RegionState) (name : List ℕ) (new : RegionState) : Type 0 where
   pub areas : MatchOption (terminal_of old name) (new.storage ≡ old.storage) (λ terminal.
-      with_areas_kept (is_of_other_slot terminal.slot) new.storage ≡ with_areas_kept (is_of_other_slot terminal.slot) old.storage)
+      with_areas_kept (is_of_other_slot terminal.slot) new.storage
+      ≡ with_areas_kept (is_of_other_slot terminal.slot) old.storage)
   pub resources : MatchOption (terminal_of old name) (new.resources ≡ old.resources) (λ terminal.
       without_owner new.resources terminal.slot ≡ without_owner old.resources terminal.slot)
 
@@ -68,10 +71,12 @@ pub record AlterKeepsLevels (before after : TaskState) : Type 0 where
   pub kept : KeepsWhereDue before → KeepsWhereDue after
 
 abbrev pub AlterationsKeepLevels : Type 0
-AlterationsKeepLevels = (change : Change) (before : TaskContext) → AlterKeepsLevels before.task (after_change change before).task
+AlterationsKeepLevels =
+    (change : Change) (before : TaskContext) → AlterKeepsLevels before.task (after_change change before).task
 
 abbrev pub AlterationsKeepToTheirTask : Type 0
-AlterationsKeepToTheirTask = (old : RegionState) (name : List ℕ) (change : Change) (reply : AlterReply) (new : RegionState)
+AlterationsKeepToTheirTask =
+    (old : RegionState) (name : List ℕ) (change : Change) (reply : AlterReply) (new : RegionState)
     → Alters old name change reply new → AlterKeeps old name new
 
 abbrev pub AlterationsKeepStorage : Type 0
@@ -90,4 +95,6 @@ AbendsOfTasksAreDone = (old : RegionState) (name : List ℕ) (reply : AlterReply
 
 -- it is an abend with the code XEDF at which no exit is looked at
 abbrev pub AbendsLookAtNoExit : Type 0
-AbendsLookAtNoExit = (before : TaskContext) → Abends (abend_code Xedf) true before (turn.Abended (abend_code Xedf)) (after_change Abend before)
+AbendsLookAtNoExit =
+    (before : TaskContext)
+    → Abends (abend_code Xedf) true before (turn.Abended (abend_code Xedf)) (after_change Abend before)

@@ -49,10 +49,18 @@ pub record DueWrites (x : ℕ) (before : TaskContext) : Type 0 where
 -- What a command leaves of the areas of others: all of them; a byte at each address that has one, and at no other; and
 -- this byte, unless the command writes to the address.
 pub record LeavesOthers (before after : TaskContext) : Type 0 where
-  pub areas : areas_of (others_storage before.terminal_entry.slot after.shared.storage) ≡ areas_of (others_storage before.terminal_entry.slot before.shared.storage)
-  pub present : (x : ℕ) → is_some (byte_at (others_storage before.terminal_entry.slot after.shared.storage) x) ≡ is_some (byte_at (others_storage before.terminal_entry.slot before.shared.storage) x)
-  pub bytes : (x : ℕ) → (byte_at (others_storage before.terminal_entry.slot after.shared.storage) x ≡ byte_at (others_storage before.terminal_entry.slot before.shared.storage) x) ⊎ DueWrites x before
+  pub areas : areas_of (others_storage before.terminal_entry.slot after.shared.storage)
+      ≡ areas_of (others_storage before.terminal_entry.slot before.shared.storage)
+  pub present : (x : ℕ)
+      → is_some (byte_at (others_storage before.terminal_entry.slot after.shared.storage) x)
+      ≡ is_some (byte_at (others_storage before.terminal_entry.slot before.shared.storage) x)
+  pub bytes : (x : ℕ)
+      → (byte_at (others_storage before.terminal_entry.slot after.shared.storage) x
+      ≡ byte_at (others_storage before.terminal_entry.slot before.shared.storage) x) ⊎ DueWrites x before
 
 abbrev pub CommandsLeaveOthers : Type 0
-CommandsLeaveOthers = (before after : TaskContext) (reply : TurnReply) → IsSoundStorage before.shared.storage → AreSoundPrograms before.shared.programs → AreSoundQueues before.shared.queues
-    → IsSoundTask before.shared.storage before.terminal_entry.slot before.task → before.task.due ≡ true → HalfTurn before reply after → LeavesOthers before after
+CommandsLeaveOthers =
+    (before after : TaskContext) (reply : TurnReply) → IsSoundStorage before.shared.storage
+    → AreSoundPrograms before.shared.programs → AreSoundQueues before.shared.queues
+    → IsSoundTask before.shared.storage before.terminal_entry.slot before.task → before.task.due ≡ true
+    → HalfTurn before reply after → LeavesOthers before after

@@ -34,7 +34,8 @@ AreFreed storage levels = AllByRecursion (λ level. area_at storage (address_in 
 
 -- a task with the levels, the registers and the place in its program that a second task has
 abbrev pub with_program : TaskState → TaskState → TaskState
-with_program task other = record task { levels = other.levels; regs = other.regs; cc = other.cc; next = other.next; due = other.due }
+with_program task other =
+    record task { levels = other.levels; regs = other.regs; cc = other.cc; next = other.next; due = other.due }
 
 -- What an abend that an exit takes leaves of a task.
 pub record TakesExit (before after : TaskContext) : Type 0 where
@@ -50,32 +51,43 @@ pub record TakesExit (before after : TaskContext) : Type 0 where
   pub off : has_exit after.task.levels.current ≡ false
   -- the areas of the levels below it are freed
   pub freed : AreFreed after.shared.storage ended
-  -- the program goes on at the exit's label, which R15 holds, with the other registers and the code that the level kept, and no
-  -- command is due
+  -- the program goes on at the exit's label, which R15 holds, with the other registers and the code that the level
+  -- kept, and no command is due
   pub label : ℕ
   pub labelled : label_on level.handles.active.exit ≡ Some label
   pub next : after.task.next ≡ address_in label
   pub regs : after.task.regs ≡ slice_set level.regs 15 label
   pub cc : after.task.cc ≡ level.cc
   pub due : after.task.due ≡ false
-  -- EIBCALEN is the level's; every other byte that isn't in a freed area, and all else that is reached, is as at the abend
-  pub storage : after.shared.storage ≡ with_calen (with_areas_kept (is_no_stg_of ended) before.shared.storage) before.task.eib (Some level.calen)
-  pub others : after ≡ record before { shared = record before.shared { storage = after.shared.storage }; task = with_program before.task after.task }
+  -- EIBCALEN is the level's; every other byte that isn't in a freed area, and all else that is reached, is as at the
+  -- abend
+  pub storage : after.shared.storage
+      ≡ with_calen (with_areas_kept (is_no_stg_of ended) before.shared.storage) before.task.eib (Some level.calen)
+  pub others : after
+      ≡ record before {
+        shared = record before.shared { storage = after.shared.storage };
+        task = with_program before.task after.task;
+      }
   -- the next abend goes to an exit above it
   pub later : (i : ℕ) → IsNearestExit (all_levels after.task.levels) (Some i) → i < length callers
 
 -- an exit takes an abend as the record says
 abbrev pub ExitsAreNearest : Type 0
-ExitsAreNearest = (code : List ℕ) (cancel : Bool) (before after : TaskContext) → Abends code cancel before (turn.TookExit code) after → TakesExit before after
+ExitsAreNearest =
+    (code : List ℕ) (cancel : Bool) (before after : TaskContext) → Abends code cancel before (turn.TookExit code) after
+    → TakesExit before after
 
 -- where an exit is on, an abend without CANCEL is taken by one
 abbrev pub ExitsTakeAbends : Type 0
-ExitsTakeAbends = (code : List ℕ) (before after : TaskContext) (reply : TurnReply) (i : ℕ) → Abends code false before reply after
+ExitsTakeAbends =
+    (code : List ℕ) (before after : TaskContext) (reply : TurnReply) (i : ℕ) → Abends code false before reply after
     → has_exit_at (all_levels before.task.levels) i ≡ true → reply ≡ turn.TookExit code
 
 -- and one with CANCEL by none
 abbrev pub CancelTakesNoExit : Type 0
-CancelTakesNoExit = (code : List ℕ) (before after : TaskContext) (reply : TurnReply) → Abends code true before reply after → reply ≡ turn.Abended code
+CancelTakesNoExit =
+    (code : List ℕ) (before after : TaskContext) (reply : TurnReply) → Abends code true before reply after
+    → reply ≡ turn.Abended code
 
 -- ---- over a half-turn
 -- what is reached when the task's instructions have run
@@ -94,12 +106,13 @@ pub record HasDone (before abend : TaskContext) : Type 0 where
   pub judged : HasVerdict call before (Meets condition outputs change)
   pub commits : Commits call condition outputs change before abend
 
--- How a half-turn comes to an abend: its instructions have run; or its command is refused, and nothing is done, or has done all
--- that it does.
+-- How a half-turn comes to an abend: its instructions have run; or its command is refused, and nothing is done, or has
+-- done all that it does.
 abbrev pub ComesTo : TaskContext → TaskContext → Type 0
 ComesTo before abend = MatchBool before.task.due ((abend ≡ before) ⊎ HasDone before abend) (HaveRun before abend)
 
--- A half-turn in which an exit takes an abend: the task comes to it with the levels that it had, and the exit takes it there.
+-- A half-turn in which an exit takes an abend: the task comes to it with the levels that it had, and the exit takes it
+-- there.
 pub record ComesToExit (before after : TaskContext) : Type 0 where
   pub abend : TaskContext
   pub comes : ComesTo before abend
@@ -107,4 +120,5 @@ pub record ComesToExit (before after : TaskContext) : Type 0 where
   pub takes : TakesExit abend after
 
 abbrev pub HalfTurnsTakeExits : Type 0
-HalfTurnsTakeExits = (code : List ℕ) (before after : TaskContext) → HalfTurn before (turn.TookExit code) after → ComesToExit before after
+HalfTurnsTakeExits =
+    (code : List ℕ) (before after : TaskContext) → HalfTurn before (turn.TookExit code) after → ComesToExit before after

@@ -16,11 +16,12 @@ use Rattle.cx_region_task.specs.Changes.{after_request}
 use Rattle.cx_region_task.specs.Turn.{HalfTurn}
 
 -- ---- one half-turn
--- A level begins, which has asked for nothing: under the current one, which stays as it was, or in its place. Its program is at
--- its entry, with the registers of an entry and code 0.
+-- A level begins, which has asked for nothing: under the current one, which stays as it was, or in its place. Its
+-- program is at its entry, with the registers of an entry and code 0.
 pub record HasBegun (before after : TaskState) : Type 0 where
   pub handles : after.levels.current.handles ≡ no_handles
-  pub callers : (after.levels.callers ≡ before.levels.current ∷ before.levels.callers) ⊎ (after.levels.callers ≡ before.levels.callers)
+  pub callers : (after.levels.callers ≡ before.levels.current ∷ before.levels.callers)
+      ⊎ (after.levels.callers ≡ before.levels.callers)
   pub regs : after.regs ≡ entry_registers after.next after.levels.current.stg after.eib
   pub cc : after.cc ≡ 0
   pub due : after.due ≡ false
@@ -48,11 +49,14 @@ LeavesCallers (turn.TookExit code) before after = HaveEnded before.levels after.
 LeavesCallers _ before after = after.levels.callers ≡ before.levels.callers
 
 abbrev pub HalfTurnsLeaveCallers : Type 0
-HalfTurnsLeaveCallers = (before after : TaskContext) (reply : TurnReply) → HalfTurn before reply after → LeavesCallers reply before.task after.task
+HalfTurnsLeaveCallers =
+    (before after : TaskContext) (reply : TurnReply) → HalfTurn before reply after
+    → LeavesCallers reply before.task after.task
 
 -- Returned is answered only where a level has linked to the current one.
 abbrev pub ReturnsHaveCallers : Type 0
-ReturnsHaveCallers = (before after : TaskContext) → HalfTurn before turn.Returned after → 0 < length before.task.levels.callers
+ReturnsHaveCallers =
+    (before after : TaskContext) → HalfTurn before turn.Returned after → 0 < length before.task.levels.callers
 
 -- the current level keeps the registers and the code that its program has at a command
 pub record Keeps (task : TaskState) : Type 0 where
@@ -60,11 +64,14 @@ pub record Keeps (task : TaskState) : Type 0 where
   pub cc : task.levels.current.cc ≡ task.cc
 
 abbrev pub CommandsAreKept : Type 0
-CommandsAreKept = (before after : TaskContext) → before.task.due ≡ false → HalfTurn before turn.AtCommand after → Keeps after.task
+CommandsAreKept =
+    (before after : TaskContext) → before.task.due ≡ false → HalfTurn before turn.AtCommand after → Keeps after.task
 
 -- So it is in every state that half-turns lead to: where a command is due the current level keeps what its program has.
 abbrev pub DueIsKept : Type 0
-DueIsKept = (before after : TaskContext) (reply : TurnReply) → (before.task.due ≡ true → Keeps before.task) → HalfTurn before reply after
+DueIsKept =
+    (before after : TaskContext) (reply : TurnReply) → (before.task.due ≡ true → Keeps before.task)
+    → HalfTurn before reply after
     → is_over reply ≡ false → after.task.due ≡ true → Keeps after.task
 
 -- ---- LINK, and the RETURN from it
@@ -98,10 +105,12 @@ pub record ReturnsTo (linking entered returning returned : TaskContext) : Type 0
   pub nearest : length returning.task.levels.callers ≡ suc (length linking.task.levels.callers)
   pub returns : HalfTurn returning turn.Returned returned
 
--- The levels are those of the LINK: the linking level with its handles and its exit, and those above it; and the program has
--- the registers and the code that it had at its LINK.
+-- The levels are those of the LINK: the linking level with its handles and its exit, and those above it; and the
+-- program has the registers and the code that it had at its LINK.
 abbrev pub LinksAreReturned : Type 0
-LinksAreReturned = (linking entered returning returned : TaskContext) → Links linking entered → ReturnsTo linking entered returning returned
+LinksAreReturned =
+    (linking entered returning returned : TaskContext) → Links linking entered
+    → ReturnsTo linking entered returning returned
     → IsBack linking.task.levels.current linking.task.levels.callers returned.task
 
 -- ---- PUSH HANDLE and POP HANDLE

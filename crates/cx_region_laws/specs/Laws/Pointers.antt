@@ -24,7 +24,8 @@ use Rattle.cx_region_task.specs.Sound.{IsSoundTask}
 use Rattle.cx_region_task.specs.Turn.{HalfTurn}
 use Rattle.cx_region_laws.specs.Laws.Bytes.{is_among, is_in_output}
 
--- A command was due, and none is now: its program goes on at the address in R14, with the registers and the code that it had.
+-- A command was due, and none is now: its program goes on at the address in R14, with the registers and the code that
+-- it had.
 pub record GoesOnAfter (before after : TaskState) : Type 0 where
   pub was_due : before.due ≡ true
   pub next : after.next ≡ address_in (slice_index before.regs 14)
@@ -33,25 +34,31 @@ pub record GoesOnAfter (before after : TaskState) : Type 0 where
   pub due : after.due ≡ false
 
 abbrev pub ProgramsGoOn : Type 0
-ProgramsGoOn = (before after : TaskContext) (condition : Condition) → HalfTurn before (turn.Performed condition) after → GoesOnAfter before.task after.task
+ProgramsGoOn =
+    (before after : TaskContext) (condition : Condition) → HalfTurn before (turn.Performed condition) after
+    → GoesOnAfter before.task after.task
 
 -- An address may be written again after an output: one of the outputs after it has the address, the EIB, or RESP's
 -- word.
 abbrev pub is_written_again : ℕ → ℕ → Call → List ℕ → List Output → Bool
-is_written_again x eib call text later = list_any (is_in_output x call text) later || is_among x (Some eib) eib_len || is_among x (resp_place call) 4
+is_written_again x eib call text later =
+    list_any (is_in_output x call text) later || is_among x (Some eib) eib_len || is_among x (resp_place call) 4
 
 -- Each byte of the outputs, with the text that the command hands over, is at its place, unless its address is written
 -- again.
 abbrev pub OutputsStand : Storage → ℕ → Call → List ℕ → List Output → Type 0
 OutputsStand storage eib call text outputs =
-    (front later : List Output) (output : Output) (place k byte : ℕ) → outputs ≡ front ++ output ∷ later → place_of call output.option ≡ Some place
-    → slice_get (bytes_from text output.source) k ≡ Some byte → is_written_again (address_after place k) eib call text later ≡ false
+    (front later : List Output) (output : Output) (place k byte : ℕ) → outputs ≡ front ++ output ∷ later
+    → place_of call output.option ≡ Some place
+    → slice_get (bytes_from text output.source) k ≡ Some byte
+    → is_written_again (address_after place k) eib call text later ≡ false
     → byte_at storage (address_after place k) ≡ Some byte
 
 -- So the pointer that an option gets is the word at its place, where none of its addresses is written again.
 abbrev pub PointersStand : Storage → ℕ → Call → List ℕ → List Output → Type 0
 PointersStand storage eib call text outputs =
-    (front later : List Output) (option : OptionName) (place pointer : ℕ) → outputs ≡ front ++ output_of option (Word pointer) ∷ later → place_of call option ≡ Some place
+    (front later : List Output) (option : OptionName) (place pointer : ℕ)
+    → outputs ≡ front ++ output_of option (Word pointer) ∷ later → place_of call option ≡ Some place
     → ((k : ℕ) → k < 4 → is_written_again (address_after place k) eib call text later ≡ false)
     → word_at storage place ≡ Some pointer
 
@@ -67,5 +74,7 @@ pub record HasPutOut (condition : Condition) (before after : TaskContext) : Type
   pub pointers : PointersStand after.shared.storage before.task.eib call (handed_over change before) outputs
 
 abbrev pub OutputsStay : Type 0
-OutputsStay = (before after : TaskContext) (condition : Condition) → IsSoundStorage before.shared.storage → IsSoundTask before.shared.storage before.terminal_entry.slot before.task
+OutputsStay =
+    (before after : TaskContext) (condition : Condition) → IsSoundStorage before.shared.storage
+    → IsSoundTask before.shared.storage before.terminal_entry.slot before.task
     → HalfTurn before (turn.Performed condition) after → HasPutOut condition before after

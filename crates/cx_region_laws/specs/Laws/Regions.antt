@@ -30,15 +30,21 @@ EventsDecide = (old : RegionState) (event : Event) (reply other : Reply) (new la
 
 -- two outcomes of one definition, of one key, of one turn
 abbrev pub ProgramsDecide : Type 0
-ProgramsDecide = (old : RegionState) (name : List ℕ) (image : Image) (answer other : Result Loaded DefineFault) (new later : RegionState)
-    → DefinesProgram old name image answer new → DefinesProgram old name image other later → (answer ≡ other) × (new ≡ later)
+ProgramsDecide =
+    (old : RegionState) (name : List ℕ) (image : Image) (answer other : Result Loaded DefineFault)
+    (new later : RegionState)
+    → DefinesProgram old name image answer new → DefinesProgram old name image other later
+    → (answer ≡ other) × (new ≡ later)
 
 abbrev pub TransactionsDecide : Type 0
-TransactionsDecide = (old : RegionState) (tran program : List ℕ) (answer other : Result (Unit {0}) DefineFault) (new later : RegionState)
-    → DefinesTransaction old tran program answer new → DefinesTransaction old tran program other later → (answer ≡ other) × (new ≡ later)
+TransactionsDecide =
+    (old : RegionState) (tran program : List ℕ) (answer other : Result (Unit {0}) DefineFault) (new later : RegionState)
+    → DefinesTransaction old tran program answer new → DefinesTransaction old tran program other later
+    → (answer ≡ other) × (new ≡ later)
 
 abbrev pub TerminalsDecide : Type 0
-TerminalsDecide = (old : RegionState) (name : List ℕ) (answer other : Result (Unit {0}) DefineFault) (new later : RegionState)
+TerminalsDecide =
+    (old : RegionState) (name : List ℕ) (answer other : Result (Unit {0}) DefineFault) (new later : RegionState)
     → DefinesTerminal old name answer new → DefinesTerminal old name other later → (answer ≡ other) × (new ≡ later)
 
 abbrev pub KeysDecide : Type 0
@@ -57,7 +63,8 @@ RunsDecide = (old : RegionState) (events : List Event) (replies others : List Re
 -- ---- what stays
 -- Every other terminal is as before in all its parts: so are its task's registers, levels and due command.
 abbrev pub OthersAsBefore : RegionState → List ℕ → RegionState → Type 0
-OthersAsBefore old name new = (other : List ℕ) → is_name name other ≡ false → terminal_of new other ≡ terminal_of old other
+OthersAsBefore old name new =
+    (other : List ℕ) → is_name name other ≡ false → terminal_of new other ≡ terminal_of old other
 
 -- what a turn of a terminal leaves, whatever its task does
 pub record TurnKeeps (old : RegionState) (name : List ℕ) (new : RegionState) : Type 0 where
@@ -71,8 +78,10 @@ pub record TurnKeeps (old : RegionState) (name : List ℕ) (new : RegionState) :
 
 -- what else a turn of a terminal of a sound region leaves: the areas and the resources of all others, both ways
 pub record TurnKeepsOthers (old : RegionState) (name : List ℕ) (new : RegionState) : Type 0 where
-  pub areas : MatchOption (terminal_of old name) (new.storage ≡ old.storage) (λ terminal. others_areas terminal.slot new.storage ≡ others_areas terminal.slot old.storage)
-  pub resources : MatchOption (terminal_of old name) (new.resources ≡ old.resources) (λ terminal. without_owner new.resources terminal.slot ≡ without_owner old.resources terminal.slot)
+  pub areas : MatchOption (terminal_of old name) (new.storage ≡ old.storage)
+      (λ terminal. others_areas terminal.slot new.storage ≡ others_areas terminal.slot old.storage)
+  pub resources : MatchOption (terminal_of old name) (new.resources ≡ old.resources)
+      (λ terminal. without_owner new.resources terminal.slot ≡ without_owner old.resources terminal.slot)
 
 -- the counter of tasks after a key that was answered so: the next number, where a task was attached
 abbrev pub counter_after : KeyReply → ℕ → ℕ
@@ -93,13 +102,19 @@ pub record KeyKeeps (old : RegionState) (name : List ℕ) (reply : KeyReply) (ne
   pub counter : new.counter ≡ counter_after reply old.counter
 
 abbrev pub TurnsKeepToTheirTask : Type 0
-TurnsKeepToTheirTask = (old : RegionState) (name : List ℕ) (reply : TurnReply) (new : RegionState) → TakesTurn old name reply new → TurnKeeps old name new
+TurnsKeepToTheirTask =
+    (old : RegionState) (name : List ℕ) (reply : TurnReply) (new : RegionState) → TakesTurn old name reply new
+    → TurnKeeps old name new
 
 abbrev pub TurnsKeepOthers : Type 0
-TurnsKeepOthers = (old : RegionState) (name : List ℕ) (reply : TurnReply) (new : RegionState) → IsSound old → TakesTurn old name reply new → TurnKeepsOthers old name new
+TurnsKeepOthers =
+    (old : RegionState) (name : List ℕ) (reply : TurnReply) (new : RegionState) → IsSound old
+    → TakesTurn old name reply new → TurnKeepsOthers old name new
 
 abbrev pub KeysKeepToTheirTerminal : Type 0
-KeysKeepToTheirTerminal = (old : RegionState) (name : List ℕ) (input : Input) (reply : KeyReply) (new : RegionState) → TakesKey old name input reply new → KeyKeeps old name reply new
+KeysKeepToTheirTerminal =
+    (old : RegionState) (name : List ℕ) (input : Input) (reply : KeyReply) (new : RegionState)
+    → TakesKey old name input reply new → KeyKeeps old name reply new
 
 -- ---- what changes nothing
 -- the answers of a turn that leaves the region as it was
@@ -110,20 +125,25 @@ changes_nothing turn.Waiting = true
 changes_nothing _ = false
 
 abbrev pub StillTurnsLeaveTheRegion : Type 0
-StillTurnsLeaveTheRegion = (old : RegionState) (name : List ℕ) (reply : TurnReply) (new : RegionState) → TakesTurn old name reply new
+StillTurnsLeaveTheRegion =
+    (old : RegionState) (name : List ℕ) (reply : TurnReply) (new : RegionState) → TakesTurn old name reply new
     → changes_nothing reply ≡ true → new ≡ old
 
 -- every answer of a key but Attached and Given
 abbrev pub StillKeysLeaveTheRegion : Type 0
-StillKeysLeaveTheRegion = (old : RegionState) (name : List ℕ) (input : Input) (reply : KeyReply) (new : RegionState) → TakesKey old name input reply new
+StillKeysLeaveTheRegion =
+    (old : RegionState) (name : List ℕ) (input : Input) (reply : KeyReply) (new : RegionState)
+    → TakesKey old name input reply new
     → reply ≢ key.Attached → reply ≢ key.Given → new ≡ old
 
 abbrev pub RefusedProgramsLeaveTheRegion : Type 0
-RefusedProgramsLeaveTheRegion = (old : RegionState) (name : List ℕ) (image : Image) (fault : DefineFault) (new : RegionState)
+RefusedProgramsLeaveTheRegion =
+    (old : RegionState) (name : List ℕ) (image : Image) (fault : DefineFault) (new : RegionState)
     → DefinesProgram old name image (Err fault) new → new ≡ old
 
 abbrev pub RefusedTransactionsLeaveTheRegion : Type 0
-RefusedTransactionsLeaveTheRegion = (old : RegionState) (tran program : List ℕ) (fault : DefineFault) (new : RegionState)
+RefusedTransactionsLeaveTheRegion =
+    (old : RegionState) (tran program : List ℕ) (fault : DefineFault) (new : RegionState)
     → DefinesTransaction old tran program (Err fault) new → new ≡ old
 
 abbrev pub RefusedTerminalsLeaveTheRegion : Type 0
@@ -138,9 +158,13 @@ RunsJoin = (old between new : RegionState) (events more : List Event) (replies o
 
 -- a run of events and more is a run of the events with as many replies, and one of the others from where it ends
 abbrev pub RunsPart : Type 0
-RunsPart = (old new : RegionState) (events more : List Event) (replies : List Reply) → Run old (events ++ more) replies new
-    → (between : RegionState) × Run old events (take (length events) replies) between × Run between more (drop (length events) replies) new
+RunsPart =
+    (old new : RegionState) (events more : List Event) (replies : List Reply) → Run old (events ++ more) replies new
+    → (between : RegionState) × Run old events (take (length events) replies) between
+    × Run between more (drop (length events) replies) new
 
 -- replies and events are as many
 abbrev pub AreAsMany : Type 0
-AreAsMany = (old new : RegionState) (events : List Event) (replies : List Reply) → Run old events replies new → length replies ≡ length events
+AreAsMany =
+    (old new : RegionState) (events : List Event) (replies : List Reply) → Run old events replies new
+    → length replies ≡ length events

@@ -24,4 +24,6 @@ IsChecked _ = Unit {0}
 
 -- an event of a sound region leads to a sound one
 abbrev pub SoundIsKept : Type 0
-SoundIsKept = (old new : RegionState) (e : Event) (r : Reply) → IsSound old → IsAllowed e → IsChecked e → Applies old e r new → ArePartsSound new → IsSound new
+SoundIsKept =
+    (old new : RegionState) (e : Event) (r : Reply) → IsSound old → IsAllowed e → IsChecked e → Applies old e r new
+    → ArePartsSound new → IsSound new

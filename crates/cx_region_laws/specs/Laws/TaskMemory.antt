@@ -22,4 +22,6 @@ takes_memory _ call storage = false
 
 -- where a half-turn may take memory, such a command is due
 abbrev pub OnlyTheseTakeMemory : Type 0
-OnlyTheseTakeMemory = (before : TaskContext) (taken : TakesMemory before) → takes_memory taken.act.call.command taken.act.call before.shared.storage ≡ true
+OnlyTheseTakeMemory =
+    (before : TaskContext) (taken : TakesMemory before)
+    → takes_memory taken.act.call.command taken.act.call before.shared.storage ≡ true

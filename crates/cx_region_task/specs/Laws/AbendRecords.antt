@@ -13,7 +13,9 @@ use Rattle.cx_region_task.specs.Turn.{HalfTurn, HasAbendRecord}
 
 -- what was reached before a half-turn decides what is reported
 abbrev pub AbendRecordsDecide : Type 0
-AbendRecordsDecide = (before : TaskContext) (one other : Option AbendRecord) → HasAbendRecord before one → HasAbendRecord before other → one ≡ other
+AbendRecordsDecide =
+    (before : TaskContext) (one other : Option AbendRecord) → HasAbendRecord before one → HasAbendRecord before other
+    → one ≡ other
 
 -- a cause leads to an abend with this code; one that the program asked for has any
 abbrev pub IsCodeOf : Cause → List ℕ → Type 0

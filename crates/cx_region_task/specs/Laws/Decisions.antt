@@ -19,4 +19,5 @@ is_wait_reply _ = false
 -- a half-turn is answered Waiting exactly where a command is due of which it is decided that it waits
 abbrev pub WaitsAreDecided : Type 0
 WaitsAreDecided = (before after : TaskContext) (reply : TurnReply) → HalfTurn before reply after
-    → MatchBool before.task.due ((decided : Decision) → Decides before decided → is_wait_reply reply ≡ waits decided) (is_wait_reply reply ≡ false)
+    → MatchBool before.task.due ((decided : Decision) → Decides before decided → is_wait_reply reply ≡ waits decided)
+    (is_wait_reply reply ≡ false)

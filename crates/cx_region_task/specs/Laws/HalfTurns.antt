@@ -16,20 +16,27 @@ use Rattle.cx_region_task.specs.Turn.{HalfTurn}
 abbrev pub others_areas : ℕ → Storage → List Area
 others_areas slot storage = areas_of (with_areas_kept (is_of_other_slot slot) storage)
 
--- What a half-turn keeps: its slot and the programs; the areas and the resources of all others; the task sound, while it
--- goes on. Where it is over, the slot has no area and no resource left.
+-- What a half-turn keeps: its slot and the programs; the areas and the resources of all others; the task sound, while
+-- it goes on. Where it is over, the slot has no area and no resource left.
 pub record HalfTurnKeeps (before : TaskContext) (reply : TurnReply) (after : TaskContext) : Type 0 where
   pub slot : after.terminal_entry.slot ≡ before.terminal_entry.slot
   pub programs : after.shared.programs ≡ before.shared.programs
-  pub areas : others_areas before.terminal_entry.slot after.shared.storage ≡ others_areas before.terminal_entry.slot before.shared.storage
-  pub resources : without_owner after.shared.resources before.terminal_entry.slot ≡ without_owner before.shared.resources before.terminal_entry.slot
+  pub areas : others_areas before.terminal_entry.slot after.shared.storage
+      ≡ others_areas before.terminal_entry.slot before.shared.storage
+  pub resources : without_owner after.shared.resources before.terminal_entry.slot
+      ≡ without_owner before.shared.resources before.terminal_entry.slot
   pub task : is_over reply ≡ false → IsSoundTask after.shared.storage before.terminal_entry.slot after.task
-  pub nothing_left : is_over reply ≡ true → with_areas_kept (is_of_other_slot before.terminal_entry.slot) after.shared.storage ≡ after.shared.storage
-  pub released : is_over reply ≡ true → without_owner after.shared.resources before.terminal_entry.slot ≡ after.shared.resources
+  pub nothing_left : is_over reply ≡ true
+      → with_areas_kept (is_of_other_slot before.terminal_entry.slot) after.shared.storage ≡ after.shared.storage
+  pub released : is_over reply ≡ true
+      → without_owner after.shared.resources before.terminal_entry.slot ≡ after.shared.resources
 
 abbrev pub HalfTurnsKeep : Type 0
-HalfTurnsKeep = (before after : TaskContext) (reply : TurnReply) → IsSoundStorage before.shared.storage → AreSoundPrograms before.shared.programs → AreSoundQueues before.shared.queues
-    → IsSoundTask before.shared.storage before.terminal_entry.slot before.task → HalfTurn before reply after → HalfTurnKeeps before reply after
+HalfTurnsKeep =
+    (before after : TaskContext) (reply : TurnReply) → IsSoundStorage before.shared.storage
+    → AreSoundPrograms before.shared.programs → AreSoundQueues before.shared.queues
+    → IsSoundTask before.shared.storage before.terminal_entry.slot before.task → HalfTurn before reply after
+    → HalfTurnKeeps before reply after
 
 -- the replies of a task's half-turn: those of a terminal without a task aren't among them
 abbrev pub is_of_task : TurnReply → Bool
@@ -44,7 +51,8 @@ pub record HalfTurnStays (before : TaskContext) (reply : TurnReply) (after : Tas
   pub answers : is_of_task reply ≡ true
 
 abbrev pub HalfTurnsStay : Type 0
-HalfTurnsStay = (before after : TaskContext) (reply : TurnReply) → HalfTurn before reply after → HalfTurnStays before reply after
+HalfTurnsStay =
+    (before after : TaskContext) (reply : TurnReply) → HalfTurn before reply after → HalfTurnStays before reply after
 
 -- a half-turn that is answered Waiting leaves all as it is
 abbrev pub WaitsLeave : Type 0
@@ -52,4 +60,6 @@ WaitsLeave = (before after : TaskContext) → HalfTurn before turn.Waiting after
 
 -- the reply and all that is reached are determined by what was reached before
 abbrev pub HalfTurnsDecide : Type 0
-HalfTurnsDecide = (before after later : TaskContext) (reply other : TurnReply) → HalfTurn before reply after → HalfTurn before other later → (reply ≡ other) × (after ≡ later)
+HalfTurnsDecide =
+    (before after later : TaskContext) (reply other : TurnReply) → HalfTurn before reply after
+    → HalfTurn before other later → (reply ≡ other) × (after ≡ later)

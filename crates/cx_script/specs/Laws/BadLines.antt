@@ -29,7 +29,7 @@ place_after_lines language number place (line ∷ lines) =
 abbrev pub IsBadIn : {A : Type 0} → Language A → ℕ → Option Block → List ℕ → Type 0
 IsBadIn language number None line = (is_too_long line ≡ true) ⊎ (language.line_of number line ≡ None)
 IsBadIn language number (Some block) line =
-    (is_too_long line ≡ true) ⊎ ((bytes_eq line (codes "/*") ≡ false) × (with_line block line ≡ None))
+    (is_too_long line ≡ true) ⊎ ((bytes_eq line (codes "/*") ≡ false) × (with_line language block line ≡ None))
 
 -- the line with this number is bad at its place
 abbrev pub IsBadThere : {A : Type 0} → Language A → List (List ℕ) → ℕ → Type 0
@@ -42,8 +42,8 @@ abbrev pub IsLeftOpen : {A : Type 0} → Language A → Ending → List (List �
 IsLeftOpen language ending lines number =
     (ending ≡ AtEnd) × IsSomeAnd (place_after_lines language 1 first_place lines).block (λ block. block.line ≡ number)
 
--- A bad line of the script that these bytes are: it is one of its lines, and bad; those in front of it are not, and exactly what they
--- complete is done.
+-- A bad line of the script that these bytes are: it is one of its lines, and bad; those in front of it are not, and
+-- exactly what they complete is done.
 pub record IsBadLine {A : Type 0} (language : Language A) (ending : Ending) (bytes : List ℕ) (number : ℕ) : Type 0 where
   pub first : 1 ≤ number
   pub last : number ≤ length (lines_met ending bytes)

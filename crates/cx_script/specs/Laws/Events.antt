@@ -41,7 +41,8 @@ written_before _ = []
 abbrev pub IsReportedBy : Option EdfEvent → List ℕ → List Answer → List ℕ → (List Answer → Type 0) → Type 0
 IsReportedBy None before answers text Rest = Rest answers
 IsReportedBy (Some event) before [] text Rest = ⊥
-IsReportedBy (Some event) before (answer ∷ answers) text Rest = (text ≡ before ++ answer_text event answer) × Rest answers
+IsReportedBy (Some event) before (answer ∷ answers) text Rest =
+    (text ≡ before ++ answer_text event answer) × Rest answers
 
 -- the answers, in order, are those that the texts of these actions report
 unfoldable pub AreReported : List Action → List Answer → List (List ℕ) → Type 0

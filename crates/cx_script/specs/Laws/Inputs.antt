@@ -18,8 +18,8 @@ was_stopped (Err Memory) = true
 was_stopped (Err Write) = true
 was_stopped _ = false
 
--- Two runs that were not stopped, of which the reads may be of one script, in whatever pieces: they have one answer and one
--- transcript.
+-- Two runs that were not stopped, of which the reads may be of one script, in whatever pieces: they have one answer and
+-- one transcript.
 abbrev pub InputsDecide : Type 0
 InputsDecide = (ending : Ending) (bytes : List ℕ) (calls others : List Call) (answer other : Result Summary RunFault)
     → IsScriptSession calls answer → IsScriptSession others other

@@ -1,4 +1,5 @@
--- What DISPLAY writes is seen of the terminal's session alone: of what was kept at a stop, and of none of the region as it is now.
+-- What DISPLAY writes is seen of the terminal's session alone: of what was kept at a stop, and of none of the region as
+-- it is now.
 use Rattle.std.specs.Prelude.{◌≡◌, ℕ, List}
 use Rattle.cx_edf.specs.State.{EdfState, session_at}
 use Rattle.cx_script_actions.specs.declared.actions.Action.{Action}

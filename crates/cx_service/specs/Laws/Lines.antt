@@ -18,7 +18,8 @@ JoinTo part (line ∷ next ∷ lines) = (rest : List ℕ) × IsBrokenOff part li
 unfoldable pub AllJoinTo : List (List ℕ) → List (List ℕ) → Type 0
 AllJoinTo [] lines = lines ≡ []
 AllJoinTo (part ∷ parts) lines =
-    (own : List (List ℕ)) × (others : List (List ℕ)) × (lines ≡ own ++ others) × JoinTo part own × AllJoinTo parts others
+    (own : List (List ℕ)) × (others : List (List ℕ)) × (lines ≡ own ++ others) × JoinTo part own
+    × AllJoinTo parts others
 
 -- the lines of a text, joined, are its parts in their order
 abbrev pub LinesJoin : Type 0

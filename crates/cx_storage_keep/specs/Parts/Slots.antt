@@ -6,7 +6,8 @@ use Rattle.cx_storage.specs.Storage.{Storage, span}
 abbrev pub IsPlaced : List ℕ → Type 0
 IsPlaced slots = (i : ℕ) → i < 1024 → slice_index slots i < 2 ^ 24 → slice_index slots i / 2 % 1024 ≡ i
 
--- eight bytes from an address on lie from a first up to an end, exclusive, which are inside storage and not in its first
+-- eight bytes from an address on lie from a first up to an end, exclusive, which are inside storage and not in its
+-- first
 -- 4,096 bytes
 abbrev pub IsWithin : ℕ → ℕ → ℕ → Type 0
 IsWithin first end at = (at % 2 ≡ 0) × (4096 ≤ at) × (at + 8 ≤ 2 ^ 24) × (first ≤ at) × (at + 8 ≤ end)
@@ -16,7 +17,8 @@ AreWithin first end slots = (i : ℕ) → i < 1024 → slice_index slots i < 2 ^
 
 -- the bytes of each slot are those that storage has from its address on
 abbrev pub AreStored : Storage → List ℕ → List (List ℕ) → Type 0
-AreStored s slots bytes = (i : ℕ) → i < 1024 → slice_index slots i < 2 ^ 24 → span s (slice_index slots i) 8 ≡ Some (get_or bytes i [])
+AreStored s slots bytes =
+    (i : ℕ) → i < 1024 → slice_index slots i < 2 ^ 24 → span s (slice_index slots i) 8 ≡ Some (get_or bytes i [])
 
 -- eight bytes from an address on have none of the n from a on, which may go on at address 0
 abbrev pub IsAside : ℕ → ℕ → ℕ → Type 0

@@ -17,7 +17,8 @@ IsAligned area = area.start % 16 ≡ 0
 -- the areas don't meet and start at multiples of 16, and a byte is present exactly where one has its address
 unfoldable pub IsShown : List Area → List Page → Type 0
 IsShown areas pages =
-    IsSound (storage_of areas pages) × AllByRecursion IsAligned areas × ((x : ℕ) → byte_in_pages pages x ≡ byte_at (storage_of areas pages) x)
+    IsSound (storage_of areas pages) × AllByRecursion IsAligned areas
+    × ((x : ℕ) → byte_in_pages pages x ≡ byte_at (storage_of areas pages) x)
 
 -- how many areas start before an address
 abbrev pub spot : ℕ → List Area → ℕ

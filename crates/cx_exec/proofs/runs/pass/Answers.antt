@@ -1,5 +1,5 @@
 use Rattle.std.proofs.Common.{arith, rules, ap}
-use Rattle.cx_exec.proofs.RunLemmas.{passes_start, row_more, row_interrupt, place_from, effect_by}
+use Rattle.cx_exec.proofs.RunLemmas.{passes_start, apart_more, row_more, row_interrupt, place_from, effect_by}
 use Rattle.cx_exec.specs.Machine.{machine}
 use Rattle.cx_code.specs.Table.{row_of}
 use Rattle.cx_exec.proofs.runs.pass.Goals as goal
@@ -11,17 +11,23 @@ pub strings_effect-requires-clause-strings : goal.strings_effect-requires-clause
 unfolding row_of
 strings_effect-requires-clause-strings g c = search rules
 
-pub loop-left-preserved-in-Ok-register_rows : goal.loop-left-preserved-in-Ok-register_rows
-loop-left-preserved-in-Ok-register_rows g c = (
+pub loop-left-preserved-in_default : goal.loop-left-preserved-in_default
+loop-left-preserved-in_default g c = (
   omega arith,
-  row_more _ _ _ _ _ _ c.in-Some.found.op c.in-Some.found.prefix c.loop-left.invariant.0 (omega arith) c.loop-left.invariant.1 (ap (machine c.loop-left.cpu) c.fetch_fast.ensures.same)
-      (effect_by _ _ _ _ _ _ (place_from _ _ _ c.at-place.ensures.given c.at-place.ensures.from) c.in-Ok-register_rows.ensures) c.in-Some.ensures.performed (search rules) c.in-Some.ensures.apart,
+  apart_more _ _ _ _ _ _ c.loop-left.invariant.0 (omega arith) c.loop-left.invariant.1 (ap (machine c.loop-left.cpu) c.fetch_fast.ensures.same) (search rules),
 )
 
-pub returns-in-Err-register_rows-clause-run : goal.returns-in-Err-register_rows-clause-run
-returns-in-Err-register_rows-clause-run g c =
+pub loop-left-preserved-in-Ok : goal.loop-left-preserved-in-Ok
+loop-left-preserved-in-Ok g c = (
+  omega arith,
+  row_more _ _ _ _ _ _ c.in-Some.found.op c.in-Some.found.prefix c.loop-left.invariant.0 (omega arith) c.loop-left.invariant.1 (ap (machine c.loop-left.cpu) c.fetch_fast.ensures.same)
+      (effect_by _ _ _ _ _ _ (place_from _ _ _ c.at-place.ensures.given c.at-place.ensures.from) c.in-Ok.ensures) c.in-Some.ensures.performed (search rules) c.in-Some.ensures.apart,
+)
+
+pub returns-in-Err-clause-run : goal.returns-in-Err-clause-run
+returns-in-Err-clause-run g c =
     row_interrupt _ _ _ _ _ _ _ c.in-Some.found.op c.in-Some.found.prefix c.loop-left.invariant.0 (omega arith) c.loop-left.invariant.1 (ap (machine c.loop-left.cpu) c.fetch_fast.ensures.same)
-    (effect_by _ _ _ _ _ _ (place_from _ _ _ c.at-place.ensures.given c.at-place.ensures.from) c.in-Err-register_rows.ensures) c.in-Some.ensures.performed (search rules) c.in-Some.ensures.apart
+    (effect_by _ _ _ _ _ _ (place_from _ _ _ c.at-place.ensures.given c.at-place.ensures.from) c.in-Err.ensures) c.in-Some.ensures.performed (search rules) c.in-Some.ensures.apart
 
 pub loop-left-preserved-in-Ok-word_rows : goal.loop-left-preserved-in-Ok-word_rows
 loop-left-preserved-in-Ok-word_rows g c = (

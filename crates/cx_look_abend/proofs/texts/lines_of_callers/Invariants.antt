@@ -5,4 +5,4 @@ use Rattle.cx_look_abend.proofs.texts.lines_of_callers.Given as goal
 
 abbrev pub invariant-loop-caller : goal.invariant-loop-caller
 invariant-loop-caller l =
-    l.report ≡ l.initial.report ++ flat_map (caller_line l.sources.entries l.programs.entries) (take l.caller-index l.callers)
+    l.report ≡ l.initial.report ++ flat_map (caller_line l.sources l.programs.entries) (take l.caller-index l.callers)

@@ -5,4 +5,4 @@ use Rattle.cx_look_levels.proofs.levels.levels_text.Given as goal
 
 abbrev pub invariant-loop-index : goal.invariant-loop-index
 invariant-loop-index g l =
-    l.report ++ levels_text l.sources.entries l.shared (l.index + 1) (drop l.index (all_levels l.levels)) ≡ l.initial.report ++ levels_text l.sources.entries l.shared 1 (all_levels l.levels)
+    l.report ++ levels_text l.sources l.shared (l.index + 1) (drop l.index (all_levels l.levels)) ≡ l.initial.report ++ levels_text l.sources l.shared 1 (all_levels l.levels)

@@ -4,8 +4,8 @@ use Rattle.cx_orders.specs.Moves.{keys_of}
 use Rattle.cx_orders.proofs.KeyLemmas.{few_keys}
 use Rattle.cx_orders.proofs.moves.Orders.keyed.Goals as goal
 
-pub overflow_add-asked : goal.overflow_add-asked
-overflow_add-asked g c =
+pub overflow_add-came : goal.overflow_add-came
+overflow_add-came g c =
     let keys = c.args.self.now.keys in
     omega (
       arith,

@@ -1,0 +1,112 @@
+-- ORDERS: which lines its block may have, and what they ask (own).
+use Rattle.std.specs.Prelude.{ℕ, ◌&&◌, ◌≤◌, nat_le, nat_lt, not, Bool, true, false, count_by, if◌then◌else◌, Option, Some, None, is_some, List, [], ◌∷◌, ◌++◌, length, map, codes}
+use Rattle.std.specs.Char.{to_ascii_uppercase}
+use Rattle.std.specs.List.{flat_map}
+use Rattle.std.specs.Option.{option_and_then, option_map, option_or}
+use Rattle.std.specs.Str.{bytes_eq}
+use Rattle.cx_ebcdic.specs.Names.{padded_name}
+use Rattle.cx_region.specs.declared.replies.Event.TheVariants as event
+use Rattle.cx_edf.specs.declared.answers.EdfEvent.{EdfEvent}
+use Rattle.cx_edf.specs.declared.answers.EdfEvent.TheVariants as edf
+use Rattle.cx_script_actions.specs.Actions.{is_blank_or_comment, line_of}
+use Rattle.cx_script_actions.specs.Words.{after_first_blank, number_of, word}
+use Rattle.cx_script_actions.specs.declared.actions.Action.{Action}
+use Rattle.cx_script_actions.specs.declared.actions.Action.TheVariants as action
+use Rattle.cx_script_actions.specs.declared.actions.Line.{Line}
+use Rattle.cx_script_actions.specs.declared.actions.Line.TheVariants as line
+use Rattle.cx_look.specs.Looks.{at_most, look_of}
+use Rattle.cx_look.specs.declared.look.Look.{Look}
+use Rattle.cx_look.specs.declared.look.Look.TheVariants as look
+use Rattle.cx_look.specs.declared.orders.OrdersBlock.{OrdersBlock}
+use Rattle.cx_look.specs.declared.orders.OrdersKey.{OrdersKey}
+use Rattle.cx_look.specs.declared.orders.OrdersLine.{OrdersLine}
+use Rattle.cx_look.specs.declared.orders.OrdersLine.TheVariants as says
+use Rattle.cx_look.specs.declared.orders.Sight.{Sight}
+use Rattle.cx_look.specs.declared.orders.Sight.TheVariants as sight
+
+-- the most states: 1 to 1,000,000, and 10,000 where no number says so
+abbrev pub states_of : Option (List ℕ) → Option ℕ
+states_of None = Some 10000
+states_of (Some text) = option_and_then (at_most 1000000) (number_of 1 7 text)
+
+-- ---- a line of the block
+-- a key that is to come: KEY, as a script of `cicsedf` has it
+abbrev pub is_key : List ℕ → Bool
+is_key text = bytes_eq (word text) (codes "KEY")
+
+abbrev pub event_in : Line Action → Option EdfEvent
+event_in (line.Action (action.Event e)) = Some e
+event_in _ = None
+
+abbrev pub key_in : List ℕ → EdfEvent → Option OrdersKey
+key_in text (edf.Plain (event.Key name aid bytes)) =
+    Some (record { name = name; aid = aid; bytes = bytes; line = text })
+key_in text _ = None
+
+abbrev pub key_of : List ℕ → Option OrdersKey
+key_of text = option_and_then (key_in text) (option_and_then event_in (line_of text))
+
+-- what may be seen of an outcome: SCREEN, as a script of `cicsedf` has it, and looks at what is in the region
+abbrev pub is_sight : Look → Bool
+is_sight (look.Abend name) = false
+is_sight (look.AbendStorage name) = false
+is_sight (look.Ahead name) = false
+is_sight (look.Faults source) = false
+is_sight (look.Help word) = false
+is_sight _ = true
+
+abbrev pub screen_of : List ℕ → Option Sight
+screen_of text =
+    let name = option_and_then (padded_name 4) (after_first_blank text) in
+    if bytes_eq (word text) (codes "SCREEN") then option_map (λ n. sight.Screen n) name else None
+
+abbrev pub look_seen : Look → Option Sight
+look_seen l = if is_sight l then Some (sight.Look l) else None
+
+-- of which lower case is taken as upper case, and none has more than 4,096 bytes
+abbrev pub look_line : List ℕ → Option Sight
+look_line text =
+    if nat_le (length text) 4096 then option_and_then look_seen (look_of (map to_ascii_uppercase text)) else None
+
+abbrev pub sight_of : List ℕ → Option Sight
+sight_of text = option_or (screen_of text) (look_line text)
+
+-- What a line of the block says; None where it may not stand there.
+unfoldable pub orders_line_of : List ℕ → Option OrdersLine
+orders_line_of text =
+    if is_blank_or_comment text then Some says.Blank
+    else if is_key text then option_map (λ key. says.Key key) (key_of text)
+    else option_map (λ s. says.Sight s) (sight_of text)
+
+-- ---- the block
+-- at most 256 keys, and at most 64 lines that say what is to be seen
+abbrev pub has_room : List (List ℕ) → List ℕ → Bool
+has_room lines text =
+    if is_key text then nat_lt (count_by is_key lines) 256 else nat_lt (count_by (λ l. not (is_key l)) lines) 64
+
+-- The lines of the block with one more, where it may have that line: empty lines and comments aren't kept.
+unfoldable pub orders_with : List (List ℕ) → List ℕ → Option (List (List ℕ))
+orders_with lines text =
+    if is_blank_or_comment text then Some lines
+    else if has_room lines text && is_some (orders_line_of text) then Some (lines ++ text ∷ []) else None
+
+abbrev pub keys_in : Option OrdersLine → List OrdersKey
+keys_in (Some (says.Key key)) = key ∷ []
+keys_in _ = []
+
+abbrev pub sights_in : Option OrdersLine → List Sight
+sights_in (Some (says.Sight s)) = s ∷ []
+sights_in _ = []
+
+-- What the block asks: at most so many states, the keys, and what is to be seen, in the order of its lines.
+unfoldable pub orders_block : ℕ → List (List ℕ) → OrdersBlock
+orders_block most lines =
+    record {
+      most = most;
+      keys = flat_map (λ l. keys_in (orders_line_of l)) lines;
+      sights = flat_map (λ l. sights_in (orders_line_of l)) lines;
+    }
+
+-- a key has at most 1,920 bytes
+abbrev pub IsFew : OrdersKey → Type 0
+IsFew key = length key.bytes ≤ 1920

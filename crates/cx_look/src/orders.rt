@@ -1,0 +1,334 @@
+//! ORDERS: which lines its block may have, and what they ask.
+ghost use Rattle.std.specs.Prelude.{◌≡◌, ◌≤◌, IfOk, IfSome, OnErr, count_by, false, is_some, length, map, not, true};
+ghost use Rattle.std.specs.Char.{to_ascii_uppercase};
+ghost use Rattle.std.specs.List.{AllByRecursion, flat_map};
+ghost use Rattle.std.specs.Option.{option_copied};
+ghost use Rattle.cx_edf.specs.Runs.{IsAllowedEdf};
+ghost use Rattle.cx_script_actions.specs.Actions.{is_blank_or_comment};
+ghost use Rattle.cx_script_actions.specs.Allowed.{IsAllowed, IsAllowedLine};
+ghost use Rattle.cx_look.specs.Orders.{IsFew, event_in, has_room, is_key, is_sight, key_in, key_of, keys_in, look_line, look_seen, orders_block, orders_line_of, orders_with, screen_of, sight_of, sights_in, states_of};
+ghost use Rattle.cx_look.specs.declared.orders.OrdersLine.TheVariants as says;
+
+use crate::look::{Look, look_of};
+use cx_base_lists::List;
+use cx_code::Bytes;
+use cx_ebcdic::{Aid, Name4};
+use cx_edf::EdfEvent;
+use cx_region::Event;
+use cx_script_actions::{Action, Line, line_of, name4, number, split_word};
+use cx_source::Text;
+use std::alloc::{AllocError, Global};
+
+/// The most states of a search that no number limits.
+const STATES: u32 = 10_000;
+
+/// The most states of a search.
+const MOST_STATES: u32 = 1_000_000;
+
+/// The most keys of a block.
+const MOST_KEYS: usize = 256;
+
+/// The most lines of a block that say what is to be seen.
+const MOST_SIGHTS: usize = 64;
+
+/// The most bytes of a line.
+const MOST_IN_LINE: usize = 4_096;
+
+/// A key that is to come: its terminal, the key, the bytes that it sends, at most 1,920 of them, and the line that asks it.
+#[derive(Drop)]
+pub struct OrdersKey {
+    pub name: Name4,
+    pub aid: Aid,
+    pub bytes: Bytes,
+    pub line: Text,
+}
+
+/// What is to be seen of an outcome.
+#[derive(Drop)]
+pub enum Sight {
+    /// The screen of a terminal.
+    Screen(Name4),
+    /// What a look has to say.
+    Look(Look),
+}
+
+/// What a line of the block says.
+#[derive(Drop)]
+pub enum OrdersLine {
+    /// Nothing: it is empty, or a comment.
+    Blank,
+    /// A key is to come.
+    Key(OrdersKey),
+    /// This is to be seen of an outcome.
+    Sight(Sight),
+}
+
+/// What a block of ORDERS asks.
+#[derive(Drop)]
+pub struct OrdersBlock {
+    /// The most states.
+    pub most: u32,
+    /// The keys that are to come, those of one terminal in their order.
+    pub keys: List<OrdersKey>,
+    /// What is to be seen of an outcome; each terminal's screen where there is none.
+    pub sights: List<Sight>,
+}
+
+/// The most states, 1 to 1,000,000, by the words after ORDERS; 10,000 without them. It takes no memory.
+#[tactic(auto, using(std::proofs::lemmas::Bool::Decides::nat_tests))]
+pub fn states_of(rest: Option<&[u8]>) -> Option<u32>
+    ensures { result ≡ states_of (option_copied rest.entry) }
+{
+    let Some(text) = rest else {
+        return Some(STATES);
+    };
+    let n = number(text, 1, 7)?;
+    if n < 1 || n > MOST_STATES {
+        return None;
+    }
+    Some(n)
+}
+
+/// Whether a line is empty or a comment.
+fn is_blank_or_comment(text: &[u8]) -> bool
+    ensures { result ≡ is_blank_or_comment text.now }
+{
+    text.is_empty() || text[0] == b'*'
+}
+
+/// Whether a line begins with KEY.
+fn is_key(text: &[u8]) -> bool
+    ensures { result ≡ is_key text.now }
+{
+    let (word, _rest) = split_word(text);
+    word == b"KEY".as_slice()
+}
+
+/// The event that a line gives.
+fn event_in(line: Line<Action>) -> Option<EdfEvent>
+    requires { IsAllowedLine IsAllowed line }
+    ensures value { result ≡ event_in line }
+    ensures allowed { IfSome result IsAllowedEdf }
+{
+    match line {
+        Line::Action(Action::Event(event)) => Some(event),
+        _ => None,
+    }
+}
+
+/// The key that an event is, with the line that asks it.
+fn key_in(alloc: Global, event: &EdfEvent, text: &[u8]) -> Result<Option<OrdersKey>, AllocError>
+    requires { IsAllowedEdf event.now }
+    ensures value { IfOk result (λ key. key ≡ key_in text.now event.now) }
+    ensures memory { OnErr result (is_some (key_in text.now event.now) ≡ true) }
+    ensures few { IfOk result (λ key. IfSome key IsFew) }
+{
+    match event {
+        EdfEvent::Plain(Event::Key(name, aid, bytes)) => Ok(Some(OrdersKey {
+            name: *name,
+            aid: *aid,
+            bytes: Bytes::from_vec(bytes.as_slice().to_vec(alloc)?),
+            line: Text::from_slice(alloc, text)?,
+        })),
+        _ => Ok(None),
+    }
+}
+
+/// The key that a line asks which begins with KEY.
+#[tactic(auto, using(crate::proofs::KeyLemmas::is_asked))]
+fn key_of(alloc: Global, text: &[u8]) -> Result<Option<OrdersKey>, AllocError>
+    requires more { is_blank_or_comment text.now ≡ false }
+    requires key { is_key text.now ≡ true }
+    ensures value { IfOk result (λ key. key ≡ key_of text.now) }
+    ensures memory { OnErr result (is_some (key_of text.now) ≡ true) }
+    ensures few { IfOk result (λ key. IfSome key IsFew) }
+{
+    let Some(asked) = line_of(alloc, text)? else {
+        return Ok(None);
+    };
+    let Some(event) = event_in(asked) else {
+        return Ok(None);
+    };
+    key_in(alloc, &event, text)
+}
+
+/// The screen that a line asks.
+fn screen_of(text: &[u8]) -> Option<Sight>
+    ensures { result ≡ screen_of text.now }
+{
+    let (word, rest) = split_word(text);
+    if word != b"SCREEN".as_slice() {
+        return None;
+    }
+    let name = name4(rest?)?;
+    Some(Sight::Screen(name))
+}
+
+/// Whether a look may be seen of an outcome.
+fn is_sight(look: &Look) -> bool
+    ensures { result ≡ is_sight look.now }
+{
+    !matches!(
+        look,
+        Look::Abend(_) | Look::AbendStorage(_) | Look::Ahead(_) | Look::Faults(_) | Look::Help(_)
+    )
+}
+
+/// Puts a text into a buffer of its length, in upper case.
+fn put_upper(text: &[u8], out: &mut [u8])
+    requires { length out.old ≡ length text.now }
+    ensures { out.new ≡ map to_ascii_uppercase text.now }
+{
+    out.copy_from_slice(text);
+    out.make_ascii_uppercase();
+}
+
+/// A look, where it may be seen of an outcome.
+fn look_seen(look: Look) -> Option<Sight>
+    ensures { result ≡ look_seen look }
+{
+    if is_sight(&look) {
+        Some(Sight::Look(look))
+    } else {
+        None
+    }
+}
+
+/// The look that a line asks, where it may be seen of an outcome.
+fn look_line(text: &[u8]) -> Option<Sight>
+    ensures { result ≡ look_line text.now }
+{
+    let mut buffer = [0; MOST_IN_LINE];
+    if text.len() > MOST_IN_LINE {
+        return None;
+    }
+    let read = &mut buffer[..text.len()];
+    put_upper(text, read);
+    let look = look_of(read)?;
+    look_seen(look)
+}
+
+/// What a line asks to be seen.
+fn sight_of(text: &[u8]) -> Option<Sight>
+    ensures { result ≡ sight_of text.now }
+{
+    if let Some(sight) = screen_of(text) {
+        return Some(sight);
+    }
+    look_line(text)
+}
+
+/// What a line of the block says; None, and never Memory, where it may not stand there.
+#[tactic(auto, unfolding(crate::specs::Orders::orders_line_of))]
+fn orders_line_of(alloc: Global, text: &[u8]) -> Result<Option<OrdersLine>, AllocError>
+    ensures value { IfOk result (λ line. line ≡ orders_line_of text.now) }
+    ensures memory { OnErr result (is_some (orders_line_of text.now) ≡ true) }
+    ensures few { IfOk result (λ line. AllByRecursion IsFew (keys_in line)) }
+{
+    if is_blank_or_comment(text) {
+        return Ok(Some(OrdersLine::Blank));
+    }
+    if !is_key(text) {
+        return Ok(sight_of(text).map(|sight| OrdersLine::Sight(sight)));
+    }
+    match key_of(alloc, text)? {
+        Some(key) => Ok(Some(OrdersLine::Key(key))),
+        None => Ok(None),
+    }
+}
+
+/// How many of these lines are keys.
+fn keys_among(lines: &[Text]) -> usize
+    ensures { result ≡ count_by is_key lines.now }
+{
+    lines.iter().filter(|line| is_key(line.as_slice())).count()
+}
+
+/// How many of these lines are no keys.
+fn sights_among(lines: &[Text]) -> usize
+    ensures { result ≡ count_by (λ l. not (is_key l)) lines.now }
+{
+    lines.iter().filter(|line| !is_key(line.as_slice())).count()
+}
+
+/// Whether the block has room for one more line of this sort.
+fn has_room(lines: &[Text], text: &[u8]) -> bool
+    ensures { result ≡ has_room lines.now text.now }
+{
+    if is_key(text) {
+        keys_among(lines) < MOST_KEYS
+    } else {
+        sights_among(lines) < MOST_SIGHTS
+    }
+}
+
+/// The lines of a block of ORDERS with one more; None, and never Memory, where the block may not have it.
+/// Empty lines and comments aren't kept.
+///
+/// An error comes only where an allocation failed.
+#[tactic(auto, unfolding(crate::specs::Orders::orders_with))]
+pub fn orders_with(
+    alloc: Global,
+    lines: List<Text>,
+    text: &[u8],
+) -> Result<Option<List<Text>>, AllocError>
+    ensures value { IfOk result (λ more. more ≡ orders_with lines text.now) }
+    ensures memory { OnErr result (is_some (orders_with lines text.now) ≡ true) }
+{
+    if is_blank_or_comment(text) {
+        return Ok(Some(lines));
+    }
+    if !has_room(lines.as_slice(), text) {
+        return Ok(None);
+    }
+    let Some(_line) = orders_line_of(alloc, text)? else {
+        return Ok(None);
+    };
+    let mut lines = lines.into_vec();
+    lines.push(Text::from_slice(alloc, text)?)?;
+    Ok(Some(List::from_vec(lines)))
+}
+
+/// The keys that lines of a block ask, in their order.
+///
+/// An error comes only where an allocation failed.
+fn keys_of(alloc: Global, lines: &[Text]) -> Result<List<OrdersKey>, AllocError>
+    ensures value { IfOk result (λ keys. keys ≡ flat_map (λ l. keys_in (orders_line_of l)) lines.now) }
+    ensures few { IfOk result (λ keys. AllByRecursion IsFew keys) }
+{
+    let mut keys = Vec::new(alloc);
+    for line in lines {
+        if let Some(OrdersLine::Key(key)) = orders_line_of(alloc, line.as_slice())? {
+            keys.push(key)?;
+        }
+    }
+    Ok(List::from_vec(keys))
+}
+
+/// What lines of a block ask to be seen, in their order.
+///
+/// An error comes only where an allocation failed.
+fn sights_of(alloc: Global, lines: &[Text]) -> Result<List<Sight>, AllocError>
+    ensures { IfOk result (λ sights. sights ≡ flat_map (λ l. sights_in (orders_line_of l)) lines.now) }
+{
+    let mut sights = Vec::new(alloc);
+    for line in lines {
+        if let Some(OrdersLine::Sight(sight)) = orders_line_of(alloc, line.as_slice())? {
+            sights.push(sight)?;
+        }
+    }
+    Ok(List::from_vec(sights))
+}
+
+/// What a block of ORDERS asks: at most so many states, and what its lines say.
+///
+/// An error comes only where an allocation failed.
+#[tactic(auto, unfolding(crate::specs::Orders::orders_block))]
+pub fn orders_block(alloc: Global, most: u32, lines: &[Text]) -> Result<OrdersBlock, AllocError>
+    ensures value { IfOk result (λ block. block ≡ orders_block most lines.now) }
+    ensures few { IfOk result (λ block. AllByRecursion IsFew block.keys) }
+{
+    let keys = keys_of(alloc, lines)?;
+    let sights = sights_of(alloc, lines)?;
+    Ok(OrdersBlock { most, keys, sights })
+}

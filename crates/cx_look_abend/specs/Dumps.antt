@@ -1,0 +1,82 @@
+-- The DFHEISTG of a level as it is at an abend (own).
+use Rattle.std.specs.Prelude.{◌≡◌, ℕ, zero, suc, ◌+◌, ◌*◌, ◌/◌, min, Bool, MatchBool, MatchOption, Option, None, is_some, List, [], ◌∷◌, ◌++◌, codes, drop, length, take}
+use Rattle.std.specs.Option.{option_map, option_map_or}
+use Rattle.cx_base_text.specs.Digits.{digits, hex_digits}
+use Rattle.cx_base_text.specs.Texts.{in_columns, join, shown_text}
+use Rattle.cx_exec.specs.Advance.{Advances}
+use Rattle.cx_exec.specs.Machine.{Machine}
+use Rattle.cx_exec.specs.declared.machine.Halt.{Halt}
+use Rattle.cx_program.specs.declared.level.Level.{Level}
+use Rattle.cx_storage.specs.Address.{address_after, address_in}
+use Rattle.cx_storage.specs.Storage.{Storage, next_area, span}
+use Rattle.cx_region.specs.State.{RegionState}
+use Rattle.cx_region.specs.Tables.{task_of}
+use Rattle.cx_region_state.specs.State.{TaskState}
+use Rattle.cx_region_task.specs.Turn.{most_steps}
+use Rattle.cx_look_words.specs.Words.{look_line, Lines}
+
+-- the address of its first byte, and its bytes
+pub record Dump : Type 0 where
+  pub at : ℕ
+  pub bytes : List ℕ
+
+-- a level's DFHEISTG in a storage; no program has one of more than 65,520 bytes
+unfoldable pub dump_in : Storage → Level → Option Dump
+dump_in s level =
+    let at = address_in level.stg in
+    option_map (λ bytes. record { at = at; bytes = bytes }) (span s at (min level.stg_len 65520))
+
+-- ---- at the abend
+-- the machine that a task runs on
+abbrev pub task_machine : Storage → TaskState → Machine
+task_machine s task = record { regs = task.regs; cc = task.cc; next = task.next; storage = s }
+
+-- as the instructions of a turn leave it
+pub record RunLeaves (s : Storage) (task : TaskState) (dump : Option Dump) : Type 0 where
+  pub how : Halt
+  pub machine : Machine
+  pub advances : Advances most_steps (task_machine s task) how machine
+  pub is : dump ≡ dump_in machine.storage task.levels.current
+
+-- areas go so far that storage isn't copied for it
+unfoldable pub is_wide : Storage → Bool
+is_wide s = is_some (next_area s 0x300000)
+
+-- That of the current level at the abend, where the task's turn leads to one: as the command found it that is due, else
+-- as the turn's instructions leave it, but none where storage isn't copied.
+unfoldable pub HasDump : Storage → TaskState → Option Dump → Type 0
+HasDump s task dump =
+    MatchBool task.due (dump ≡ dump_in s task.levels.current)
+    (MatchBool (is_wide s) (dump ≡ None) (RunLeaves s task dump))
+
+-- of a terminal's task, where there is one
+unfoldable pub TurnHasDump : RegionState → List ℕ → Option Dump → Type 0
+TurnHasDump region name dump =
+    MatchOption (task_of region name) (dump ≡ None) (λ task. HasDump region.storage task dump)
+
+-- ---- as it is written: rows of sixteen bytes, as STORAGE has them
+-- four bytes of a row in hexadecimal digits
+abbrev pub group_of : List ℕ → ℕ → List ℕ
+group_of row k = in_columns 8 (join (hex_digits (take 4 (drop k row)) ∷ []))
+
+unfoldable pub row_line : ℕ → List ℕ → Lines
+row_line at row =
+    look_line (digits 16 6 at ∷ [] ∷ group_of row 0 ∷ group_of row 4 ∷ group_of row 8 ∷ group_of row 12 ∷ []
+    ∷ in_columns 16 (join (shown_text row ∷ [])) ∷ [])
+
+abbrev pub row_of : ℕ → List ℕ → ℕ → Lines
+row_of at bytes k = row_line (address_after at (16 * k)) (take 16 (drop (16 * k) bytes))
+
+abbrev pub first_rows : ℕ → List ℕ → ℕ → Lines
+first_rows at bytes zero = []
+first_rows at bytes (suc k) = first_rows at bytes k ++ row_of at bytes k
+
+-- its address and its length, and its rows
+unfoldable pub dump_lines : Dump → Lines
+dump_lines dump =
+    look_line (codes "DFHEISTG" ∷ digits 16 6 dump.at ∷ codes "LENGTH" ∷ digits 16 6 (length dump.bytes) ∷ [])
+    ++ first_rows dump.at dump.bytes ((length dump.bytes + 15) / 16)
+
+-- hyphens where it wasn't kept, as of an operator's abend
+abbrev pub if_dumped : Option Dump → Lines
+if_dumped dump = option_map_or dump_lines dump (look_line (codes "DFHEISTG" ∷ codes "--" ∷ []))

@@ -1,0 +1,101 @@
+//! What is kept of a terminal's task before an event that may lead to an abend.
+ghost use Rattle.std.specs.Prelude.{◌≡◌, [], IfOk, OnErr, None, is_some, true};
+ghost use Rattle.std.specs.Option.{option_copied};
+ghost use Rattle.cx_region.specs.Tables.{task_of};
+ghost use Rattle.cx_look_abend.specs.Abends.{before_operator, before_turn, call_lines, due_arguments};
+ghost use Rattle.cx_look_abend.specs.Dumps.{TurnHasDump};
+ghost use Rattle.cx_look_abend.specs.Noting.{IsTaskBefore, takes_room};
+
+use crate::abends::{TaskBefore, kept_task};
+use crate::dumps::dump_of;
+use cx_ebcdic::Name4;
+use cx_edf::EdfEvent;
+use cx_look_command::call_text;
+use cx_look_words::Report;
+use cx_region::{Event, Region};
+use cx_region_call::read_call;
+use cx_region_state::Task;
+use cx_storage::{Store, address_in};
+use std::alloc::{AllocError, Global};
+
+/// The task of a terminal.
+fn task_of<S: Store + Drop>(region: &Region<S>, name: Name4) -> Option<&Task>
+    ensures { option_copied result ≡ task_of region.now name }
+{
+    let terminal = region.terminals().get(&name)?;
+    terminal.task()
+}
+
+/// The arguments of a task's command, where one is due and its list can be read.
+#[tactic(auto, unfolding(crate::specs::Abends::due_arguments))]
+fn due_arguments<S: Store>(alloc: Global, store: &S, task: &Task) -> Result<Report, AllocError>
+    ensures { IfOk result (λ report. report ≡ due_arguments (S.storage store.now) task.now) }
+{
+    if !task.due {
+        return Ok(Report::new(alloc));
+    }
+    match read_call(store, address_in(task.cpu.regs[1])) {
+        Ok(call) => call_text(alloc, store, &call),
+        Err(_fault) => Ok(Report::new(alloc)),
+    }
+}
+
+/// What is kept of a terminal's task before a turn.
+#[tactic(auto, unfolding(crate::specs::Dumps::TurnHasDump))]
+fn before_turn<S: Store + Drop>(region: &Region<S>, name: Name4) -> Result<TaskBefore, AllocError>
+    ensures dump { IfOk result (λ before. TurnHasDump region.now name before.dump) }
+    ensures value { IfOk result (λ before. before ≡ before_turn region.now name before.dump) }
+    ensures memory { OnErr result (is_some (task_of region.now name) ≡ true) }
+{
+    let shared = region.shared();
+    let kept = kept_task(region, name);
+    let Some(task) = task_of(region, name) else {
+        return Ok(TaskBefore {
+            task: kept,
+            arguments: Report::new(shared.alloc),
+            dump: None,
+        });
+    };
+    let arguments = due_arguments(shared.alloc, &shared.store, task)?;
+    let dump = dump_of(shared.alloc, &shared.store, task)?;
+    Ok(TaskBefore {
+        task: kept,
+        arguments,
+        dump,
+    })
+}
+
+/// What is kept of a terminal's task before what an operator does.
+fn before_operator<S: Store + Drop>(region: &Region<S>, name: Name4) -> TaskBefore
+    ensures { result ≡ before_operator region.now name }
+{
+    TaskBefore {
+        task: kept_task(region, name),
+        arguments: Report::new(region.shared().alloc),
+        dump: None,
+    }
+}
+
+/// What is kept, before an event, of the task of the terminal that it names.
+///
+/// An error comes only where memory for it was refused.
+#[tactic(auto, unfolding(crate::specs::Noting::IsTaskBefore))]
+pub(crate) fn task_before<S: Store + Drop>(
+    region: &Region<S>,
+    event: &EdfEvent,
+) -> Result<TaskBefore, AllocError>
+    ensures value { IfOk result (λ before. IsTaskBefore region.now event.now before) }
+    ensures memory { OnErr result (takes_room region.now event.now ≡ true) }
+{
+    match event {
+        EdfEvent::Plain(Event::Turn(name)) => before_turn(region, *name),
+        EdfEvent::Plain(Event::Alter(name, _) | Event::Key(name, _, _)) => {
+            Ok(before_operator(region, *name))
+        }
+        _ => Ok(TaskBefore {
+            task: None,
+            arguments: Report::new(region.shared().alloc),
+            dump: None,
+        }),
+    }
+}

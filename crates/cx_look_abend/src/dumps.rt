@@ -1,0 +1,217 @@
+//! The DFHEISTG of a level as it is at an abend.
+ghost use Rattle.std.specs.Prelude.{◌≡◌, ◌≤◌, ◌+◌, ◌*◌, ◌/◌, ◌<◌, ◌^◌, ◌++◌, IfOk, OnOk, drop, length, take};
+ghost use Rattle.cx_look_abend.specs.Dumps.{HasDump, RunLeaves, dump_in, dump_lines, first_rows, group_of, if_dumped, is_wide, row_line, row_of};
+
+use cx_base_text::{hexadecimal, in_columns, shown};
+use cx_exec::{Cpu, advance};
+use cx_look_words::{Report, spelled};
+use cx_program::Level;
+use cx_region_state::Task;
+use cx_storage::{Store, address_in, along};
+use cx_storage_snapshot::StorageSnapshot;
+use std::alloc::{AllocError, Global};
+use std::marker::Model;
+
+/// The most bytes of a DFHEISTG.
+const MOST_BYTES: u32 = 65_520;
+
+/// The most instructions of a half-turn.
+const MOST_STEPS: u32 = 65_536;
+
+/// Where an area begins, here or above, storage isn't copied.
+const NOT_COPIED: u32 = 0x30_0000;
+
+/// The bytes of a row.
+const ROW: u32 = 16;
+
+/// The bytes of a group.
+const GROUP: usize = 4;
+
+/// A level's DFHEISTG: the address of its first byte, and its bytes.
+#[derive(Drop)]
+pub struct StorageDump {
+    at: u32,
+    bytes: Vec<u8>,
+}
+
+impl Model for StorageDump {
+    ghost use Rattle.std.specs.Prelude.{◌≤◌, length};
+    ghost use Rattle.cx_look_abend.specs.Dumps.{Dump};
+
+    ghost Value = { Dump };
+
+    ghost view = { λ dump. record { at = dump.at; bytes = dump.bytes.items } };
+
+    ghost invariant = { λ dump. length dump.bytes.items ≤ 65520 };
+}
+
+/// So many zero bytes.
+fn zero_bytes(alloc: Global, count: usize) -> Result<Vec<u8>, AllocError>
+    ensures { IfOk result (λ bytes. length bytes.items ≡ count) }
+{
+    let mut bytes = Vec::new(alloc);
+    bytes.resize(count, 0)?;
+    Ok(bytes)
+}
+
+/// A level's DFHEISTG in a store.
+#[tactic(auto, unfolding(crate::specs::Dumps::dump_in))]
+fn dump_in<S: Store>(
+    alloc: Global,
+    store: &S,
+    level: &Level,
+) -> Result<Option<StorageDump>, AllocError>
+    ensures { IfOk result (λ dump. dump ≡ dump_in (S.storage store.now) level.now) }
+{
+    let at = address_in(level.stg);
+    let mut bytes = zero_bytes(alloc, level.stg_len.min(MOST_BYTES) as usize)?;
+    if !store.read(at, &mut bytes) {
+        return Ok(None);
+    }
+    Ok(Some(StorageDump { at, bytes }))
+}
+
+/// The DFHEISTG of a task's current level as the instructions of its turn leave it, which run in this store.
+fn run_in<S: Store>(
+    alloc: Global,
+    store: &mut S,
+    task: &Task,
+) -> Result<Option<StorageDump>, AllocError>
+    ensures { IfOk result (λ dump. RunLeaves (S.storage store.old) task.now dump) }
+{
+    let mut cpu = Cpu {
+        regs: task.cpu.regs,
+        cc: task.cpu.cc,
+        next: task.cpu.next,
+    };
+    let _halt = advance(&mut cpu, store, MOST_STEPS);
+    let dump = dump_in(alloc, store, task.levels.current())?;
+    Ok(dump)
+}
+
+/// The DFHEISTG of a task's current level as the instructions of its turn leave it: they run in a copy of the store.
+fn run_leaves<S: Store + Drop>(
+    alloc: Global,
+    store: &S,
+    task: &Task,
+) -> Result<Option<StorageDump>, AllocError>
+    ensures { IfOk result (λ dump. RunLeaves (S.storage store.now) task.now dump) }
+{
+    let snapshot = StorageSnapshot::take(alloc, store, None)?;
+    let mut apart = snapshot.store_like(store)?;
+    run_in(alloc, &mut apart, task)
+}
+
+/// Whether areas go so far that storage isn't copied.
+#[tactic(auto, unfolding(crate::specs::Dumps::is_wide))]
+fn is_wide<S: Store>(store: &S) -> bool
+    ensures { result ≡ is_wide (S.storage store.now) }
+{
+    store.next_area(NOT_COPIED).is_some()
+}
+
+/// The DFHEISTG of a task's current level, as it is at an abend to which its turn leads; None where it isn't known.
+///
+/// An error comes only where memory for it, or for the copy of the store in which the turn's instructions run, was refused.
+#[tactic(auto, unfolding(crate::specs::Dumps::HasDump))]
+pub(crate) fn dump_of<S: Store + Drop>(
+    alloc: Global,
+    store: &S,
+    task: &Task,
+) -> Result<Option<StorageDump>, AllocError>
+    ensures { IfOk result (λ dump. HasDump (S.storage store.now) task.now dump) }
+{
+    if task.due {
+        return dump_in(alloc, store, task.levels.current());
+    }
+    if is_wide(store) {
+        return Ok(None);
+    }
+    run_leaves(alloc, store, task)
+}
+
+/// The bytes from a place on; none where there are none.
+fn after(bytes: &[u8], place: usize) -> &[u8]
+    ensures { result.now ≡ drop place bytes.now }
+{
+    bytes.split_at(place.min(bytes.len())).1
+}
+
+/// The first `count` bytes, or all where there are fewer.
+fn first_bytes(bytes: &[u8], count: usize) -> &[u8]
+    ensures { result.now ≡ take count bytes.now }
+{
+    bytes.split_at(count.min(bytes.len())).0
+}
+
+/// The group of four bytes at a place of a row, as far as it has them, in hexadecimal digits.
+fn group_of(alloc: Global, row: &[u8], k: usize) -> Result<[u8; 8], AllocError>
+    ensures { IfOk result (λ text. text ≡ group_of row.now k) }
+{
+    let digits = spelled(alloc, first_bytes(after(row, k), GROUP))?;
+    Ok(in_columns::<8>(&[&digits]))
+}
+
+/// Adds the line of a row at an address.
+#[tactic(auto, unfolding(crate::specs::Dumps::row_line))]
+fn row_line(report: &mut Report, at: u32, row: &[u8]) -> Result<(), AllocError>
+    ensures { OnOk result (report.new ≡ report.old ++ row_line at row.now) }
+{
+    let alloc = report.alloc();
+    let place = hexadecimal::<6>(at);
+    let a = group_of(alloc, row, 0)?;
+    let b = group_of(alloc, row, 4)?;
+    let c = group_of(alloc, row, 8)?;
+    let d = group_of(alloc, row, 12)?;
+    let characters = shown(alloc, row)?;
+    let characters = in_columns::<16>(&[&characters]);
+    report.line(&[&place, b"", &a, &b, &c, &d, b"", &characters])
+}
+
+/// Adds the line of a row of bytes from an address on, counted from 0.
+fn row_of(report: &mut Report, at: u32, bytes: &[u8], k: u32) -> Result<(), AllocError>
+    requires { 16 * k < 2 ^ 32 }
+    ensures { OnOk result (report.new ≡ report.old ++ row_of at bytes.now k) }
+{
+    let offset = ROW * k;
+    let row = first_bytes(after(bytes, offset as usize), ROW as usize);
+    row_line(report, along(at, offset), row)
+}
+
+/// Adds the rows of bytes from an address on.
+fn all_rows(report: &mut Report, at: u32, bytes: &[u8]) -> Result<(), AllocError>
+    requires { length bytes.now ≤ 65520 }
+    ensures { let more = first_rows at bytes.now ((length bytes.now + 15) / 16) in
+        OnOk result (report.new ≡ report.old ++ more) }
+{
+    let rows = (bytes.len() as u32 + 15) / ROW;
+    for k in 0..rows {
+        row_of(report, at, bytes, k)?;
+    }
+    Ok(())
+}
+
+impl StorageDump {
+    /// Adds its lines.
+    ///
+    /// An error comes only where memory for them was refused.
+    #[tactic(auto, unfolding(crate::specs::Dumps::dump_lines))]
+    fn lines(&self, report: &mut Report) -> Result<(), AllocError>
+        ensures { OnOk result (report.new ≡ report.old ++ dump_lines self.now) }
+    {
+        let at = hexadecimal::<6>(self.at);
+        let length = hexadecimal::<6>(self.bytes.len() as u32);
+        report.line(&[b"DFHEISTG", &at, b"LENGTH", &length])?;
+        all_rows(report, self.at, &self.bytes)
+    }
+}
+
+/// Adds the lines of a DFHEISTG, where it was kept.
+pub(crate) fn if_dumped(report: &mut Report, dump: &Option<StorageDump>) -> Result<(), AllocError>
+    ensures { OnOk result (report.new ≡ report.old ++ if_dumped dump.now) }
+{
+    match dump {
+        Some(dump) => dump.lines(report),
+        None => report.line(&[b"DFHEISTG", b"--"]),
+    }
+}
