@@ -14,7 +14,8 @@ TOKEN = re.compile(
 )
 USE = re.compile(r"(?m)^([ \t]*(?:ghost )?use )([^;{]+)(?:\{([^}]*)\})?;\n?")
 CLAUSES = ("requires", "ensures", "ghost")
-PROVED = ("aligned", "coded", "invariant", "inverse", "inverse_ok", "sound")
+# ghost items that are proofs; `eq` is a test which the proofs `laws` and `same` say to be true exactly of equal values
+PROVED = ("aligned", "coded", "eq", "invariant", "inverse", "inverse_ok", "laws", "respects_eq", "same", "sound")
 ITEMS = {"impl", "struct", "enum", "trait", "macro_rules", "union", "mod", "static", "const", "ghost"}
 CLOSES = {"{": "}", "(": ")", "[": "]"}
 

@@ -6,7 +6,7 @@ _cics_words() {
     cics-check) options="--json --cicsedf --cicslook --version --help" ;;
     cics-film) options="-o --open --cicslook --version --help" ;;
     cics-run) options="--fields --key --tran --queue --script --film --cicsedf --cicslook --version --help" ;;
-    cics-same) options="--screens --source --queue --cicsedf --cicslook --version --help" ;;
+    cics-same) options="--orders --screens --source --queue --cicsedf --cicslook --version --help" ;;
     cics-terminals) options="--resume --back --port --session --mixed --clock --idle --any-user --program --version --help" ;;
   esac
   if [[ $word == -* ]]; then

@@ -64,8 +64,8 @@ def lessons() -> list[str]:
 
 
 def looks() -> list[str]:
-    """The names of the examples that show looks, which are scripts of `cicslook` alone. Most lessons are such scripts too."""
-    return [path.removesuffix(".script") for path in sorted(glob.glob("looks/*.script"))]
+    """The names of the examples that show looks and ORDERS, which are scripts of `cicslook` alone. Most lessons are such scripts too."""
+    return [path.removesuffix(".script") for pattern in ("looks/*.script", "orders/*.script") for path in sorted(glob.glob(pattern))]
 
 
 def wanted(name: str) -> Ended:

@@ -17,8 +17,8 @@ AT_ONCE = 50  # turns that are typed before their answers are read: those after 
 REST = ("Idle", "Waiting")
 NOBODY = "TURN $$$$"  # no terminal of a script has this name: its answer ends what is answered to the line in front
 MOST_OF_QUEUES = 16 * ANSWERED  # bytes that are answered, at most, with queues
-BLOCKS, TAKEN = ("IMAGE", "SOURCE", "FAULTS"), ("IMAGE", "SOURCE", "TRANSACTION", "TERMINAL", "CLOCK", "KEY")
-ANY_CASE = ("FAULTS",)  # words of `cicslook` that may be in lower case
+BLOCKS, TAKEN = ("IMAGE", "SOURCE", "FAULTS", "ORDERS"), ("IMAGE", "SOURCE", "TRANSACTION", "TERMINAL", "CLOCK", "KEY", "ORDERS")
+ANY_CASE = ("FAULTS", "ORDERS")  # words of `cicslook` that may be in lower case
 QUEUE = re.compile(r"> QUEUE (?P<shown>'.*'|X'[0-9A-F]{16}') ITEMS (?P<items>\d+) BYTES \d+ READ \d+")
 
 
@@ -75,7 +75,7 @@ class Sources:
 
 
 def steps_of(script: list[str], sources: Sources) -> list[Step]:
-    """Definitions, with SOURCE blocks replaced, clocks and keys."""
+    """Definitions, with SOURCE blocks replaced, clocks, keys, and ORDERS."""
     steps, at = [], 0
     while at < len(script):
         number, taken = at + 1, [script[at]]
@@ -205,10 +205,10 @@ def pages_of(region: Region, steps: list[Step], loaders: list[Loader], *, is_las
 
 
 def seen(command: list[str], steps: list[Step], loaders: list[Loader], *, has_looks: bool) -> list[Page]:
-    """What is to be seen after each key of a script."""
+    """What is to be seen after each key of a script, of which ORDERS is left out."""
     with Session(command) as session:
         try:
-            return [*pages_of(Region(session, has_looks=has_looks), steps, loaders)]
+            return [*pages_of(Region(session, has_looks=has_looks), [step for step in steps if step.word() != "ORDERS"], loaders)]
         except Overdue as why:
             raise Fault(reported_by(session) or str(why)) from None
 

@@ -11,9 +11,10 @@ from cics.child import is_of_page
 
 OF_CICSLOOK = {"RUN", "QUEUES", "QUEUE", "PROGRAMS", "TASKS", "RESOURCES", "COMMAND", "TASK", "AREAS", "STORAGE", "ABEND", "SYMBOL", "SYMBOLS",
                "XREF", "FAULTS", "HELP", "TERMINALS", "AHEAD", "FIELD", "FIELDS",
-               "WHERE"}
-BLOCKS = ("IMAGE", "SOURCE", "FAULTS")
+               "WHERE", "WATCH", "ORDERS"}
+BLOCKS = ("IMAGE", "SOURCE", "FAULTS", "ORDERS")
 RUN = re.compile(r"RUN [A-Z0-9@#$]{1,4}(?: ([0-9]{1,5}))?(?: BEFORE ABEND)?")
+CHANGE = re.compile(r"> WATCH [0-9A-F]{6} [0-9]+ FROM ")  # what an event changed of the bytes that are watched
 RUN_ENDED = re.compile(r"> RUN \S+ (?:STOPPED|STILL) ")
 MOST_TURNS = 4096
 PAGED = ("SCREEN", "DISPLAY")
@@ -99,18 +100,27 @@ def taken_by(action: Action, left: list[str]) -> int:
     end = at + 1
     while action.words()[0] in PAGED and end < len(left) and is_of_page(left[end]):
         end += 1
-    return end
+    return after_changes(left, end)
+
+
+def after_changes(left: list[str], end: int) -> int:
+    """The first line from one on that is no change of an event in front of it."""
+    return next((at for at in range(end, len(left)) if not CHANGE.match(left[at])), len(left))
 
 
 def taken_by_run(terminal: str, left: list[str]) -> int:
+    turns = 0
     for at, line in enumerate(left):
         *head, reply = line.split(" ")[:3]
+        if CHANGE.match(line):
+            continue
         if line.startswith(f"> RUN {terminal} "):
             return at + 1
-        if head != ["TURN", terminal] or (at and reply == "Held"):
+        if head != ["TURN", terminal] or (turns and reply == "Held"):
             return at
+        turns += 1
         if reply in ENDS:
-            return at + 1
+            return after_changes(left, at + 1)
     return len(left)
 
 

@@ -6,6 +6,7 @@ import re
 from collections.abc import Callable
 from dataclasses import dataclass, field
 
+from cics.orders import SECONDS, Orders, read_orders
 from film.child import Child, Ended
 from film.script import RUN, SOURCE, Action
 from film.sources import Source, source_of, with_fields
@@ -47,6 +48,23 @@ class Event:
 
 
 @dataclass
+class Search:
+    """An ORDERS of the script: its line, how many events were done before it, what it found, and a film of each list of moves that it gives, as
+    far as there is room."""
+
+    line: int
+    done: int
+    found: Orders
+    films: dict[int, Film] = field(default_factory=dict)
+
+    @property
+    def lists(self) -> list[tuple[str, Lines, Lines]]:
+        """The lists of moves: what each leads to, what is seen there, and its lines."""
+        outcomes = [(f"outcome {number}", it.text, it.moves) for number, it in enumerate(self.found.outcomes, 1)]
+        return outcomes + [(kind.removeprefix("ORDERS ").lower(), [], moves) for kind, moves in self.found.restless.items()]
+
+
+@dataclass
 class Film:
     """What was filmed: the events, from some event on; what stood before it; and the fault that ended the script."""
 
@@ -58,6 +76,7 @@ class Film:
     terminals: Lines = field(default_factory=list)
     sources: dict[str, Source] = field(default_factory=dict)
     fault: tuple[int, str] | None = None  # the script's line, and what was said
+    searches: list[Search] = field(default_factory=list)
 
 
 class Camera:
@@ -92,6 +111,10 @@ class Camera:
     def act(self, action: Action) -> None:
         if action.is_open:
             self.child.finish(action.lines)
+        elif action.word == "ORDERS":
+            self.film.searches.append(Search(action.line, self.done, read_orders(self.child.ask([action.lines], SECONDS)[0])))
+        elif action.word == "WATCH":
+            pass  # a film shows what changes
         elif not action.is_event:
             self.child.ask([action.lines])
         elif action.turns:

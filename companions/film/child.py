@@ -9,7 +9,7 @@ import time
 
 from film.script import decoded, encoded
 
-SECONDS = 60  # no answer may take longer
+SECONDS = 60  # no answer may take longer, but that of a search
 
 
 class Ended(Exception):
@@ -44,11 +44,11 @@ class Child:
             if stream:
                 stream.close()
 
-    def ask(self, texts: list[list[str]]) -> list[list[str]]:
+    def ask(self, texts: list[list[str]], seconds: int = SECONDS) -> list[list[str]]:
         """Gives texts of some lines each, and returns the lines that are written for each."""
         given = b"".join(encoded("".join(f"{line}\n" for line in [*text, self.question])) for text in texts)
         answers: list[list[str]] = [[]]
-        until = time.monotonic() + SECONDS
+        until = time.monotonic() + seconds
         while len(answers) <= len(texts):
             given = self.pass_on(given, until)
             for line in self.taken():

@@ -21,6 +21,7 @@ ABOUT = """Makes a page of a run: every event of a script, forward and back, in 
 Status 0: the page has all of the run. 1: the script has a fault, and the page the run up to it. 2: wrong words. 3: no page is made."""
 MARKS = ("@@@@", "####", "$$$$", "@#$@", "$#@#")  # names of terminals, one of which no script has
 MOST_LINES = 1_000_000  # of sources, which FIELDS looks through
+MOST_ORDERS = 32  # films of what a script's ORDERS give
 SOON = 2  # seconds, after which it is reported how long a film takes
 
 
@@ -89,14 +90,25 @@ def has_look(path: str, look: str) -> bool:
 
 
 def filmed(name: str, text: str, path: str) -> Film:
-    """Films a script by the program at a path."""
+    """Films a script by the program at a path, and what its ORDERS give: each list of moves in the place of its ORDERS, from the event before."""
+    film = filmed_alone(name, text, path)
+    for search in film.searches:
+        for at, (what, _, moves) in enumerate(search.lists):
+            if moves and sum(len(it.films) for it in film.searches) < MOST_ORDERS:
+                lines = "".join(f"{line}\n" for line in [*lines_of(text)[: search.line - 1], *moves])
+                search.films[at] = filmed_alone(f"{name}, {what}", lines, path, max(0, search.done - 1))
+    return film
+
+
+def filmed_alone(name: str, text: str, path: str, least_skipped: int = 0) -> Film:
+    """Films a script, or what comes after some of its events."""
     actions = actions_of(text)
     mark = next((it for it in MARKS if it not in text), None)
     if not mark:
         raise Failure(f"{name} has a terminal of each of the names {' '.join(MARKS)}")
     events = events_of(actions, path, mark)
-    skipped = max(0, events - MOST_EVENTS)
-    if skipped:
+    skipped = max(least_skipped, events - MOST_EVENTS)
+    if skipped > least_skipped:
         ended(f"{NAME}: {name} has {events:,} events: the last {MOST_EVENTS:,} are filmed", DONE)
     film = Film(os.path.basename(name) if name != "-" else "standard input", [it.removesuffix("\r") for it in lines_of(text)], left_out=skipped)
     child = Child(path, mark)

@@ -167,7 +167,7 @@ function worded(type, digits) {
 
 // ---- what is seen
 
-const view = { films: [], at: 0, item: null };
+const view = { films: [], at: 0, item: null, script: [], list: 0 }; // list: which list of moves of the script's ORDERS is shown, from 1; else 0
 
 function card(title, ...parts) {
   return make("section", "card", make("h2", "", title), ...parts);
@@ -412,6 +412,40 @@ function cardsOf(film) {
   return Object.entries(areas).map(([area, cards]) => make("div", area, ...cards.filter(Boolean)));
 }
 
+// ---- every order: what the script's ORDERS found
+
+/** The lists of moves that have a film, of all searches of the films of the script. */
+const listsOf = () => view.script.flatMap((film) => film.data.searches).flatMap((it) => it.lists).filter((it) => it.film);
+
+/** What a search found, as a table: of each outcome what is seen, with what the others lack marked, and a way to its film. */
+function searchCard(search) {
+  const texts = search.lists.map((it) => it.seen).filter((seen) => seen.length);
+  const isCommon = (line) => texts.every((seen) => seen.includes(line));
+  const rows = search.lists.map((list) => {
+    const seen = make("pre", "lines", ...list.seen.map((line) => make("span", isCommon(line) ? "row" : "row new", line)));
+    const button = make("button", "", "Its film");
+    button.disabled = !list.film;
+    button.addEventListener("click", () => enter(1 + listsOf().indexOf(list)));
+    const moves = make("pre", "lines", ...list.moves.map((line) => make("span", "row", line)));
+    return make("tr", "", make("td", "", list.what), make("td", "long", seen), make("td", "", moves, list.moves.length ? button : null));
+  });
+  const states = search.most === null ? `${search.states} states` : `more than ${search.most} states, so there may be other outcomes`;
+  const heads = ["", "What is seen", "By these lines"].map((it) => make("th", "", it));
+  const it = card(`Every order from line ${search.line} on: ${states}`, make("table", "orders", make("tr", "", ...heads), ...rows));
+  it.tabIndex = -1;
+  return it;
+}
+
+/** Shows the film of a list of moves, or, by 0, that of the script again. */
+function enter(number, at = 0) {
+  const list = number ? listsOf()[number - 1] : null;
+  if (number && !list) return;
+  [view.list, view.item] = [number, null];
+  view.films = list ? [new Film(list.film)] : view.script;
+  mount();
+  go(at);
+}
+
 // ---- the time line
 
 /** How wide a lane is, in pixels. */
@@ -434,6 +468,16 @@ function lanesOf(film, at, terminal) {
 
 function timeLine(film) {
   const list = make("ol");
+  const asked = (at) => (film.data.searches || []).filter((it) => it.before === at).map((search) => {
+    const count = search.lists.filter((it) => it.what.startsWith("outcome ")).length;
+    const button = make("button", "event search", `ORDERS, line ${search.line}: ${count} ${count === 1 ? "outcome" : "outcomes"}`);
+    button.addEventListener("click", () => {
+      const it = film.searches[film.data.searches.indexOf(search)];
+      it.scrollIntoView({ block: "center" });
+      it.focus({ preventScroll: true });
+    });
+    return make("li", "note", button);
+  });
   film.buttons = film.data.events.map((event, at) => {
     const answer = event.answer.startsWith(event.text.split(" ").slice(0, 2).join(" ")) ? event.answer.split(" ").slice(2).join(" ") : event.answer;
     const owner = film.owner(at, event.terminal);
@@ -442,9 +486,10 @@ function timeLine(film) {
     button.type = "button";
     button.style.paddingLeft = `${10 + laneOf(film) * film.data.terminals.length}px`;
     button.addEventListener("click", () => go(at));
-    list.append(...(event.comments || []).map((note) => make("li", "note", note)), make("li", "", button));
+    list.append(...asked(at), ...(event.comments || []).map((note) => make("li", "note", note)), make("li", "", button));
     return button;
   });
+  list.append(...asked(film.length));
   const fault = film.data.fault;
   if (fault) list.append(make("li", "note fault", `Line ${fault[0]}: ${fault[1]}: ${film.data.script[fault[0] - 1] || ""}`));
   const heads = film.data.terminals.map((it) => make("span", "", it));
@@ -459,7 +504,7 @@ const length = () => Math.max(...view.films.map((film) => film.length));
 
 function go(at) {
   view.at = Math.max(0, Math.min(at, length() - 1));
-  history.replaceState(null, "", `#e${view.at + 1}`);
+  history.replaceState(null, "", `#${view.list ? `o${view.list}` : ""}e${view.at + 1}`);
   show();
 }
 
@@ -576,16 +621,31 @@ const KEYS = {
   c: () => copy(),
 };
 
-function begin() {
-  view.films = JSON.parse(byId("data").textContent).map((data) => new Film(data));
-  byId("name").textContent = view.films.map((film) => film.data.name + (film.data.leftOut ? ` (the last ${film.length} events)` : "")).join(" and ");
+/** The list of moves and the event to which the address leads; none: null. */
+function linked() {
+  const found = /^#(?:o(\d+))?e(\d+)$/.exec(location.hash);
+  return found && { list: Number(found[1] || 0), at: Number(found[2]) - 1 };
+}
+
+/** Puts the films into the page. */
+function mount() {
+  byId("name").textContent = view.films.map((film) => film.data.name + (film.data.leftOut && !view.list ? ` (the last ${film.length} events)` : "")).join(" and ");
   document.title = byId("name").textContent;
   document.body.classList.toggle("two", view.films.length > 1);
+  byId("script").hidden = !view.list;
+  byId("main").replaceChildren();
   for (const film of view.films) {
     film.views = make("div", "views");
-    byId("main").append(make("div", "film", timeLine(film), film.views));
+    film.searches = (film.data.searches || []).map(searchCard);
+    byId("main").append(make("div", "film", timeLine(film), make("div", "right", ...film.searches, film.views)));
   }
   byId("slide").max = String(Math.max(0, length() - 1));
+}
+
+function begin() {
+  view.script = view.films = JSON.parse(byId("data").textContent).map((data) => new Film(data));
+  mount();
+  byId("script").addEventListener("click", () => enter(0));
   byId("slide").addEventListener("input", (event) => go(Number(event.target.value)));
   byId("first").addEventListener("click", KEYS.Home);
   byId("last").addEventListener("click", KEYS.End);
@@ -601,13 +661,15 @@ function begin() {
   });
   const differs = view.films.length > 1 ? firstDifference(view.films) : -1;
   if (differs >= 0) view.films.forEach((film) => film.buttons[differs]?.classList.add("differs"));
-  const linked = /^#e(\d+)$/.exec(location.hash);
-  if (length()) go(linked ? Number(linked[1]) - 1 : Math.max(0, differs));
+  const to = linked();
+  if (to && to.list) enter(to.list, to.at);
+  else if (length()) go(to ? to.at : Math.max(0, differs));
   else byId("said").textContent = "No event.";
 }
 
 window.addEventListener("hashchange", () => {
-  const linked = /^#e(\d+)$/.exec(location.hash);
-  if (linked && Number(linked[1]) - 1 !== view.at) go(Number(linked[1]) - 1);
+  const to = linked();
+  if (to && to.list !== view.list) enter(to.list, to.at);
+  else if (to && to.at !== view.at) go(to.at);
 });
 begin();

@@ -6,11 +6,12 @@ import os
 from dataclasses import asdict
 from typing import Any
 
-from film.camera import Event, Film, Lines, Shown
+from film.camera import Event, Film, Lines, Search, Shown
 from film.sources import Source
 
 FOLDER = os.path.dirname(os.path.abspath(__file__))
 MOST_BYTES = 30_000_000  # of a page
+MOST_OF_LIST = 1_000_000  # of the film of a list of moves
 
 
 def patch_of(before: Lines, now: Lines) -> Lines | dict[str, str]:
@@ -43,6 +44,16 @@ def source_data(source: Source) -> dict[str, Any]:
     return {"name": source.name, "first": source.first, "count": len(source.lines), "types": source.types, **fields}
 
 
+def search_data(search: Search, before: int) -> dict[str, Any]:
+    """What the page knows of an ORDERS, in front of which it has so many events."""
+    found = search.found
+    lists: list[dict[str, Any]] = [{"what": what, "seen": seen, "moves": moves} for what, seen, moves in search.lists]
+    for at, film in search.films.items():
+        data = film_data(film)
+        lists[at] |= {"film": data} if len(json_of(data)) <= MOST_OF_LIST else {}
+    return {"line": search.line, "before": before, "states": found.states, "most": found.most, "lists": lists}
+
+
 def film_data(film: Film) -> dict[str, Any]:
     """What the page knows of a film."""
     shown = dict(film.before)
@@ -55,6 +66,7 @@ def film_data(film: Film) -> dict[str, Any]:
         "sources": {name: source_data(source) for name, source in film.sources.items()},
         "fault": film.fault,
         "events": [event_data(shown, event) for event in film.events],
+        "searches": [search_data(it, max(0, it.done - film.left_out)) for it in film.searches],
     }
 
 

@@ -4,9 +4,9 @@ from __future__ import annotations
 import re
 from dataclasses import dataclass, field
 
-BLOCKS = ("IMAGE", "SOURCE", "FAULTS")
+BLOCKS = ("IMAGE", "SOURCE", "FAULTS", "ORDERS")
 EVENTS = ("IMAGE", "SOURCE", "TRANSACTION", "TERMINAL", "CLOCK", "KEY", "TURN", "EDF", "ALTER", "RUN")
-ANY_CASE = ("RUN", "FAULTS")  # words of `cicslook` that may be in lower case, and their operands with them
+ANY_CASE = ("RUN", "WATCH", "FAULTS", "ORDERS")  # words of `cicslook` that may be in lower case, and their operands with them
 RUN = re.compile(r"RUN ([A-Z0-9@#$]{1,4})(?: ([1-9][0-9]{0,3}))?( BEFORE ABEND)?")
 SOURCE = re.compile(r"SOURCE ([A-Z0-9@#$]{1,8})( DISASM)?")  # without LIST
 RUN_TURNS = 1_000  # of a RUN without a number

@@ -15,6 +15,7 @@ LOOKS: dict[str, list[str]] = {
     "RESOURCES": ["CEMT INQUIRE ENQ"],
     "COMMAND term": [],
     "AHEAD term": [],
+    "AHEAD term instructions": [],
     "TASK term": [],
     "AREAS": [],
     "AREAS term": [],
@@ -39,7 +40,8 @@ OPERANDS = {
     "queue": "(?:[A-Z0-9@#$]{1,8}|[0-9A-F]{16})",
     "address": "[0-9A-F]{6}",
     "level": "(?:[1-9]|1[0-6])",
-    "word": "(?:RUN|QUEUES?|PROGRAMS|TASKS?|RESOURCES|TERMINALS|COMMAND|AHEAD|FIELDS?|AREAS|STORAGE|WHERE|ABEND|SYMBOLS?|XREF|FAULTS|HELP)",
+    "instructions": "(?:[1-9][0-9]?|1[0-9]{2}|2[0-4][0-9]|25[0-6])",  # to 256
+    "word": "(?:RUN|WATCH|QUEUES?|PROGRAMS|TASKS?|RESOURCES|TERMINALS|COMMAND|AHEAD|FIELDS?|AREAS|STORAGE|WHERE|ABEND|SYMBOLS?|XREF|FAULTS|ORDERS|HELP)",
     "number": "(?:[1-9][0-9]{0,3}|[12][0-9]{4}|3[01][0-9]{3}|32[0-6][0-9]{2}|327[0-5][0-9]|3276[0-7])",  # to 32767
     "length": "(?:[1-9][0-9]{0,2}|[1-3][0-9]{3}|40[0-8][0-9]|409[0-6])",  # to 4096
 }

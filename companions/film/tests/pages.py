@@ -7,6 +7,7 @@ from typing import Any
 from film.command import has_look
 from film.tests.browser import ELEMENT, Browser
 from film.tests.data import HOSTILE
+from film.tests.orders import FOUND, page_of_orders
 from film.tests.trials import LESSONS, PROGRAM, data_of, expect, page, states_of, text_of
 
 CODES = """SOURCE CODES
@@ -59,10 +60,13 @@ class Pages:
         self.browser, self.folder, self.count = browser, folder, 0
 
     def open(self, *texts: tuple[str, str], at: str = "") -> str:
+        return self.show(page(*texts), at)
+
+    def show(self, made: str, at: str = "") -> str:
         self.count += 1
         path = f"{self.folder}/{self.count}.html"
         with open(path, "w", encoding="utf-8") as file:
-            file.write(page(*texts))
+            file.write(made)
         self.browser.open(f"file://{path}{at}")
         return f"file://{path}"
 
@@ -208,6 +212,29 @@ def every_text_is_shown(pages: Pages) -> None:
     expect("a queue of each name", queues == [32, 32], queues)
 
 
+def orders_and_their_films(pages: Pages) -> None:
+    """From the table of a script's ORDERS to the film of an outcome, by a click, by keys and by its address, and back."""
+    browser = pages.browser
+    address = pages.show(page_of_orders(FOUND))
+    marked = pages.state("return [...document.querySelectorAll('.orders .new')].map((it) => it.textContent.trim().slice(0, 16))")
+    expect("what outcomes don't share is marked", marked == ["001000  00000002", "001000  00000001"], marked)
+    browser.click(browser.elements(".event.search")[0])
+    expect("the time line leads to the table", pages.state("return document.activeElement.textContent").startswith("Every order from line 15 on"))
+    shown = "return [byId('name').textContent, location.hash, view.films[0].data.events[view.at].text, byId('script').hidden]"
+    browser.click(browser.elements(".orders button")[1])
+    expect("the film of an outcome", pages.state(shown) == ["orders.script, outcome 2", "#o2e1", "TERMINAL T002", False], pages.state(shown))
+    browser.type("right")
+    expect("its events", pages.state(shown)[1:3] == ["#o2e2", "KEY T001 ENTER ADD"], pages.state(shown))
+    browser.click(browser.elements("#script")[0])
+    expect("back to the script", pages.state(shown)[0] == "orders.script" and pages.state(shown)[3], pages.state(shown))
+    pages.state("document.querySelectorAll('.orders button')[0].focus()")
+    browser.type("enter")
+    expect("a film by keys", pages.state(shown)[1] == "#o1e1", pages.state(shown))
+    browser.open("about:blank")
+    browser.open(f"{address}#o3e3")
+    expect("the address of an event of a list", pages.state(shown)[:3] == ["orders.script, some never rest", "#o3e3", "KEY T002 ENTER ADD"], pages.state(shown))
+
+
 def readable(pages: Pages) -> None:
     """In light and dark the contrast is that of AA; on a phone's width nothing sticks out; nothing moves."""
     for name, at in (("08-overwrite/overwrite", "#e9"), ("11-chain/deadlock", "#e17"), ("09-abends/found", "#e20")):
@@ -229,7 +256,7 @@ def pages_are_used() -> None:
     with tempfile.TemporaryDirectory() as folder, Browser() as browser:
         pages = Pages(browser, folder)
         for use in (keys_and_clicks, overwritten_field, who_waits_for_whom, areas_of_a_chain, values_by_their_types,
-                    states_are_worked_out, two_films,
+                    states_are_worked_out, two_films, orders_and_their_films,
                     every_text_is_shown, readable):
             use(pages)
         expect("nothing is written on the console", not browser.said(), browser.said())

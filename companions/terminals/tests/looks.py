@@ -156,7 +156,7 @@ def words_of_operators() -> None:
 
 
 LOOKED_AT = ["QUEUES", "QUEUE JOBS", "QUEUE D1D6C2E240404040", "QUEUE JOBS 32767", "PROGRAMS", "TASKS", "RESOURCES", "COMMAND T001",
-             "AHEAD T001",
+             "AHEAD T001", "AHEAD T001 256",
              "TASK T001", "AREAS", "AREAS T001", "STORAGE 010000 4096", "ABEND T001", "SYMBOL JOBS LINE", "SYMBOLS JOBS", "XREF JOBS",
              "TERMINALS", "HELP", "HELP FIELD", "FIELD T001 LINE", "FIELD T001 LINE 16", "FIELDS T001", "FIELDS T001 2", "WHERE 2000B4"]
 
@@ -181,11 +181,11 @@ def spoiled_looks() -> None:
 
 @test
 def the_table_of_looks() -> None:
-    """It has what the manual has, but RUN and FAULTS."""
+    """It has what the manual has, but RUN, WATCH, FAULTS and ORDERS."""
     with open(f"{FOLDER}/../docs/LOOKS.md", encoding="utf-8") as file:
         rows = re.findall(r"^\| (`[A-Z][^|]*) \|", file.read().partition("\n## ")[0], re.M)
-    named = {line.split()[0] for row in rows for line in re.findall("`([^`]*)`", row)} - {"RUN", "FAULTS", "/*"}
+    named = {line.split()[0] for row in rows for line in re.findall("`([^`]*)`", row)} - {"RUN", "WATCH", "FAULTS", "ORDERS", "/*"}
     expect("looks", {form.split()[0] for form in LOOKS}, named)
-    for line in ("STORAGE 010000 4097", "STORAGE 010000 0", "QUEUE JOBS 32768", "QUEUES ", "TASKS\nTASKS", "FAULTS X", "RUN T001", ""):
+    for line in ("STORAGE 010000 4097", "STORAGE 010000 0", "QUEUE JOBS 32768", "QUEUES ", "TASKS\nTASKS", "FAULTS X", "RUN T001", "WATCH OFF", ""):
         expect(line, is_look(line), False)
     expect("words", [look_of(words) for words in ("CEMT I TAS", "CEBR A B", "CEBR", "CEMT", "CEBR +")], ["TASKS", None, "QUEUES", None, None])

@@ -1,7 +1,7 @@
 //! `cicsedf [FILE]`: runs a script from a file or from standard input, and writes its transcript.
 #![tactic(auto)]
 
-use cx_script::edf_stage;
+use cx_script::edf_performer;
 use cx_script_main::{Machine, start};
 use std::process::ExitCode;
 
@@ -15,7 +15,7 @@ fn main(rt: HostRuntime) -> ExitCode {
     start(
         &mut Machine::new(&rt),
         rt.alloc(),
-        edf_stage(rt.alloc()),
+        edf_performer(rt.alloc()),
         USAGE,
         SHOWS_LINES,
     )

@@ -1,7 +1,7 @@
 //! `cicslook [FILE]`: runs a script with looks from a file or from standard input, and writes its transcript.
 #![tactic(auto)]
 
-use cx_look_script::look_stage;
+use cx_look_script::look_performer;
 use cx_script_main::{Machine, start};
 use std::process::ExitCode;
 
@@ -15,7 +15,7 @@ fn main(rt: HostRuntime) -> ExitCode {
     start(
         &mut Machine::new(&rt),
         rt.alloc(),
-        look_stage(rt.alloc()),
+        look_performer(rt.alloc()),
         USAGE,
         SHOWS_LINES,
     )

@@ -11,7 +11,7 @@ ghost use Rattle.cx_asm_pass2.specs.Statements.{end_of, placed_of, statements_of
 ghost use Rattle.cx_asm.specs.Assembly.{Assembles, assembly_of, end_line, entry_by, later_faults, made_of, second_faults_of, section_of, size_faults, size_of, standing_of};
 
 use crate::faults::{AsmFault, fault_at};
-use crate::laws::what_stands_stands_apart;
+use crate::laws::made_lines_do_not_overlap;
 use crate::listing::listing_of;
 use crate::section::{Found, second_faults, second_pass};
 use crate::standing::Standing;
@@ -160,7 +160,7 @@ fn section_of(
     requires standing { standing ≡ standing_of source.now }
     ensures { IfOk result (λ section. section ≡ section_of source.now) }
 {
-    what_stands_stands_apart();
+    made_lines_do_not_overlap();
     let Standing { lines, relocs } = standing;
     let lines = lines.into_vec();
     let entry = entry(alloc, places, statements)?;
@@ -217,7 +217,7 @@ fn found_in(
     ensures first { IfOk result (λ found. found.first ≡ slice_get (second_faults_of source.now) 0) }
     ensures standing { IfOk result (λ found. fits ≡ true → found.standing ≡ standing_of source.now) }
 {
-    what_stands_stands_apart();
+    made_lines_do_not_overlap();
     second_pass(alloc, places, statements, fits)
 }
 

@@ -30,7 +30,7 @@ pub fn a_constant_has_its_length()
 
 /// In an accepted source whose control section is no longer than a text may be, the resolved lines ascend, share no
 /// byte, and end inside the control section; and so do the relocated words.
-pub fn what_stands_stands_apart()
+pub fn made_lines_do_not_overlap()
     ensures { (source : Source) → (final_state source).fault ≡ None → size_of source ≤ 65536
         → IsWithin 0 (standing_of source) (size_of source) }
 {
@@ -40,7 +40,7 @@ pub fn what_stands_stands_apart()
 
 /// The second pass' first fault is the fault of a statement on its line; the first statement that has such a fault is
 /// on that line; and no statement of that line has one with a lower number. Where there is none no statement has one.
-pub fn the_second_pass_tells_its_first_fault()
+pub fn the_second_pass_reports_its_first_fault()
     ensures { (whole : Whole) (statements : List PlacedStatement)
         → IsFirstOf (faults_by_statement whole statements) (slice_get (second_faults_after whole statements) 0) }
 {}
@@ -63,6 +63,6 @@ pub fn an_assembly_stands_apart()
     ensures words { (source : Source) (made : AssemblyParts) → assembly_of source ≡ Ok made
         → WordsApart 0 made.section.image.relocs (length made.section.image.text) }
 {
-    what_stands_stands_apart();
+    made_lines_do_not_overlap();
     cx_asm_image::laws::the_text_is_decided_by_its_bytes();
 }

@@ -266,7 +266,7 @@ fn push_last_pool(
 /// Goes past the statement of a number, from 0, and appends what it makes, if it is kept. Its lowest fault is answered,
 /// if it has one.
 #[tactic(auto, unfolding(cx_asm_pass2::specs::SecondFaults::second_fault))]
-fn judge(
+fn pass_line(
     alloc: Global,
     places: &Places<'_>,
     statements: &[Statement<'_>],
@@ -320,7 +320,7 @@ pub(crate) fn second_pass(
     let mut bases = Bases::new();
     let mut first = None;
     for (number, statement) in statements.iter().enumerate() {
-        let fault = judge(
+        let fault = pass_line(
             alloc,
             places,
             statements,
@@ -348,7 +348,7 @@ pub(crate) fn second_faults(
     let mut bases = Bases::new();
     let mut faults = LineFaults::new(alloc);
     for (number, statement) in statements.iter().enumerate() {
-        let fault = judge(
+        let fault = pass_line(
             alloc,
             places,
             statements,

@@ -167,11 +167,11 @@ pointers_split (o ∷ before) option after words register marked given =
     ap (λ k. own ++ k) (pointers_split before option after words register marked given) ∙ sym (append_assoc own (pointers_of before words) (register ∷ pointers_of after words))
 
 -- the list after its first word
-record Following (command : Command) (words : List Word) (before : List CommandOption) : Type 0 where
+record NextTransaction (command : Command) (words : List Word) (before : List CommandOption) : Type 0 where
   rest : List (List ℕ)
   is : rest_of command words ≡ arguments_handed before words ++ codes "DFHEITP" ∷ rest
 
-list_split : (command : Command) (words : List Word) (before : List CommandOption) (register : List ℕ) → IsPointer command words before register → Following command words before
+list_split : (command : Command) (words : List Word) (before : List CommandOption) (register : List ℕ) → IsPointer command words before register → NextTransaction command words before
 unfolding list_of
 list_split command words before register p =
     let labels = labels_of words in

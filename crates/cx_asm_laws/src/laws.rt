@@ -32,7 +32,7 @@ pub fn what_was_assembled_comes_back()
     ensures back { ComesBack }
     ensures resolved { LinesAreResolved }
 {
-    cx_asm::laws::what_stands_stands_apart();
+    cx_asm::laws::made_lines_do_not_overlap();
     cx_asm_image::laws::lines_come_back();
     cx_asm_operands::laws::what_is_resolved_is_well_formed();
 }

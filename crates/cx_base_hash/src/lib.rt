@@ -6,7 +6,7 @@ ghost use Rattle.cx_base_hash.specs.Hash.{hash_with, hash_of};
 
 /// What the hash before is multiplied by: odd, and without a pattern in its bits (its product's upper bits depend on all
 /// lower ones).
-pub const FACTOR: u64 = 0x9E37_79B9_7F4A_7C15;
+const FACTOR: u64 = 0x9E37_79B9_7F4A_7C15;
 
 /// The hash with one number more.
 #[inline(always)]

@@ -21,7 +21,8 @@ pad width bytes = bytes ++ replicate (width - length bytes) 0x40
 -- the name of n bytes that a text spells: 1 to n name characters
 unfoldable pub padded_name : ℕ → List ℕ → Option (List ℕ)
 padded_name width text =
-    if nat_le 1 (length text) && nat_le (length text) width then option_map (pad width) (each_some (map name_code text)) else None
+    if nat_le 1 (length text) && nat_le (length text) width then option_map (pad width) (each_some (map name_code text))
+    else None
 
 -- whether two names, as their bytes, are the same: tables are searched by it
 abbrev pub is_name : List ℕ → List ℕ → Bool

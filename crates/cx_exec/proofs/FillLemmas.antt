@@ -1,5 +1,5 @@
 -- MVC of the byte before, and XC of an operand with itself.
-use Rattle.std.proofs.Common.{◌≡◌, ℕ, zero, suc, ◌+◌, ◌-◌, ◌^◌, ◌<◌, ◌≤◌, true, false, nat_lt, Some, None, Option, List, [], length, take, replicate, is_some, slice_index, refl, sym, ap, ◌∙◌, arith}
+use Rattle.std.proofs.Common.{◌≡◌, ℕ, zero, suc, ◌+◌, ◌-◌, ◌^◌, ◌<◌, ◌≤◌, true, false, nat_lt, Some, None, Option, List, [], length, take, replicate, is_some, slice_index, refl, sym, ◌∙◌, arith}
 use Rattle.std.specs.Int.Bits.{xor_self}
 use Rattle.std.proofs.lemmas.List.{get_or-replicate, length-replicate, take-replicate}
 use Rattle.std.proofs.lemmas.Bool.{le-ltb}
@@ -93,6 +93,3 @@ zeros_are_joined s a n low few there = go (span s a n) refl there
 pub zero_number : (n : ℕ) → number_of (replicate n 0) ≡ 0
 zero_number zero = refl
 zero_number (suc n) = omega (arith, zero_number n)
-
-pub number_of_zeros : (n : ℕ) → n ≤ 256 → number_of (take n (replicate 256 0)) ≡ 0
-number_of_zeros n few = ap number_of (take-replicate n 256 0 few) ∙ zero_number n

@@ -15,5 +15,6 @@ Passes (suc n) m after = (mid : Machine) × Steps m Done mid × Passes n mid aft
 unfoldable pub Advances : ℕ → Machine → Halt → Machine → Type 0
 Advances limit m halt.AtEntry after = (n : ℕ) × (n ≤ limit) × Passes n m after × (after.next ≡ entry)
 Advances limit m (halt.Interrupt cause place) after =
-    (n : ℕ) × (n < limit) × (before : Machine) × Passes n m before × Steps before (Interrupt cause) after × (place ≡ after.next)
+    (n : ℕ) × (n < limit) × (before : Machine) × Passes n m before × Steps before (Interrupt cause) after
+    × (place ≡ after.next)
 Advances limit m halt.Limit after = Passes limit m after × (after.next ≢ entry)

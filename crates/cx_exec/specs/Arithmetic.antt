@@ -16,11 +16,13 @@ load_sum r x updated m = loaded_coded r (word_of x) (sum_code x) updated m
 
 abbrev pub Adds : ℕ → Option ℕ → Updated → Machine → Outcome → Machine → Type 0
 Adds r second updated m outcome after =
-    IfPresent second m outcome after (λ word. Completes outcome after (load_sum r (signed_word (reg m r) +ℤ signed_word word) updated m))
+    IfPresent second m outcome after
+    (λ word. Completes outcome after (load_sum r (signed_word (reg m r) +ℤ signed_word word) updated m))
 
 abbrev pub Subtracts : ℕ → Option ℕ → Updated → Machine → Outcome → Machine → Type 0
 Subtracts r second updated m outcome after =
-    IfPresent second m outcome after (λ word. Completes outcome after (load_sum r (signed_word (reg m r) -ℤ signed_word word) updated m))
+    IfPresent second m outcome after
+    (λ word. Completes outcome after (load_sum r (signed_word (reg m r) -ℤ signed_word word) updated m))
 
 abbrev pub load_complement : ℕ → ℕ → Updated → Machine → Machine
 load_complement r word updated m = load_sum r (neg_ℤ (signed_word word)) updated m

@@ -29,7 +29,8 @@ ComparesLogically r second updated m outcome after =
 
 abbrev pub ComparesByte : ℕ → ℕ → Updated → Machine → Outcome → Machine → Type 0
 ComparesByte i2 a updated m outcome after =
-    IfPresent (byte_at m.storage a) m outcome after (λ byte. Completes outcome after (compared_logically byte i2 updated m))
+    IfPresent (byte_at m.storage a) m outcome after
+    (λ byte. Completes outcome after (compared_logically byte i2 updated m))
 
 unfoldable pub ComparesStrings : ℕ → ℕ → ℕ → Updated → Machine → Outcome → Machine → Type 0
 ComparesStrings n a1 a2 updated m outcome after =

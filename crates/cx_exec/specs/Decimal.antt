@@ -65,7 +65,8 @@ digit_pair n j = 16 * digit n (j + 1) + digit n j
 unfoldable pub decimal_bytes : ℤ → List ℕ
 decimal_bytes z =
     let n = unsigned_abs z in
-    digit_pair n 13 ∷ digit_pair n 11 ∷ digit_pair n 9 ∷ digit_pair n 7 ∷ digit_pair n 5 ∷ digit_pair n 3 ∷ digit_pair n 1
+    digit_pair n 13 ∷ digit_pair n 11 ∷ digit_pair n 9 ∷ digit_pair n 7 ∷ digit_pair n 5 ∷ digit_pair n 3
+    ∷ digit_pair n 1
     ∷ (16 * digit n 0 + (if int_lt z (pos 0) then 0xD else 0xC)) ∷ []
 
 -- CVD: the register as a signed number

@@ -26,11 +26,15 @@ pub record IsDivision (dividend divisor quotient remainder : ℤ) : Type 0 where
 unfoldable pub DividesRegisters : ℕ → ℕ → Updated → Machine → Outcome → Machine → Type 0
 DividesRegisters r divisor updated m (Ok u) after =
     (quotient remainder : ℤ) × IsDivision (signed_double (pair m.regs r)) (signed_word divisor) quotient remainder
-    × (after ≡ record m { regs = slice_set (slice_set m.regs r (word_of remainder)) (r + 1) (word_of quotient); next = updated.address })
+    × (after ≡ record m {
+      regs = slice_set (slice_set m.regs r (word_of remainder)) (r + 1) (word_of quotient);
+      next = updated.address;
+    })
 DividesRegisters r divisor updated m (Err cause) after =
     ((quotient remainder : ℤ) → IsDivision (signed_double (pair m.regs r)) (signed_word divisor) quotient remainder → ⊥)
     × (cause ≡ interruption.FixedPointDivide) × (after ≡ m)
 
 abbrev pub DividesPair : ℕ → Option ℕ → Updated → Machine → Outcome → Machine → Type 0
 DividesPair r second updated m outcome after =
-    IfEven r m outcome after (IfPresent second m outcome after (λ word. DividesRegisters r word updated m outcome after))
+    IfEven r m outcome after
+    (IfPresent second m outcome after (λ word. DividesRegisters r word updated m outcome after))

@@ -15,7 +15,8 @@ use Rattle.cx_exec.specs.Operands.{IfPresent}
 use Rattle.cx_exec.specs.Results.{load_register, loaded_coded}
 
 abbrev pub Loads : ℕ → Option ℕ → Updated → Machine → Outcome → Machine → Type 0
-Loads r second updated m outcome after = IfPresent second m outcome after (λ word. Completes outcome after (load_register r word updated m))
+Loads r second updated m outcome after =
+    IfPresent second m outcome after (λ word. Completes outcome after (load_register r word updated m))
 
 abbrev pub load_and_test : ℕ → ℕ → Updated → Machine → Machine
 load_and_test r word updated m = loaded_coded r word (sign_code (signed_word word)) updated m
@@ -26,4 +27,5 @@ insert_byte word byte = (word / 2 ^ 8) * 2 ^ 8 + byte
 
 abbrev pub Inserts : ℕ → ℕ → Updated → Machine → Outcome → Machine → Type 0
 Inserts r a updated m outcome after =
-    IfPresent (byte_at m.storage a) m outcome after (λ byte. Completes outcome after (load_register r (insert_byte (reg m r) byte) updated m))
+    IfPresent (byte_at m.storage a) m outcome after
+    (λ byte. Completes outcome after (load_register r (insert_byte (reg m r) byte) updated m))

@@ -15,7 +15,8 @@ abbrev pub logical_code : ℕ → ℕ
 logical_code result = if result == 0 then 0 else 1
 
 abbrev pub xored_register : ℕ → ℕ → Updated → Machine → Machine
-xored_register r word updated m = loaded_coded r (bit_xor (reg m r) word) (logical_code (bit_xor (reg m r) word)) updated m
+xored_register r word updated m =
+    loaded_coded r (bit_xor (reg m r) word) (logical_code (bit_xor (reg m r) word)) updated m
 
 abbrev pub StoresLogical : ℕ → ℕ → Updated → Machine → Outcome → Machine → Type 0
 StoresLogical a byte updated m outcome after = Stores a (byte ∷ []) (logical_code byte) updated m outcome after
@@ -33,4 +34,5 @@ test_code mask byte = if bit_and byte mask == 0 then 0 else (if bit_and byte mas
 
 abbrev pub TestsByte : ℕ → ℕ → Updated → Machine → Outcome → Machine → Type 0
 TestsByte mask a updated m outcome after =
-    IfPresent (byte_at m.storage a) m outcome after (λ byte. Completes outcome after (set_code (test_code mask byte) updated m))
+    IfPresent (byte_at m.storage a) m outcome after
+    (λ byte. Completes outcome after (set_code (test_code mask byte) updated m))

@@ -24,11 +24,13 @@ selected_bytes mask n = filter (takes mask) (range_with_len 0 n)
 
 -- STCM: the bytes at the places chosen
 unfoldable pub StcmEffect : ℕ → ℕ → ℕ → Updated → Machine → Outcome → Machine → Type 0
-StcmEffect r1 mask a updated m outcome after = Stores a (map (byte_of (reg m r1)) (selected_bytes mask 4)) m.cc updated m outcome after
+StcmEffect r1 mask a updated m outcome after =
+    Stores a (map (byte_of (reg m r1)) (selected_bytes mask 4)) m.cc updated m outcome after
 
 -- ICM: the byte at a place that is the i-th one chosen is the i-th of the bytes; the others stay
 abbrev pub inserted_byte : ℕ → ℕ → List ℕ → ℕ → ℕ
-inserted_byte mask word bytes k = if takes mask k then slice_index bytes (length (selected_bytes mask k)) else byte_of word k
+inserted_byte mask word bytes k =
+    if takes mask k then slice_index bytes (length (selected_bytes mask k)) else byte_of word k
 
 unfoldable pub word_inserted : ℕ → ℕ → List ℕ → ℕ
 word_inserted mask word bytes = number_of (map (inserted_byte mask word bytes) (range_with_len 0 4))
@@ -39,4 +41,5 @@ insert_code bytes = if number_of bytes == 0 then 0 else (if nat_le 128 (slice_in
 unfoldable pub IcmEffect : ℕ → ℕ → ℕ → Updated → Machine → Outcome → Machine → Type 0
 IcmEffect r1 mask a updated m outcome after =
     IfPresent (span m.storage a (length (selected_bytes mask 4))) m outcome after
-    (λ bytes. Completes outcome after (loaded_coded r1 (word_inserted mask (reg m r1) bytes) (insert_code bytes) updated m))
+    (λ bytes. Completes outcome after
+    (loaded_coded r1 (word_inserted mask (reg m r1) bytes) (insert_code bytes) updated m))

@@ -22,13 +22,16 @@ register_count first last = place_after first last + 1
 -- n words in a row, the k-th at the place 4k on from an address, where each is present
 unfoldable pub words_at : Storage → ℕ → ℕ → Option (List ℕ)
 words_at s a zero = Some []
-words_at s a (suc n) = option_and_then (λ words. option_map (λ word. words ++ word ∷ []) (word_at s (address_after a (4 * n)))) (words_at s a n)
+words_at s a (suc n) =
+    option_and_then (λ words. option_map (λ word. words ++ word ∷ []) (word_at s (address_after a (4 * n))))
+    (words_at s a n)
 
 -- a register after the words were loaded: its word if it is among those from the first through the last, else what it
 -- held
 abbrev pub loaded_register : List ℕ → ℕ → ℕ → List ℕ → ℕ → ℕ
 loaded_register regs first last words r =
-    if nat_le (place_after first r) (place_after first last) then slice_index words (place_after first r) else slice_index regs r
+    if nat_le (place_after first r) (place_after first last) then slice_index words (place_after first r)
+    else slice_index regs r
 
 unfoldable pub loaded_registers : List ℕ → ℕ → ℕ → List ℕ → List ℕ
 loaded_registers regs first last words = map (loaded_register regs first last words) (range_with_len 0 16)
@@ -45,4 +48,5 @@ StoresRegisters first last a updated m outcome after =
 unfoldable pub LoadsRegisters : ℕ → ℕ → ℕ → Updated → Machine → Outcome → Machine → Type 0
 LoadsRegisters first last a updated m outcome after =
     IfPresent (words_at m.storage a (register_count first last)) m outcome after
-    (λ words. Completes outcome after (record m { regs = loaded_registers m.regs first last words; next = updated.address }))
+    (λ words. Completes outcome after
+    (record m { regs = loaded_registers m.regs first last words; next = updated.address }))

@@ -31,9 +31,12 @@ use Rattle.cx_exec.specs.Zoned.{PackEffect, UnpkEffect}
 
 -- registers alone
 unfoldable pub RrEffect : Op → ℕ → ℕ → Updated → Machine → Outcome → Machine → Type 0
-RrEffect op.Balr r1 r2 updated m outcome after = Completes outcome after (branch_with_link r1 (branch_address m.regs r2 updated) updated m)
-RrEffect op.Bctr r1 r2 updated m outcome after = Completes outcome after (branch_on_count r1 (branch_address m.regs r2 updated) updated m)
-RrEffect op.Bcr mask r2 updated m outcome after = Completes outcome after (branch_on_condition mask (branch_address m.regs r2 updated) updated m)
+RrEffect op.Balr r1 r2 updated m outcome after =
+    Completes outcome after (branch_with_link r1 (branch_address m.regs r2 updated) updated m)
+RrEffect op.Bctr r1 r2 updated m outcome after =
+    Completes outcome after (branch_on_count r1 (branch_address m.regs r2 updated) updated m)
+RrEffect op.Bcr mask r2 updated m outcome after =
+    Completes outcome after (branch_on_condition mask (branch_address m.regs r2 updated) updated m)
 RrEffect op.Ltr r1 r2 updated m outcome after = Completes outcome after (load_and_test r1 (reg m r2) updated m)
 RrEffect op.Lcr r1 r2 updated m outcome after = Completes outcome after (load_complement r1 (reg m r2) updated m)
 RrEffect op.Clr r1 r2 updated m outcome after = ComparesLogically r1 (Some (reg m r2)) updated m outcome after
@@ -73,8 +76,10 @@ RxEffect _ r1 a updated m outcome after = IsSuppressed interruption.Operation m 
 
 -- one or two registers, or a register and a mask, and the second operand's address, which is a shift's amount
 unfoldable pub RsEffect : Op → ℕ → ℕ → ℕ → Updated → Machine → Outcome → Machine → Type 0
-RsEffect op.Srl r1 r3 a updated m outcome after = Completes outcome after (load_register r1 (shifted_right (reg m r1) (amount a)) updated m)
-RsEffect op.Sll r1 r3 a updated m outcome after = Completes outcome after (load_register r1 (shifted_left (reg m r1) (amount a)) updated m)
+RsEffect op.Srl r1 r3 a updated m outcome after =
+    Completes outcome after (load_register r1 (shifted_right (reg m r1) (amount a)) updated m)
+RsEffect op.Sll r1 r3 a updated m outcome after =
+    Completes outcome after (load_register r1 (shifted_left (reg m r1) (amount a)) updated m)
 RsEffect op.Sra r1 r3 a updated m outcome after = Completes outcome after (right_arithmetic r1 (amount a) updated m)
 RsEffect op.Sla r1 r3 a updated m outcome after = Completes outcome after (left_arithmetic r1 (amount a) updated m)
 RsEffect op.Srda r1 r3 a updated m outcome after = ShiftsPair r1 (amount a) updated m outcome after
@@ -111,8 +116,10 @@ Ss2Effect _ n1 n2 a1 a2 updated m outcome after = IsSuppressed interruption.Oper
 -- every row except EX, with its operand's address formed before anything changes
 abbrev pub EffectOf : Op → Fields → Updated → Machine → Outcome → Machine → Type 0
 EffectOf op (Rr r1 r2) updated m outcome after = RrEffect op r1 r2 updated m outcome after
-EffectOf op (Rx r1 x2 b2 d2) updated m outcome after = RxEffect op r1 (effective m.regs x2 b2 d2) updated m outcome after
-EffectOf op (Rs r1 r3 b2 d2) updated m outcome after = RsEffect op r1 r3 (effective m.regs 0 b2 d2) updated m outcome after
+EffectOf op (Rx r1 x2 b2 d2) updated m outcome after =
+    RxEffect op r1 (effective m.regs x2 b2 d2) updated m outcome after
+EffectOf op (Rs r1 r3 b2 d2) updated m outcome after =
+    RsEffect op r1 r3 (effective m.regs 0 b2 d2) updated m outcome after
 EffectOf op (Si i2 b1 d1) updated m outcome after = SiEffect op i2 (effective m.regs 0 b1 d1) updated m outcome after
 EffectOf op (Ss l b1 d1 b2 d2) updated m outcome after =
     SsEffect op (l + 1) (effective m.regs 0 b1 d1) (effective m.regs 0 b2 d2) updated m outcome after

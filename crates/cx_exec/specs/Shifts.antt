@@ -37,10 +37,12 @@ shifted_arithmetic word n = (word / 2 ^ 31) * 2 ^ 31 + unsigned_abs (int_rem_euc
 
 abbrev pub right_arithmetic : ℕ → ℕ → Updated → Machine → Machine
 right_arithmetic r n updated m =
-    loaded_coded r (word_of (floor_shifted (signed_word (reg m r)) n)) (sign_code (floor_shifted (signed_word (reg m r)) n)) updated m
+    loaded_coded r (word_of (floor_shifted (signed_word (reg m r)) n))
+    (sign_code (floor_shifted (signed_word (reg m r)) n)) updated m
 
 abbrev pub left_arithmetic : ℕ → ℕ → Updated → Machine → Machine
-left_arithmetic r n updated m = loaded_coded r (shifted_arithmetic (reg m r) n) (sum_code (times_power (reg m r) n)) updated m
+left_arithmetic r n updated m =
+    loaded_coded r (shifted_arithmetic (reg m r) n) (sum_code (times_power (reg m r) n)) updated m
 
 abbrev pub shifted_pair : Machine → ℕ → ℕ → ℤ
 shifted_pair m r n = floor_shifted (signed_double (pair m.regs r)) n

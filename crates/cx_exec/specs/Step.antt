@@ -59,7 +59,8 @@ pending_instruction i updated = record { inst = i; updated = updated }
 -- since EX has no other format
 abbrev pub in_place : Machine → Fields → Instruction → Updated → Result PendingInstruction Interruption
 in_place m (Rx r1 x2 b2 d2) i updated =
-    then_result (target_at m r1 (effective m.regs x2 b2 d2)) (λ target. Ok (pending_instruction target (record { length_code = 2; address = updated.address })))
+    then_result (target_at m r1 (effective m.regs x2 b2 d2))
+    (λ target. Ok (pending_instruction target (record { length_code = 2; address = updated.address })))
 in_place m _ i updated = Ok (pending_instruction i updated)
 
 -- what is performed of the instruction at the next address
@@ -76,7 +77,8 @@ instruction_to_perform m =
 -- its effect is that of its row
 unfoldable pub Runs : Machine → Outcome → Machine → Type 0
 Runs m outcome after =
-    MatchResult (instruction_to_perform m) (λ d. Effect d.inst d.updated m outcome after) (λ cause. IsSuppressed cause m outcome after)
+    MatchResult (instruction_to_perform m) (λ d. Effect d.inst d.updated m outcome after)
+    (λ cause. IsSuppressed cause m outcome after)
 
 -- a step, and the machine that it leaves
 unfoldable pub Steps : Machine → Step → Machine → Type 0

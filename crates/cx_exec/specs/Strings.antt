@@ -18,7 +18,9 @@ moved_byte s a1 a2 stored k = byte_seen s stored (distance a1 (address_after a2 
 
 -- the first operand's byte, which isn't stored yet, joined by exclusive or with the byte of the second
 unfoldable pub xored_byte : Storage → ℕ → ℕ → List ℕ → ℕ → ℕ
-xored_byte s a1 a2 stored k = bit_xor (content s (address_after a1 k)) (byte_seen s stored (distance a1 (address_after a2 k)) (address_after a2 k))
+xored_byte s a1 a2 stored k =
+    bit_xor (content s (address_after a1 k))
+    (byte_seen s stored (distance a1 (address_after a2 k)) (address_after a2 k))
 
 unfoldable pub MvcEffect : ℕ → ℕ → ℕ → Updated → Machine → Outcome → Machine → Type 0
 MvcEffect n a1 a2 updated m outcome after =

@@ -16,7 +16,8 @@ use Rattle.cx_exec.specs.Sequence.{content, byte_seen, stored_by}
 
 -- the table's byte for the k-th argument byte: the one whose address is the table's plus the argument byte
 abbrev pub table_byte : Storage → ℕ → ℕ → ℕ → Option ℕ
-table_byte s a1 a2 k = option_and_then (λ argument. byte_at s (address_after a2 argument)) (byte_at s (address_after a1 k))
+table_byte s a1 a2 k =
+    option_and_then (λ argument. byte_at s (address_after a2 argument)) (byte_at s (address_after a1 k))
 
 -- each argument byte is present, and so is the table's byte for it; no other byte of the table is read
 unfoldable pub HasTable : Storage → ℕ → ℕ → ℕ → Type 0
@@ -31,7 +32,10 @@ translated_byte s a1 a2 stored k =
 unfoldable pub TrEffect : ℕ → ℕ → ℕ → Updated → Machine → Outcome → Machine → Type 0
 TrEffect n a1 a2 updated m (Ok _) after =
     HasTable m.storage n a1 a2
-    × (after ≡ record m { storage = after_write m.storage a1 (stored_by (translated_byte m.storage a1 a2) n); next = updated.address })
+    × (after ≡ record m {
+      storage = after_write m.storage a1 (stored_by (translated_byte m.storage a1 a2) n);
+      next = updated.address;
+    })
 TrEffect n a1 a2 updated m (Err cause) after =
     (HasTable m.storage n a1 a2 → ⊥) × (cause ≡ interruption.Addressing) × (after ≡ m)
 
@@ -57,8 +61,10 @@ found_at n a1 k byte updated m = record m {
 unfoldable pub Finds : ℕ → ℕ → ℕ → Updated → Machine → Outcome → Machine → Option ℕ → Type 0
 Finds n a1 a2 updated m outcome after None = Completes outcome after (set_code 0 updated m)
 Finds n a1 a2 updated m outcome after (Some k) =
-    IfPresent (table_byte m.storage a1 a2 k) m outcome after (λ byte. Completes outcome after (found_at n a1 k byte updated m))
+    IfPresent (table_byte m.storage a1 a2 k) m outcome after
+    (λ byte. Completes outcome after (found_at n a1 k byte updated m))
 
 unfoldable pub TrtEffect : ℕ → ℕ → ℕ → Updated → Machine → Outcome → Machine → Type 0
 TrtEffect n a1 a2 updated m outcome after =
-    IfPresent (span m.storage a1 n) m outcome after (λ _. Finds n a1 a2 updated m outcome after (first_found m.storage n a1 a2))
+    IfPresent (span m.storage a1 n) m outcome after
+    (λ _. Finds n a1 a2 updated m outcome after (first_found m.storage n a1 a2))

@@ -16,7 +16,8 @@ address_before a k = address_after a (2 ^ 24 - k)
 
 -- the i-th byte of the source, of n2 bytes, once some bytes before e1 are stored; a missing one is zero
 unfoldable pub source : Storage → ℕ → ℕ → ℕ → List ℕ → ℕ → ℕ
-source s e1 n2 e2 stored i = if nat_lt i n2 then byte_seen s stored (distance (address_before e2 i) e1) (address_before e2 i) else 0
+source s e1 n2 e2 stored i =
+    if nat_lt i n2 then byte_seen s stored (distance (address_before e2 i) e1) (address_before e2 i) else 0
 
 -- the halves of a byte exchanged
 abbrev pub swap_halves : ℕ → ℕ
@@ -42,9 +43,13 @@ unpacked_byte s e1 n2 e2 stored k = unpacked_half k (source s e1 n2 e2 (take (fe
 unfoldable pub PackEffect : ℕ → ℕ → ℕ → ℕ → Updated → Machine → Outcome → Machine → Type 0
 PackEffect n1 n2 a1 a2 updated m outcome after =
     IfPresent (span m.storage a2 n2) m outcome after
-    (λ _. Stores a1 (reverse (stored_by (packed_byte m.storage (address_after a1 (n1 - 1)) n2 (address_after a2 (n2 - 1))) n1)) m.cc updated m outcome after)
+    (λ _. Stores a1
+    (reverse (stored_by (packed_byte m.storage (address_after a1 (n1 - 1)) n2 (address_after a2 (n2 - 1))) n1)) m.cc
+    updated m outcome after)
 
 unfoldable pub UnpkEffect : ℕ → ℕ → ℕ → ℕ → Updated → Machine → Outcome → Machine → Type 0
 UnpkEffect n1 n2 a1 a2 updated m outcome after =
     IfPresent (span m.storage a2 n2) m outcome after
-    (λ _. Stores a1 (reverse (stored_by (unpacked_byte m.storage (address_after a1 (n1 - 1)) n2 (address_after a2 (n2 - 1))) n1)) m.cc updated m outcome after)
+    (λ _. Stores a1
+    (reverse (stored_by (unpacked_byte m.storage (address_after a1 (n1 - 1)) n2 (address_after a2 (n2 - 1))) n1))
+    m.cc updated m outcome after)

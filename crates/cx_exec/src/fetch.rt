@@ -74,7 +74,7 @@ fn lent_code<S: Store>(store: &S, at: u32) -> Option<Code>
 /// The bytes of the instruction at an address, copied; None where one is absent.
 #[cold]
 #[inline(never)]
-fn code_apart<S: Store>(store: &S, at: u32) -> Option<Code>
+fn code_slow<S: Store>(store: &S, at: u32) -> Option<Code>
     requires { at < 2 ^ 24 }
     ensures { result ≡ code_bytes (S.storage store.now) at }
 {
@@ -100,5 +100,5 @@ pub(crate) fn code_at<S: Store>(store: &S, at: u32) -> Result<Code, Interruption
     if let Some(code) = lent_code(store, at) {
         return Ok(code);
     }
-    code_apart(store, at).ok_or(Interruption::Addressing)
+    code_slow(store, at).ok_or(Interruption::Addressing)
 }

@@ -6,7 +6,7 @@ ghost use Rattle.cx_exec.specs.Machine.{machine};
 ghost use Rattle.cx_exec.specs.Logic.{logical_code, test_code, StoresLogical};
 
 use crate::machine::{Cpu, Interruption, Updated};
-use crate::operands::{put_coded, put_coded_at_hand};
+use crate::operands::{put_apart, put_coded_at_hand};
 use cx_storage::Store;
 
 /// The condition code of a logical result.
@@ -32,25 +32,6 @@ pub(crate) fn test_code(mask: u8, byte: u8) -> u8
     }
 }
 
-/// Stores one byte, with the code of a logical result, wherever it lies.
-#[cold]
-#[inline(never)]
-fn put_logical_apart<S: Store>(
-    cpu: &mut Cpu,
-    store: &mut S,
-    a: u32,
-    byte: u8,
-    updated: Updated,
-) -> Result<(), Interruption>
-    requires operand { a < 2 ^ 24 }
-    requires address { updated.address < 2 ^ 24 }
-    ensures { let before = machine cpu.old (S.storage store.old) in let after = machine cpu.new (S.storage store.new) in
-        StoresLogical a byte updated before result after }
-{
-    let cc = logical_code(u32::from(byte));
-    put_coded(cpu, store, a, &[byte], cc, updated)
-}
-
 /// Stores one byte, with the code of a logical result.
 #[tactic(auto, using(crate::proofs::Storing::coded_as_before))]
 #[inline(always)]
@@ -70,7 +51,7 @@ pub(crate) fn put_logical<S: Store>(
     if put_coded_at_hand(cpu, store, a, &[byte], cc, updated) {
         return Ok(());
     }
-    put_logical_apart(cpu, store, a, byte, updated)
+    put_apart(cpu, store, a, [byte], cc, updated)
 }
 
 /// Whether the bytes, as a number, are zero.

@@ -6,7 +6,7 @@ ghost use Rattle.cx_exec.specs.Masks.{byte_of, takes, selected_bytes, inserted_b
 
 use crate::logic::is_zero;
 use crate::machine::{Cpu, Interruption, Updated};
-use crate::operands::{put_at_hand, put_bytes};
+use crate::operands::{put_bytes, put_fast};
 use crate::results::load_coded;
 use cx_storage::Store;
 
@@ -63,7 +63,7 @@ fn take_bytes(mask: u8, word: u32, buffer: &mut [u8; 4]) -> usize
 #[tactic(auto, unfolding(crate::specs::Masks::StcmEffect))]
 #[cold]
 #[inline(never)]
-fn stcm_apart<S: Store>(
+fn stcm_slow<S: Store>(
     cpu: &mut Cpu,
     store: &mut S,
     r1: u8,
@@ -101,10 +101,10 @@ fn stcm_by<S: Store>(
 {
     let mut buffer = [0; 4];
     let count = take_bytes(mask, cpu.regs[r1 as usize], &mut buffer);
-    if put_at_hand(cpu, store, a, &buffer[..count], updated) {
+    if put_fast(cpu, store, a, &buffer[..count], updated) {
         return Ok(());
     }
-    stcm_apart(cpu, store, r1, mask, a, updated)
+    stcm_slow(cpu, store, r1, mask, a, updated)
 }
 
 /// STCM. `r1` and the mask are below 16, and the bytes begin at `a`.
@@ -211,7 +211,7 @@ fn insert(
 #[tactic(auto, unfolding(crate::specs::Masks::IcmEffect))]
 #[cold]
 #[inline(never)]
-fn icm_apart<S: Store>(
+fn icm_slow<S: Store>(
     cpu: &mut Cpu,
     store: &S,
     r1: u8,
@@ -251,7 +251,7 @@ fn icm_by<S: Store>(
         IcmEffect r1 mask a updated before result after }
 {
     let Some(bytes) = store.slice(a, number_chosen(mask, 4) as usize) else {
-        return icm_apart(cpu, store, r1, mask, a, updated);
+        return icm_slow(cpu, store, r1, mask, a, updated);
     };
     insert(cpu, r1, mask, bytes, updated)
 }

@@ -1,6 +1,6 @@
 //! Operands in storage and in pairs of registers.
 
-ghost use Rattle.std.specs.Prelude.{◌≡◌, ◌<◌, ◌≤◌, ◌^◌, ◌%◌, ◌==◌, ◌∷◌, [], length, replicate, is_some, true, false, Ok, Some, None, IfSome, MatchResult};
+ghost use Rattle.std.specs.Prelude.{◌≡◌, ◌<◌, ◌≤◌, ◌^◌, ◌%◌, ◌==◌, length, replicate, is_some, true, false, Ok, Some, None, IfSome, MatchResult};
 ghost use Rattle.byteorder.specs.Endian.{big_bytes};
 ghost use Rattle.cx_storage.specs.Storage.{byte_at, span};
 ghost use Rattle.cx_storage.specs.Word.{halfword_at, word_at};
@@ -38,7 +38,7 @@ pub(crate) fn lent_halfword<S: Store>(store: &S, a: u32) -> Option<u16>
 #[tactic(auto, unfolding(crate::specs::Operands::extended_at))]
 #[cold]
 #[inline(never)]
-pub(crate) fn halfword_apart<S: Store>(store: &S, a: u32) -> Result<u32, Interruption>
+pub(crate) fn halfword_slow<S: Store>(store: &S, a: u32) -> Result<u32, Interruption>
     requires { a < 2 ^ 24 }
     ensures { IsThere (extended_at (S.storage store.now) a) result }
 {
@@ -62,7 +62,7 @@ pub(crate) fn lent_word<S: Store>(store: &S, a: u32) -> Option<u32>
 /// The word at an address, or interruption 5, wherever its bytes lie.
 #[cold]
 #[inline(never)]
-pub(crate) fn word_apart<S: Store>(store: &S, a: u32) -> Result<u32, Interruption>
+pub(crate) fn word_slow<S: Store>(store: &S, a: u32) -> Result<u32, Interruption>
     requires { a < 2 ^ 24 }
     ensures { IsThere (word_at (S.storage store.now) a) result }
 {
@@ -77,7 +77,7 @@ pub(crate) fn word_at<S: Store>(store: &S, a: u32) -> Result<u32, Interruption>
 {
     match lent_word(store, a) {
         Some(word) => Ok(word),
-        None => word_apart(store, a),
+        None => word_slow(store, a),
     }
 }
 
@@ -97,7 +97,7 @@ pub(crate) fn even(r: u8) -> Result<u8, Interruption>
 /// Stores bytes, at most 65,536, from an address on, where they are at hand; else nothing changes.
 #[tactic(auto, unfolding(crate::specs::Operands::Stores))]
 #[inline(always)]
-pub(crate) fn put_at_hand<S: Store>(
+pub(crate) fn put_fast<S: Store>(
     cpu: &mut Cpu,
     store: &mut S,
     a: u32,
@@ -111,7 +111,7 @@ pub(crate) fn put_at_hand<S: Store>(
         result ≡ true → Stores a bytes.now cpu.old.cc updated before (Ok tt) after }
     ensures same { result ≡ false → machine cpu.new (S.storage store.new) ≡ machine cpu.old (S.storage store.old) }
 {
-    if !store.write_at_hand(a, bytes) {
+    if !store.write_fast(a, bytes) {
         return false;
     }
     cpu.next = updated.address;
@@ -137,7 +137,7 @@ pub(crate) fn put_coded_at_hand<S: Store>(
         result ≡ true → Stores a bytes.now cc updated before (Ok tt) after }
     ensures same { result ≡ false → machine cpu.new (S.storage store.new) ≡ machine cpu.old (S.storage store.old) }
 {
-    if !store.write_at_hand(a, bytes) {
+    if !store.write_fast(a, bytes) {
         return false;
     }
     cpu.cc = cc;
@@ -149,7 +149,7 @@ pub(crate) fn put_coded_at_hand<S: Store>(
 /// nothing changes.
 #[tactic(auto, unfolding(crate::specs::Operands::Stores))]
 #[inline(always)]
-pub(crate) fn fill_at_hand<S: Store>(
+pub(crate) fn fill_fast<S: Store>(
     cpu: &mut Cpu,
     store: &mut S,
     a: u32,
@@ -167,7 +167,7 @@ pub(crate) fn fill_at_hand<S: Store>(
         result ≡ true → Stores a (replicate n byte) cc updated before (Ok tt) after }
     ensures same { result ≡ false → machine cpu.new (S.storage store.new) ≡ machine cpu.old (S.storage store.old) }
 {
-    if !store.fill_at_hand(a, n, byte) {
+    if !store.fill_fast(a, n, byte) {
         return false;
     }
     cpu.cc = cc;
@@ -221,119 +221,46 @@ pub(crate) fn put_coded<S: Store>(
     Ok(())
 }
 
-/// Stores a byte likewise, wherever its bytes lie.
+/// Stores a few bytes likewise, and sets the condition code where they are stored, wherever they lie.
 #[cold]
 #[inline(never)]
-fn put_byte_apart<S: Store>(
+pub(crate) fn put_apart<S: Store, const N: usize>(
     cpu: &mut Cpu,
     store: &mut S,
     a: u32,
-    byte: u8,
+    bytes: [u8; N],
+    cc: u8,
     updated: Updated,
 ) -> Result<(), Interruption>
     requires operand { a < 2 ^ 24 }
+    requires size { N ≤ 65536 }
+    requires code { cc ≤ 3 }
     requires address { updated.address < 2 ^ 24 }
     ensures { let before = machine cpu.old (S.storage store.old) in let after = machine cpu.new (S.storage store.new) in
-        Stores a (byte ∷ []) cpu.old.cc updated before result after }
+        Stores a bytes.entry cc updated before result after }
 {
-    put_bytes(cpu, store, a, &[byte], updated)
+    put_coded(cpu, store, a, &bytes, cc, updated)
 }
 
-/// Stores a byte likewise.
+/// Stores a few bytes likewise.
 #[tactic(auto, using(crate::proofs::Storing::stored_as_before))]
 #[inline(always)]
-pub(crate) fn put_byte<S: Store>(
+pub(crate) fn put_few<S: Store, const N: usize>(
     cpu: &mut Cpu,
     store: &mut S,
     a: u32,
-    byte: u8,
+    bytes: [u8; N],
     updated: Updated,
 ) -> Result<(), Interruption>
     requires operand { a < 2 ^ 24 }
+    requires size { N ≤ 65536 }
     requires address { updated.address < 2 ^ 24 }
     ensures { let before = machine cpu.old (S.storage store.old) in let after = machine cpu.new (S.storage store.new) in
-        Stores a (byte ∷ []) cpu.old.cc updated before result after }
+        Stores a bytes.entry cpu.old.cc updated before result after }
 {
-    if put_at_hand(cpu, store, a, &[byte], updated) {
+    if put_fast(cpu, store, a, &bytes, updated) {
         return Ok(());
     }
-    put_byte_apart(cpu, store, a, byte, updated)
-}
-
-/// Stores a halfword likewise, wherever its bytes lie.
-#[cold]
-#[inline(never)]
-fn put_halfword_apart<S: Store>(
-    cpu: &mut Cpu,
-    store: &mut S,
-    a: u32,
-    halfword: u16,
-    updated: Updated,
-) -> Result<(), Interruption>
-    requires operand { a < 2 ^ 24 }
-    requires address { updated.address < 2 ^ 24 }
-    ensures { let before = machine cpu.old (S.storage store.old) in let after = machine cpu.new (S.storage store.new) in
-        Stores a (big_bytes 2 halfword) cpu.old.cc updated before result after }
-{
-    put_bytes(cpu, store, a, &halfword.to_be_bytes(), updated)
-}
-
-/// Stores a halfword likewise.
-#[tactic(auto, using(crate::proofs::Storing::stored_as_before))]
-#[inline(always)]
-pub(crate) fn put_halfword<S: Store>(
-    cpu: &mut Cpu,
-    store: &mut S,
-    a: u32,
-    halfword: u16,
-    updated: Updated,
-) -> Result<(), Interruption>
-    requires operand { a < 2 ^ 24 }
-    requires address { updated.address < 2 ^ 24 }
-    ensures { let before = machine cpu.old (S.storage store.old) in let after = machine cpu.new (S.storage store.new) in
-        Stores a (big_bytes 2 halfword) cpu.old.cc updated before result after }
-{
-    if put_at_hand(cpu, store, a, &halfword.to_be_bytes(), updated) {
-        return Ok(());
-    }
-    put_halfword_apart(cpu, store, a, halfword, updated)
-}
-
-/// Stores a word likewise, wherever its bytes lie.
-#[cold]
-#[inline(never)]
-fn put_word_apart<S: Store>(
-    cpu: &mut Cpu,
-    store: &mut S,
-    a: u32,
-    word: u32,
-    updated: Updated,
-) -> Result<(), Interruption>
-    requires operand { a < 2 ^ 24 }
-    requires address { updated.address < 2 ^ 24 }
-    ensures { let before = machine cpu.old (S.storage store.old) in let after = machine cpu.new (S.storage store.new) in
-        Stores a (big_bytes 4 word) cpu.old.cc updated before result after }
-{
-    put_bytes(cpu, store, a, &word.to_be_bytes(), updated)
-}
-
-/// Stores a word likewise.
-#[tactic(auto, using(crate::proofs::Storing::stored_as_before))]
-#[inline(always)]
-pub(crate) fn put_word<S: Store>(
-    cpu: &mut Cpu,
-    store: &mut S,
-    a: u32,
-    word: u32,
-    updated: Updated,
-) -> Result<(), Interruption>
-    requires operand { a < 2 ^ 24 }
-    requires address { updated.address < 2 ^ 24 }
-    ensures { let before = machine cpu.old (S.storage store.old) in let after = machine cpu.new (S.storage store.new) in
-        Stores a (big_bytes 4 word) cpu.old.cc updated before result after }
-{
-    if put_at_hand(cpu, store, a, &word.to_be_bytes(), updated) {
-        return Ok(());
-    }
-    put_word_apart(cpu, store, a, word, updated)
+    let cc = cpu.cc;
+    put_apart(cpu, store, a, bytes, cc, updated)
 }

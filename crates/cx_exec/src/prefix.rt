@@ -16,11 +16,11 @@ use std::marker::Model;
 /// Six bytes that an instruction begins with, the first ones of eight: its code and a second byte, and two halfwords. The
 /// eight are kept as one number, the first of them lowest, so that the code needs no shift and each field one.
 #[derive(Drop)]
-pub struct Front {
+pub struct Prefix {
     word: u64,
 }
 
-impl Model for Front {
+impl Model for Prefix {
     ghost use Rattle.std.specs.Prelude.{List, ℕ, take};
     ghost use Rattle.std.specs.Int.{w64, to_le_bytes};
 
@@ -47,28 +47,28 @@ fn address(base: u8, displacement: u16) -> u16
     u16::from(base) << 12 | displacement
 }
 
-impl Front {
+impl Prefix {
     /// The first six of eight bytes.
     #[tactic(auto, using(crate::proofs::FrontLemmas::front_of))]
     #[inline(always)]
-    pub(crate) fn of(bytes: [u8; 8]) -> Front
+    pub(crate) fn of(bytes: [u8; 8]) -> Prefix
         ensures { result ≡ take 6 bytes }
     {
-        Front {
+        Prefix {
             word: u64::from_le_bytes(bytes),
         }
     }
 
     /// The front of a byte and two halfwords after a code of zero.
     #[tactic(auto, using(crate::proofs::FrontLemmas::front_made))]
-    fn made(second: u8, first_address: u16, second_address: u16) -> Front
+    fn made(second: u8, first_address: u16, second_address: u16) -> Prefix
         ensures { result ≡ 0 ∷ second ∷ (big_bytes 2 first_address ++ big_bytes 2 second_address) }
     {
         let first_high = (first_address / 256) as u8;
         let first_low = (first_address % 256) as u8;
         let second_high = (second_address / 256) as u8;
         let second_low = (second_address % 256) as u8;
-        Front::of([
+        Prefix::of([
             0,
             second,
             first_high,
@@ -82,16 +82,16 @@ impl Front {
 
     /// A front that has an instruction's fields.
     #[tactic(auto, unfolding(cx_code::specs::Reading::fields_in))]
-    pub(crate) fn with_fields(inst: &Inst) -> Front
+    pub(crate) fn with_fields(inst: &Inst) -> Prefix
         ensures fields { fields_in (format_with inst.now.fields) result ≡ inst.now.fields }
         ensures formed { IsWellFormed inst.now }
     {
         match inst.fields() {
-            Fields::Rr { r1, r2 } => Front::made(halves(r1, r2), 0, 0),
-            Fields::Rx { r1, x2, b2, d2 } => Front::made(halves(r1, x2), address(b2, d2), 0),
-            Fields::Rs { r1, r3, b2, d2 } => Front::made(halves(r1, r3), address(b2, d2), 0),
-            Fields::Si { i2, b1, d1 } => Front::made(i2, address(b1, d1), 0),
-            Fields::Ss { l, b1, d1, b2, d2 } => Front::made(l, address(b1, d1), address(b2, d2)),
+            Fields::Rr { r1, r2 } => Prefix::made(halves(r1, r2), 0, 0),
+            Fields::Rx { r1, x2, b2, d2 } => Prefix::made(halves(r1, x2), address(b2, d2), 0),
+            Fields::Rs { r1, r3, b2, d2 } => Prefix::made(halves(r1, r3), address(b2, d2), 0),
+            Fields::Si { i2, b1, d1 } => Prefix::made(i2, address(b1, d1), 0),
+            Fields::Ss { l, b1, d1, b2, d2 } => Prefix::made(l, address(b1, d1), address(b2, d2)),
             Fields::Ss2 {
                 l1,
                 l2,
@@ -99,7 +99,7 @@ impl Front {
                 d1,
                 b2,
                 d2,
-            } => Front::made(halves(l1, l2), address(b1, d1), address(b2, d2)),
+            } => Prefix::made(halves(l1, l2), address(b1, d1), address(b2, d2)),
         }
     }
 
@@ -123,12 +123,12 @@ impl Front {
     /// The front with a byte joined to the second one by OR.
     #[tactic(auto, using(crate::proofs::FrontLemmas::front_joined))]
     #[inline(always)]
-    pub(crate) fn with_joined(self, low: u8) -> Front
+    pub(crate) fn with_joined(self, low: u8) -> Prefix
         ensures { result ≡ joined_second low self }
     {
         let mut bytes = self.word.to_le_bytes();
         bytes[1] |= low;
-        Front::of(bytes)
+        Prefix::of(bytes)
     }
 
     /// The base that the halfword after it has.
@@ -175,7 +175,7 @@ impl Front {
 /// The front of an instruction at an address, where the store has eight bytes from there on at hand: the address is even then,
 /// and not the entry.
 #[inline(always)]
-pub(crate) fn fetched_front<S: Store>(store: &mut S, at: u32) -> Option<Front>
+pub(crate) fn fetched_prefix<S: Store>(store: &mut S, at: u32) -> Option<Prefix>
     requires { at < 2 ^ 24 }
     ensures bytes { IfSome result (λ prefix. option_map (take 6) (span (S.storage store.new) at 8) ≡ Some prefix) }
     ensures even { OnSome result (at % 2 ≡ 0) }
@@ -184,7 +184,7 @@ pub(crate) fn fetched_front<S: Store>(store: &mut S, at: u32) -> Option<Front>
     ensures same { S.storage store.new ≡ S.storage store.old }
 {
     let bytes = store.fetch(at)?;
-    Some(Front::of(bytes))
+    Some(Prefix::of(bytes))
 }
 
 /// The row of a code. It is found by a match of its own, so that a row is found by one jump, and each code has an arm, so that

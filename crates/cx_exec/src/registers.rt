@@ -49,7 +49,7 @@ fn take_registers(part: &[u8], first: u8, last: u8, regs: &mut [u32; 16])
 #[tactic(auto, using(crate::proofs::RegisterLemmas::words_none, crate::proofs::RegisterLemmas::words_gone))]
 #[cold]
 #[inline(never)]
-fn read_apart<S: Store>(
+fn read_slow<S: Store>(
     store: &S,
     a: u32,
     count: usize,
@@ -132,7 +132,7 @@ pub(crate) fn store_multiple<S: Store>(
 #[tactic(auto, unfolding(crate::specs::Registers::LoadsRegisters))]
 #[cold]
 #[inline(never)]
-fn load_apart<S: Store>(
+fn load_slow<S: Store>(
     cpu: &mut Cpu,
     store: &S,
     first: u8,
@@ -149,7 +149,7 @@ fn load_apart<S: Store>(
 {
     let count = place_after(first, last) as usize + 1;
     let mut words = [0; 16];
-    read_apart(store, a, count, &mut words)?;
+    read_slow(store, a, count, &mut words)?;
     let mut regs = cpu.regs;
     load_registers(&mut regs, first, last, &words[..count]);
     cpu.regs = regs;
@@ -177,7 +177,7 @@ pub(crate) fn load_multiple<S: Store>(
 {
     let count = place_after(first, last) as usize + 1;
     let Some(part) = store.slice(a, 4 * count) else {
-        return load_apart(cpu, store, first, last, a, updated);
+        return load_slow(cpu, store, first, last, a, updated);
     };
     take_registers(part, first, last, &mut cpu.regs);
     cpu.next = updated.address;

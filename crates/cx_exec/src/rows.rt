@@ -22,15 +22,15 @@ use crate::machine::{Cpu, Interruption, Updated};
 use crate::masks::{icm, stcm};
 use crate::multiplication::multiply;
 use crate::numbers::sign_code;
-use crate::operands::{byte_at, even, put_byte, put_halfword, put_word, word_at};
+use crate::operands::{byte_at, even, put_few, word_at};
 use crate::places::Place;
-use crate::prefix::Front;
+use crate::prefix::Prefix;
 use crate::registers::{load_multiple, store_multiple};
 use crate::results::{load, load_coded, set_code};
 use crate::shifts::{shift_left, shift_pair, shift_right, shifted_left, shifted_right};
 use crate::strings::{mvc, xc};
 use crate::translation::{tr, trt};
-use crate::words::{half_row, word_row};
+use crate::words::second_row;
 use crate::zoned::{pack, unpk};
 use cx_code::Op;
 use cx_storage::{Store, along};
@@ -74,7 +74,7 @@ pub struct Registers {
 
 /// The operands of format RR.
 #[inline(always)]
-fn registers_of(cpu: &Cpu, prefix: &Front, place: Place) -> Registers
+fn registers_of(cpu: &Cpu, prefix: &Prefix, place: Place) -> Registers
     requires place { IsPlace place }
     ensures r1 { result.r1 ≡ left_half prefix.now }
     ensures r2 { result.r2 ≡ right_half prefix.now }
@@ -111,7 +111,7 @@ pub struct Operands {
 
 /// The operands of formats RX, RS and SI, the address with an index.
 #[inline(always)]
-fn operands_of(cpu: &Cpu, prefix: &Front, index: u8, place: Place) -> Operands
+fn operands_of(cpu: &Cpu, prefix: &Prefix, index: u8, place: Place) -> Operands
     requires index { index < 16 }
     requires place { IsPlace place }
     ensures byte { result.i2 ≡ slice_index prefix.now 1 }
@@ -145,7 +145,7 @@ fn operands_of(cpu: &Cpu, prefix: &Front, index: u8, place: Place) -> Operands
 
 /// The operands of format RX.
 #[inline(always)]
-pub(crate) fn indexed_of(cpu: &Cpu, prefix: &Front, place: Place) -> Operands
+pub(crate) fn indexed_of(cpu: &Cpu, prefix: &Prefix, place: Place) -> Operands
     requires place { IsPlace place }
     ensures r1 { result.r1 ≡ left_half prefix.now }
     ensures low1 { result.r1 < 16 }
@@ -171,7 +171,7 @@ pub struct Strings {
 
 /// The operands of formats SS.
 #[inline(always)]
-fn strings_of(cpu: &Cpu, prefix: &Front, place: Place) -> Strings
+fn strings_of(cpu: &Cpu, prefix: &Prefix, place: Place) -> Strings
     requires place { IsPlace place }
     ensures lengths { result.l ≡ slice_index prefix.now 1 }
     ensures first { result.a1 ≡ effective cpu.now.regs 0 (base_at 2 prefix.now) (displacement_at 2 prefix.now) }
@@ -207,7 +207,7 @@ pub(crate) fn strings_effect<S: Store>(
     cpu: &mut Cpu,
     store: &mut S,
     op: Op,
-    prefix: &Front,
+    prefix: &Prefix,
     place: Place,
 ) -> Result<(), Interruption>
     requires strings { length_of op ≡ 6 }
@@ -273,7 +273,7 @@ pub(crate) fn register_rows<S: Store>(
     cpu: &mut Cpu,
     store: &mut S,
     op: Op,
-    prefix: &Front,
+    prefix: &Prefix,
     place: Place,
 ) -> Result<(), Interruption>
     requires rows { has_registers op ≡ true }
@@ -398,7 +398,7 @@ pub(crate) fn word_rows<S: Store>(
     cpu: &mut Cpu,
     store: &mut S,
     op: Op,
-    prefix: &Front,
+    prefix: &Prefix,
     place: Place,
 ) -> Result<(), Interruption>
     requires rows { has_word op ≡ true }
@@ -410,15 +410,15 @@ pub(crate) fn word_rows<S: Store>(
     match op {
         Op::L => {
             let it = indexed_of(cpu, prefix, place);
-            word_row(cpu, store, Op::L, it.r1, it.a, it.updated)
+            second_row(cpu, store, Op::L, it.r1, it.a, it.updated)
         }
         Op::Cl => {
             let it = indexed_of(cpu, prefix, place);
-            word_row(cpu, store, Op::Cl, it.r1, it.a, it.updated)
+            second_row(cpu, store, Op::Cl, it.r1, it.a, it.updated)
         }
         Op::C => {
             let it = indexed_of(cpu, prefix, place);
-            word_row(cpu, store, Op::C, it.r1, it.a, it.updated)
+            second_row(cpu, store, Op::C, it.r1, it.a, it.updated)
         }
         // Not reached.
         _ => Err(Interruption::Operation),
@@ -432,7 +432,7 @@ pub(crate) fn word_result_rows<S: Store>(
     cpu: &mut Cpu,
     store: &mut S,
     op: Op,
-    prefix: &Front,
+    prefix: &Prefix,
     place: Place,
 ) -> Result<(), Interruption>
     requires rows { has_word_result op ≡ true }
@@ -444,11 +444,11 @@ pub(crate) fn word_result_rows<S: Store>(
     match op {
         Op::A => {
             let it = indexed_of(cpu, prefix, place);
-            word_row(cpu, store, Op::A, it.r1, it.a, it.updated)
+            second_row(cpu, store, Op::A, it.r1, it.a, it.updated)
         }
         Op::S => {
             let it = indexed_of(cpu, prefix, place);
-            word_row(cpu, store, Op::S, it.r1, it.a, it.updated)
+            second_row(cpu, store, Op::S, it.r1, it.a, it.updated)
         }
         Op::M => {
             let it = indexed_of(cpu, prefix, place);
@@ -470,7 +470,7 @@ pub(crate) fn half_rows<S: Store>(
     cpu: &mut Cpu,
     store: &mut S,
     op: Op,
-    prefix: &Front,
+    prefix: &Prefix,
     place: Place,
 ) -> Result<(), Interruption>
     requires rows { has_half op ≡ true }
@@ -482,19 +482,19 @@ pub(crate) fn half_rows<S: Store>(
     match op {
         Op::Lh => {
             let it = indexed_of(cpu, prefix, place);
-            half_row(cpu, store, Op::Lh, it.r1, it.a, it.updated)
+            second_row(cpu, store, Op::Lh, it.r1, it.a, it.updated)
         }
         Op::Ch => {
             let it = indexed_of(cpu, prefix, place);
-            half_row(cpu, store, Op::Ch, it.r1, it.a, it.updated)
+            second_row(cpu, store, Op::Ch, it.r1, it.a, it.updated)
         }
         Op::Ah => {
             let it = indexed_of(cpu, prefix, place);
-            half_row(cpu, store, Op::Ah, it.r1, it.a, it.updated)
+            second_row(cpu, store, Op::Ah, it.r1, it.a, it.updated)
         }
         Op::Sh => {
             let it = indexed_of(cpu, prefix, place);
-            half_row(cpu, store, Op::Sh, it.r1, it.a, it.updated)
+            second_row(cpu, store, Op::Sh, it.r1, it.a, it.updated)
         }
         // Not reached.
         _ => Err(Interruption::Operation),
@@ -508,7 +508,7 @@ pub(crate) fn indexed_rows<S: Store>(
     cpu: &mut Cpu,
     store: &mut S,
     op: Op,
-    prefix: &Front,
+    prefix: &Prefix,
     place: Place,
 ) -> Result<(), Interruption>
     requires rows { has_address op ≡ true }
@@ -521,7 +521,7 @@ pub(crate) fn indexed_rows<S: Store>(
         Op::Sth => {
             let it = indexed_of(cpu, prefix, place);
             let half = (it.first % 0x1_0000) as u16;
-            put_halfword(cpu, store, it.a, half, it.updated)
+            put_few(cpu, store, it.a, half.to_be_bytes(), it.updated)
         }
         Op::La => {
             let it = indexed_of(cpu, prefix, place);
@@ -529,7 +529,8 @@ pub(crate) fn indexed_rows<S: Store>(
         }
         Op::Stc => {
             let it = indexed_of(cpu, prefix, place);
-            put_byte(cpu, store, it.a, (it.first % 0x100) as u8, it.updated)
+            let byte = (it.first % 0x100) as u8;
+            put_few(cpu, store, it.a, [byte], it.updated)
         }
         Op::Bal => {
             let it = indexed_of(cpu, prefix, place);
@@ -548,7 +549,7 @@ pub(crate) fn indexed_rows<S: Store>(
         }
         Op::St => {
             let it = indexed_of(cpu, prefix, place);
-            put_word(cpu, store, it.a, it.first, it.updated)
+            put_few(cpu, store, it.a, it.first.to_be_bytes(), it.updated)
         }
         Op::Cvd => {
             let it = indexed_of(cpu, prefix, place);
@@ -575,7 +576,7 @@ pub(crate) fn immediate_rows<S: Store>(
     cpu: &mut Cpu,
     store: &mut S,
     op: Op,
-    prefix: &Front,
+    prefix: &Prefix,
     place: Place,
 ) -> Result<(), Interruption>
     requires rows { has_immediate op ≡ true }
@@ -592,7 +593,7 @@ pub(crate) fn immediate_rows<S: Store>(
         }
         Op::Mvi => {
             let it = operands_of(cpu, prefix, 0, place);
-            put_byte(cpu, store, it.a, it.i2, it.updated)
+            put_few(cpu, store, it.a, [it.i2], it.updated)
         }
         Op::Ni => {
             let it = operands_of(cpu, prefix, 0, place);
@@ -621,7 +622,7 @@ pub(crate) fn effect<S: Store>(
     cpu: &mut Cpu,
     store: &mut S,
     op: Op,
-    prefix: &Front,
+    prefix: &Prefix,
     place: Place,
 ) -> Result<(), Interruption>
     requires place { IsPlace place }
@@ -678,11 +679,11 @@ pub(crate) fn effect<S: Store>(
 
 /// The same, in code of its own.
 #[inline(never)]
-pub(crate) fn effect_apart<S: Store>(
+pub(crate) fn effect_slow<S: Store>(
     cpu: &mut Cpu,
     store: &mut S,
     op: Op,
-    prefix: &Front,
+    prefix: &Prefix,
     place: Place,
 ) -> Result<(), Interruption>
     requires place { IsPlace place }

@@ -22,7 +22,7 @@ const ROUND: u32 = 256;
 #[tactic(auto, using(crate::proofs::RunLemmas::one_done, crate::proofs::RunLemmas::one_interrupted, crate::proofs::RunLemmas::none_at_entry))]
 #[cold]
 #[inline(never)]
-fn step_apart<S: Store>(cpu: &mut Cpu, store: &mut S) -> Option<Halt>
+fn pass_slow<S: Store>(cpu: &mut Cpu, store: &mut S) -> Option<Halt>
     ensures run { let before = machine cpu.old (S.storage store.old) in
         let after = machine cpu.new (S.storage store.new) in
         MatchOption result (Passes 1 before after) (λ end. Advances 1 before end after) }
@@ -49,12 +49,21 @@ fn pass<S: Store>(cpu: &mut Cpu, store: &mut S, steps: u32) -> Option<Halt>
     while left > 0 {
         left -= 1;
         let Some(found) = fetch_fast(cpu, store) else {
-            if let Some(end) = step_apart(cpu, store) {
+            if let Some(end) = pass_slow(cpu, store) {
                 return Some(end);
             }
             continue;
         };
         let place = Place::at(cpu.next);
+        // Each arm goes on or ends by itself, since results that were joined would be taken apart again.
+        macro_rules! perform {
+            ($rows:ident) => {
+                match $rows(cpu, store, found.op, &found.prefix, place) {
+                    Ok(()) => {}
+                    Err(cause) => return Some(Halt::Interrupt(cause, cpu.next)),
+                }
+            };
+        }
         match found.op {
             Op::Balr
             | Op::Bctr
@@ -77,34 +86,10 @@ fn pass<S: Store>(cpu: &mut Cpu, store: &mut S, steps: u32) -> Option<Halt>
             | Op::Stm
             | Op::Lm
             | Op::Stcm
-            | Op::Icm => match register_rows(cpu, store, found.op, &found.prefix, place) {
-                Ok(()) => {}
-                Err(cause) => return Some(Halt::Interrupt(cause, cpu.next)),
-            },
-            Op::L | Op::Cl | Op::C => match word_rows(cpu, store, found.op, &found.prefix, place) {
-                Ok(()) => {}
-                Err(cause) => return Some(Halt::Interrupt(cause, cpu.next)),
-            },
-            Op::A | Op::S | Op::M | Op::D => match word_result_rows(
-                cpu,
-                store,
-                found.op,
-                &found.prefix,
-                place,
-            ) {
-                Ok(()) => {}
-                Err(cause) => return Some(Halt::Interrupt(cause, cpu.next)),
-            },
-            Op::Lh | Op::Ch | Op::Ah | Op::Sh => match half_rows(
-                cpu,
-                store,
-                found.op,
-                &found.prefix,
-                place,
-            ) {
-                Ok(()) => {}
-                Err(cause) => return Some(Halt::Interrupt(cause, cpu.next)),
-            },
+            | Op::Icm => perform!(register_rows),
+            Op::L | Op::Cl | Op::C => perform!(word_rows),
+            Op::A | Op::S | Op::M | Op::D => perform!(word_result_rows),
+            Op::Lh | Op::Ch | Op::Ah | Op::Sh => perform!(half_rows),
             Op::Sth
             | Op::La
             | Op::Stc
@@ -114,25 +99,11 @@ fn pass<S: Store>(cpu: &mut Cpu, store: &mut S, steps: u32) -> Option<Halt>
             | Op::St
             | Op::Cvd
             | Op::Ic
-            | Op::Cvb => match indexed_rows(cpu, store, found.op, &found.prefix, place) {
-                Ok(()) => {}
-                Err(cause) => return Some(Halt::Interrupt(cause, cpu.next)),
-            },
-            Op::Tm | Op::Mvi | Op::Ni | Op::Cli | Op::Oi => match immediate_rows(
-                cpu,
-                store,
-                found.op,
-                &found.prefix,
-                place,
-            ) {
-                Ok(()) => {}
-                Err(cause) => return Some(Halt::Interrupt(cause, cpu.next)),
-            },
-            Op::Mvc | Op::Clc | Op::Xc | Op::Tr | Op::Trt | Op::Pack | Op::Unpk =>
-                match strings_effect(cpu, store, found.op, &found.prefix, place) {
-                    Ok(()) => {}
-                    Err(cause) => return Some(Halt::Interrupt(cause, cpu.next)),
-                },
+            | Op::Cvb => perform!(indexed_rows),
+            Op::Tm | Op::Mvi | Op::Ni | Op::Cli | Op::Oi => perform!(immediate_rows),
+            Op::Mvc | Op::Clc | Op::Xc | Op::Tr | Op::Trt | Op::Pack | Op::Unpk => perform!(
+                strings_effect
+            ),
             Op::Ex => match execute_found(cpu, store, &found.prefix) {
                 Ok(()) => {}
                 Err(cause) => return Some(Halt::Interrupt(cause, cpu.next)),

@@ -16,8 +16,8 @@ ghost use Rattle.cx_exec.specs.Step.{entry, changed_copy, target_at, updated_by,
 use crate::fetch::code_at;
 use crate::machine::{Cpu, ENTRY, Interruption, Step, Updated};
 use crate::places::Place;
-use crate::prefix::{Front, fetched_front, op_in};
-use crate::rows::{effect, effect_apart, effective, indexed_of};
+use crate::prefix::{Prefix, fetched_prefix, op_in};
+use crate::rows::{effect, effect_slow, effective, indexed_of};
 use cx_code::{Fields, Inst, Op};
 use cx_storage::{Store, along};
 
@@ -32,7 +32,7 @@ pub struct PendingInstruction {
 #[derive(Drop)]
 pub struct Found {
     pub op: Op,
-    pub prefix: Front,
+    pub prefix: Prefix,
 }
 
 /// The target at `a` (below 2^24) of an EX, from its changed copy. `r1` is below 16.
@@ -57,7 +57,7 @@ fn target_at<S: Store>(cpu: &Cpu, store: &S, r1: u8, a: u32) -> Result<Inst, Int
 /// The instruction that is performed at the next address: for EX its target.
 #[tactic(auto, unfolding(crate::specs::Step::instruction_to_perform))]
 #[inline(always)]
-fn performed<S: Store>(cpu: &Cpu, store: &S) -> Result<PendingInstruction, Interruption>
+fn fetch_slow<S: Store>(cpu: &Cpu, store: &S) -> Result<PendingInstruction, Interruption>
     ensures value { result ≡ instruction_to_perform (machine cpu.now (S.storage store.now)) }
     ensures length { IfOk result (λ due. due.updated.length_code ≤ 3) }
     ensures address { IfOk result (λ due. due.updated.address < 2 ^ 24) }
@@ -95,14 +95,14 @@ pub(crate) fn fetch_fast<S: Store>(cpu: &Cpu, store: &mut S) -> Option<Found>
 {
     cx_code::laws::first_bits();
     cx_code::laws::read_by_first_byte();
-    let prefix = fetched_front(store, cpu.next)?;
+    let prefix = fetched_prefix(store, cpu.next)?;
     let op = op_in(prefix.first())?;
     Some(Found { op, prefix })
 }
 
 /// The front of the changed copy of a target.
 #[inline(always)]
-fn changed_copy(cpu: &Cpu, r1: u8, prefix: Front) -> Front
+fn changed_copy(cpu: &Cpu, r1: u8, prefix: Prefix) -> Prefix
     requires { r1 < 16 }
     ensures { (storage : Storage) → result ≡ changed_copy (machine cpu.now storage) r1 prefix }
 {
@@ -114,7 +114,7 @@ fn changed_copy(cpu: &Cpu, r1: u8, prefix: Front) -> Front
 
 /// The target at `a` (below 2^24) of an EX, where the store has it at hand. `r1` is below 16.
 #[inline(always)]
-fn target_at_hand<S: Store>(cpu: &Cpu, store: &mut S, r1: u8, a: u32) -> Option<Found>
+fn target_fast<S: Store>(cpu: &Cpu, store: &mut S, r1: u8, a: u32) -> Option<Found>
     requires first { r1 < 16 }
     requires operand { a < 2 ^ 24 }
     ensures found { let target = target_at (machine cpu.now (S.storage store.new)) r1 a in
@@ -123,7 +123,7 @@ fn target_at_hand<S: Store>(cpu: &Cpu, store: &mut S, r1: u8, a: u32) -> Option<
 {
     cx_code::laws::first_bits();
     cx_code::laws::read_by_first_byte();
-    let prefix = changed_copy(cpu, r1, fetched_front(store, a)?);
+    let prefix = changed_copy(cpu, r1, fetched_prefix(store, a)?);
     let op = op_in(prefix.first())?;
     if op == Op::Ex {
         return None;
@@ -134,7 +134,7 @@ fn target_at_hand<S: Store>(cpu: &Cpu, store: &mut S, r1: u8, a: u32) -> Option<
 /// Performs an instruction except EX, and goes on where that is given.
 #[cold]
 #[inline(never)]
-fn perform_apart<S: Store>(
+fn perform_slow<S: Store>(
     cpu: &mut Cpu,
     store: &mut S,
     inst: &Inst,
@@ -145,8 +145,8 @@ fn perform_apart<S: Store>(
     ensures { let before = machine cpu.old (S.storage store.old) in let after = machine cpu.new (S.storage store.new) in
         Effect inst.now updated before result after }
 {
-    let prefix = Front::with_fields(inst);
-    effect_apart(cpu, store, inst.op(), &prefix, Place::after(updated))
+    let prefix = Prefix::with_fields(inst);
+    effect_slow(cpu, store, inst.op(), &prefix, Place::after(updated))
 }
 
 /// Performs the target at `a` (below 2^24) of an EX at the next address. `r1` is below 16.
@@ -162,11 +162,11 @@ fn execute<S: Store>(cpu: &mut Cpu, store: &mut S, r1: u8, a: u32) -> Result<(),
         length_code: 2,
         address: along(cpu.next, 4),
     };
-    if let Some(found) = target_at_hand(cpu, store, r1, a) {
+    if let Some(found) = target_fast(cpu, store, r1, a) {
         return effect(cpu, store, found.op, &found.prefix, Place::after(updated));
     }
     let target = target_at(cpu, store, r1, a)?;
-    perform_apart(cpu, store, &target, updated)
+    perform_slow(cpu, store, &target, updated)
 }
 
 /// Performs an EX at the next address.
@@ -174,7 +174,7 @@ fn execute<S: Store>(cpu: &mut Cpu, store: &mut S, r1: u8, a: u32) -> Result<(),
 pub(crate) fn execute_found<S: Store>(
     cpu: &mut Cpu,
     store: &mut S,
-    prefix: &Front,
+    prefix: &Prefix,
 ) -> Result<(), Interruption>
     requires performed { IsPerformed (machine cpu.old (S.storage store.old)) op.Ex prefix.now }
     requires room { cpu.old.next + 8 ≤ 2 ^ 24 }
@@ -191,8 +191,8 @@ pub(crate) fn execute_found<S: Store>(
 pub(crate) fn step_slow<S: Store>(cpu: &mut Cpu, store: &mut S) -> Result<(), Interruption>
     ensures { Runs (machine cpu.old (S.storage store.old)) result (machine cpu.new (S.storage store.new)) }
 {
-    let due = performed(cpu, store)?;
-    perform_apart(cpu, store, &due.inst, due.updated)
+    let due = fetch_slow(cpu, store)?;
+    perform_slow(cpu, store, &due.inst, due.updated)
 }
 
 /// Performs the instruction at the next address.
@@ -207,7 +207,7 @@ fn run<S: Store>(cpu: &mut Cpu, store: &mut S) -> Result<(), Interruption>
     if found.op == Op::Ex {
         return execute_found(cpu, store, &found.prefix);
     }
-    effect_apart(cpu, store, found.op, &found.prefix, Place::at(cpu.next))
+    effect_slow(cpu, store, found.op, &found.prefix, Place::at(cpu.next))
 }
 
 /// Performs the instruction at the next address, unless that is the entry.

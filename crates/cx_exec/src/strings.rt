@@ -9,7 +9,7 @@ ghost use Rattle.cx_exec.specs.Strings.{moved_byte, xored_byte, MvcEffect, XcEff
 
 use crate::logic::string_code;
 use crate::machine::{Cpu, Interruption, Updated};
-use crate::operands::{fill_at_hand, put_at_hand, put_bytes, put_coded};
+use crate::operands::{fill_fast, put_bytes, put_coded, put_fast};
 use crate::repeats::repeat;
 use crate::sequence::{content, distance, is_present, seen};
 use cx_storage::{Store, along};
@@ -149,7 +149,7 @@ fn copy_at_hand<S: Store>(
         return false;
     };
     bytes.copy_from_slice(part);
-    put_at_hand(cpu, store, a1, bytes, updated)
+    put_fast(cpu, store, a1, bytes, updated)
 }
 
 /// MVC of such operands of `N` bytes, for which there is code of its own.
@@ -376,7 +376,7 @@ fn spread<S: Store>(
         return fill(cpu, store, a1, a2, updated, n);
     };
     let cc = cpu.cc;
-    if fill_at_hand(cpu, store, a1, n as usize, byte, cc, updated) {
+    if fill_fast(cpu, store, a1, n as usize, byte, cc, updated) {
         return Ok(());
     }
     fill(cpu, store, a1, a2, updated, n)
@@ -436,50 +436,17 @@ fn join_each<S: Store>(
     put_coded(cpu, store, a1, bytes, cc, updated)
 }
 
-/// XC of an operand with itself, whose bytes become zero, wherever they lie.
-#[tactic(auto, unfolding(crate::specs::Strings::XcEffect))]
-#[cold]
-#[inline(never)]
-fn clear_apart<S: Store>(
-    cpu: &mut Cpu,
-    store: &mut S,
-    n: u32,
-    a: u32,
-    updated: Updated,
-) -> Result<(), Interruption>
+/// XC of an operand with itself, whose bytes become zero, where they are at hand; else nothing changes.
+#[inline(always)]
+fn clear<S: Store>(cpu: &mut Cpu, store: &mut S, n: u32, a: u32, updated: Updated) -> bool
     requires operand { a < 2 ^ 24 }
     requires count { n ≤ 256 }
     requires address { updated.address < 2 ^ 24 }
-    ensures { let before = machine cpu.old (S.storage store.old) in let after = machine cpu.new (S.storage store.new) in
-        XcEffect n a a updated before result after }
+    ensures done { let before = machine cpu.old (S.storage store.old) in let after = machine cpu.new (S.storage store.new) in
+        result ≡ true → XcEffect n a a updated before (Ok tt) after }
+    ensures same { result ≡ false → machine cpu.new (S.storage store.new) ≡ machine cpu.old (S.storage store.old) }
 {
-    if !is_present(store, a, n) {
-        return Err(Interruption::Addressing);
-    }
-    let new = [0; 256];
-    put_coded(cpu, store, a, &new[..n as usize], 0, updated)
-}
-
-/// XC of an operand with itself, whose bytes become zero.
-#[tactic(auto, using(crate::proofs::Storing::xored_as_before))]
-#[inline(never)]
-fn clear<S: Store>(
-    cpu: &mut Cpu,
-    store: &mut S,
-    n: u32,
-    a: u32,
-    updated: Updated,
-) -> Result<(), Interruption>
-    requires operand { a < 2 ^ 24 }
-    requires count { n ≤ 256 }
-    requires address { updated.address < 2 ^ 24 }
-    ensures { let before = machine cpu.old (S.storage store.old) in let after = machine cpu.new (S.storage store.new) in
-        XcEffect n a a updated before result after }
-{
-    if fill_at_hand(cpu, store, a, n as usize, 0, 0, updated) {
-        return Ok(());
-    }
-    clear_apart(cpu, store, n, a, updated)
+    fill_fast(cpu, store, a, n as usize, 0, 0, updated)
 }
 
 /// MVC. The operands, of `l` bytes and one, begin at `a1` and `a2`.
@@ -510,6 +477,7 @@ pub(crate) fn mvc<S: Store>(
 }
 
 /// XC. The operands, of `n` bytes, begin at `a1` and `a2`.
+#[tactic(auto, using(crate::proofs::Storing::xored_as_before))]
 #[inline(never)]
 pub(crate) fn xc<S: Store>(
     cpu: &mut Cpu,
@@ -526,8 +494,8 @@ pub(crate) fn xc<S: Store>(
     ensures { let before = machine cpu.old (S.storage store.old) in let after = machine cpu.new (S.storage store.new) in
         XcEffect n a1 a2 updated before result after }
 {
-    if a1 == a2 {
-        return clear(cpu, store, n, a1, updated);
+    if a1 == a2 && clear(cpu, store, n, a1, updated) {
+        return Ok(());
     }
     if begins_outside(n, a1, a2) {
         return join(cpu, store, n, a1, a2, updated);

@@ -1,15 +1,15 @@
 //! Rows whose second operand is a word in storage, or a halfword extended to one.
 
-ghost use Rattle.std.specs.Prelude.{◌≡◌, ◌<◌, ◌^◌, true, Some};
+ghost use Rattle.std.specs.Prelude.{◌≡◌, ◌<◌, ◌^◌, true, Some, IfSome};
 ghost use Rattle.cx_exec.specs.Machine.{machine};
 ghost use Rattle.cx_exec.specs.Rows.{RxEffect};
-ghost use Rattle.cx_exec.specs.Parts.{takes_word, has_half, takes_second, second_at};
+ghost use Rattle.cx_exec.specs.Parts.{IsThere, takes_second, second_at};
 
 use crate::arithmetic::{difference, put_sum, sum};
 use crate::comparison::{logical_order, signed_order};
 use crate::machine::{Cpu, Interruption, Updated};
 use crate::numbers::extended;
-use crate::operands::{halfword_apart, lent_halfword, lent_word, word_apart};
+use crate::operands::{halfword_slow, lent_halfword, lent_word, word_slow};
 use crate::results::{load, set_code};
 use cx_code::Op;
 use cx_storage::Store;
@@ -49,57 +49,37 @@ fn with_second<S: Store>(
     }
 }
 
-/// The effect of a row whose second operand is a word, wherever its bytes lie.
-#[tactic(auto, unfolding(crate::specs::Rows::RxEffect))]
-#[cold]
-#[inline(never)]
-fn word_row_apart<S: Store>(
-    cpu: &mut Cpu,
-    store: &S,
-    op: Op,
-    r1: u8,
-    a: u32,
-    updated: Updated,
-) -> Result<(), Interruption>
-    requires rows { takes_word op ≡ true }
-    requires first { r1 < 16 }
-    requires operand { a < 2 ^ 24 }
-    requires address { updated.address < 2 ^ 24 }
-    ensures { let before = machine cpu.old (S.storage store.now) in let after = machine cpu.new (S.storage store.now) in
-        RxEffect op r1 a updated before result after }
-{
-    let second = word_apart(store, a)?;
-    with_second(cpu, store, op, r1, a, second, updated)
-}
-
-/// The effect of a row whose second operand is a word.
+/// The word that the second operand of a row is, where its bytes are lent in one piece.
+#[tactic(auto, unfolding(crate::specs::Operands::extended_at))]
 #[inline(always)]
-pub(crate) fn word_row<S: Store>(
-    cpu: &mut Cpu,
-    store: &S,
-    op: Op,
-    r1: u8,
-    a: u32,
-    updated: Updated,
-) -> Result<(), Interruption>
-    requires rows { takes_word op ≡ true }
-    requires first { r1 < 16 }
+fn lent_second<S: Store>(store: &S, op: Op, a: u32) -> Option<u32>
+    requires rows { takes_second op ≡ true }
     requires operand { a < 2 ^ 24 }
-    requires address { updated.address < 2 ^ 24 }
-    ensures { let before = machine cpu.old (S.storage store.now) in let after = machine cpu.new (S.storage store.now) in
-        RxEffect op r1 a updated before result after }
+    ensures { IfSome result (λ x. second_at op (S.storage store.now) a ≡ Some x) }
 {
-    match lent_word(store, a) {
-        Some(second) => with_second(cpu, store, op, r1, a, second, updated),
-        None => word_row_apart(cpu, store, op, r1, a, updated),
+    match op {
+        Op::Lh | Op::Ch | Op::Ah | Op::Sh => Some(extended(lent_halfword(store, a)?)),
+        _ => lent_word(store, a),
     }
 }
 
-/// The effect of a row whose second operand is a halfword, wherever its bytes lie.
+/// The word that the second operand of a row is, or interruption 5, wherever its bytes lie.
+fn second_apart<S: Store>(store: &S, op: Op, a: u32) -> Result<u32, Interruption>
+    requires rows { takes_second op ≡ true }
+    requires operand { a < 2 ^ 24 }
+    ensures { IsThere (second_at op (S.storage store.now) a) result }
+{
+    match op {
+        Op::Lh | Op::Ch | Op::Ah | Op::Sh => halfword_slow(store, a),
+        _ => word_slow(store, a),
+    }
+}
+
+/// The effect of a row, wherever its second operand's bytes lie.
 #[tactic(auto, unfolding(crate::specs::Rows::RxEffect))]
 #[cold]
 #[inline(never)]
-fn half_row_apart<S: Store>(
+fn second_row_apart<S: Store>(
     cpu: &mut Cpu,
     store: &S,
     op: Op,
@@ -107,21 +87,20 @@ fn half_row_apart<S: Store>(
     a: u32,
     updated: Updated,
 ) -> Result<(), Interruption>
-    requires rows { has_half op ≡ true }
+    requires rows { takes_second op ≡ true }
     requires first { r1 < 16 }
     requires operand { a < 2 ^ 24 }
     requires address { updated.address < 2 ^ 24 }
     ensures { let before = machine cpu.old (S.storage store.now) in let after = machine cpu.new (S.storage store.now) in
         RxEffect op r1 a updated before result after }
 {
-    let second = halfword_apart(store, a)?;
+    let second = second_apart(store, op, a)?;
     with_second(cpu, store, op, r1, a, second, updated)
 }
 
-/// The effect of a row whose second operand is a halfword.
-#[tactic(auto, unfolding(crate::specs::Operands::extended_at))]
+/// The effect of a row whose second operand is a word, or a halfword extended to one.
 #[inline(always)]
-pub(crate) fn half_row<S: Store>(
+pub(crate) fn second_row<S: Store>(
     cpu: &mut Cpu,
     store: &S,
     op: Op,
@@ -129,15 +108,15 @@ pub(crate) fn half_row<S: Store>(
     a: u32,
     updated: Updated,
 ) -> Result<(), Interruption>
-    requires rows { has_half op ≡ true }
+    requires rows { takes_second op ≡ true }
     requires first { r1 < 16 }
     requires operand { a < 2 ^ 24 }
     requires address { updated.address < 2 ^ 24 }
     ensures { let before = machine cpu.old (S.storage store.now) in let after = machine cpu.new (S.storage store.now) in
         RxEffect op r1 a updated before result after }
 {
-    match lent_halfword(store, a) {
-        Some(second) => with_second(cpu, store, op, r1, a, extended(second), updated),
-        None => half_row_apart(cpu, store, op, r1, a, updated),
+    match lent_second(store, op, a) {
+        Some(second) => with_second(cpu, store, op, r1, a, second, updated),
+        None => second_row_apart(cpu, store, op, r1, a, updated),
     }
 }

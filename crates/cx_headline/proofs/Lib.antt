@@ -6,3 +6,4 @@ mod SourceLemmas
 mod DueLemmas
 mod OptionLemmas
 mod PointerLemmas
+mod OrdersLemmas

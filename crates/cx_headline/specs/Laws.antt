@@ -4,6 +4,7 @@ pub mod Rows
 pub mod Sources
 pub mod Watching
 pub mod Looks
+pub mod Orders
 pub mod Entries
 pub mod Due
 pub mod Pointers

@@ -8,6 +8,7 @@ ghost use Rattle.cx_edf.specs.Laws.Watched.{RunsCanBeWatched};
 ghost use Rattle.cx_headline.specs.Laws.Due.{AlwaysKeepsWhatIsDue, EventsKeepWhatIsDue, KeepsWhatIsDue, RunsKeepWhatIsDue, StillKeepsWhatIsDue};
 ghost use Rattle.cx_headline.specs.Laws.Entries.{EntriesHoldTheirBases, TasksBeginSo};
 ghost use Rattle.cx_headline.specs.Laws.Looks.{ScriptsAreLookedOver};
+ghost use Rattle.cx_headline.specs.Laws.Orders.{OrdersAreTrue};
 ghost use Rattle.cx_headline.specs.Laws.Pointers.{PointersAreGiven};
 ghost use Rattle.cx_headline.specs.Laws.Rows.{EachIsItsRow};
 ghost use Rattle.cx_headline.specs.Laws.Runs.{OfEachRun, OfEachScript};
@@ -82,6 +83,20 @@ pub fn looking_changes_nothing()
     cx_look_script::laws::looks_are_reported_once();
     cx_look_script::laws::looks_are_marked();
     cx_script::laws::a_script_runs_its_events();
+}
+
+/// No order is missed. Where ORDERS finds all states, each list of turns and keys that ends at rest, of whatever length, ends with one
+/// of the outcomes that are written; else each list of so many moves as were tried. Each outcome is real: the lines that are written
+/// with it lead there, in `cicsedf` with EDF Off too, and no other list is sooner. No text stands twice. SOME NEVER REST and SOME
+/// CANNOT REST stand exactly where that is so.
+pub fn no_order_is_missed()
+    ensures { OrdersAreTrue }
+{
+    cx_edf::laws::off_is_the_region();
+    cx_look_orders::laws::steps_are_runs();
+    cx_look_orders::laws::scripts_ask_for_steps();
+    cx_look_orders::laws::loops_are_endless();
+    cx_search::laws::one_list_is_sooner();
 }
 
 /// A premise of an EXEC statement's arrival: where a program is entered, at attach, by LINK and by XCTL, the registers that the

@@ -1,15 +1,12 @@
 -- A line that begins with KEY is a key, or bad.
-use Rattle.std.proofs.Common.{◌≡◌, ℕ, Bool, true, false, Option, Some, None, is_some, List, codes, cond, refl, sym, ap, ◌∙◌, subst}
+use Rattle.std.proofs.Common.{◌≡◌, ℕ, Bool, true, false, Option, Some, None, is_some, List, codes, cond, refl, sym, subst}
 use Rattle.std.specs.Option.{option_and_then, option_map}
-use Rattle.std.specs.Str.{bytes_eq}
 use Rattle.std.proofs.lemmas.Slice.Eq.{bytes_eq-Decides}
 use Rattle.cx_ebcdic.specs.Names.{padded_name}
 use Rattle.cx_ebcdic.specs.declared.aids.Aid.{Aid}
 use Rattle.cx_region.specs.declared.replies.Event.TheVariants as event
 use Rattle.cx_script_actions.specs.Actions.{does, is_blank_or_comment, key_with_text, line_asked_for, line_of}
-use Rattle.cx_script_actions.specs.Words.{after_first_blank, two_words, word}
-use Rattle.cx_script_actions.specs.declared.actions.Action.{Action}
-use Rattle.cx_script_actions.specs.declared.actions.Line.{Line}
+use Rattle.cx_script_actions.specs.Words.{after_first_blank, word}
 use Rattle.cx_script_actions.specs.declared.actions.Line.TheVariants as line
 use Rattle.cx_look.specs.Orders.{event_in, is_key, key_in, key_of}
 

@@ -32,16 +32,17 @@ subject_name subject.Terminals = codes "TERMINALS"
 subject_name subject.Field = codes "FIELD"
 subject_name subject.Fields = codes "FIELDS"
 subject_name subject.Run = codes "RUN"
+subject_name subject.Watch = codes "WATCH"
 subject_name subject.Faults = codes "FAULTS"
+subject_name subject.Orders = codes "ORDERS"
 subject_name subject.Help = codes "HELP"
 
 abbrev pub subjects : List Subject
 subjects =
     subject.Storage ∷ subject.Where ∷ subject.Areas ∷ subject.Task ∷ subject.Tasks ∷ subject.Abend ∷ subject.Queues
-    ∷ subject.Queue
-    ∷ subject.Resources ∷ subject.Programs ∷ subject.Command ∷ subject.Ahead ∷ subject.Symbol ∷ subject.Symbols
-    ∷ subject.Xref
-    ∷ subject.Terminals ∷ subject.Field ∷ subject.Fields ∷ subject.Run ∷ subject.Faults ∷ subject.Help ∷ []
+    ∷ subject.Queue ∷ subject.Resources ∷ subject.Programs ∷ subject.Command ∷ subject.Ahead ∷ subject.Symbol
+    ∷ subject.Symbols ∷ subject.Xref ∷ subject.Terminals ∷ subject.Field ∷ subject.Fields ∷ subject.Run
+    ∷ subject.Watch ∷ subject.Faults ∷ subject.Orders ∷ subject.Help ∷ []
 
 unfoldable pub subject_of : List ℕ → Option Subject
 subject_of text = find (λ s. bytes_eq (subject_name s) text) subjects
@@ -76,6 +77,11 @@ field_look term text =
 abbrev pub fields_look : List ℕ → Option (List ℕ) → Option Look
 fields_look term text = option_map (look.Fields term) (level_of text)
 
+-- the next turn of a terminal, with the last so many of its instructions, 1 to 256; 16 without a number
+abbrev pub ahead_look : List ℕ → Option (List ℕ) → Option Look
+ahead_look term None = Some (look.Ahead term 16)
+ahead_look term (Some text) = option_map (look.Ahead term) (count_of 256 text)
+
 -- the last abend of a terminal, or its storage
 abbrev pub abend_look : List ℕ → Option (List ℕ) → Option Look
 abend_look name None = Some (look.Abend name)
@@ -97,7 +103,8 @@ look_by_word subject.Queue (Some text) =
 look_by_word subject.Resources None = Some look.Resources
 look_by_word subject.Programs None = Some look.Programs
 look_by_word subject.Command (Some text) = option_map (λ name. look.Command name) (padded_name 4 text)
-look_by_word subject.Ahead (Some text) = option_map (λ name. look.Ahead name) (padded_name 4 text)
+look_by_word subject.Ahead (Some text) =
+    option_and_then (λ term. ahead_look term (after_first_blank text)) (padded_name 4 (word text))
 look_by_word subject.Symbol (Some text) = two_words look.Symbol (padded_name 8) (padded_name 8) text
 look_by_word subject.Symbols (Some text) = option_map (λ name. look.Symbols name) (padded_name 8 text)
 look_by_word subject.Xref (Some text) = option_map (λ name. look.Xref name) (padded_name 8 text)

@@ -50,7 +50,7 @@ key_of text = option_and_then (key_in text) (option_and_then event_in (line_of t
 abbrev pub is_sight : Look → Bool
 is_sight (look.Abend name) = false
 is_sight (look.AbendStorage name) = false
-is_sight (look.Ahead name) = false
+is_sight (look.Ahead name n) = false
 is_sight (look.Faults source) = false
 is_sight (look.Help word) = false
 is_sight _ = true

@@ -4,7 +4,7 @@ ghost use Rattle.std.specs.List.{find};
 ghost use Rattle.std.specs.Option.{option_copied};
 ghost use Rattle.std.specs.Str.{bytes_eq};
 ghost use Rattle.cx_script_actions.specs.Words.{hex_bytes};
-ghost use Rattle.cx_look.specs.Looks.{abend_look, count_of, field_look, level_of, look_of, look_by_word, queue_look, queue_name_of, subject_name, subject_of};
+ghost use Rattle.cx_look.specs.Looks.{abend_look, ahead_look, count_of, field_look, level_of, look_of, look_by_word, queue_look, queue_name_of, subject_name, subject_of};
 ghost use Rattle.cx_look.specs.declared.look.Subject.TheVariants as subject;
 
 use cx_base_lists::List;
@@ -20,6 +20,12 @@ const LAST_ITEM: u32 = 32_767;
 
 /// The most levels of a task.
 const LEVELS: u32 = 16;
+
+/// How many instructions of a turn are looked at together, where no number is given.
+const LAST_INSTRUCTIONS: u32 = 16;
+
+/// The most instructions of a turn that are looked at together.
+const MOST_INSTRUCTIONS: u32 = 256;
 
 /// The digits that spell the eight bytes of a queue's name.
 const NAME_DIGITS: usize = 16;
@@ -66,8 +72,8 @@ pub enum Look {
     Programs,
     /// The command that is due at a terminal.
     Command(Name4),
-    /// What the next turn of a terminal will do.
-    Ahead(Name4),
+    /// What the next turn of a terminal will do, with the last so many of its instructions: 1 to 256.
+    Ahead(Name4, u32),
     /// A symbol of a program's source: the program and the symbol.
     Symbol(Name8, Name8),
     /// All symbols of a program's source.
@@ -108,13 +114,15 @@ pub enum Subject {
     Field,
     Fields,
     Run,
+    Watch,
     Faults,
+    Orders,
     Help,
 }
 
 impl Subject {
     /// All of these words.
-    pub const ALL: [Subject; 21] = [
+    pub const ALL: [Subject; 23] = [
         Subject::Storage,
         Subject::Where,
         Subject::Areas,
@@ -134,7 +142,9 @@ impl Subject {
         Subject::Field,
         Subject::Fields,
         Subject::Run,
+        Subject::Watch,
         Subject::Faults,
+        Subject::Orders,
         Subject::Help,
     ];
 
@@ -162,7 +172,9 @@ impl Subject {
             Subject::Field => b"FIELD",
             Subject::Fields => b"FIELDS",
             Subject::Run => b"RUN",
+            Subject::Watch => b"WATCH",
             Subject::Faults => b"FAULTS",
+            Subject::Orders => b"ORDERS",
             Subject::Help => b"HELP",
         }
     }
@@ -343,6 +355,27 @@ fn abend(text: &[u8]) -> Option<Look>
     abend_look(name, rest)
 }
 
+/// The next turn of a terminal, by what follows the terminal.
+fn ahead_look(term: Name4, rest: Option<&[u8]>) -> Option<Look>
+    ensures { result ≡ ahead_look term (option_copied rest.entry) }
+{
+    let Some(rest) = rest else {
+        return Some(Look::Ahead(term, LAST_INSTRUCTIONS));
+    };
+    let n = count_of(rest, MOST_INSTRUCTIONS)?;
+    Some(Look::Ahead(term, n))
+}
+
+/// AHEAD, by what follows it.
+#[tactic(auto, unfolding(crate::specs::Looks::look_by_word))]
+fn ahead(text: &[u8]) -> Option<Look>
+    ensures { result ≡ look_by_word subject.Ahead (Some text.now) }
+{
+    let (word, rest) = split_word(text);
+    let term = name4(word)?;
+    ahead_look(term, rest)
+}
+
 /// HELP, by what follows it.
 #[tactic(auto, unfolding(crate::specs::Looks::look_by_word))]
 fn help(text: &[u8]) -> Option<Look>
@@ -382,7 +415,7 @@ fn at(subject: Subject, text: &[u8]) -> Option<Look>
         Subject::Abend => abend(text),
         Subject::Queue => queue(text),
         Subject::Command => name4(text).map(|name| Look::Command(name)),
-        Subject::Ahead => name4(text).map(|name| Look::Ahead(name)),
+        Subject::Ahead => ahead(text),
         Subject::Symbol => symbol(text),
         Subject::Symbols => name8(text).map(|name| Look::Symbols(name)),
         Subject::Xref => name8(text).map(|name| Look::Xref(name)),

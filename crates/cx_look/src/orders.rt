@@ -170,7 +170,7 @@ fn is_sight(look: &Look) -> bool
 {
     !matches!(
         look,
-        Look::Abend(_) | Look::AbendStorage(_) | Look::Ahead(_) | Look::Faults(_) | Look::Help(_)
+        Look::Abend(_) | Look::AbendStorage(_) | Look::Ahead(_, _) | Look::Faults(_) | Look::Help(_)
     )
 }
 

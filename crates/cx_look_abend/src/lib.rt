@@ -10,5 +10,5 @@ mod texts;
 
 pub use abends::{Caller, Callers, Explanation, Kept, KeptTask, LastAbend, LastAbends, TaskBefore};
 pub use dumps::StorageDump;
-pub use noting::apply_noted;
+pub use noting::apply_keeping_abends;
 pub use texts::{abend_storage_text, abend_text};

@@ -153,7 +153,7 @@ fn make_room(abends: &mut LastAbends, event: &EdfEvent) -> Result<(), AllocError
 ///
 /// An error comes only where an allocation failed: that of a new terminal's room, of what is kept of a task before its turn, or one that
 /// the event may take. Then all is as before.
-pub fn apply_noted<S: Store + Drop>(
+pub fn apply_keeping_abends<S: Store + Drop>(
     state: &mut Debugged<S>,
     abends: &mut LastAbends,
     event: &EdfEvent,

@@ -1,5 +1,5 @@
 -- AHEAD: what a terminal's next turn will do (own).
-use Rattle.std.specs.Prelude.{◌≡◌, ℕ, zero, suc, min, List, [], ◌∷◌, ◌++◌, codes}
+use Rattle.std.specs.Prelude.{◌≡◌, ℕ, zero, suc, min, Option, List, [], ◌∷◌, ◌++◌, codes}
 use Rattle.std.specs.Fmt.{decimal}
 use Rattle.std.specs.List.{flat_map}
 use Rattle.std.specs.Option.{option_map_or, option_to_list}
@@ -13,6 +13,9 @@ use Rattle.cx_region.specs.State.{RegionState}
 use Rattle.cx_region.specs.Turn.{TakesTurn}
 use Rattle.cx_script_actions.specs.Texts.{turn_reply_detail}
 use Rattle.cx_look_words.specs.Words.{Lines, look_line}
+use Rattle.cx_look_symbols.specs.Sources.{Sources}
+use Rattle.cx_look_steps.specs.declared.traces.Trace.{Trace}
+use Rattle.cx_look_ahead.specs.Instructions.{IsAhead, trace_lines}
 use Rattle.cx_look_ahead.specs.Rows.{AreRows}
 use Rattle.cx_look_ahead.specs.declared.rows.Row.{Row}
 
@@ -33,15 +36,20 @@ row_line before after row =
     look_line (codes "CHANGES" ∷ digits 16 6 row.at ∷ decimal row.length ∷ codes "FROM" ∷ bytes_word before row.at shown
     ∷ codes "TO" ∷ bytes_word after row.at shown ∷ [])
 
--- what is written for a turn of that reply from one storage to another
-pub record TurnText (name : List ℕ) (reply : TurnReply) (before after : Storage) (lines : Lines) : Type 0 where
+-- what is written for a turn of a region of that reply to that storage, with its last n instructions
+pub record TurnText (sources : Sources) (region : RegionState) (name : List ℕ) (n : ℕ) (reply : TurnReply)
+    (after : Storage) (lines : Lines) : Type 0 where
+  pub trace : Option Trace
+  pub ahead : IsAhead region name n trace
   pub rows : List Row
-  pub differ : AreRows before after 0 rows
-  pub are : lines ≡ end_line name reply ++ flat_map (row_line before after) rows
+  pub differ : AreRows region.storage after 0 rows
+  pub are : lines
+      ≡ end_line name reply ++ trace_lines sources region.programs trace
+      ++ flat_map (row_line region.storage after) rows
 
 -- what is written for the turn that the region would do next
-pub record AheadText (region : RegionState) (name : List ℕ) (lines : Lines) : Type 0 where
+pub record AheadText (sources : Sources) (region : RegionState) (name : List ℕ) (n : ℕ) (lines : Lines) : Type 0 where
   pub reply : TurnReply
   pub after : RegionState
   pub turns : TakesTurn region name reply after
-  pub is : TurnText name reply region.storage after.storage lines
+  pub is : TurnText sources region name n reply after.storage lines

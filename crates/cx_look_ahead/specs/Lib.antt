@@ -1,5 +1,6 @@
 -- The definitions, in reading order, then what the laws state.
 pub mod Rows
+pub mod Instructions
 pub mod Ahead
 pub mod Laws
 pub mod Parts

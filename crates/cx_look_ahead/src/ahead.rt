@@ -5,9 +5,11 @@ ghost use Rattle.cx_look_words.specs.Words.{look_line};
 ghost use Rattle.cx_look_ahead.specs.Ahead.{AheadText, TurnText, end_line, row_line};
 
 use crate::bytes::row_line;
+use crate::instructions::{trace_ahead, trace_lines};
 use crate::rows::{Row, rows_between};
 use cx_base_text::{shown, shown_name};
 use cx_ebcdic::Name4;
+use cx_look_symbols::Sources;
 use cx_look_words::Report;
 use cx_region::{Region, TurnReply};
 use cx_region_snapshot::turn_apart;
@@ -68,36 +70,44 @@ fn row_lines<S: Store + Drop>(
     Ok(())
 }
 
-/// What is written for a turn of a reply from one region to another.
+/// What is written for a turn of a reply from one region to another, with the last ones of its instructions.
 fn turn_text<S: Store + Drop>(
     alloc: Global,
+    sources: &Sources,
     name: Name4,
+    most: usize,
     reply: TurnReply,
     before: &Region<S>,
     after: &Region<S>,
 ) -> Result<Report, AllocError>
-    ensures { IfOk result (λ report. TurnText name reply before.now.storage after.now.storage report) }
+    ensures { IfOk result (λ report. TurnText sources.now before.now name most reply after.now.storage report) }
 {
     let mut report = Report::new(alloc);
     end_line(&mut report, name, &reply)?;
+    let trace = trace_ahead(alloc, before, name, most)?;
+    trace_lines(&mut report, sources, &before.shared().programs, &trace)?;
     let rows = rows_between(alloc, &before.shared().store, &after.shared().store)?;
     row_lines(&mut report, before, after, &rows)?;
     Ok(report)
 }
 
-/// Looks at what the next turn of a terminal will do: how it will end, in the words that are written for the turn, and a line for
-/// each row of bytes that it will change, with the first 64 of them before the turn and after it. The turn is done in a region like
-/// this one, so nothing changes here.
+/// Looks at what the next turn of a terminal will do: how it will end, in the words that are written for the turn;
+/// where it runs instructions how many, and a line for each of the last ones, at most `most`: its address and where that
+/// is, its bytes, and the statement of a source that has it; and a line for each row of bytes that it will change, with
+/// the first 64 of them before the turn and after it. The turn is done in a region like this one, and its instructions
+/// once more over a store like this region's, so nothing changes here.
 ///
-/// An error comes only where memory for that region, for what the turn makes, or for the report was refused.
+/// An error comes only where memory for these, for what the turn makes, or for the report was refused.
 pub fn ahead_text<S: Store + Drop>(
     alloc: Global,
+    sources: &Sources,
     region: &Region<S>,
     name: Name4,
+    most: usize,
 ) -> Result<Report, AllocError>
-    ensures { IfOk result (λ report. AheadText region.now name report) }
+    ensures { IfOk result (λ report. AheadText sources.now region.now name most report) }
 {
     let (reply, after) = turn_apart(alloc, region, name)?;
-    let report = turn_text(alloc, name, reply, region, &after)?;
+    let report = turn_text(alloc, sources, name, most, reply, region, &after)?;
     Ok(report)
 }

@@ -26,8 +26,10 @@ fn byte_word<S: Store>(store: &S, at: u32) -> [u8; 2]
     }
 }
 
-/// Bytes from an address on.
-fn bytes_word<S: Store>(
+/// Bytes from an address on, in hexadecimal digits; hyphens for one that isn't there.
+///
+/// An error comes only where memory for them was refused.
+pub fn bytes_word<S: Store>(
     alloc: Global,
     store: &S,
     at: u32,

@@ -3,8 +3,10 @@
 
 mod ahead;
 mod bytes;
+mod instructions;
 pub mod laws;
 mod rows;
 
 pub use ahead::ahead_text;
+pub use bytes::bytes_word;
 pub use rows::{Row, rows_between};

@@ -19,6 +19,7 @@ use Rattle.cx_source.specs.Faults.{line_faults, source_from, source_in}
 use Rattle.cx_source.specs.Lines.{text_of}
 use Rattle.cx_source.specs.Mended.{source_read}
 use Rattle.cx_source.specs.Statements.{up_to_end}
+use Rattle.cx_source.specs.declared.source.Item.{Item}
 use Rattle.cx_source.specs.declared.source.Source.{Source}
 use Rattle.cx_source.specs.declared.source.SourceFault.{SourceFault}
 use Rattle.cx_translate.specs.Facts.Mended.{translation_whole}
@@ -31,7 +32,7 @@ use Rattle.cx_asm_build.specs.declared.faults.PrepareFault.{PrepareFault}
 use Rattle.cx_asm_build.specs.declared.faults.PrepareFault.TheVariants.{At, Memory}
 use Rattle.cx_asm_build.specs.declared.faults.SourceKind.{SourceKind}
 use Rattle.cx_asm_build.specs.declared.program.Prepared.{Prepared}
-use Rattle.cx_look_faults.specs.Faults.{base_lines, by_number, faults_of, faulty, faulty_line, faulty_lines, follows, has_section, is_unaddressed, lines_by_stages, lost_from, of_pass, put_line, without_following}
+use Rattle.cx_look_faults.specs.Faults.{base_lines, by_number, faults_of, faulty, faulty_line, faulty_lines, follows, has_section, is_adrift, is_bad_operand, is_unaddressed, lines_by_stages, lost_from, of_pass, put_line, unknown_after, without_adrift, without_following}
 use Rattle.cx_look_faults.specs.Laws.First.{Has, IsAmong, fault_of}
 use Rattle.cx_look_faults.specs.declared.faults.FaultyLine.{FaultyLine}
 
@@ -97,6 +98,22 @@ first_line Memory rest more h = absurd (h refl)
 no_memory : (fault : PrepareFault) (due : Result Prepared PrepareFault) → due ≡ Err fault → due ≢ Err Memory → fault ≢ Memory
 no_memory fault due e h = λ m. h (e ∙ ap (λ f. Err f) m)
 
+-- the first pass: its first fault is never adrift
+not_adrift : (items : List Item) (fault : FaultyLine) → is_adrift items None fault ≡ false
+unfolding is_adrift
+not_adrift items fault = go (is_bad_operand fault.kind)
+  where
+    go : (b : Bool) → (b && false) ≡ false
+    go true = refl
+    go false = refl
+
+placed_first : (items : List Item) (fault : PrepareFault) (rest more : List FaultyLine) → fault ≢ Memory
+    → Some fault ≡ first_of (without_adrift items None (cons_option (faulty_line fault) rest) ++ more)
+placed_first items (At line kind) rest more h =
+    let one = faulty line kind in
+    sym (ap (λ (b : Bool). first_of ((cond b [] (one ∷ []) ++ without_adrift items (unknown_after None line kind) rest) ++ more)) (not_adrift items one))
+placed_first items Memory rest more h = absurd (h refl)
+
 -- the second pass: its first fault follows from nothing
 not_following : (fault : FaultyLine) → follows None fault ≡ false
 unfolding follows
@@ -127,7 +144,8 @@ later_reported listing disassembly made (Err fault) (f ∷ more) e h =
 -- ---- all stages, by what each finds
 abbrev stages : List SourceFault → List TransFault → Source → List FaultyLine
 stages unread untranslated made =
-    let earlier = faulty_lines of_source unread ++ (faulty_lines of_translation untranslated ++ faulty_lines of_pass (place_faults made)) in
+    let earlier = faulty_lines of_source unread ++ (faulty_lines of_translation untranslated
+    ++ without_adrift made.items None (faulty_lines of_pass (place_faults made))) in
     earlier ++ without_following (has_section made.items) (base_lines made.items) (fold (lost_from (has_section made.items) (base_lines made.items)) None earlier) (faulty_lines of_pass (later_faults made))
 
 first_lines : (fault : PrepareFault) (rest more last : List FaultyLine) → fault ≢ Memory → Some fault ≡ first_of ((cons_option (faulty_line fault) rest ++ more) ++ last)
@@ -138,14 +156,14 @@ first_lines Memory rest more last h = absurd (h refl)
 passes_reported : (listing disassembly : Bool) (made : Source) (due : Result AssemblyParts AsmFault) (first : List LineFault) (more : List FaultyLine)
     → result_err due ≡ option_map fault_at (slice_get (first_found first (later_faults made)) 0) → prepared.by_assembly listing disassembly due ≢ Err Memory
     → (first ≡ [] → more ≡ without_following (has_section made.items) (base_lines made.items) None (faulty_lines of_pass (later_faults made)))
-    → Tells (prepared.by_assembly listing disassembly due) (faulty_lines of_pass first ++ more)
+    → Tells (prepared.by_assembly listing disassembly due) (without_adrift made.items None (faulty_lines of_pass first) ++ more)
 passes_reported listing disassembly made due [] more e h is =
     subst (Tells (prepared.by_assembly listing disassembly due)) (sym (is refl)) (later_reported listing disassembly made due (later_faults made) e h)
 passes_reported listing disassembly made (Ok parts) (f ∷ first) more e h is = absurd (cc)
 passes_reported listing disassembly made (Err fault) (f ∷ first) more e h is =
     let same : fault ≡ fault_at f = cc in
     ap (λ x. Some (of_assembly x)) same
-    ∙ first_line (of_pass f) (faulty_lines of_pass first) more (no_memory (of_pass f) (Err (of_assembly fault)) (ap (λ x. Err (of_assembly x)) same) h)
+    ∙ placed_first made.items (of_pass f) (faulty_lines of_pass first) more (no_memory (of_pass f) (Err (of_assembly fault)) (ap (λ x. Err (of_assembly x)) same) h)
 
 assembled_reported : (listing disassembly : Bool) (made : Source) → prepared.by_assembly listing disassembly (assembly_of made) ≢ Err Memory
     → Tells (prepared.by_assembly listing disassembly (assembly_of made)) (stages [] [] made)
@@ -153,7 +171,8 @@ unfolding assembly_faults
 assembled_reported listing disassembly made h =
     passes_reported listing disassembly made (assembly_of made) (place_faults made) _ (assembly.first_is_reported made) h
     (λ none. ap (λ first. without_following (has_section made.items) (base_lines made.items)
-    (fold (lost_from (has_section made.items) (base_lines made.items)) None (faulty_lines of_pass first)) (faulty_lines of_pass (later_faults made))) none)
+    (fold (lost_from (has_section made.items) (base_lines made.items)) None (without_adrift made.items None (faulty_lines of_pass first)))
+    (faulty_lines of_pass (later_faults made))) none)
 
 -- the translation
 translated_reported : (listing disassembly : Bool) (whole made : Source) (faults : List TransFault) → (faults ≡ [] → made ≡ whole)

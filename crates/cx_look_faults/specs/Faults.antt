@@ -1,8 +1,8 @@
 -- The faulty lines of a source: of its lines, its EXEC statements and its assembly, each stage on what the one before
 -- gives in spite of its faults (own).
-use Rattle.std.specs.Prelude.{ℕ, Bool, true, false, ◌&&◌, ◌||◌, not, ◌==◌, min, nat_lt, if◌then◌else◌, Option, Some, None, List, [], ◌∷◌, ◌++◌, codes, filter, fold, is_some, map}
+use Rattle.std.specs.Prelude.{ℕ, Bool, true, false, ◌&&◌, ◌||◌, not, ◌==◌, min, nat_lt, if◌then◌else◌, Option, Some, None, List, [], ◌∷◌, ◌++◌, codes, filter, fold, is_some, map, reverse}
 use Rattle.std.specs.BTreeMap.{insert_entry, is_at}
-use Rattle.std.specs.List.{filter_map, list_any}
+use Rattle.std.specs.List.{filter_map, find, list_any}
 use Rattle.std.specs.Map.{lookup}
 use Rattle.std.specs.Option.{option_map_or}
 use Rattle.std.specs.Ordering.{nat_cmp}
@@ -19,7 +19,7 @@ use Rattle.cx_asm_build.specs.Kinds.{of_assembly, of_source, of_translation}
 use Rattle.cx_asm_build.specs.declared.faults.PrepareFault.{PrepareFault}
 use Rattle.cx_asm_build.specs.declared.faults.PrepareFault.TheVariants.{At, Memory}
 use Rattle.cx_asm_build.specs.declared.faults.SourceKind.{SourceKind}
-use Rattle.cx_asm_build.specs.declared.faults.SourceKind.TheVariants.{NoAddressability}
+use Rattle.cx_asm_build.specs.declared.faults.SourceKind.TheVariants.{BadOperand, NoAddressability, UnknownOperation}
 use Rattle.cx_look_faults.specs.declared.faults.FaultyLine.{FaultyLine}
 
 abbrev pub faulty : ℕ → SourceKind → FaultyLine
@@ -37,10 +37,12 @@ abbrev pub of_pass : LineFault → PrepareFault
 of_pass fault = of_assembly (fault_at fault)
 
 -- ---- what bases depend on
--- a USING begins on a line, or a section
+-- a section begins on a line; a USING or a section
+abbrev pub begins_any : Item → Bool
+begins_any item = begins_section item || has_operation (codes "DSECT") item.stmt
+
 unfoldable pub sets_bases : Item → Bool
-sets_bases item =
-    has_operation (codes "USING") item.stmt || has_operation (codes "DSECT") item.stmt || begins_section item
+sets_bases item = has_operation (codes "USING") item.stmt || begins_any item
 
 abbrev pub base_lines : List Item → List ℕ
 base_lines items = map (λ item. item.line) (filter sets_bases items)
@@ -71,35 +73,72 @@ without_following has lines from [] = []
 without_following has lines from (fault ∷ more) =
     (if follows from fault then [] else fault ∷ []) ++ without_following has lines (lost_from has lines from fault) more
 
+-- ---- sections that don't begin
+-- the last line before this one on which a section begins
+abbrev pub section_before : List Item → ℕ → Option Item
+section_before items number = find (λ item. nat_lt item.line number && begins_any item) (reverse items)
+
+-- An unknown operation outside the control section may be that of a section. So the first BadOperand after it isn't
+-- reported, where no section begins between: it says that what stands there may not stand outside one.
+abbrev pub is_outside : List Item → ℕ → ℕ → Bool
+is_outside items unknown number =
+    option_map_or (λ item. nat_lt item.line unknown && not (begins_section item)) (section_before items number) true
+
+abbrev pub is_bad_operand : SourceKind → Bool
+is_bad_operand BadOperand = true
+is_bad_operand kind = false
+
+unfoldable pub is_adrift : List Item → Option ℕ → FaultyLine → Bool
+is_adrift items unknown fault =
+    is_bad_operand fault.kind && option_map_or (λ line. is_outside items line fault.line) unknown false
+
+-- the line of an unknown operation after which there was no BadOperand, after one more fault
+abbrev pub unknown_after : Option ℕ → ℕ → SourceKind → Option ℕ
+unknown_after before line UnknownOperation = Some line
+unknown_after before line BadOperand = None
+unknown_after before line kind = before
+
+abbrev pub without_adrift : List Item → Option ℕ → List FaultyLine → List FaultyLine
+without_adrift items unknown [] = []
+without_adrift items unknown (fault ∷ more) =
+    (if is_adrift items unknown fault then [] else fault ∷ [])
+    ++ without_adrift items (unknown_after unknown fault.line fault.kind) more
+
 -- ---- the stages
 -- those of its lines, of its EXEC statements and of the first pass over what they are made into
 abbrev pub earlier_lines : List (List ℕ) → Source → Source → List FaultyLine
 earlier_lines all read made =
     faulty_lines of_source (line_faults false 1 all)
-    ++ (faulty_lines of_translation (statement_faults read.items) ++ faulty_lines of_pass (place_faults made))
+    ++ (faulty_lines of_translation (statement_faults read.items)
+    ++ without_adrift made.items None (faulty_lines of_pass (place_faults made)))
 
 -- those of the second pass, too
 abbrev pub stage_lines : List (List ℕ) → Source → Source → List FaultyLine
 stage_lines all read made =
     let earlier = earlier_lines all read made in
     let has = has_section made.items in let lines = base_lines made.items in
-    earlier ++ without_following has lines (fold (lost_from has lines) None earlier)
-    (faulty_lines of_pass (later_faults made))
+    earlier
+    ++ without_following has lines (fold (lost_from has lines) None earlier) (faulty_lines of_pass (later_faults made))
 
 abbrev pub lines_by_stages : List (List ℕ) → List FaultyLine
 lines_by_stages all = stage_lines all (source_read all) (mended_source (source_read all))
 
 -- ---- by number
+-- the fault of a line, of those by the lines' numbers
+abbrev pub kind_at : List (ℕ × SourceKind) → ℕ → Option SourceKind
+kind_at sorted line = lookup (is_at (nat_cmp line)) sorted
+
 -- A line has its place by its number, and keeps the fault that it has.
 unfoldable pub put_line : List (ℕ × SourceKind) → FaultyLine → List (ℕ × SourceKind)
 put_line sorted fault =
-    if is_some (lookup (is_at (nat_cmp fault.line)) sorted) then sorted
-    else insert_entry nat_cmp sorted fault.line fault.kind
+    if is_some (kind_at sorted fault.line) then sorted else insert_entry nat_cmp sorted fault.line fault.kind
+
+abbrev pub kinds_of : List FaultyLine → List (ℕ × SourceKind)
+kinds_of faults = fold put_line [] faults
 
 abbrev pub by_number : List FaultyLine → List FaultyLine
-by_number faults = map (λ entry. faulty entry.0 entry.1) (fold put_line [] faults)
+by_number faults = map (λ entry. faulty entry.0 entry.1) (kinds_of faults)
 
--- the faulty lines of the source that lines make, ascending, each with the lowest fault of the first stage that finds
--- one
+-- the faulty lines of the source that lines make, ascending, each with the lowest fault of the first stage that finds one
 unfoldable pub faults_of : List (List ℕ) → List FaultyLine
 faults_of all = by_number (lines_by_stages all)

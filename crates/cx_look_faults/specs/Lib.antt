@@ -7,5 +7,6 @@ pub mod Commands
 pub mod Marks
 pub mod Notes
 pub mod Laws
+pub mod Parts
 pub use Rattle.cx_asm_build.specs.Kinds
 pub use Rattle.cx_asm_build.specs.Prepared

@@ -12,13 +12,13 @@ use Rattle.cx_source.specs.declared.source.Item.{Item}
 use Rattle.cx_source.specs.declared.source.Source.{Source}
 use Rattle.cx_source.specs.declared.source.Stmt.{Stmt}
 use Rattle.cx_translate.specs.Translation.{mended_source}
-use Rattle.cx_asm_operands.specs.Bases.{none_in_use}
 use Rattle.cx_asm_pass2.specs.Statements.{statements_of}
 use Rattle.cx_asm_pass2.specs.Whole.{whole_of}
 use Rattle.cx_asm_build.specs.declared.faults.SourceKind.{SourceKind}
 use Rattle.cx_asm_build.specs.declared.faults.SourceKind.TheVariants as kind
 use Rattle.cx_look_faults.specs.Commands.{missing, word_at_fault}
-use Rattle.cx_look_faults.specs.Operands.{parts_along}
+use Rattle.cx_look_faults.specs.Faults.{kind_at, kinds_of}
+use Rattle.cx_look_faults.specs.Operands.{parts_in}
 use Rattle.cx_look_faults.specs.Spans.{is_bracket, span, text_in}
 use Rattle.cx_look_faults.specs.declared.faults.FaultyLine.{FaultyLine}
 use Rattle.cx_look_faults.specs.declared.marks.Mark.{Mark}
@@ -185,7 +185,7 @@ mark_of lines items parts fault = record {
 
 -- where the part at fault is of each faulty line of the source that lines make
 abbrev pub parts_of : Source → List FaultyLine → List OperandPart
-parts_of made faults = parts_along (whole_of made) faults none_in_use (statements_of made)
+parts_of made faults = parts_in (whole_of made) (kind_at (kinds_of faults)) (statements_of made)
 
 unfoldable pub marks_of : List (List ℕ) → List FaultyLine → List Mark
 marks_of lines faults =

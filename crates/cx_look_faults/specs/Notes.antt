@@ -1,5 +1,5 @@
--- What is accepted and is most likely not meant: in an EXEC statement an address where a value is due, and a literal
--- where the command writes; in a DC `*` in an item of several copies (own).
+-- What is accepted and is most likely not meant: in an EXEC statement an address where a value is due, and a literal where
+-- the command writes; in a DC `*` in an item of several copies (own).
 use Rattle.std.specs.Prelude.{ℕ, Bool, ◌&&◌, false, if◌then◌else◌, is_none, nat_le, nat_lt, Option, Some, None, List, [], ◌++◌, codes, option_and_then, option_map}
 use Rattle.std.specs.List.{filter_map, find, flat_map, list_all, list_any}
 use Rattle.std.specs.Option.{option_map_or}
@@ -21,9 +21,10 @@ use Rattle.cx_asm_expressions.specs.Items.{Constant, constant_in, parenthesized_
 use Rattle.cx_asm_expressions.specs.declared.values.Value.{Value}
 use Rattle.cx_asm_operands.specs.Storage.{is_literal}
 use Rattle.cx_asm_pass2.specs.Whole.{Whole, whole_of}
+use Rattle.cx_asm_build.specs.declared.faults.SourceKind.{SourceKind}
 use Rattle.cx_look_faults.specs.Commands.{command_of, is_word, phrases, words_after, words_of, written_phrase}
+use Rattle.cx_look_faults.specs.Faults.{kind_at, kinds_of}
 use Rattle.cx_look_faults.specs.Marks.{part_spot}
-use Rattle.cx_look_faults.specs.Operands.{kind_on}
 use Rattle.cx_look_faults.specs.Spans.{cells_of, span, spans_of, text_in}
 use Rattle.cx_look_faults.specs.declared.commands.Phrase.{Phrase}
 use Rattle.cx_look_faults.specs.declared.faults.FaultyLine.{FaultyLine}
@@ -128,12 +129,15 @@ notes_of_stmt whole items item stmt =
     else (if bytes_eq stmt.operation (codes "DC")
     then filter_map (note_of_item items item stmt) (spans_of (cells_of Operands stmt.operand)) else [])
 
--- of a line without a fault
-unfoldable pub notes_on : Whole → List FaultyLine → List Item → Item → List Note
-notes_on whole faults items item =
-    if is_none (kind_on faults item.line) then option_map_or (notes_of_stmt whole items item) item.stmt [] else []
+-- of a line without a fault, by what the fault of a line is
+unfoldable pub notes_on : Whole → (ℕ → Option SourceKind) → List Item → Item → List Note
+notes_on whole kind_of items item =
+    if is_none (kind_of item.line) then option_map_or (notes_of_stmt whole items item) item.stmt [] else []
+
+unfoldable pub notes_in : Whole → (ℕ → Option SourceKind) → List Item → List Note
+notes_in whole kind_of items = flat_map (notes_on whole kind_of items) items
 
 -- the notes of the source that lines make, whose faulty lines are these
 unfoldable pub notes_of : List (List ℕ) → List FaultyLine → List Note
 notes_of lines faults =
-    let read = source_read lines in flat_map (notes_on (whole_of (mended_source read)) faults read.items) read.items
+    let read = source_read lines in notes_in (whole_of (mended_source read)) (kind_at (kinds_of faults)) read.items

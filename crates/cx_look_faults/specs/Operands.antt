@@ -1,14 +1,14 @@
 -- The part of an operand that is at fault (own).
-use Rattle.std.specs.Prelude.{ℕ, ◌-◌, Bool, ◌&&◌, ◌||◌, not, ◌==◌, if◌then◌else◌, Option, Some, None, option_map, List, [], ◌∷◌, ◌++◌, length, slice_get, unwrap_or}
-use Rattle.std.specs.List.{find}
-use Rattle.std.specs.Option.{option_or, option_to_list}
+use Rattle.std.specs.Prelude.{ℕ, ◌-◌, Bool, ◌&&◌, ◌||◌, not, ◌==◌, if◌then◌else◌, Option, Some, None, fold, option_and_then, option_map, List, length, slice_get, take, unwrap_or}
+use Rattle.std.specs.List.{enumerate_from, filter_map, find}
+use Rattle.std.specs.Option.{option_or}
 use Rattle.std.specs.Result.{result_err}
 use Rattle.std.specs.Str.{byte}
 use Rattle.cx_asm_expressions.specs.Expressions.{value_of}
 use Rattle.cx_asm_operations.specs.declared.operations.Operation.{Operation}
 use Rattle.cx_asm_operations.specs.declared.operations.Operation.TheVariants as operation
 use Rattle.cx_asm_operations.specs.declared.operations.Directive.TheVariants as directive
-use Rattle.cx_asm_operands.specs.Bases.{Bases}
+use Rattle.cx_asm_operands.specs.Bases.{Bases, none_in_use}
 use Rattle.cx_asm_operands.specs.Forms.{literal_in}
 use Rattle.cx_asm_pass2.specs.SecondFaults.{bases_after}
 use Rattle.cx_asm_pass2.specs.Statements.{PlacedStatement, operation_of}
@@ -17,7 +17,6 @@ use Rattle.cx_asm_build.specs.declared.faults.SourceKind.{SourceKind}
 use Rattle.cx_asm_build.specs.declared.faults.SourceKind.TheVariants as kind
 use Rattle.cx_look_faults.specs.Judging.{has_fault, is_kind}
 use Rattle.cx_look_faults.specs.Spans.{cells_of, span, spans_of, text_in, with_zeros}
-use Rattle.cx_look_faults.specs.declared.faults.FaultyLine.{FaultyLine}
 use Rattle.cx_look_faults.specs.declared.operands.OperandPart.{OperandPart}
 use Rattle.cx_look_faults.specs.declared.spans.Cell.{Cell}
 use Rattle.cx_look_faults.specs.declared.spans.Cut.TheVariants.{Operands, Subfields, Terms}
@@ -61,9 +60,6 @@ last_part s operation kind = None
 abbrev pub is_item : Whole → Bases → PlacedStatement → SourceKind → Span → Bool
 is_item whole bases s kind part = has_fault whole bases s kind (text_in part s.stmt.operand)
 
-abbrev pub item_part : Whole → Bases → PlacedStatement → SourceKind → Option Span
-item_part whole bases s kind = find (is_item whole bases s kind) (spans_of (cells_of Operands s.stmt.operand))
-
 -- a term of an address whose value has it
 abbrev pub begins_term : ℕ → Bool
 begins_term c = c == byte "(" || c == byte "+" || c == byte "-"
@@ -73,33 +69,35 @@ is_term whole s kind part =
     begins_term (unwrap_or (slice_get s.stmt.operand (part.start - 1)) 0)
     && is_kind (result_err (value_of whole.find (counter_of s) (text_in part s.stmt.operand))) kind
 
-abbrev pub term_part : Whole → PlacedStatement → SourceKind → Option Span
-term_part whole s kind = find (is_term whole s kind) (spans_of (cells_of Terms s.stmt.operand))
+-- the first such term, or else the first such item
+abbrev pub constant_part : Whole → Bases → PlacedStatement → SourceKind → Option Span
+constant_part whole bases s kind =
+    option_or (find (is_term whole s kind) (spans_of (cells_of Terms s.stmt.operand)))
+    (find (is_item whole bases s kind) (spans_of (cells_of Operands s.stmt.operand)))
 
 -- ---- the part of a statement's operand that has a fault
 abbrev pub part_by : Whole → Bases → PlacedStatement → SourceKind → Option Operation → Option Span
-part_by whole bases s kind (Some (operation.Directive directive.Dc)) =
-    option_or (term_part whole s kind) (item_part whole bases s kind)
-part_by whole bases s kind (Some (operation.Directive directive.Ds)) =
-    option_or (term_part whole s kind) (item_part whole bases s kind)
+part_by whole bases s kind (Some (operation.Directive directive.Dc)) = constant_part whole bases s kind
+part_by whole bases s kind (Some (operation.Directive directive.Ds)) = constant_part whole bases s kind
 part_by whole bases s kind operation = option_or (smallest_part whole bases s kind) (last_part s operation kind)
 
 unfoldable pub operand_part : Whole → Bases → PlacedStatement → SourceKind → Option Span
 operand_part whole bases s kind = part_by whole bases s kind (operation_of s)
 
--- the fault of a line
-abbrev pub kind_on : List FaultyLine → ℕ → Option SourceKind
-kind_on faults line = option_map (λ fault. fault.kind) (find (λ fault. fault.line == line) faults)
+-- the part of a statement's operand that has a fault of this kind, with the operand and the line
+abbrev pub part_on : Whole → Bases → PlacedStatement → SourceKind → Option OperandPart
+part_on whole bases s kind =
+    option_map (λ part. record { line = s.line; operand = s.stmt.operand; part = part })
+    (operand_part whole bases s kind)
 
-abbrev pub part_on : Whole → Bases → PlacedStatement → Option SourceKind → List OperandPart
-part_on whole bases s None = []
-part_on whole bases s (Some kind) =
-    option_to_list
-    (option_map (λ part. record { line = s.line; operand = s.stmt.operand; part = part })
-    (operand_part whole bases s kind))
+-- the bases in use before the statement at a place
+abbrev pub bases_before : Whole → List PlacedStatement → ℕ → Bases
+bases_before whole statements at = fold (bases_after whole) none_in_use (take at statements)
 
--- those of the statements on faulty lines, where these bases are in use before the first
-abbrev pub parts_along : Whole → List FaultyLine → Bases → List PlacedStatement → List OperandPart
-parts_along whole faults bases [] = []
-parts_along whole faults bases (s ∷ more) =
-    part_on whole bases s (kind_on faults s.line) ++ parts_along whole faults (bases_after whole bases s) more
+-- those of the statements on faulty lines, by what the fault of a line is
+abbrev pub part_at : Whole → (ℕ → Option SourceKind) → List PlacedStatement → ℕ × PlacedStatement → Option OperandPart
+part_at whole kind_of statements entry =
+    option_and_then (part_on whole (bases_before whole statements entry.0) entry.1) (kind_of entry.1.line)
+
+unfoldable pub parts_in : Whole → (ℕ → Option SourceKind) → List PlacedStatement → List OperandPart
+parts_in whole kind_of statements = filter_map (part_at whole kind_of statements) (enumerate_from 0 statements)

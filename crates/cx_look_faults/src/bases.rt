@@ -2,7 +2,7 @@
 
 ghost use Rattle.std.specs.Prelude.{◌≡◌, ◌==◌, IfOk};
 ghost use Rattle.std.specs.List.{list_any};
-ghost use Rattle.cx_look_faults.specs.Faults.{base_lines, has_section, loses_bases, lost_from, sets_bases};
+ghost use Rattle.cx_look_faults.specs.Faults.{base_lines, begins_any, has_section, loses_bases, lost_from, sets_bases};
 ghost use Rattle.cx_translate.specs.Sections.{begins_section, has_operation};
 
 use crate::faults::FaultyLine;
@@ -30,10 +30,17 @@ fn has_operation(item: &Item, operation: &[u8]) -> bool
 
 /// Whether the control section begins or goes on after a line.
 #[tactic(auto, unfolding(cx_translate::specs::Sections::begins_section))]
-fn begins_section(item: &Item) -> bool
+pub(crate) fn begins_section(item: &Item) -> bool
     ensures { result ≡ begins_section item.now }
 {
     has_operation(item, b"CSECT") || has_operation(item, b"START")
+}
+
+/// Whether a section begins on a line.
+pub(crate) fn begins_any(item: &Item) -> bool
+    ensures { result ≡ begins_any item.now }
+{
+    begins_section(item) || has_operation(item, b"DSECT")
 }
 
 /// Whether a USING begins on a line, or a section.
@@ -41,7 +48,7 @@ fn begins_section(item: &Item) -> bool
 fn sets_bases(item: &Item) -> bool
     ensures { result ≡ sets_bases item.now }
 {
-    has_operation(item, b"USING") || has_operation(item, b"DSECT") || begins_section(item)
+    has_operation(item, b"USING") || begins_any(item)
 }
 
 /// Whether a control section begins.

@@ -1,6 +1,6 @@
 //! The faulty lines of a source.
 
-ghost use Rattle.std.specs.Prelude.{◌≡◌, ◌++◌, IfOk, OnOk, fold, map, None};
+ghost use Rattle.std.specs.Prelude.{◌≡◌, ◌++◌, [], IfOk, OnOk, fold, map, None};
 ghost use Rattle.std.specs.Option.{option_to_list};
 ghost use Rattle.cx_asm_build.specs.Kinds.{of_source, of_translation};
 ghost use Rattle.cx_look_faults.specs.Faults.{
@@ -10,6 +10,8 @@ ghost use Rattle.cx_look_faults.specs.Faults.{
   faulty_line,
   faulty_lines,
   follows,
+  kind_at,
+  kinds_of,
   lost_from,
   of_pass,
   put_line,
@@ -17,6 +19,7 @@ ghost use Rattle.cx_look_faults.specs.Faults.{
 };
 
 use crate::bases::BaseLines;
+use crate::sections::push_unadrift;
 use cx_asm::{fault_at, pass_faults};
 use cx_asm_build::{PrepareFault, SourceKind};
 use cx_asm_pass1::LineFault;
@@ -33,6 +36,9 @@ pub struct FaultyLine {
     /// Its fault.
     pub kind: SourceKind,
 }
+
+/// The faults of lines, by the lines' numbers.
+pub(crate) type Kinds = BTreeMap<usize, SourceKind>;
 
 /// Puts the line of a fault at the end of others, if it is of one.
 fn push_line(lines: &mut Vec<FaultyLine>, fault: PrepareFault) -> Result<(), AllocError>
@@ -117,10 +123,7 @@ fn push_others(
 }
 
 /// The lines of a table.
-fn listed(
-    alloc: Global,
-    sorted: &BTreeMap<usize, SourceKind>,
-) -> Result<Vec<FaultyLine>, AllocError>
+fn listed(alloc: Global, sorted: &Kinds) -> Result<Vec<FaultyLine>, AllocError>
     ensures { IfOk result (λ lines. lines.items ≡ map (λ entry. faulty entry.0 entry.1) sorted.now.entries) }
 {
     let mut lines = Vec::new(alloc);
@@ -135,7 +138,7 @@ fn listed(
 
 /// Puts a line in its place by its number; one that is there keeps its fault.
 #[tactic(auto, unfolding(crate::specs::Faults::put_line))]
-fn put_line(sorted: &mut BTreeMap<usize, SourceKind>, fault: FaultyLine) -> Result<(), AllocError>
+fn put_line(sorted: &mut Kinds, fault: FaultyLine) -> Result<(), AllocError>
     ensures { OnOk result (sorted.new.entries ≡ put_line sorted.old.entries fault) }
 {
     if !sorted.contains_key(&fault.line) {
@@ -144,14 +147,32 @@ fn put_line(sorted: &mut BTreeMap<usize, SourceKind>, fault: FaultyLine) -> Resu
     Ok(())
 }
 
-/// The lines in the order of their numbers, each with its first fault.
-fn by_number(alloc: Global, lines: &[FaultyLine]) -> Result<Vec<FaultyLine>, AllocError>
-    ensures { IfOk result (λ sorted. sorted.items ≡ by_number lines.now) }
+/// The first fault of each line, by the line's number.
+pub(crate) fn kinds_of(alloc: Global, lines: &[FaultyLine]) -> Result<Kinds, AllocError>
+    ensures { IfOk result (λ kinds. kinds.entries ≡ kinds_of lines.now) }
 {
     let mut sorted = BTreeMap::new(alloc);
     for fault in lines {
         put_line(&mut sorted, *fault)?;
     }
+    Ok(sorted)
+}
+
+/// The fault of a line.
+pub(crate) fn kind_at(kinds: &Kinds, line: usize) -> Option<SourceKind>
+    ensures { result ≡ kind_at kinds.now.entries line }
+{
+    match kinds.get(&line) {
+        Some(kind) => Some(*kind),
+        None => None,
+    }
+}
+
+/// The lines in the order of their numbers, each with its first fault.
+fn by_number(alloc: Global, lines: &[FaultyLine]) -> Result<Vec<FaultyLine>, AllocError>
+    ensures { IfOk result (λ sorted. sorted.items ≡ by_number lines.now) }
+{
+    let sorted = kinds_of(alloc, lines)?;
     listed(alloc, &sorted)
 }
 
@@ -163,9 +184,11 @@ fn by_number(alloc: Global, lines: &[FaultyLine]) -> Result<Vec<FaultyLine>, All
 /// goes on after a fault, and the next one takes what it gives in spite of its faults: a line that continues a statement
 /// wrongly begins anew, DS 0H stands for an EXEC statement at fault, a faulty statement of the first pass defines and
 /// takes what is known of it in spite of its fault. Of a line that several stages find at fault the first one's fault
-/// comes, and of that stage the lowest. After a line with a USING or the beginning of a section that is at fault, and
-/// after any faulty line where no control section begins, NoAddressability isn't reported. The fault that
-/// `cx_asm_build::prepare` refuses the source for is one of them. An error comes only where an allocation failed.
+/// comes, and of that stage the lowest. After an unknown operation outside the control section, which may have been meant
+/// to begin a section, the first BadOperand of the first pass isn't reported, where no section begins between. After a
+/// line with a USING or the beginning of a section that is at fault, and after any faulty line where no control section
+/// begins, NoAddressability isn't reported. The fault that `cx_asm_build::prepare` refuses the source for is one of them.
+/// An error comes only where an allocation failed.
 #[tactic(auto, unfolding(crate::specs::Faults::faults_of))]
 pub fn faults_of(alloc: Global, lines: &[Text]) -> Result<Vec<FaultyLine>, AllocError>
     ensures { IfOk result (λ all. all.items ≡ faults_of lines.now) }
@@ -176,7 +199,9 @@ pub fn faults_of(alloc: Global, lines: &[Text]) -> Result<Vec<FaultyLine>, Alloc
     let mut all = Vec::new(alloc);
     push_unread(&mut all, unread.as_slice())?;
     push_untranslated(&mut all, untranslated.as_slice())?;
-    push_unassembled(&mut all, first.as_slice())?;
+    let mut placed = Vec::new(alloc);
+    push_unassembled(&mut placed, first.as_slice())?;
+    push_unadrift(&mut all, made.items.as_slice(), placed.as_slice())?;
     let mut later = Vec::new(alloc);
     push_unassembled(&mut later, second.as_slice())?;
     let bases = BaseLines::of(alloc, made.items.as_slice())?;

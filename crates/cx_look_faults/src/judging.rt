@@ -1,6 +1,6 @@
 //! What is wrong with an operand by itself.
 
-ghost use Rattle.std.specs.Prelude.{◌≡◌, IfOk, Some};
+ghost use Rattle.std.specs.Prelude.{◌≡◌, IfOk, Result, Some};
 ghost use Rattle.cx_asm_pass2.specs.Statements.{operation_of};
 ghost use Rattle.cx_asm_pass2.specs.Whole.{whole_by};
 ghost use Rattle.std.specs.Result.{result_err};
@@ -10,7 +10,7 @@ ghost use Rattle.cx_asm_operands.specs.Forms.{instruction_or_fault, operands_of}
 ghost use Rattle.cx_asm_operands.specs.Bases.{none_in_use};
 ghost use Rattle.cx_asm_expressions.specs.Expressions.{value_of};
 ghost use Rattle.cx_asm_operations.specs.declared.operations.Operation.TheVariants as operation;
-ghost use Rattle.cx_asm_pass2.specs.Whole.{counter_of, directive_context, item_made};
+ghost use Rattle.cx_asm_pass2.specs.Whole.{counter_of, directive_context};
 ghost use Rattle.cx_look_faults.specs.Judging.{exec_source, fault_of_operand, has_exec_fault, has_fault, is_kind, literal_fault, part_context};
 
 use cx_asm_build::{PrepareFault, SourceKind};
@@ -36,184 +36,166 @@ pub(crate) fn is_kind(fault: Option<FaultKind>, kind: SourceKind) -> bool
     }
 }
 
-/// What is wrong with an operand that is a literal, if the last one is.
-fn literal_fault(
-    alloc: Global,
-    places: &Places<'_>,
-    statement: &Statement<'_>,
-    operand: &[u8],
-) -> Result<Option<FaultKind>, AllocError>
-    ensures { IfOk result (λ fault. fault ≡ literal_fault (whole_by places.now) statement.now operand.now) }
+/// What is wrong, by the answer of what reads a text.
+fn fault_in<T: Drop>(answer: Result<T, TermFault>) -> Result<Option<FaultKind>, AllocError>
+    ensures { (due : Result T FaultKind) → Answers due answer → IfOk result (λ fault. fault ≡ result_err due) }
 {
-    let Some(part) = literal_in(alloc, operand)? else {
-        return Ok(None);
-    };
-    match literal_text(part) {
-        Some(text) => made_fault(alloc, places, false, counter_of(statement), text),
-        None => Ok(None),
-    }
-}
-
-/// What is wrong with the operand of an instruction.
-fn instruction_fault(
-    alloc: Global,
-    places: &Places<'_>,
-    bases: &Bases,
-    statement: &Statement<'_>,
-    operation: Operation,
-    operand: &[u8],
-) -> Result<Option<FaultKind>, AllocError>
-    ensures { let c = part_context (whole_by places.now) bases.now statement.now in
-        IfOk result (λ fault. fault ≡ result_err (instruction_or_fault operation c operand.now)) }
-{
-    let literal = Some(Value::absolute(0));
-    let context = Context::new(&places.symbols, counter_of(statement), bases, literal);
-    match resolve(alloc, &context, operation, operand) {
+    match answer {
         Ok(_) => Ok(None),
         Err(TermFault::Refused(fault)) => Ok(Some(fault)),
         Err(TermFault::Memory) => Err(AllocError),
     }
 }
 
-/// What is wrong with the operand of a USING.
-fn using_fault(
-    alloc: Global,
-    places: &Places<'_>,
-    bases: &Bases,
-    statement: &Statement<'_>,
-    operand: &[u8],
-) -> Result<Option<FaultKind>, AllocError>
-    ensures { let c = directive_context (whole_by places.now) bases.now statement.now in
-        IfOk result (λ fault. fault ≡ result_err (using_in c (operands_of operand.now))) }
-{
-    let context = Context::new(&places.symbols, counter_of(statement), bases, None);
-    match read_using(alloc, &context, operand) {
-        Ok(_) => Ok(None),
-        Err(TermFault::Refused(fault)) => Ok(Some(fault)),
-        Err(TermFault::Memory) => Err(AllocError),
-    }
+/// A statement, where these bases are in use: a fault of a kind is sought in what might be its operand.
+#[derive(Clone, Copy)]
+pub(crate) struct Case<'a, 'p, 's> {
+    /// Where everything of the source is.
+    pub(crate) places: &'a Places<'p>,
+    /// The bases in use.
+    pub(crate) bases: &'a Bases,
+    /// The statement.
+    pub(crate) statement: &'a Statement<'s>,
+    /// The fault.
+    pub(crate) kind: SourceKind,
 }
 
-/// What is wrong with the operand of a DROP.
-fn drop_fault(
-    alloc: Global,
-    places: &Places<'_>,
-    bases: &Bases,
-    statement: &Statement<'_>,
-    operand: &[u8],
-) -> Result<Option<FaultKind>, AllocError>
-    ensures { let c = directive_context (whole_by places.now) bases.now statement.now in
-        IfOk result (λ fault. fault ≡ result_err (drop_in c operand.now)) }
-{
-    let context = Context::new(&places.symbols, counter_of(statement), bases, None);
-    match read_drop(alloc, &context, operand) {
-        Ok(_) => Ok(None),
-        Err(TermFault::Refused(fault)) => Ok(Some(fault)),
-        Err(TermFault::Memory) => Err(AllocError),
-    }
-}
-
-/// What is wrong with the operand of an END.
-fn end_fault(
-    alloc: Global,
-    places: &Places<'_>,
-    statement: &Statement<'_>,
-    operand: &[u8],
-) -> Result<Option<FaultKind>, AllocError>
-    ensures { let whole = whole_by places.now in let c = directive_context whole none_in_use statement.now in
-        IfOk result (λ fault. fault ≡ result_err (entry_in whole.control c operand.now)) }
-{
-    let bases = Bases::new();
-    let context = Context::new(&places.symbols, counter_of(statement), &bases, None);
-    match read_entry(alloc, &context, control_name(places), operand) {
-        Ok(_) => Ok(None),
-        Err(TermFault::Refused(fault)) => Ok(Some(fault)),
-        Err(TermFault::Memory) => Err(AllocError),
-    }
-}
-
-/// What is wrong with the value of an expression.
-pub(crate) fn value_fault(
-    alloc: Global,
-    places: &Places<'_>,
-    statement: &Statement<'_>,
-    text: &[u8],
-) -> Result<Option<FaultKind>, AllocError>
-    ensures { let whole = whole_by places.now in
-        IfOk result (λ fault. fault ≡ result_err (value_of whole.find (counter_of statement.now) text.now)) }
-{
-    let here = counter_of(statement);
-    match value_of(alloc, text, &places.symbols, here.as_ref()) {
-        Ok(_) => Ok(None),
-        Err(TermFault::Refused(fault)) => Ok(Some(fault)),
-        Err(TermFault::Memory) => Err(AllocError),
-    }
-}
-
-/// What is wrong with the operand of a directive.
-fn directive_fault(
-    alloc: Global,
-    places: &Places<'_>,
-    bases: &Bases,
-    statement: &Statement<'_>,
-    directive: Directive,
-    operand: &[u8],
-) -> Result<Option<FaultKind>, AllocError>
-    ensures { let whole = whole_by places.now in let it = Some (operation.Directive directive) in
-        IfOk result (λ fault. fault ≡ fault_of_operand whole bases.now statement.now operand.now it) }
-{
-    let here = counter_of(statement);
-    match directive {
-        Directive::Dc => made_fault(alloc, places, false, here, operand),
-        Directive::Ds => made_fault(alloc, places, true, here, operand),
-        Directive::Equ => value_fault(alloc, places, statement, operand),
-        Directive::Using => using_fault(alloc, places, bases, statement, operand),
-        Directive::Drop => drop_fault(alloc, places, bases, statement, operand),
-        Directive::End => end_fault(alloc, places, statement, operand),
-        Directive::Copy => Ok(copy_fault(operand)),
-        _ => Ok(None),
-    }
-}
-
-/// What is wrong with an operand, if a statement of this operation had it.
-fn fault_of_operand(
-    alloc: Global,
-    places: &Places<'_>,
-    bases: &Bases,
-    statement: &Statement<'_>,
-    operand: &[u8],
-) -> Result<Option<FaultKind>, AllocError>
-    ensures { let whole = whole_by places.now in let it = operation_of statement.now in
-        IfOk result (λ fault. fault ≡ fault_of_operand whole bases.now statement.now operand.now it) }
-{
-    match statement.operation() {
-        None => Ok(None),
-        Some(Operation::Directive(directive)) => {
-            directive_fault(alloc, places, bases, statement, directive, operand)
-        }
-        Some(operation) => {
-            let made = instruction_fault(alloc, places, bases, statement, operation, operand)?;
-            let literal = literal_fault(alloc, places, statement, operand)?;
-            Ok(lower(made, literal))
+impl Case<'_, '_, '_> {
+    /// What is wrong with an operand that is a literal, if the last one is.
+    fn literal_fault(&self, alloc: Global, operand: &[u8]) -> Result<Option<FaultKind>, AllocError>
+        ensures { let c = self.now in
+            IfOk result (λ fault. fault ≡ literal_fault (whole_by c.places.now) c.statement.now operand.now) }
+    {
+        let Some(part) = literal_in(alloc, operand)? else {
+            return Ok(None);
+        };
+        match literal_text(part) {
+            Some(text) => made_fault(alloc, self.places, false, counter_of(self.statement), text),
+            None => Ok(None),
         }
     }
-}
 
-/// Whether a statement has a fault of a kind where this is its operand.
-#[tactic(auto, unfolding(crate::specs::Judging::has_fault))]
-pub(crate) fn has_fault(
-    alloc: Global,
-    places: &Places<'_>,
-    bases: &Bases,
-    statement: &Statement<'_>,
-    kind: SourceKind,
-    operand: &[u8],
-) -> Result<bool, AllocError>
-    ensures { let whole = whole_by places.now in
-        IfOk result (λ has. has ≡ has_fault whole bases.now statement.now kind operand.now) }
-{
-    let fault = fault_of_operand(alloc, places, bases, statement, operand)?;
-    Ok(is_kind(fault, kind))
+    /// What is wrong with the operand of an instruction.
+    fn instruction_fault(
+        &self,
+        alloc: Global,
+        operation: Operation,
+        operand: &[u8],
+    ) -> Result<Option<FaultKind>, AllocError>
+        ensures { let c = self.now in let by = part_context (whole_by c.places.now) c.bases.now c.statement.now in
+            IfOk result (λ fault. fault ≡ result_err (instruction_or_fault operation by operand.now)) }
+    {
+        let literal = Some(Value::absolute(0));
+        let here = counter_of(self.statement);
+        let context = Context::new(&self.places.symbols, here, self.bases, literal);
+        fault_in(resolve(alloc, &context, operation, operand))
+    }
+
+    /// What is wrong with the operand of a USING.
+    fn using_fault(&self, alloc: Global, operand: &[u8]) -> Result<Option<FaultKind>, AllocError>
+        ensures { let c = self.now in let by = directive_context (whole_by c.places.now) c.bases.now c.statement.now in
+            IfOk result (λ fault. fault ≡ result_err (using_in by (operands_of operand.now))) }
+    {
+        let here = counter_of(self.statement);
+        let context = Context::new(&self.places.symbols, here, self.bases, None);
+        fault_in(read_using(alloc, &context, operand))
+    }
+
+    /// What is wrong with the operand of a DROP.
+    fn drop_fault(&self, alloc: Global, operand: &[u8]) -> Result<Option<FaultKind>, AllocError>
+        ensures { let c = self.now in let by = directive_context (whole_by c.places.now) c.bases.now c.statement.now in
+            IfOk result (λ fault. fault ≡ result_err (drop_in by operand.now)) }
+    {
+        let here = counter_of(self.statement);
+        let context = Context::new(&self.places.symbols, here, self.bases, None);
+        fault_in(read_drop(alloc, &context, operand))
+    }
+
+    /// What is wrong with the operand of an END.
+    fn end_fault(&self, alloc: Global, operand: &[u8]) -> Result<Option<FaultKind>, AllocError>
+        ensures { let c = self.now in let whole = whole_by c.places.now in
+            let by = directive_context whole none_in_use c.statement.now in
+            IfOk result (λ fault. fault ≡ result_err (entry_in whole.control by operand.now)) }
+    {
+        let bases = Bases::new();
+        let here = counter_of(self.statement);
+        let context = Context::new(&self.places.symbols, here, &bases, None);
+        fault_in(read_entry(alloc, &context, control_name(self.places), operand))
+    }
+
+    /// What is wrong with the value of an expression.
+    pub(crate) fn value_fault(
+        &self,
+        alloc: Global,
+        text: &[u8],
+    ) -> Result<Option<FaultKind>, AllocError>
+        ensures { let c = self.now in let whole = whole_by c.places.now in
+            IfOk result (λ fault. fault ≡ result_err (value_of whole.find (counter_of c.statement.now) text.now)) }
+    {
+        let here = counter_of(self.statement);
+        match value_of(alloc, text, &self.places.symbols, here.as_ref()) {
+            Ok(_) => Ok(None),
+            Err(TermFault::Refused(fault)) => Ok(Some(fault)),
+            Err(TermFault::Memory) => Err(AllocError),
+        }
+    }
+
+    /// What is wrong with the operand of a directive.
+    fn directive_fault(
+        &self,
+        alloc: Global,
+        directive: Directive,
+        operand: &[u8],
+    ) -> Result<Option<FaultKind>, AllocError>
+        ensures { let c = self.now in let it = Some (operation.Directive directive) in
+            let due = fault_of_operand (whole_by c.places.now) c.bases.now c.statement.now operand.now it in
+            IfOk result (λ fault. fault ≡ due) }
+    {
+        let here = counter_of(self.statement);
+        match directive {
+            Directive::Dc => made_fault(alloc, self.places, false, here, operand),
+            Directive::Ds => made_fault(alloc, self.places, true, here, operand),
+            Directive::Equ => self.value_fault(alloc, operand),
+            Directive::Using => self.using_fault(alloc, operand),
+            Directive::Drop => self.drop_fault(alloc, operand),
+            Directive::End => self.end_fault(alloc, operand),
+            Directive::Copy => Ok(copy_fault(operand)),
+            _ => Ok(None),
+        }
+    }
+
+    /// What is wrong with an operand, if the statement had it.
+    fn fault_of_operand(
+        &self,
+        alloc: Global,
+        operand: &[u8],
+    ) -> Result<Option<FaultKind>, AllocError>
+        ensures { let c = self.now in let it = operation_of c.statement.now in
+            let due = fault_of_operand (whole_by c.places.now) c.bases.now c.statement.now operand.now it in
+            IfOk result (λ fault. fault ≡ due) }
+    {
+        match self.statement.operation() {
+            None => Ok(None),
+            Some(Operation::Directive(directive)) => self.directive_fault(
+                alloc, directive, operand,
+            ),
+            Some(operation) => {
+                let made = self.instruction_fault(alloc, operation, operand)?;
+                let literal = self.literal_fault(alloc, operand)?;
+                Ok(lower(made, literal))
+            }
+        }
+    }
+
+    /// Whether the statement has the fault where this is its operand.
+    #[tactic(auto, unfolding(crate::specs::Judging::has_fault))]
+    pub(crate) fn has_fault(&self, alloc: Global, operand: &[u8]) -> Result<bool, AllocError>
+        ensures { let c = self.now in let whole = whole_by c.places.now in
+            IfOk result (λ has. has ≡ has_fault whole c.bases.now c.statement.now c.kind operand.now) }
+    {
+        let fault = self.fault_of_operand(alloc, operand)?;
+        Ok(is_kind(fault, self.kind))
+    }
 }
 
 /// A source with one EXEC statement alone.

@@ -11,6 +11,7 @@ mod marks;
 mod notes;
 mod operands;
 mod positions;
+mod sections;
 mod spans;
 
 pub use commands::Phrase;

@@ -28,11 +28,11 @@ ghost use Rattle.cx_look_faults.specs.Marks.{
 use crate::commands::{missing, word_at_fault};
 use crate::faults::FaultyLine;
 use crate::operands::{OperandPart, operand_parts};
-use crate::positions::{Spot, columns, name_spot, operation_spot, part_or_operation};
+use crate::positions::{SourceStmt, Spot, columns};
 use crate::spans::{Span, text_in};
 use cx_asm_build::SourceKind;
 use cx_ebcdic::to_ebcdic;
-use cx_source::{Item, Stmt, Text, is_name_character, source_with_faults, trimmed};
+use cx_source::{Item, Text, is_name_character, source_with_faults, trimmed};
 use cx_translate::translate_with_faults;
 use std::alloc::{AllocError, Global};
 
@@ -205,34 +205,32 @@ fn part_found(parts: &[OperandPart], line: usize, operand: &[u8]) -> Option<Span
 /// Where a fault of the assembler is.
 fn assembler_spot(
     alloc: Global,
-    items: &[Item],
     parts: &[OperandPart],
     kind: SourceKind,
-    item: &Item,
-    stmt: &Stmt,
+    found: &SourceStmt<'_>,
 ) -> Result<Spot, AllocError>
-    ensures { IfOk result (λ spot. spot ≡ assembler_spot items.now parts.now kind item.now stmt.now) }
+    ensures { let it = found.now in
+        IfOk result (λ spot. spot ≡ assembler_spot it.items.now parts.now kind it.item.now it.stmt.now) }
 {
     if kind != SourceKind::DuplicateSymbol {
-        let part = part_found(parts, item.line, stmt.operand.as_slice());
-        return part_or_operation(alloc, items, item, stmt, part);
+        let part = part_found(parts, found.item.line, found.operand());
+        return found.part_or_operation(alloc, part);
     }
-    if stmt.name.as_slice().is_empty() {
-        return Ok(operation_spot(item, stmt));
+    if found.stmt.name.as_slice().is_empty() {
+        return Ok(found.operation_spot());
     }
-    Ok(name_spot(item, stmt))
+    Ok(found.name_spot())
 }
 
 /// Where the fault of a statement is.
 fn stmt_spot(
     alloc: Global,
-    items: &[Item],
     parts: &[OperandPart],
     kind: SourceKind,
-    item: &Item,
-    stmt: &Stmt,
+    found: &SourceStmt<'_>,
 ) -> Result<Spot, AllocError>
-    ensures { IfOk result (λ spot. spot ≡ stmt_spot items.now parts.now kind item.now stmt.now) }
+    ensures { let it = found.now in
+        IfOk result (λ spot. spot ≡ stmt_spot it.items.now parts.now kind it.item.now it.stmt.now) }
 {
     match kind {
         SourceKind::UnknownCommand
@@ -241,10 +239,10 @@ fn stmt_spot(
         | SourceKind::Conflict
         | SourceKind::TooManyConditions
         | SourceKind::BadArgument => {
-            let part = word_at_fault(alloc, kind, stmt.operand.as_slice())?;
-            part_or_operation(alloc, items, item, stmt, part)
+            let part = word_at_fault(alloc, kind, found.operand())?;
+            found.part_or_operation(alloc, part)
         }
-        _ => assembler_spot(alloc, items, parts, kind, item, stmt),
+        _ => assembler_spot(alloc, parts, kind, found),
     }
 }
 
@@ -268,7 +266,7 @@ fn statement_spot(
         return Ok(beginning);
     };
     match &item.stmt {
-        Some(stmt) => stmt_spot(alloc, items, parts, kind, item, stmt),
+        Some(stmt) => stmt_spot(alloc, parts, kind, &SourceStmt { items, item, stmt }),
         None => Ok(beginning),
     }
 }
@@ -283,18 +281,18 @@ fn line_at(lines: &[Text], number: usize) -> &[u8]
     }
 }
 
-/// Where a fault is.
+/// Where a fault is, which is of this line.
 fn spot_by(
     alloc: Global,
     items: &[Item],
     parts: &[OperandPart],
     line: &[u8],
-    number: usize,
-    kind: SourceKind,
+    fault: FaultyLine,
 ) -> Result<Spot, AllocError>
-    ensures { IfOk result (λ spot. spot ≡ spot_by items.now parts.now line.now number kind) }
+    ensures { IfOk result (λ spot. spot ≡ spot_by items.now parts.now line.now fault.line fault.kind) }
 {
-    match kind {
+    let number = fault.line;
+    match fault.kind {
         SourceKind::BadCharacter => Ok(bad_character(number, line)),
         SourceKind::BadName => Ok(bad_name(number, line)),
         SourceKind::BadContinuation => Ok(bad_continuation(number, line)),
@@ -304,7 +302,7 @@ fn spot_by(
             column: 1,
             length: 2,
         }),
-        _ => statement_spot(alloc, items, parts, kind, number),
+        kind => statement_spot(alloc, items, parts, kind, number),
     }
 }
 
@@ -349,7 +347,7 @@ fn mark_of(
     let missing = missing_by_kind(alloc, fault.kind, items, fault.line)?;
     Ok(Mark {
         kind: fault.kind,
-        spot: spot_by(alloc, items, parts, line, fault.line, fault.kind)?,
+        spot: spot_by(alloc, items, parts, line, fault)?,
         missing: Text::from_vec(missing),
     })
 }

@@ -1,7 +1,7 @@
 //! What is accepted and is most likely not meant.
 
-ghost use Rattle.std.specs.Prelude.{◌≡◌, ◌++◌, IfOk, OnOk, None, codes, false, option_map};
-ghost use Rattle.std.specs.List.{filter_map, find, flat_map, list_all, list_any};
+ghost use Rattle.std.specs.Prelude.{◌≡◌, ◌++◌, [], IfOk, OnOk, None, codes, false, option_map};
+ghost use Rattle.std.specs.List.{filter_map, find, list_all, list_any};
 ghost use Rattle.std.specs.Option.{option_map_or, option_to_list};
 ghost use Rattle.std.specs.Result.{result_ok};
 ghost use Rattle.std.specs.Str.{bytes_eq};
@@ -25,26 +25,26 @@ ghost use Rattle.cx_look_faults.specs.Notes.{
   notes_of,
   notes_of_stmt,
   notes_of_words,
-  notes_on,
+  notes_in,
   of_read,
   of_written,
   option_of_word,
   remark,
   remark_on,
 };
+ghost use Rattle.cx_look_faults.specs.Faults.{kind_at, kinds_of};
 ghost use Rattle.cx_look_faults.specs.Spans.{text_in};
 
 use crate::commands::{
     Phrase, command_of, is_word, phrases, words_after, words_of, written_phrase,
 };
-use crate::faults::FaultyLine;
-use crate::operands::kind_on;
-use crate::positions::{Spot, part_spot};
+use crate::faults::{FaultyLine, Kinds, kind_at, kinds_of};
+use crate::positions::{SourceStmt, Spot};
 use crate::spans::{Cut, Span, cells_of, spans_of, text_in};
 use cx_asm_expressions::{Constant, TermFault, parenthesized_body, value_of};
 use cx_asm_pass1::{Places, place_with_faults};
-use cx_base_commands::{ArgumentKind, Command, CommandOption};
-use cx_source::{Item, Source, Stmt, Text, skip_blanks, source_with_faults, trimmed};
+use cx_base_commands::{ArgumentKind, CommandOption};
+use cx_source::{Item, Source, Text, skip_blanks, source_with_faults, trimmed};
 use cx_translate::translate_with_faults;
 use std::alloc::{AllocError, Global};
 
@@ -210,41 +210,52 @@ fn option_of_word<'a>(options: &'a [CommandOption], name: &[u8]) -> Option<&'a C
         .find(|option| option.name.name().as_bytes() == name)
 }
 
-/// What is said of a word and its argument.
-#[tactic(auto, unfolding(crate::specs::Notes::remark_on))]
-fn remark_on(
-    alloc: Global,
-    places: &Places<'_>,
+/// What the arguments of a command are judged by.
+#[derive(Clone, Copy)]
+struct Arguments<'a, 'p> {
+    /// Where everything of the source is.
+    places: &'a Places<'p>,
+    /// Whether REWRITE is given.
     rewrites: bool,
-    options: &[CommandOption],
-    operand: &[u8],
-    phrase: Phrase,
-) -> Result<Option<Text>, AllocError>
-    ensures { let whole = whole_by places.now in
-        IfOk result (λ said. said ≡ remark_on whole rewrites options.now operand.now phrase) }
-{
-    let Some(option) = option_of_word(options, text_in(phrase.word, operand)) else {
-        return Ok(None);
-    };
-    let text = argument_of(operand, phrase);
-    remark(alloc, places, rewrites, text, option.kind)
+    /// The command's options.
+    options: &'a [CommandOption],
+}
+
+impl Arguments<'_, '_> {
+    /// What is said of a word and its argument.
+    #[tactic(auto, unfolding(crate::specs::Notes::remark_on))]
+    fn remark_on(
+        &self,
+        alloc: Global,
+        operand: &[u8],
+        phrase: Phrase,
+    ) -> Result<Option<Text>, AllocError>
+        ensures { let by = self.now in
+            let due = remark_on (whole_by by.places.now) by.rewrites by.options.now operand.now phrase in
+            IfOk result (λ said. said ≡ due) }
+    {
+        let Some(option) = option_of_word(self.options, text_in(phrase.word, operand)) else {
+            return Ok(None);
+        };
+        let text = argument_of(operand, phrase);
+        remark(alloc, self.places, self.rewrites, text, option.kind)
+    }
 }
 
 /// The note that says something of a part.
 #[tactic(auto, unfolding(crate::specs::Notes::note_on))]
 fn note_on(
     alloc: Global,
-    items: &[Item],
-    item: &Item,
-    stmt: &Stmt,
+    found: &SourceStmt<'_>,
     said: &[u8],
     part: Span,
 ) -> Result<Note, AllocError>
-    ensures { IfOk result (λ note. note ≡ note_on items.now item.now stmt.now said.now part) }
+    ensures { let it = found.now in
+        IfOk result (λ note. note ≡ note_on it.items.now it.item.now it.stmt.now said.now part) }
 {
-    let text = between(alloc, text_in(part, stmt.operand.as_slice()), said, b"")?;
+    let text = between(alloc, text_in(part, found.operand()), said, b"")?;
     Ok(Note {
-        spot: part_spot(alloc, items, item, stmt, part)?,
+        spot: found.part_spot(alloc, part)?,
         text: Text::from_vec(text),
     })
 }
@@ -252,23 +263,20 @@ fn note_on(
 /// The note on a word and its argument, if there is one.
 fn note_of_phrase(
     alloc: Global,
-    places: &Places<'_>,
-    rewrites: bool,
-    options: &[CommandOption],
-    items: &[Item],
-    item: &Item,
-    stmt: &Stmt,
+    arguments: &Arguments<'_, '_>,
+    found: &SourceStmt<'_>,
     phrase: Phrase,
 ) -> Result<Option<Note>, AllocError>
-    ensures { let note = note_of_phrase (whole_by places.now) rewrites options.now items.now item.now stmt.now phrase in
-        IfOk result (λ found. found ≡ note) }
+    ensures { let by = arguments.now in let it = found.now in
+        let due = note_of_phrase (whole_by by.places.now) by.rewrites by.options.now it.items.now it.item.now
+        it.stmt.now phrase in
+        IfOk result (λ note. note ≡ due) }
 {
-    let operand = stmt.operand.as_slice();
-    let Some(said) = remark_on(alloc, places, rewrites, options, operand, phrase)? else {
+    let Some(said) = arguments.remark_on(alloc, found.operand(), phrase)? else {
         return Ok(None);
     };
-    let part = written_phrase(operand, phrase);
-    let note = note_on(alloc, items, item, stmt, said.as_slice(), part)?;
+    let part = written_phrase(found.operand(), phrase);
+    let note = note_on(alloc, found, said.as_slice(), part)?;
     Ok(Some(note))
 }
 
@@ -286,19 +294,17 @@ fn push_note(notes: &mut Vec<Note>, note: Option<Note>) -> Result<(), AllocError
 fn notes_of_phrases(
     alloc: Global,
     notes: &mut Vec<Note>,
-    places: &Places<'_>,
-    rewrites: bool,
-    options: &[CommandOption],
-    items: &[Item],
-    item: &Item,
-    stmt: &Stmt,
+    arguments: &Arguments<'_, '_>,
+    found: &SourceStmt<'_>,
     phrases: &[Phrase],
 ) -> Result<(), AllocError>
-    ensures { let note = note_of_phrase (whole_by places.now) rewrites options.now items.now item.now stmt.now in
+    ensures { let by = arguments.now in let it = found.now in
+        let note = note_of_phrase (whole_by by.places.now) by.rewrites by.options.now it.items.now it.item.now
+        it.stmt.now in
         OnOk result (notes.new.items ≡ notes.old.items ++ filter_map note phrases.now) }
 {
     for phrase in phrases {
-        let note = note_of_phrase(alloc, places, rewrites, options, items, item, stmt, *phrase)?;
+        let note = note_of_phrase(alloc, arguments, found, *phrase)?;
         push_note(notes, note)?;
     }
     Ok(())
@@ -309,31 +315,31 @@ fn notes_of_words(
     alloc: Global,
     notes: &mut Vec<Note>,
     places: &Places<'_>,
-    items: &[Item],
-    item: &Item,
-    stmt: &Stmt,
+    found: &SourceStmt<'_>,
     words: &[Span],
 ) -> Result<(), AllocError>
-    ensures { let more = notes_of_words (whole_by places.now) items.now item.now stmt.now words.now in
+    ensures { let it = found.now in
+        let more = notes_of_words (whole_by places.now) it.items.now it.item.now it.stmt.now words.now in
         OnOk result (notes.new.items ≡ notes.old.items ++ more) }
 {
-    let operand = stmt.operand.as_slice();
+    let operand = found.operand();
     let Some((command, last)) = command_of(operand, words) else {
         return Ok(());
     };
     let words = words_after(words, last);
-    let rewrites = is_word(operand, words, b"REWRITE");
     let phrases = phrases(alloc, operand, words)?;
-    let options = command.options();
-    notes_of_phrases(
-        alloc, notes, places, rewrites, options, items, item, stmt, &phrases,
-    )
+    let arguments = Arguments {
+        places,
+        rewrites: is_word(operand, words, b"REWRITE"),
+        options: command.options(),
+    };
+    notes_of_phrases(alloc, notes, &arguments, found, &phrases)
 }
 
 /// How many copies an item of a DC has; 0 where it is none.
 fn copies_of(text: &[u8]) -> u32
-    ensures { result
-        ≡ option_map_or (λ (item : ConstantValue). item.duplication) (result_ok (constant_in false text.now)) 0 }
+    ensures { let item = result_ok (constant_in false text.now) in
+        result ≡ option_map_or (λ (item : ConstantValue). item.duplication) item 0 }
 {
     match Constant::read(text, false) {
         Ok(item) => item.duplication(),
@@ -366,17 +372,16 @@ fn copies_place(alloc: Global, text: &[u8]) -> Result<bool, AllocError>
 /// The note on an item of a DC, if there is one.
 fn note_of_item(
     alloc: Global,
-    items: &[Item],
-    item: &Item,
-    stmt: &Stmt,
+    found: &SourceStmt<'_>,
     part: Span,
 ) -> Result<Option<Note>, AllocError>
-    ensures { IfOk result (λ note. note ≡ note_of_item items.now item.now stmt.now part) }
+    ensures { let it = found.now in
+        IfOk result (λ note. note ≡ note_of_item it.items.now it.item.now it.stmt.now part) }
 {
-    if !copies_place(alloc, text_in(part, stmt.operand.as_slice()))? {
+    if !copies_place(alloc, text_in(part, found.operand()))? {
         return Ok(None);
     }
-    let note = note_on(alloc, items, item, stmt, SAME, part)?;
+    let note = note_on(alloc, found, SAME, part)?;
     Ok(Some(note))
 }
 
@@ -384,16 +389,15 @@ fn note_of_item(
 fn notes_of_items(
     alloc: Global,
     notes: &mut Vec<Note>,
-    items: &[Item],
-    item: &Item,
-    stmt: &Stmt,
+    found: &SourceStmt<'_>,
     parts: &[Span],
 ) -> Result<(), AllocError>
-    ensures { let more = filter_map (note_of_item items.now item.now stmt.now) parts.now in
+    ensures { let it = found.now in
+        let more = filter_map (note_of_item it.items.now it.item.now it.stmt.now) parts.now in
         OnOk result (notes.new.items ≡ notes.old.items ++ more) }
 {
     for part in parts {
-        let note = note_of_item(alloc, items, item, stmt, *part)?;
+        let note = note_of_item(alloc, found, *part)?;
         push_note(notes, note)?;
     }
     Ok(())
@@ -404,62 +408,59 @@ fn notes_of_stmt(
     alloc: Global,
     notes: &mut Vec<Note>,
     places: &Places<'_>,
-    items: &[Item],
-    item: &Item,
-    stmt: &Stmt,
+    found: &SourceStmt<'_>,
 ) -> Result<(), AllocError>
-    ensures { let more = notes_of_stmt (whole_by places.now) items.now item.now stmt.now in
+    ensures { let it = found.now in
+        let more = notes_of_stmt (whole_by places.now) it.items.now it.item.now it.stmt.now in
         OnOk result (notes.new.items ≡ notes.old.items ++ more) }
 {
-    let operand = stmt.operand.as_slice();
-    if stmt.operation.as_slice() == b"EXEC".as_slice() {
-        let words = words_of(alloc, operand)?;
-        notes_of_words(alloc, notes, places, items, item, stmt, &words)?;
+    let operation = found.stmt.operation.as_slice();
+    if operation == b"EXEC".as_slice() {
+        let words = words_of(alloc, found.operand())?;
+        notes_of_words(alloc, notes, places, found, &words)?;
         return Ok(());
     }
-    if stmt.operation.as_slice() != b"DC".as_slice() {
+    if operation != b"DC".as_slice() {
         return Ok(());
     }
-    let cells = cells_of(alloc, Cut::Operands, operand)?;
+    let cells = cells_of(alloc, Cut::Operands, found.operand())?;
     let parts = spans_of(alloc, &cells)?;
-    notes_of_items(alloc, notes, items, item, stmt, &parts)
+    notes_of_items(alloc, notes, found, &parts)
 }
 
-/// Adds the notes on a line without a fault.
-#[tactic(auto, unfolding(crate::specs::Notes::notes_on))]
-fn notes_on(
+/// Adds the notes on a line's statement.
+fn notes_of_line(
     alloc: Global,
     notes: &mut Vec<Note>,
     places: &Places<'_>,
-    faults: &[FaultyLine],
     items: &[Item],
     item: &Item,
 ) -> Result<(), AllocError>
-    ensures { let more = notes_on (whole_by places.now) faults.now items.now item.now in
+    ensures { let more = option_map_or (notes_of_stmt (whole_by places.now) items.now item.now) item.now.stmt [] in
         OnOk result (notes.new.items ≡ notes.old.items ++ more) }
 {
-    if kind_on(faults, item.line).is_some() {
-        return Ok(());
-    }
     match &item.stmt {
-        Some(stmt) => notes_of_stmt(alloc, notes, places, items, item, stmt),
+        Some(stmt) => notes_of_stmt(alloc, notes, places, &SourceStmt { items, item, stmt }),
         None => Ok(()),
     }
 }
 
 /// The notes on lines without a fault.
+#[tactic(auto, unfolding(crate::specs::Notes::notes_in, crate::specs::Notes::notes_on))]
 fn notes_in(
     alloc: Global,
     places: &Places<'_>,
-    faults: &[FaultyLine],
+    kinds: &Kinds,
     items: &[Item],
 ) -> Result<Vec<Note>, AllocError>
-    ensures { let whole = whole_by places.now in
-        IfOk result (λ notes. notes.items ≡ flat_map (notes_on whole faults.now items.now) items.now) }
+    ensures { IfOk result (λ notes. notes.items
+        ≡ notes_in (whole_by places.now) (kind_at kinds.now.entries) items.now) }
 {
     let mut notes = Vec::new(alloc);
     for item in items {
-        notes_on(alloc, &mut notes, places, faults, items, item)?;
+        if kind_at(kinds, item.line).is_none() {
+            notes_of_line(alloc, &mut notes, places, items, item)?;
+        }
     }
     Ok(notes)
 }
@@ -470,14 +471,14 @@ fn notes_placed(
     alloc: Global,
     made: &Source,
     places: &Places<'_>,
-    faults: &[FaultyLine],
+    kinds: &Kinds,
     items: &[Item],
 ) -> Result<Vec<Note>, AllocError>
     requires { IsPlaced (final_state made.now) places.now }
-    ensures { let whole = whole_of made.now in
-        IfOk result (λ notes. notes.items ≡ flat_map (notes_on whole faults.now items.now) items.now) }
+    ensures { IfOk result (λ notes. notes.items
+        ≡ notes_in (whole_of made.now) (kind_at kinds.now.entries) items.now) }
 {
-    notes_in(alloc, places, faults, items)
+    notes_in(alloc, places, kinds, items)
 }
 
 /// The notes on lines without a fault, which are made into a source.
@@ -487,11 +488,12 @@ fn notes_made(
     faults: &[FaultyLine],
     items: &[Item],
 ) -> Result<Vec<Note>, AllocError>
-    ensures { let whole = whole_of made.now in
-        IfOk result (λ notes. notes.items ≡ flat_map (notes_on whole faults.now items.now) items.now) }
+    ensures { IfOk result (λ notes. notes.items
+        ≡ notes_in (whole_of made.now) (kind_at (kinds_of faults.now)) items.now) }
 {
+    let kinds = kinds_of(alloc, faults)?;
     let (places, _) = place_with_faults(alloc, made)?;
-    notes_placed(alloc, made, &places, faults, items)
+    notes_placed(alloc, made, &places, &kinds, items)
 }
 
 /// What is most likely not meant on those lines of the source that lines make, given without their ends, that have no

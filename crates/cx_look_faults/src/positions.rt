@@ -102,40 +102,15 @@ fn push_continued(positions: &mut Vec<Position>, items: &[Item]) -> Result<(), A
     Ok(())
 }
 
-/// The name of a statement.
-pub(crate) fn name_spot(item: &Item, stmt: &Stmt) -> Spot
-    ensures { result ≡ name_spot item.now stmt.now }
-{
-    Spot {
-        line: item.line,
-        column: 1,
-        length: stmt.name.as_slice().len(),
-    }
-}
-
-/// The column of a statement's operation.
-fn operation_column(item: &Item, stmt: &Stmt) -> usize
-    ensures value { result ≡ operation_column item.now stmt.now }
-    ensures bound { result ≤ 72 }
-{
-    let body = columns(item.text.as_slice(), 1, LAST);
-    let (_, after) = body.split_at(body.len().min(stmt.name.as_slice().len()));
-    body.len() - skip_blanks(after).len() + 1
-}
-
-/// A statement's operation, or where there is none its name.
-pub(crate) fn operation_spot(item: &Item, stmt: &Stmt) -> Spot
-    ensures { result ≡ operation_spot item.now stmt.now }
-{
-    let length = stmt.operation.as_slice().len();
-    if length == 0 {
-        return name_spot(item, stmt);
-    }
-    Spot {
-        line: item.line,
-        column: operation_column(item, stmt),
-        length,
-    }
+/// A statement of a source: the source's lines, and the one that it begins on.
+#[derive(Clone, Copy)]
+pub(crate) struct SourceStmt<'a> {
+    /// The source's lines.
+    pub(crate) items: &'a [Item],
+    /// The line that it begins on.
+    pub(crate) item: &'a Item,
+    /// The statement.
+    pub(crate) stmt: &'a Stmt,
 }
 
 /// The place of the first character that isn't blank.
@@ -171,52 +146,87 @@ fn spot_at(here: &[Position], otherwise: Spot) -> Spot
     }
 }
 
-/// The characters after a statement's operation.
-#[tactic(auto, unfolding(crate::specs::Marks::positions_after))]
-fn positions_after(
-    alloc: Global,
-    items: &[Item],
-    item: &Item,
-    stmt: &Stmt,
-) -> Result<Vec<Position>, AllocError>
-    ensures { IfOk result (λ all. all.items ≡ positions_after items.now item.now stmt.now) }
-{
-    let first = operation_column(item, stmt) + stmt.operation.as_slice().len();
-    let (_, after) = items.split_at(items.len().min(item.line));
-    let mut all = Vec::new(alloc);
-    push_written(&mut all, first, item)?;
-    push_continued(&mut all, continuations(item, after))?;
-    Ok(all)
-}
+impl SourceStmt<'_> {
+    /// The operand.
+    pub(crate) fn operand(&self) -> &[u8]
+        ensures { result.now ≡ self.now.stmt.now.operand }
+    {
+        self.stmt.operand.as_slice()
+    }
 
-/// A part of a statement's operand.
-pub(crate) fn part_spot(
-    alloc: Global,
-    items: &[Item],
-    item: &Item,
-    stmt: &Stmt,
-    part: Span,
-) -> Result<Spot, AllocError>
-    ensures { IfOk result (λ spot. spot ≡ part_spot items.now item.now stmt.now part) }
-{
-    let all = positions_after(alloc, items, item, stmt)?;
-    let blanks = first_written(&all).unwrap_or(all.len());
-    let (_, operand) = all.split_at(all.len().min(blanks));
-    Ok(spot_at(among(operand, part), operation_spot(item, stmt)))
-}
+    /// The name.
+    pub(crate) fn name_spot(&self) -> Spot
+        ensures { result ≡ name_spot self.now.item.now self.now.stmt.now }
+    {
+        Spot {
+            line: self.item.line,
+            column: 1,
+            length: self.stmt.name.as_slice().len(),
+        }
+    }
 
-/// A part of a statement's operand, or its operation.
-pub(crate) fn part_or_operation(
-    alloc: Global,
-    items: &[Item],
-    item: &Item,
-    stmt: &Stmt,
-    part: Option<Span>,
-) -> Result<Spot, AllocError>
-    ensures { IfOk result (λ spot. spot ≡ part_or_operation items.now item.now stmt.now part) }
-{
-    match part {
-        Some(part) => part_spot(alloc, items, item, stmt, part),
-        None => Ok(operation_spot(item, stmt)),
+    /// The column of the operation.
+    fn operation_column(&self) -> usize
+        ensures value { result ≡ operation_column self.now.item.now self.now.stmt.now }
+        ensures bound { result ≤ 72 }
+    {
+        let body = columns(self.item.text.as_slice(), 1, LAST);
+        let (_, after) = body.split_at(body.len().min(self.stmt.name.as_slice().len()));
+        body.len() - skip_blanks(after).len() + 1
+    }
+
+    /// The operation, or where there is none the name.
+    pub(crate) fn operation_spot(&self) -> Spot
+        ensures { result ≡ operation_spot self.now.item.now self.now.stmt.now }
+    {
+        let length = self.stmt.operation.as_slice().len();
+        if length == 0 {
+            return self.name_spot();
+        }
+        Spot {
+            line: self.item.line,
+            column: self.operation_column(),
+            length,
+        }
+    }
+
+    /// The characters after the operation.
+    #[tactic(auto, unfolding(crate::specs::Marks::positions_after))]
+    fn positions_after(&self, alloc: Global) -> Result<Vec<Position>, AllocError>
+        ensures { let it = self.now in
+            IfOk result (λ all. all.items ≡ positions_after it.items.now it.item.now it.stmt.now) }
+    {
+        let first = self.operation_column() + self.stmt.operation.as_slice().len();
+        let (_, after) = self.items.split_at(self.items.len().min(self.item.line));
+        let mut all = Vec::new(alloc);
+        push_written(&mut all, first, self.item)?;
+        push_continued(&mut all, continuations(self.item, after))?;
+        Ok(all)
+    }
+
+    /// A part of the operand.
+    pub(crate) fn part_spot(&self, alloc: Global, part: Span) -> Result<Spot, AllocError>
+        ensures { let it = self.now in
+            IfOk result (λ spot. spot ≡ part_spot it.items.now it.item.now it.stmt.now part) }
+    {
+        let all = self.positions_after(alloc)?;
+        let blanks = first_written(&all).unwrap_or(all.len());
+        let (_, operand) = all.split_at(all.len().min(blanks));
+        Ok(spot_at(among(operand, part), self.operation_spot()))
+    }
+
+    /// A part of the operand, or the operation.
+    pub(crate) fn part_or_operation(
+        &self,
+        alloc: Global,
+        part: Option<Span>,
+    ) -> Result<Spot, AllocError>
+        ensures { let it = self.now in
+            IfOk result (λ spot. spot ≡ part_or_operation it.items.now it.item.now it.stmt.now part) }
+    {
+        match part {
+            Some(part) => self.part_spot(alloc, part),
+            None => Ok(self.operation_spot()),
+        }
     }
 }

@@ -57,7 +57,8 @@ level_line shared k level =
 -- its last command, by the statement of the byte before the place where it goes on: that is the last byte of the
 -- command's EXEC
 abbrev pub command_lines : ℕ → Option (List ℕ) → Lines
-command_lines k command = option_map_or (λ it. level_words (level_number k) (codes "COMMAND" ∷ codes "LINE" ∷ it ∷ [])) command []
+command_lines k command =
+    option_map_or (λ it. level_words (level_number k) (codes "COMMAND" ∷ codes "LINE" ∷ it ∷ [])) command []
 
 unfoldable pub last_line : Sources → List (List ℕ × Loaded) → ℕ → Level → Lines
 last_line sources programs k level = command_lines k (statement_at sources (spot_before programs (goes_on level)))

@@ -101,8 +101,13 @@ fn no_field(alloc: Global, term: Name4, name: Name8) -> Result<Report, AllocErro
     Ok(report)
 }
 
-/// Where a level of a terminal's task stands.
-fn standing_at<S: Store + Drop>(region: &Region<S>, term: Name4, k: Option<u8>) -> Option<Standing>
+/// Where a level of a terminal's task stands: the level of a number, 1 being the highest, or without one the current level; None where
+/// there is no such level. It takes no memory.
+pub fn standing_at<S: Store + Drop>(
+    region: &Region<S>,
+    term: Name4,
+    k: Option<u8>,
+) -> Option<Standing>
     ensures { result ≡ standing_at region.now term k }
 {
     let task = task_of(region, term)?;
@@ -156,8 +161,10 @@ fn field_there(
     typed_in(alloc, &source, &standing.regs, offset, name)
 }
 
-/// The field of a name, where there is such a level and it stands at a statement of its source.
-fn field_at(
+/// The field of a name, where there is such a level and it stands at a statement of its source, which has these lines.
+///
+/// An error comes only where memory was refused.
+pub fn field_at(
     alloc: Global,
     lines: &[Text],
     name: Name8,

@@ -8,7 +8,7 @@ mod levels;
 mod standing;
 mod tasks;
 
-pub use field_texts::{field_text, fields_text, program_at};
+pub use field_texts::{field_at, field_text, fields_text, program_at, standing_at};
 pub use fields::{Field, TypedField, bases_in, field_by, is_field};
 pub use standing::{Standing, standing_of};
 pub use tasks::task_text;

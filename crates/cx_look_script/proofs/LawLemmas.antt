@@ -7,9 +7,10 @@ use Rattle.cx_script_actions.specs.Effects.{Performs, Replies}
 use Rattle.cx_script_actions.specs.declared.actions.Action.{Action}
 use Rattle.cx_script_actions.specs.declared.actions.Action.TheVariants as edf_action
 use Rattle.cx_script.specs.Transcript.{Runs}
-use Rattle.cx_look_script.specs.Looking.{LookPerforms, NotedPerforms, RunsTurn, TakesOneMore}
+use Rattle.cx_look_script.specs.Looking.{Acts, NotedPerforms, RunsTurn, TakesOneMore}
 use Rattle.cx_look_script.specs.Runs.{StopsWith, run_over}
 use Rattle.cx_look_script.specs.State.{LookState}
+use Rattle.cx_look_script.specs.Watched.{cause_of, watched_text}
 use Rattle.cx_look_script.specs.Laws.Looks.{ArePartsOf, ChangesNothing, IsMoreOfRun, IsPart, IsTurnOfRun, LooksChangeNothing, Part, after_turns, kept_after, plain_of, text_of, turn_action, written_of}
 use Rattle.cx_look_script.specs.declared.action.LookAction.{LookAction}
 use Rattle.cx_look_script.specs.declared.action.LookAction.TheVariants as action
@@ -30,82 +31,96 @@ performs old (edf_action.Display name) text new p = p.0
 performs old (edf_action.Previous name k) text new p = p.0
 
 -- ---- parts
-record Did (old : LookState) (a : LookAction) (text : List ℕ) (new : LookState) : Type 0 where
+-- what became of an action, where this is written of what is watched
+record Did (old : LookState) (a : LookAction) (own watched : List ℕ) (new : LookState) : Type 0 where
   part : Part
   is : IsPart old a part
   done : LookState
   runs : Runs NotedPerforms old part.plain part.written done
   kept : new ≡ kept_after old a part.plain done
-  whole : text ≡ text_of part
+  whole : own ≡ part.written ++ part.looked
+  shown : part.watched ≡ watched
 
 -- an action that is done as one of `cicsedf`
-did_action : (old : LookState) (a : LookAction) (done : Action) (text : List ℕ) (new : LookState) → IsPart old a (let part : Part = record { plain = done ∷ []; written = text; looked = [] } in part)
-    → new ≡ kept_after old a (done ∷ []) new → NotedPerforms old done text new → Did old a text new
-did_action old a done text new is kept p =
+did_action : (old : LookState) (a : LookAction) (done : Action) (text watched : List ℕ) (new : LookState) → IsPart old a (let part : Part = record { plain = done ∷ []; written = text; looked = []; watched = watched } in part)
+    → new ≡ kept_after old a (done ∷ []) new → NotedPerforms old done text new → Did old a text watched new
+did_action old a done text watched new is kept p =
     record {
-      part = record { plain = done ∷ []; written = text; looked = [] };
+      part = record { plain = done ∷ []; written = text; looked = []; watched = watched };
       is = is;
       done = new;
       runs = runs_one old done text new p;
       kept = kept;
       whole = sym (append-nil text);
+      shown = refl;
     }
 
 -- an action that does none
-did_nothing : (old : LookState) (a : LookAction) (text : List ℕ) (new : LookState) → IsPart old a (let part : Part = record { plain = []; written = []; looked = text } in part)
-    → new ≡ kept_after old a [] old → Did old a text new
+did_nothing : (old : LookState) (a : LookAction) (text watched : List ℕ) (new : LookState) → IsPart old a (let part : Part = record { plain = []; written = []; looked = text; watched = watched } in part)
+    → new ≡ kept_after old a [] old → Did old a text watched new
 unfolding Runs
-did_nothing old a text new is kept =
-    record { part = record { plain = []; written = []; looked = text }; is = is; done = old; runs = (refl, refl); kept = kept; whole = refl }
+did_nothing old a text watched new is kept =
+    record {
+      part = record { plain = []; written = []; looked = text; watched = watched };
+      is = is;
+      done = old;
+      runs = (refl, refl);
+      kept = kept;
+      whole = refl;
+      shown = refl;
+    }
 
 -- a turn of RUN, or the line in its place
-record Turned (old : LookState) (name : List ℕ) (s : Stop) (text : List ℕ) (new : LookState) : Type 0 where
+record Turned (old : LookState) (name : List ℕ) (s : Stop) (own watched : List ℕ) (new : LookState) : Type 0 where
   part : Part
   is : IsTurnOfRun old name s part
   done : LookState
   runs : Runs NotedPerforms old part.plain part.written done
   kept : new ≡ after_turns part.plain done
-  whole : text ≡ text_of part
+  whole : own ≡ part.written ++ part.looked
+  shown : part.watched ≡ watched
 
-turned : (old : LookState) (name : List ℕ) (s : Stop) (text : List ℕ) (new : LookState) (line : Option (List ℕ)) → StopsWith s old.edf name line
-    → MatchOption line (NotedPerforms old (turn_action name) text new) (λ l. (text ≡ l) × (new ≡ run_over old)) → Turned old name s text new
+turned : (old : LookState) (name : List ℕ) (s : Stop) (text watched : List ℕ) (new : LookState) (line : Option (List ℕ)) → StopsWith s old.edf name line
+    → MatchOption line (NotedPerforms old (turn_action name) text new) (λ l. (text ≡ l) × (new ≡ run_over old)) → Turned old name s text watched new
 unfolding Runs
-turned old name s text new None stops p =
+turned old name s text watched new None stops p =
     record {
-      part = record { plain = turn_action name ∷ []; written = text; looked = [] };
+      part = record { plain = turn_action name ∷ []; written = text; looked = []; watched = watched };
       is = record { line = None; stops = stops; is = (refl, refl) };
       done = new;
       runs = runs_one old (turn_action name) text new p;
       kept = refl;
       whole = sym (append-nil text);
+      shown = refl;
     }
-turned old name s text new (Some l) stops p =
+turned old name s text watched new (Some l) stops p =
     record {
-      part = record { plain = []; written = []; looked = text };
+      part = record { plain = []; written = []; looked = text; watched = watched };
       is = record { line = Some l; stops = stops; is = (refl, p.0) };
       done = old;
       runs = (refl, refl);
       kept = p.1;
       whole = refl;
+      shown = refl;
     }
 
-did_turn : (old : LookState) (name : List ℕ) (n : ℕ) (s : Stop) (text : List ℕ) (new : LookState) → RunsTurn old name s text new → Did old (action.Run name n s) text new
-did_turn old name n s text new p =
-    let t = turned old name s text new p.line p.stops p.does in
-    record { part = t.part; is = t.is; done = t.done; runs = t.runs; kept = t.kept; whole = t.whole }
+did_turn : (old : LookState) (name : List ℕ) (n : ℕ) (s : Stop) (text watched : List ℕ) (new : LookState) → RunsTurn old name s text new → Did old (action.Run name n s) text watched new
+did_turn old name n s text watched new p =
+    let t = turned old name s text watched new p.line p.stops p.does in
+    record { part = t.part; is = t.is; done = t.done; runs = t.runs; kept = t.kept; whole = t.whole; shown = t.shown }
 
 -- one more turn of RUN, or its last line
 same_over : (old : LookState) → old.goes_on ≡ false → old ≡ run_over old
 same_over old e = ap (λ (b : Bool). let s : LookState = record old { goes_on = b } in s) e
 
-did_more : (old : LookState) (name : List ℕ) (n : ℕ) (s : Stop) (text : List ℕ) (new : LookState) (on : Bool) → old.goes_on ≡ on
-    → MatchBool on (TakesOneMore old name n s text new) ((text ≡ []) × (new ≡ old)) → Did old (action.RunOn name n s) text new
-did_more old name zero s text new true e p =
-    let last : Part = record { plain = []; written = []; looked = text } in
-    did_nothing old (action.RunOn name zero s) text new
+did_more : (old : LookState) (name : List ℕ) (n : ℕ) (s : Stop) (text watched : List ℕ) (new : LookState) (on : Bool) → old.goes_on ≡ on
+    → MatchBool on (TakesOneMore old name n s text new) ((text ≡ []) × (new ≡ old)) → Did old (action.RunOn name n s) text watched new
+did_more old name zero s text watched new true e p =
+    let last : Part = record { plain = []; written = []; looked = text; watched = watched } in
+    did_nothing old (action.RunOn name zero s) text watched new
     (subst (λ (on : Bool). MatchBool on (IsMoreOfRun old name zero s last) ((last.plain ≡ []) × (last.looked ≡ []))) (sym e) (refl, p.0)) p.1
-did_more old name (suc n) s text new true e p =
-    let t = turned old name s text new p.line p.stops p.does in
+did_more old name (suc n) s text watched new true e p =
+    let t = turned old name s text watched new p.line p.stops p.does in
     record {
       part = t.part;
       is = subst (λ (on : Bool). MatchBool on (IsTurnOfRun old name s t.part) ((t.part.plain ≡ []) × (t.part.looked ≡ []))) (sym e) t.is;
@@ -113,28 +128,32 @@ did_more old name (suc n) s text new true e p =
       runs = t.runs;
       kept = t.kept;
       whole = t.whole;
+      shown = t.shown;
     }
-did_more old name n s text new false e p =
-    let none : Part = record { plain = []; written = []; looked = text } in
-    did_nothing old (action.RunOn name n s) text new
+did_more old name n s text watched new false e p =
+    let none : Part = record { plain = []; written = []; looked = text; watched = watched } in
+    did_nothing old (action.RunOn name n s) text watched new
     (subst (λ (on : Bool). MatchBool on (IsMoreOfRun old name n s none) ((none.plain ≡ []) × (none.looked ≡ []))) (sym e) (refl, p.0)) (p.1 ∙ same_over old e)
 
-did : (old : LookState) (a : LookAction) (text : List ℕ) (new : LookState) → LookPerforms old a text new → Did old a text new
-unfolding LookPerforms
-did old (action.Script a) text new p = did_action old (action.Script a) a text new (refl, refl) refl p
-did old (action.Source name lines a) text new p =
+did : (old : LookState) (a : LookAction) (text watched : List ℕ) (new : LookState) → Acts old a text new → Did old a text watched new
+unfolding Acts
+did old (action.Script a) text watched new p = did_action old (action.Script a) a text watched new (refl, refl) refl p
+did old (action.Source name lines a) text watched new p =
     record {
-      part = record { plain = a ∷ []; written = text; looked = [] };
+      part = record { plain = a ∷ []; written = text; looked = []; watched = watched };
       is = (refl, refl);
       done = p.done;
       runs = runs_one old a text p.done p.performs;
       kept = p.keeps;
       whole = sym (append-nil text);
+      shown = refl;
     }
-did old (action.Run name n s) text new p = did_turn old name n s text new p
-did old (action.RunOn name n s) text new p = did_more old name n s text new old.goes_on refl p
-did old (action.Look l) text new p = did_nothing old (action.Look l) text new (refl, p.0) p.1
-did old (action.BadLook number s) text new p = did_nothing old (action.BadLook number s) text new (refl, p.0) p.1
+did old (action.Run name n s) text watched new p = did_turn old name n s text watched new p
+did old (action.RunOn name n s) text watched new p = did_more old name n s text watched new old.goes_on refl p
+did old (action.Watch w) text watched new p = did_nothing old (action.Watch w) text watched new (refl, p.0) p.1
+did old (action.Look l) text watched new p = did_nothing old (action.Look l) text watched new (refl, p.0) p.1
+did old (action.Orders block) text watched new p = did_nothing old (action.Orders block) text watched new (refl, p.0) p.1
+did old (action.BadLook number s) text watched new p = did_nothing old (action.BadLook number s) text watched new (refl, p.0) p.1
 
 append_plain : (old : LookState) (xs : List Action) (s : List ℕ) (mid : LookState) (ys : List Action) (t : List ℕ) (new : LookState)
     → Runs NotedPerforms old xs s mid → Runs Performs mid.edf ys t new.edf → Runs Performs old.edf (xs ++ ys) (s ++ t) new.edf
@@ -155,25 +174,30 @@ kept_same old (action.Source name lines a) plain done = refl
 kept_same old (action.Run name n s) plain done = after_same plain done
 kept_same old (action.RunOn name n s) plain done = after_same plain done
 kept_same old (action.BadLook number s) plain done = refl
+kept_same old (action.Watch w) plain done = refl
 kept_same old (action.Look l) plain done = refl
+kept_same old (action.Orders block) plain done = refl
 
-in_front : (old : LookState) (a : LookAction) (first : List ℕ) (between : LookState) (actions : List LookAction) (rest text : List ℕ) (new : LookState)
-    → Did old a first between → ChangesNothing between actions rest new → text ≡ first ++ rest → ChangesNothing old (a ∷ actions) text new
+in_front : (old : LookState) (a : LookAction) (own first : List ℕ) (between : LookState) (actions : List LookAction) (rest text : List ℕ) (new : LookState)
+    → Did old a own (watched_text old (cause_of a) between) between → first ≡ own ++ watched_text old (cause_of a) between → ChangesNothing between actions rest new → text ≡ first ++ rest → ChangesNothing old (a ∷ actions) text new
 unfolding ArePartsOf
-in_front old a first between actions rest text new d r e =
+in_front old a own first between actions rest text new d is r e =
     let plain : List Action = flat_map plain_of r.parts in
     let written : List ℕ = flat_map written_of r.parts in
+    let watched : List ℕ = watched_text old (cause_of a) between in
+    let shown : own ++ watched ≡ text_of d.part =
+    ap (λ l. l ++ watched) d.whole ∙ ap (λ w. d.part.written ++ d.part.looked ++ w) (sym d.shown) in
     let same : between.edf ≡ d.done.edf = ap (λ (s : LookState). s.edf) d.kept ∙ kept_same old a d.part.plain d.done in
     record {
       parts = d.part ∷ r.parts;
-      each = (d.done, between, d.is, d.runs, d.kept, r.each);
+      each = (d.done, between, d.is, d.runs, d.kept, d.shown, r.each);
       runs = append_plain old d.part.plain d.part.written d.done plain written new d.runs
           (subst (λ (s : EdfState). Runs Performs s plain written new.edf) same r.runs);
-      whole = e ∙ ap (λ l. l ++ rest) d.whole ∙ ap (λ l. text_of d.part ++ l) r.whole;
+      whole = e ∙ ap (λ l. l ++ rest) (is ∙ shown) ∙ ap (λ l. text_of d.part ++ l) r.whole;
     }
 
 pub looks_change_nothing : LooksChangeNothing
 unfolding Runs ArePartsOf
 looks_change_nothing old [] text new p = record { parts = []; each = p.1; runs = (refl, ap (λ (s : LookState). s.edf) p.1); whole = p.0 }
 looks_change_nothing old (a ∷ actions) text new p =
-    in_front old a p.1 p.0 actions p.2 text new (did old a p.1 p.0 p.3) (looks_change_nothing p.0 actions p.2 new p.4) p.5
+    in_front old a p.3.own p.1 p.0 actions p.2 text new (did old a p.3.own (watched_text old (cause_of a) p.0) p.0 p.3.acts) p.3.is (looks_change_nothing p.0 actions p.2 new p.4) p.5

@@ -1,7 +1,11 @@
+mod WatchLemmas
+mod WatchLawLemmas
 mod TurnLemmas
 mod StopLemmas
 mod LawLemmas
 mod MarkLemmas
 mod NoteLemmas
+mod OrdersLemmas
 mod PlainLemmas
 mod SameLemmas
+mod SpotLemmas

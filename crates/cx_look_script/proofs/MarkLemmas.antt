@@ -8,13 +8,16 @@ use Rattle.cx_look_words.specs.Words.{Lines, marked}
 use Rattle.cx_look_ahead.specs.Laws.{AheadDecides}
 use Rattle.cx_look_tasks.specs.Laws.{ResourcesTextsDecide, TasksTextsDecide}
 use Rattle.cx_look_script.specs.Looking.{AreLookLines}
-use Rattle.cx_look_script.specs.Laws.Looks.{LooksAreMarked, LooksAreReportedOnce}
+use Rattle.cx_look_script.specs.Laws.Looks.{LooksAreMarked, LooksAreReportedOnce, OrdersAreMarked}
 use Rattle.cx_look_script.specs.State.{LookState}
 
 pub looks_are_marked : LooksAreMarked
 looks_are_marked look state text it = subst IsOfLooks (sym it.is) (marked_is_of_looks it.lines)
 
-same_lines : TasksTextsDecide → ResourcesTextsDecide → AheadDecides → (look : Look) (state : LookState) (one other : Lines) → AreLookLines look state one → AreLookLines look state other → one ≡ other
+pub orders_are_marked : OrdersAreMarked
+orders_are_marked block state text it = subst IsOfLooks (sym it.is) (marked_is_of_looks it.lines)
+
+pub same_lines : TasksTextsDecide → ResourcesTextsDecide → AheadDecides → (look : Look) (state : LookState) (one other : Lines) → AreLookLines look state one → AreLookLines look state other → one ≡ other
 unfolding AreLookLines
 same_lines tasks resources ahead look.Queues state one other p q = p ∙ sym q
 same_lines tasks resources ahead (look.Queue name) state one other p q = p ∙ sym q
@@ -23,7 +26,7 @@ same_lines tasks resources ahead look.Programs state one other p q = p ∙ sym q
 same_lines tasks resources ahead look.Tasks state one other p q = tasks state.edf.region one other p q
 same_lines tasks resources ahead look.Resources state one other p q = resources state.edf.region one other p q
 same_lines tasks resources ahead (look.Command name) state one other p q = p ∙ sym q
-same_lines tasks resources ahead (look.Ahead name) state one other p q = ahead state.edf.region name one other p q
+same_lines tasks resources ahead (look.Ahead name n) state one other p q = ahead state.sources state.edf.region name n one other p q
 same_lines tasks resources ahead (look.Storage at n) state one other p q = p ∙ sym q
 same_lines tasks resources ahead (look.Where at) state one other p q = p ∙ sym q
 same_lines tasks resources ahead look.Areas state one other p q = p ∙ sym q

@@ -28,9 +28,13 @@ use Rattle.cx_script.specs.Script.{Script, Step, actions_of, first_place, steppe
 use Rattle.cx_script.specs.declared.run.Place.{Place}
 use Rattle.cx_script.specs.Transcript.{Runs}
 use Rattle.cx_look_script.specs.Laws.Scripts.{ActionsStay, ArePlain, HasNoBadLine, IsSame, ScriptsStay, plain_action}
-use Rattle.cx_look_script.specs.Looking.{LookPerforms}
+use Rattle.cx_look_script.specs.Laws.Watches.{is_watch}
+use Rattle.cx_look_script.specs.Looking.{Acts, LookPerforms}
 use Rattle.cx_look_script.specs.State.{LookState}
+use Rattle.cx_look_script.specs.Watched.{cause_of}
 use Rattle.cx_look_script.proofs.LawLemmas.{performs}
+use Rattle.cx_look_script.proofs.WatchLawLemmas.{watches_stay}
+use Rattle.cx_look_script.proofs.WatchLemmas.{alone_unwatched}
 use Rattle.cx_look_script.proofs.PlainLemmas.{IsPlain, IsPlainBody, LeavesPlain, steps_leave}
 use Rattle.cx_look_script.specs.Reading.{line_by, look_language, look_line_of, own_line, as_look_line}
 use Rattle.cx_look_script.specs.declared.action.LookAction.{LookAction}
@@ -136,7 +140,9 @@ same_one a (action.Script b) e = record { actions = ap (λ (o : Option Action). 
 same_one a (action.Source name lines b) e = record { actions = ap (λ (o : Option Action). o ∷ []) e; good = refl; good_here = refl }
 same_one a (action.Run name n s) e = cc
 same_one a (action.RunOn name n s) e = cc
+same_one a (action.Watch w) e = cc
 same_one a (action.Look l) e = cc
+same_one a (action.Orders block) e = cc
 same_one a (action.BadLook number s) e = cc
 
 same_asked : (a : Option Action) (h : Option LookAction) → option_map plain_action h ≡ option_map (λ (x : Action). Some x) a → IsSameAsked a h
@@ -216,26 +222,45 @@ unfolding script_in
 scripts_stay ending bytes good = from_here ending 1 first_place (lines_met ending bytes) (tt, refl) good
 
 -- ---- what is done
-performs_same : (old : LookState) (a : LookAction) (b : Action) (text : List ℕ) (new : LookState) → plain_action a ≡ Some b → LookPerforms old a text new
+acts_same : (old : LookState) (a : LookAction) (b : Action) (text : List ℕ) (new : LookState) → plain_action a ≡ Some b → Acts old a text new
     → Performs old.edf b text new.edf
-unfolding LookPerforms
-performs_same old (action.Script a) b text new e p =
+unfolding Acts
+acts_same old (action.Script a) b text new e p =
     subst (λ (x : Action). Performs old.edf x text new.edf) (some_same a b e) (performs old a text new p)
-performs_same old (action.Source name lines a) b text new e p =
+acts_same old (action.Source name lines a) b text new e p =
     let kept : p.done.edf ≡ new.edf = sym (ap (λ (s : LookState). s.edf) p.keeps) in
     subst (λ (x : Action). Performs old.edf x text new.edf) (some_same a b e)
     (subst (λ (s : EdfState). Performs old.edf a text s) kept (performs old a text p.done p.performs))
-performs_same old (action.Run name n s) b text new e p = cc
-performs_same old (action.RunOn name n s) b text new e p = cc
-performs_same old (action.BadLook number s) b text new e p = cc
-performs_same old (action.Look l) b text new e p = cc
+acts_same old (action.Run name n s) b text new e p = cc
+acts_same old (action.RunOn name n s) b text new e p = cc
+acts_same old (action.BadLook number s) b text new e p = cc
+acts_same old (action.Watch w) b text new e p = cc
+acts_same old (action.Look l) b text new e p = cc
+acts_same old (action.Orders block) b text new e p = cc
+
+performs_same : (old : LookState) (a : LookAction) (b : Action) (text : List ℕ) (new : LookState) → plain_action a ≡ Some b → old.watched ≡ [] → LookPerforms old a text new
+    → Performs old.edf b text new.edf
+performs_same old a b text new e none p =
+    subst (λ l. Performs old.edf b l new.edf) (sym (alone_unwatched old new (cause_of a) p.own text p.is none)) (acts_same old a b p.own new e p.acts)
+
+-- and no more is watched
+no_watch : (a : LookAction) (b : Action) → plain_action a ≡ Some b → is_watch a ≡ false
+no_watch (action.Script a) b e = refl
+no_watch (action.Source name lines a) b e = refl
+no_watch (action.Run name n s) b e = refl
+no_watch (action.RunOn name n s) b e = refl
+no_watch (action.BadLook number s) b e = refl
+no_watch (action.Watch w) b e = cc
+no_watch (action.Look l) b e = refl
+no_watch (action.Orders block) b e = refl
 
 pub actions_stay : ActionsStay
 unfolding Runs
-actions_stay old [] [] text new e p = (p.0, ap (λ (s : LookState). s.edf) p.1)
-actions_stay old [] (b ∷ plain) text new e p = cc
-actions_stay old (a ∷ actions) [] text new e p = cc
-actions_stay old (a ∷ actions) (b ∷ plain) text new e p =
+actions_stay old [] [] text new e none p = (p.0, ap (λ (s : LookState). s.edf) p.1)
+actions_stay old [] (b ∷ plain) text new e none p = cc
+actions_stay old (a ∷ actions) [] text new e none p = cc
+actions_stay old (a ∷ actions) (b ∷ plain) text new e none p =
     let first : plain_action a ≡ Some b = first_same (plain_action a) (Some b) (map plain_action actions) (map (λ (x : Action). Some x) plain) e in
     let rest : ArePlain actions plain = rest_same (plain_action a) (Some b) (map plain_action actions) (map (λ (x : Action). Some x) plain) e in
-    (p.0.edf, p.1, p.2, performs_same old a b p.1 p.0 first p.3, actions_stay p.0 actions plain p.2 new rest p.4, p.5)
+    let still : p.0.watched ≡ [] = watches_stay old a p.3.own p.0 (no_watch a b first) p.3.acts ∙ none in
+    (p.0.edf, p.1, p.2, performs_same old a b p.1 p.0 first none p.3, actions_stay p.0 actions plain p.2 new rest still p.4, p.5)

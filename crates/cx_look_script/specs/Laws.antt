@@ -1,5 +1,7 @@
 -- The statements of laws.
 pub mod Looks
+pub mod Marks
 pub mod Notes
 pub mod Scripts
 pub mod Turns
+pub mod Watches

@@ -2,10 +2,12 @@
 pub mod State
 pub mod Sources
 pub mod Runs
+pub mod Watched
 pub mod Reading
 pub mod Allowed
 pub mod Faults
 pub mod Help
+pub mod Orders
 pub mod Looking
 pub mod Laws
 pub use Rattle.cx_script_actions.specs.Actions
@@ -13,6 +15,8 @@ pub use Rattle.cx_script_actions.specs.Language
 pub use Rattle.cx_script_actions.specs.Texts
 pub use Rattle.cx_script_actions.specs.Effects
 pub use Rattle.cx_look.specs.Looks
+pub use Rattle.cx_look.specs.Orders as Blocks
+pub use Rattle.cx_look_orders.specs.Report as OrdersReports
 pub use Rattle.cx_look_faults.specs.Faults as FaultyLines
 pub use Rattle.cx_asm_build.specs.Kinds
 pub use Rattle.cx_look_words.specs.Words
@@ -35,6 +39,7 @@ pub use Rattle.cx_look_symbols.specs.Places
 pub use Rattle.cx_look_symbols.specs.Sources as SourcesKept
 pub use Rattle.cx_look_ahead.specs.Rows
 pub use Rattle.cx_look_ahead.specs.Ahead
+pub use Rattle.cx_look_watch.specs.Watching
 pub use Rattle.cx_look_tasks.specs.Activities
 pub use Rattle.cx_look_tasks.specs.Tasks
 pub use Rattle.cx_look_abend.specs.Dumps

@@ -1,6 +1,7 @@
 -- What an action of a script with looks does, and what is written for it (own).
-use Rattle.std.specs.Prelude.{◌≡◌, ℕ, zero, suc, MatchBool, MatchOption, Option, List, []}
+use Rattle.std.specs.Prelude.{◌≡◌, ℕ, zero, suc, MatchBool, MatchOption, Option, List, [], ◌++◌}
 use Rattle.std.specs.Option.{option_map_or}
+use Rattle.cx_region.specs.State.{RegionState}
 use Rattle.cx_region.specs.Tables.{program_of}
 use Rattle.cx_edf.specs.declared.answers.Answer.{Answer}
 use Rattle.cx_script_actions.specs.Effects.{Performs}
@@ -8,6 +9,7 @@ use Rattle.cx_script_actions.specs.Texts.{answer_text}
 use Rattle.cx_script_actions.specs.declared.actions.Action.{Action}
 use Rattle.cx_script_actions.specs.declared.actions.Action.TheVariants as edf_action
 use Rattle.cx_look.specs.declared.look.Look.{Look}
+use Rattle.cx_look.specs.declared.orders.OrdersBlock.{OrdersBlock}
 use Rattle.cx_look.specs.declared.look.Look.TheVariants as look
 use Rattle.cx_look_words.specs.Words.{Lines, marked}
 use Rattle.cx_look_tables.specs.Queues.{item_text, queue_text, queues_text}
@@ -22,21 +24,19 @@ use Rattle.cx_look_storage.specs.Areas.{areas_text, task_areas_text}
 use Rattle.cx_look_storage.specs.Bytes.{storage_text}
 use Rattle.cx_look_where.specs.Wheres.{where_text}
 use Rattle.cx_look_levels.specs.Tasks.{task_text}
-use Rattle.cx_look_levels.specs.FieldTexts.{field_text, fields_text, program_at}
+use Rattle.cx_look_levels.specs.FieldTexts.{field_text, fields_text}
 use Rattle.cx_look_tasks.specs.Tasks.{ResourcesText, TasksText}
 use Rattle.cx_look_abend.specs.Texts.{abend_storage_text, abend_text}
 use Rattle.cx_look_script.specs.State.{LookState}
-use Rattle.cx_look_script.specs.Sources.{with_source}
+use Rattle.cx_look_script.specs.Sources.{level_lines, with_source}
 use Rattle.cx_look_script.specs.Runs.{AppliesAtLooks, StopsWith, run_over, still_running, turn_of}
+use Rattle.cx_look_script.specs.Watched.{cause_of, watch_lines, watched_after, watched_text}
 use Rattle.cx_look_script.specs.Faults.{faults_text}
 use Rattle.cx_look_script.specs.Help.{bad_look_text, help_text}
+use Rattle.cx_look_script.specs.Orders.{IsOrdersText}
 use Rattle.cx_look_script.specs.declared.action.LookAction.{LookAction}
 use Rattle.cx_look_script.specs.declared.action.LookAction.TheVariants as action
 use Rattle.cx_look_script.specs.declared.action.Stop.{Stop}
-
--- the lines of the source of a level's program
-abbrev pub level_lines : LookState → List ℕ → Option ℕ → List (List ℕ)
-level_lines state term k = option_map_or (source_lines state.sources) (program_at state.edf.region term k) []
 
 -- What a look has to say of a state.
 unfoldable pub AreLookLines : Look → LookState → Lines → Type 0
@@ -47,7 +47,7 @@ AreLookLines look.Programs state lines = lines ≡ programs_text state.edf.regio
 AreLookLines look.Tasks state lines = TasksText state.edf.region lines
 AreLookLines look.Resources state lines = ResourcesText state.edf.region lines
 AreLookLines (look.Command name) state lines = lines ≡ command_text state.edf.region name
-AreLookLines (look.Ahead name) state lines = AheadText state.edf.region name lines
+AreLookLines (look.Ahead name n) state lines = AheadText state.sources state.edf.region name n lines
 AreLookLines (look.Task name) state lines = lines ≡ task_text state.sources state.edf.region name
 AreLookLines look.Areas state lines = lines ≡ areas_text state.edf.region
 AreLookLines (look.AreasOf name) state lines = lines ≡ task_areas_text state.edf.region name
@@ -68,11 +68,20 @@ AreLookLines (look.Field term name k) state lines =
 AreLookLines (look.Help word) state lines = lines ≡ help_text word
 AreLookLines (look.Fields term k) state lines = lines ≡ fields_text state.edf.region (level_lines state term k) term k
 
+-- the state, with another region in place of its own; nothing is watched there
+abbrev pub at_region : LookState → RegionState → LookState
+at_region state region =
+    record state { edf = record { region = region; sessions = state.edf.sessions }; watched = [] }
+
 -- and how it is written
 pub record IsLookText (look : Look) (state : LookState) (text : List ℕ) : Type 0 where
   pub lines : Lines
   pub are : AreLookLines look state lines
   pub is : text ≡ marked lines
+
+-- what is written for a block of ORDERS: looks at another region are at the sessions and the sources of this one
+abbrev pub ShowsOrders : OrdersBlock → LookState → List ℕ → Type 0
+ShowsOrders block state text = IsOrdersText (λ region l. AreLookLines l (at_region state region)) block state.edf text
 
 -- an action of `cicsedf`: an event as its answer says, and the abend that it led to is kept; any other leaves what is
 -- kept
@@ -81,6 +90,7 @@ NotedPerforms old (edf_action.Event e) text new =
     (given : Answer) × AppliesAtLooks old e given new × (text ≡ answer_text e given)
 NotedPerforms old a text new =
     Performs old.edf a text new.edf × (new.abends ≡ old.abends) × (new.sources ≡ old.sources)
+    × (new.watched ≡ old.watched)
     × (new.goes_on ≡ old.goes_on)
 
 -- a source's end: what it does in `cicsedf`, and after that the source's lines are kept, where it defined its program
@@ -105,13 +115,23 @@ abbrev pub TakesOneMore : LookState → List ℕ → ℕ → Stop → List ℕ �
 TakesOneMore old name zero s text new = (text ≡ still_running name) × (new ≡ run_over old)
 TakesOneMore old name (suc n) s text new = RunsTurn old name s text new
 
--- One action: the state before, the action, what is written for it, and the state after. Each further turn of RUN is
--- done only where the last is to be followed by one more.
-unfoldable pub LookPerforms : LookState → LookAction → List ℕ → LookState → Type 0
-LookPerforms old (action.Script a) text new = NotedPerforms old a text new
-LookPerforms old (action.Source name lines a) text new = SourcePerforms old name lines a text new
-LookPerforms old (action.Run name n s) text new = RunsTurn old name s text new
-LookPerforms old (action.RunOn name n s) text new =
+-- One action, but for what WATCH writes after it. Each further turn of RUN is done only where the last is to be
+-- followed by one more.
+unfoldable pub Acts : LookState → LookAction → List ℕ → LookState → Type 0
+Acts old (action.Script a) text new = NotedPerforms old a text new
+Acts old (action.Source name lines a) text new = SourcePerforms old name lines a text new
+Acts old (action.Run name n s) text new = RunsTurn old name s text new
+Acts old (action.RunOn name n s) text new =
     MatchBool old.goes_on (TakesOneMore old name n s text new) ((text ≡ []) × (new ≡ old))
-LookPerforms old (action.Look l) text new = IsLookText l old text × (new ≡ old)
-LookPerforms old (action.BadLook number s) text new = (text ≡ marked (bad_look_text number s)) × (new ≡ old)
+Acts old (action.Watch w) text new =
+    (text ≡ marked (watch_lines old w)) × (new ≡ record old { watched = watched_after old w })
+Acts old (action.Look l) text new = IsLookText l old text × (new ≡ old)
+Acts old (action.Orders block) text new = ShowsOrders block old text × (new ≡ old)
+Acts old (action.BadLook number s) text new = (text ≡ marked (bad_look_text number s)) × (new ≡ old)
+
+-- One action: the state before, the action, what is written for it, and the state after; what is watched and has
+-- changed is written last.
+pub record LookPerforms (old : LookState) (a : LookAction) (text : List ℕ) (new : LookState) : Type 0 where
+  pub own : List ℕ
+  pub acts : Acts old a own new
+  pub is : text ≡ own ++ watched_text old (cause_of a) new

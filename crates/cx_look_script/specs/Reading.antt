@@ -1,10 +1,11 @@
 -- What a line of a script with looks asks (own).
 use Rattle.std.specs.Prelude.{ℕ, Bool, true, false, nat_le, if◌then◌else◌, Option, Some, None, unwrap_or, List, [], ◌∷◌, ◌++◌, length, map, codes}
-use Rattle.std.specs.Option.{option_and_then, option_map, option_map_or}
+use Rattle.std.specs.Option.{option_and_then, option_map, option_map_or, option_or}
 use Rattle.std.specs.Str.{bytes_eq}
 use Rattle.std.specs.Char.{to_ascii_uppercase}
 use Rattle.cx_ebcdic.specs.Names.{padded_name}
-use Rattle.cx_script_actions.specs.Words.{after_first_blank, word}
+use Rattle.cx_script_actions.specs.Alterations.{hex_number}
+use Rattle.cx_script_actions.specs.Words.{after_first_blank, two_words, word}
 use Rattle.cx_script_actions.specs.Actions.{line_of}
 use Rattle.cx_script_actions.specs.Language.{Language}
 use Rattle.cx_script_actions.specs.declared.actions.Action.{Action}
@@ -13,7 +14,7 @@ use Rattle.cx_script_actions.specs.declared.actions.Heading.TheVariants as headi
 use Rattle.cx_script_actions.specs.declared.actions.Line.{Line}
 use Rattle.cx_script_actions.specs.declared.actions.Line.TheVariants as line
 use Rattle.cx_script_blocks.specs.Blocks.{kept_lines}
-use Rattle.cx_look.specs.Orders.{orders_with}
+use Rattle.cx_look.specs.Orders.{orders_block, orders_with, states_of}
 use Rattle.cx_look.specs.Looks.{count_of, look_of, subject_of}
 use Rattle.cx_look.specs.declared.look.Look.TheVariants as look
 use Rattle.cx_look.specs.declared.look.Subject.{Subject}
@@ -23,6 +24,8 @@ use Rattle.cx_look_script.specs.declared.action.LookAction.{LookAction}
 use Rattle.cx_look_script.specs.declared.action.LookAction.TheVariants as action
 use Rattle.cx_look_script.specs.declared.action.Stop.{Stop}
 use Rattle.cx_look_script.specs.declared.action.Stop.TheVariants as stop
+use Rattle.cx_look_script.specs.declared.action.WatchLine.{WatchLine}
+use Rattle.cx_look_script.specs.declared.action.WatchLine.TheVariants as watch
 
 -- what ends a RUN in front of a turn, by the words after its number
 abbrev pub stop_of : Option (List ℕ) → Option Stop
@@ -42,9 +45,21 @@ turns_of name (Some text) =
 abbrev pub run_of : List ℕ → Option LookAction
 run_of text = option_and_then (λ name. turns_of name (after_first_blank text)) (padded_name 4 (word text))
 
+-- WATCH: at most 256 bytes from an address on; a field of a terminal's task; or nothing any more
+abbrev pub watched_range : List ℕ → Option WatchLine
+watched_range text = two_words watch.Range (hex_number 3) (count_of 256) text
+
+abbrev pub watched_field : List ℕ → Option WatchLine
+watched_field text = two_words watch.Field (padded_name 4) (padded_name 8) text
+
+abbrev pub watch_of : List ℕ → Option WatchLine
+watch_of text =
+    if bytes_eq text (codes "OFF") then Some watch.Off else option_or (watched_range text) (watched_field text)
+
 -- what a line asks that begins with one of these words, where it is as it should be
 abbrev pub asked_by : Subject → List ℕ → Option LookAction
 asked_by subject.Run text = option_and_then run_of (after_first_blank text)
+asked_by subject.Watch text = option_map (λ w. action.Watch w) (option_and_then watch_of (after_first_blank text))
 asked_by _ text = option_map (λ l. action.Look l) (look_of text)
 
 -- the line that begins a block of FAULTS
@@ -52,9 +67,14 @@ abbrev pub faults_line : List ℕ → Option (Line LookAction)
 faults_line text =
     option_map (λ name. line.Lines (heading.Faults name)) (option_and_then (padded_name 8) (after_first_blank text))
 
--- That line; RUN or a look; or a bad look, which is reported.
+-- the line that begins a block of ORDERS
+abbrev pub orders_line : List ℕ → Option (Line LookAction)
+orders_line text = option_map (λ n. line.Lines (heading.Orders n)) (states_of (after_first_blank text))
+
+-- Such a line; RUN or a look; or a bad look, which is reported.
 abbrev pub line_of_subject : ℕ → List ℕ → Subject → Option (Line LookAction)
 line_of_subject number text subject.Faults = faults_line text
+line_of_subject number text subject.Orders = orders_line text
 line_of_subject number text s = Some (line.Action (unwrap_or (asked_by s text) (action.BadLook number s)))
 
 -- What a line asks that begins with one of the words that no script of `cicsedf` has. Lower case is taken as upper
@@ -89,7 +109,7 @@ block_with (heading.Orders most) lines text = orders_with lines text
 abbrev pub block_asks : ℕ → Heading → List (List ℕ) → Option LookAction
 block_asks first (heading.Faults name) lines =
     Some (action.Look (look.Faults (record { first = first; name = name; lines = lines })))
-block_asks first (heading.Orders most) lines = None
+block_asks first (heading.Orders most) lines = if nat_le 1 most then Some (action.Orders (orders_block most lines)) else None
 
 abbrev pub is_bad_look : LookAction → Bool
 is_bad_look (action.BadLook number s) = true

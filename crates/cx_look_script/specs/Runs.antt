@@ -48,6 +48,7 @@ still_running name = marked (look_line (codes "RUN" ∷ shown_name name ∷ code
 pub record AppliesAtLooks (old : LookState) (e : EdfEvent) (given : Answer) (new : LookState) : Type 0 where
   pub noted : AppliesWithAbends old.edf old.abends e given new.edf new.abends
   pub sources : new.sources ≡ old.sources
+  pub watched : new.watched ≡ old.watched
   pub goes_on : new.goes_on ≡ goes_on new.edf e given
 
 -- RUN is over: its last turn isn't to be followed by one more

@@ -1,8 +1,10 @@
 -- When a source's lines are kept (own).
-use Rattle.std.specs.Prelude.{ℕ, Bool, ◌&&◌, not, is_some, if◌then◌else◌, List}
+use Rattle.std.specs.Prelude.{ℕ, Bool, ◌&&◌, not, is_some, if◌then◌else◌, Option, List, []}
+use Rattle.std.specs.Option.{option_map_or}
 use Rattle.cx_region.specs.State.{RegionState}
 use Rattle.cx_region.specs.Tables.{program_of}
-use Rattle.cx_look_symbols.specs.Sources.{with_lines}
+use Rattle.cx_look_levels.specs.FieldTexts.{program_at}
+use Rattle.cx_look_symbols.specs.Sources.{source_lines, with_lines}
 use Rattle.cx_look_script.specs.State.{LookState}
 
 -- whether a program was defined: the region had none of this name, and has one
@@ -16,3 +18,7 @@ with_source old name lines new =
       sources = if is_defined old.edf.region name new.edf.region then with_lines new.sources name lines
           else new.sources;
     }
+
+-- the lines of the source of a level's program
+abbrev pub level_lines : LookState → List ℕ → Option ℕ → List (List ℕ)
+level_lines state term k = option_map_or (source_lines state.sources) (program_at state.edf.region term k) []

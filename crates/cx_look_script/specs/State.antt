@@ -1,19 +1,27 @@
 -- A region under EDF that is looked at (own).
-use Rattle.std.specs.Prelude.{Bool, false, []}
+use Rattle.std.specs.Prelude.{Bool, false, List, []}
 use Rattle.cx_edf.specs.State.{EdfState}
 use Rattle.cx_script_actions.specs.Effects.{fresh_state}
 use Rattle.cx_look_abend.specs.Noting.{Abends}
+use Rattle.cx_look_ahead.specs.declared.rows.Row.{Row}
 use Rattle.cx_look_symbols.specs.Sources.{Sources}
 
--- the region under EDF, each terminal's last abend, what is kept of sources, and whether the last event was a turn that
--- one more turn takes on
+-- the region under EDF, each terminal's last abend, what is kept of sources, the ranges of bytes that are watched, and
+-- whether the last event was a turn that one more turn takes on
 pub record LookState : Type 0 where
   pub edf : EdfState
   pub abends : Abends
   pub sources : Sources
+  pub watched : List Row
   pub goes_on : Bool
 
 -- as a script begins it: no terminal is defined, and no program
 abbrev pub fresh_look_state : LookState
 fresh_look_state =
-    record { edf = fresh_state; abends = []; sources = record { lines = []; places = [] }; goes_on = false }
+    record {
+      edf = fresh_state;
+      abends = [];
+      sources = record { lines = []; places = [] };
+      watched = [];
+      goes_on = false;
+    }

@@ -5,14 +5,17 @@ ghost use Rattle.std.specs.Option.{option_copied, option_map_or};
 ghost use Rattle.cx_script_actions.specs.Allowed.{IsAllowed, IsAllowedLine};
 ghost use Rattle.cx_look.specs.Looks.{count_of};
 ghost use Rattle.cx_look_script.specs.Allowed.{IsAllowedLook};
-ghost use Rattle.cx_look_script.specs.Reading.{asked_by, faults_line, look_language, look_line_of, line_of_subject, own_line, run_of, run_with, stop_of, as_look_line, turns_of};
+ghost use Rattle.cx_look_script.specs.Reading.{asked_by, faults_line, look_language, look_line_of, line_of_subject, orders_line, own_line, run_of, run_with, stop_of, as_look_line, turns_of, watch_of, watched_field, watched_range};
 ghost use Rattle.cx_look_script.specs.Runs.{look_actions_of};
 
 use cx_base_lists::List;
 use cx_ebcdic::{Name4, Name8};
-use cx_look::{Look, SourceLines, Subject, look_of, orders_with, subject_of};
+use cx_look::{
+    Look, OrdersBlock, SourceLines, Subject, look_of, orders_block, orders_with, states_of,
+    subject_of,
+};
 use cx_script_actions::{
-    Action, Heading, Line, ScriptAction, line_of, name4, name8, number, split_word,
+    Action, Heading, Line, ScriptAction, hex_address, line_of, name4, name8, number, split_word,
 };
 use cx_script_blocks::with_text;
 use cx_source::Text;
@@ -24,6 +27,9 @@ const TURNS: u16 = 1_000;
 /// The most turns that RUN does.
 const MOST_TURNS: u32 = 4_096;
 
+/// The most bytes of a range that is watched.
+const MOST_BYTES: u32 = 256;
+
 /// What ends a RUN in front of a turn, before its turns are done.
 #[derive(Clone, Copy, Debug, PartialEq, Eq)]
 pub enum Stop {
@@ -31,6 +37,17 @@ pub enum Stop {
     Never,
     /// The turn would be answered as an abend, or as one that an exit takes.
     BeforeAbend,
+}
+
+/// What WATCH asks.
+#[derive(Clone, Copy, Debug, PartialEq, Eq)]
+pub enum WatchLine {
+    /// To watch bytes from an address on, and how many: 1 to 256.
+    Range(u32, u32),
+    /// To watch a field of the current level of a terminal's task: its first 256 bytes, where it is longer.
+    Field(Name4, Name8),
+    /// To watch nothing any more.
+    Off,
 }
 
 /// What is done for a line of a script with looks.
@@ -44,8 +61,12 @@ pub enum LookAction {
     Run(Name4, u16, Stop),
     /// One more turn of RUN, where at most this many are left; where none is, the line that says so.
     RunOn(Name4, u16, Stop),
+    /// What is watched.
+    Watch(WatchLine),
     /// A look.
     Look(Look),
+    /// ORDERS: what its block asks.
+    Orders(OrdersBlock),
     /// The report of a bad look: the number of its line, and the word that it begins with.
     BadLook(usize, Subject),
 }
@@ -53,16 +74,17 @@ pub enum LookAction {
 /// The most bytes of a line.
 const MOST_IN_LINE: usize = 4_096;
 
-/// The number from 1 to 4,096 that at most five decimal digits spell.
+/// The number from 1 to a most that at most five decimal digits spell.
 #[tactic(auto, using(std::proofs::lemmas::Bool::Decides::nat_tests), unfolding(cx_look::specs::Looks::count_of))]
-fn count_of(word: &[u8]) -> Option<u16>
-    ensures value { result ≡ count_of 4096 word.now }
+fn count_of(word: &[u8], most: u32) -> Option<u32>
+    ensures value { result ≡ count_of most word.now }
+    ensures most { IfSome result (λ n. n ≤ most) }
 {
     let n = number(word, 1, 5)?;
-    if n < 1 || n > MOST_TURNS {
+    if n < 1 || n > most {
         return None;
     }
-    Some(n as u16)
+    Some(n)
 }
 
 /// What ends a RUN in front of a turn, by the words after its number.
@@ -94,8 +116,8 @@ fn turns_of(name: Name4, rest: Option<&[u8]>) -> Option<LookAction>
         return run_with(name, TURNS, rest);
     };
     let (word, more) = split_word(text);
-    match count_of(word) {
-        Some(n) => run_with(name, n, more),
+    match count_of(word, MOST_TURNS) {
+        Some(n) => run_with(name, n as u16, more),
         None => run_with(name, TURNS, rest),
     }
 }
@@ -110,6 +132,39 @@ fn run_of(text: &[u8]) -> Option<LookAction>
     turns_of(name, rest)
 }
 
+/// Bytes that are to be watched, by what follows WATCH.
+fn watched_range(text: &[u8]) -> Option<WatchLine>
+    ensures { result ≡ watched_range text.now }
+{
+    let (word, rest) = split_word(text);
+    let address = hex_address(word)?;
+    let count = count_of(rest?, MOST_BYTES)?;
+    Some(WatchLine::Range(address, count))
+}
+
+/// A field that is to be watched, by what follows WATCH.
+fn watched_field(text: &[u8]) -> Option<WatchLine>
+    ensures { result ≡ watched_field text.now }
+{
+    let (word, rest) = split_word(text);
+    let term = name4(word)?;
+    let name = name8(rest?)?;
+    Some(WatchLine::Field(term, name))
+}
+
+/// WATCH, by what follows it.
+fn watch_of(text: &[u8]) -> Option<WatchLine>
+    ensures { result ≡ watch_of text.now }
+{
+    if text == b"OFF".as_slice() {
+        return Some(WatchLine::Off);
+    }
+    match watched_range(text) {
+        Some(range) => Some(range),
+        None => watched_field(text),
+    }
+}
+
 /// What a line asks that begins with one of these words, where it is as it should be.
 fn asked_by(subject: Subject, text: &[u8]) -> Option<LookAction>
     ensures value { result ≡ asked_by subject text.now }
@@ -118,6 +173,11 @@ fn asked_by(subject: Subject, text: &[u8]) -> Option<LookAction>
     if subject == Subject::Run {
         let (_word, rest) = split_word(text);
         return run_of(rest?);
+    }
+    if subject == Subject::Watch {
+        let (_word, rest) = split_word(text);
+        let watch = watch_of(rest?)?;
+        return Some(LookAction::Watch(watch));
     }
     let look = look_of(text)?;
     Some(LookAction::Look(look))
@@ -133,6 +193,16 @@ fn faults_line(text: &[u8]) -> Option<Line<LookAction>>
     Some(Line::Lines(Heading::Faults(name)))
 }
 
+/// The line that begins a block of ORDERS.
+fn orders_line(text: &[u8]) -> Option<Line<LookAction>>
+    ensures value { result ≡ orders_line text.now }
+    ensures allowed { IfSome result (IsAllowedLine IsAllowedLook) }
+{
+    let (_word, rest) = split_word(text);
+    let most = states_of(rest)?;
+    Some(Line::Lines(Heading::Orders(most)))
+}
+
 /// What a line asks that begins with one of these words.
 fn line_of_subject(number: usize, text: &[u8], subject: Subject) -> Option<Line<LookAction>>
     ensures value { result ≡ line_of_subject number text.now subject }
@@ -140,6 +210,9 @@ fn line_of_subject(number: usize, text: &[u8], subject: Subject) -> Option<Line<
 {
     if subject == Subject::Faults {
         return faults_line(text);
+    }
+    if subject == Subject::Orders {
+        return orders_line(text);
     }
     match asked_by(subject, text) {
         Some(action) => Some(Line::Action(action)),
@@ -231,7 +304,7 @@ impl ScriptAction for LookAction {
     }
 
     fn of_lines(
-        _alloc: Global,
+        alloc: Global,
         first: usize,
         heading: Heading,
         lines: List<Text>,
@@ -241,7 +314,13 @@ impl ScriptAction for LookAction {
                 let look = Look::Faults(SourceLines { first, name, lines });
                 Ok(Some(LookAction::Look(look)))
             }
-            Heading::Orders(_) => Ok(None),
+            Heading::Orders(most) => {
+                if most < 1 {
+                    return Ok(None);
+                }
+                let block = orders_block(alloc, most, lines.as_slice())?;
+                Ok(Some(LookAction::Orders(block)))
+            }
         }
     }
 

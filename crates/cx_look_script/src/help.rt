@@ -8,8 +8,9 @@ use cx_look_words::{Report, decimal};
 use std::alloc::{AllocError, Global};
 
 /// The words in the order of the table.
-const TABLE: [Subject; 21] = [
+const TABLE: [Subject; 23] = [
     Subject::Run,
+    Subject::Watch,
     Subject::Queues,
     Subject::Queue,
     Subject::Programs,
@@ -29,6 +30,7 @@ const TABLE: [Subject; 21] = [
     Subject::Symbols,
     Subject::Xref,
     Subject::Faults,
+    Subject::Orders,
     Subject::Help,
 ];
 
@@ -38,6 +40,8 @@ fn form_of(subject: Subject) -> &'static [u8]
 {
     match subject {
         Subject::Run => b"RUN term [n] [BEFORE ABEND]  turns of the terminal, at most n of them",
+        Subject::Watch =>
+            b"WATCH aaaaaa n       each change of one of n bytes; also WATCH term name, WATCH OFF",
         Subject::Queues => b"QUEUES               the temporary storage queues",
         Subject::Queue => b"QUEUE name [k]       a queue with its items, or its item k as a whole",
         Subject::Programs => b"PROGRAMS             the programs",
@@ -47,7 +51,7 @@ fn form_of(subject: Subject) -> &'static [u8]
         Subject::Terminals =>
             b"TERMINALS            the clock, next transactions, input that is held, EDF",
         Subject::Command => b"COMMAND term         the command that is due at the terminal",
-        Subject::Ahead => b"AHEAD term           what the terminal's next turn will do",
+        Subject::Ahead => b"AHEAD term [n]       what the terminal's next turn will do",
         Subject::Task => b"TASK term            the terminal's task, and each of its levels",
         Subject::Field => b"FIELD term name [k]  a field of the current level, or of level k",
         Subject::Fields => b"FIELDS term [k]      all fields of that level",
@@ -63,6 +67,8 @@ fn form_of(subject: Subject) -> &'static [u8]
             b"XREF program         which lines use its symbols, literals and base registers",
         Subject::Faults =>
             b"FAULTS name          and the lines of a source, and /*: its faulty lines",
+        Subject::Orders =>
+            b"ORDERS [n]           and keys and looks, and /*: what every order leads to",
         Subject::Help => b"HELP [word]          this table, or the line of a word in it",
     }
 }

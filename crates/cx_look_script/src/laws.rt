@@ -1,21 +1,24 @@
 //! What follows from the definitions of a script with looks.
 
-ghost use Rattle.cx_look_script.specs.Laws.Looks.{LooksAreMarked, LooksAreReportedOnce, LooksChangeNothing};
+ghost use Rattle.cx_look_script.specs.Laws.Looks.{LooksAreMarked, LooksAreReportedOnce, LooksChangeNothing, OrdersAreMarked};
+ghost use Rattle.cx_look_script.specs.Laws.Marks.{FaultsAreMarked};
 ghost use Rattle.cx_look_script.specs.Laws.Notes.{NotesRefuseNothing};
 ghost use Rattle.cx_look_script.specs.Laws.Scripts.{ActionsStay, ScriptsStay};
 ghost use Rattle.cx_look_script.specs.Laws.Turns.{RunsEndBeforeAbends, RunsTakeTurns, StopsDecide};
+ghost use Rattle.cx_look_script.specs.Laws.Watches.{WatchesChangeNothing, WatchesStay};
 
 /// A look changes nothing. Each run has for each of its actions a part, in which an action of `cicsedf` stands for itself, RUN for as
 /// many TURNs as it did, and a look for nothing: the actions of all parts are a run of `cicsedf` from the same state to the same
-/// state, and the text is the texts of that run, with each look's text, that of the state there, at its place. The
-/// lines of a source are kept after its part.
+/// state, and the text is the texts of that run, with each look's text, that of the state there, at its place, and after each part the
+/// lines of the bytes that are watched and that it changed. The lines of a source are kept after its part.
 pub fn looks_change_nothing()
     ensures { LooksChangeNothing }
 {}
 
-/// The text of a look is lines that begin with `> `, each with one LF, at its end.
+/// The text of a look, and what is written for a block of ORDERS, is lines that begin with `> `, each with one LF, at its end.
 pub fn looks_are_marked()
-    ensures { LooksAreMarked }
+    ensures looks { LooksAreMarked }
+    ensures orders { OrdersAreMarked }
 {}
 
 /// The text of a look is a function of the state.
@@ -41,10 +44,24 @@ pub fn runs_end_before_abends()
     cx_region_laws::laws::calls_decide();
 }
 
-/// A script of `cicsedf` without a bad line is the same script here, and its actions do and write the same.
+/// Whatever is watched, an action that is no WATCH does the same and has the same text of its own: WATCH changes nothing of the
+/// region, of an abend that is kept or of what another look writes. Such an action leaves what is watched.
+pub fn watches_change_nothing()
+    ensures same { WatchesChangeNothing }
+    ensures stay { WatchesStay }
+{}
+
+/// A script of `cicsedf` without a bad line is the same script here, and where nothing is watched its actions do and write the same.
 pub fn scripts_of_cicsedf_stay()
     ensures scripts { ScriptsStay }
     ensures actions { ActionsStay }
+{}
+
+/// Of a faulty line FAULTS writes, after the place and the fault, the line of the part that is at fault, as it is shown, with
+/// `>>` and `<<` round that part: what stands between them is the part from the mark's column on, and without them the line is
+/// as it was.
+pub fn faults_are_marked()
+    ensures { FaultsAreMarked }
 {}
 
 /// Of a source that is accepted FAULTS writes that none of its lines is faulty, whatever notes follow.

@@ -6,9 +6,11 @@ mod faults;
 mod help;
 pub mod laws;
 mod looks;
+mod orders;
 mod performer;
 mod sources;
 mod turns;
+mod watched;
 
-pub use action::{LookAction, Stop};
-pub use performer::{LookStage, Looking, look_stage};
+pub use action::{LookAction, Stop, WatchLine};
+pub use performer::{LookPerformer, Looking, look_performer};

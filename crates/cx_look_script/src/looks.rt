@@ -1,7 +1,8 @@
 //! What is written for a look.
 ghost use Rattle.std.specs.Prelude.{◌≡◌, IfOk};
 ghost use Rattle.cx_look.specs.declared.look.Look.TheVariants as look;
-ghost use Rattle.cx_look_script.specs.Looking.{AreLookLines, IsLookText, level_lines};
+ghost use Rattle.cx_look_script.specs.Looking.{AreLookLines, IsLookText, at_region};
+ghost use Rattle.cx_look_script.specs.Sources.{level_lines};
 
 use crate::faults::faults_text;
 use crate::help::help_text;
@@ -19,15 +20,21 @@ use cx_look_tasks::{resources_text, tasks_text};
 use cx_look_where::where_text;
 use cx_look_words::Report;
 use cx_look_xref::xref_text;
+use cx_region::Region;
 use cx_source::Text;
 use cx_storage::Store;
 use std::alloc::{AllocError, Global};
 
 /// The lines of the source of a level's program.
-fn level_lines<S: Store + Drop>(looking: &Looking<S>, term: Name4, k: Option<u8>) -> &[Text]
-    ensures { result.now ≡ level_lines looking.now term k }
+pub(crate) fn level_lines<'a, S: Store + Drop>(
+    looking: &'a Looking<S>,
+    region: &Region<S>,
+    term: Name4,
+    k: Option<u8>,
+) -> &'a [Text]
+    ensures { result.now ≡ level_lines (at_region looking.now region.now) term k }
 {
-    match program_at(looking.state.region(), term, k) {
+    match program_at(region, term, k) {
         Some(program) => looking.sources.lines_of(program),
         None => &[],
     }
@@ -38,25 +45,29 @@ fn level_lines<S: Store + Drop>(looking: &Looking<S>, term: Name4, k: Option<u8>
 fn abend_lines<S: Store + Drop>(
     alloc: Global,
     looking: &Looking<S>,
+    region: &Region<S>,
     name: Name4,
 ) -> Result<Report, AllocError>
-    ensures { IfOk result (λ report. AreLookLines (look.Abend name) looking.now report) }
+    ensures { let state = at_region looking.now region.now in
+        IfOk result (λ report. AreLookLines (look.Abend name) state report) }
 {
-    let programs = &looking.state.region().shared().programs;
+    let programs = &region.shared().programs;
     abend_text(alloc, &looking.sources, programs, &looking.abends, name)
 }
 
-/// What a look has to say.
+/// What a look has to say of a region, with the sessions and the sources of the one that is looked at.
 #[tactic(auto, unfolding(crate::specs::Looking::AreLookLines))]
-fn look_lines<S: Store + Drop>(
+pub(crate) fn look_lines<S: Store + Drop>(
     alloc: Global,
     looking: &Looking<S>,
-    look: Look,
+    region: &Region<S>,
+    look: &Look,
 ) -> Result<Report, AllocError>
-    ensures { IfOk result (λ report. AreLookLines look looking.now report) }
+    ensures { IfOk result (AreLookLines look.now (at_region looking.now region.now)) }
 {
-    let region = looking.state.region();
-    match look {
+    // First, since its clause says that the region is sound, which two of the calls need.
+    region.counter();
+    match *look {
         Look::Queues => queues_text(alloc, region),
         Look::Queue(name) => queue_text(alloc, region, name),
         Look::Item(name, n) => item_text(alloc, region, name, n as usize),
@@ -64,15 +75,15 @@ fn look_lines<S: Store + Drop>(
         Look::Tasks => tasks_text(alloc, region),
         Look::Resources => resources_text(alloc, region),
         Look::Command(name) => command_text(alloc, region, name),
-        Look::Ahead(name) => ahead_text(alloc, region, name),
+        Look::Ahead(name, n) => ahead_text(alloc, &looking.sources, region, name, n as usize),
         Look::Task(name) => task_text(alloc, &looking.sources, region, name),
         Look::Areas => areas_text(alloc, region),
         Look::AreasOf(name) => task_areas_text(alloc, region, name),
         Look::Storage(address, n) => storage_text(alloc, region, address, n),
         Look::Where(address) => where_text(alloc, &looking.sources, region, address),
-        Look::Abend(name) => abend_lines(alloc, looking, name),
+        Look::Abend(name) => abend_lines(alloc, looking, region, name),
         Look::AbendStorage(name) => abend_storage_text(alloc, &looking.abends, name),
-        Look::Faults(source) => faults_text(alloc, &source),
+        Look::Faults(ref source) => faults_text(alloc, source),
         Look::Symbol(program, name) => {
             let lines = looking.sources.lines_of(program);
             symbol_text(alloc, region, program, lines, name)
@@ -82,20 +93,21 @@ fn look_lines<S: Store + Drop>(
             symbols_text(alloc, region, program, lines)
         }
         Look::Xref(program) => xref_text(alloc, program, looking.sources.lines_of(program)),
-        Look::Terminals => terminals_text(alloc, &looking.state),
+        Look::Terminals => terminals_text(alloc, region, &looking.state),
         Look::Help(word) => help_text(alloc, word),
         Look::Field(term, name, k) => {
-            let lines = level_lines(looking, term, k);
+            let lines = level_lines(looking, region, term, k);
             field_text(alloc, region, lines, term, name, k)
         }
         Look::Fields(term, k) => {
-            let lines = level_lines(looking, term, k);
+            let lines = level_lines(looking, region, term, k);
             fields_text(alloc, region, lines, term, k)
         }
     }
 }
 
 /// What is written for a look.
+#[tactic(auto, using(crate::proofs::WatchLawLemmas::same_at))]
 pub(crate) fn look_text<S: Store + Drop>(
     alloc: Global,
     looking: &Looking<S>,
@@ -103,6 +115,6 @@ pub(crate) fn look_text<S: Store + Drop>(
 ) -> Result<Vec<u8>, AllocError>
     ensures { IfOk result (λ text. IsLookText look looking.now text.items) }
 {
-    let report = look_lines(alloc, looking, look)?;
+    let report = look_lines(alloc, looking, looking.state.region(), &look)?;
     report.marked()
 }

@@ -3,22 +3,33 @@ ghost use Rattle.std.specs.Prelude.{◌≡◌, [], false, IfOk, MatchBool};
 ghost use Rattle.cx_edf.specs.Runs.{IsAllowedEdf};
 ghost use Rattle.cx_script_actions.specs.Allowed.{IsAllowed};
 ghost use Rattle.cx_script_actions.specs.declared.actions.Action.TheVariants as edf_action;
-ghost use Rattle.cx_look_script.specs.Looking.{LookPerforms, NotedPerforms, RunsTurn, SourcePerforms, TakesOneMore, TakesTurn};
+ghost use Rattle.cx_look_script.specs.declared.action.WatchLine.TheVariants as watch;
+ghost use Rattle.cx_look_script.specs.Looking.{Acts, LookPerforms, NotedPerforms, RunsTurn, SourcePerforms, TakesOneMore, TakesTurn};
 ghost use Rattle.cx_look_script.specs.Runs.{AppliesAtLooks, run_over};
 ghost use Rattle.cx_look_script.specs.State.{fresh_look_state};
+ghost use Rattle.cx_look_script.specs.Watched.{watch_lines, watched_after};
+ghost use Rattle.cx_look_script.specs.Allowed.{IsAllowedLook};
+ghost use Rattle.cx_look_watch.specs.Watching.{begun, change_line, with_range};
+ghost use Rattle.cx_look_words.specs.Words.{marked};
+ghost use Rattle.std.specs.List.{flat_map};
 
-use crate::action::{LookAction, Stop};
+use crate::action::{LookAction, Stop, WatchLine};
 use crate::help::bad_look_text;
 use crate::looks::look_text;
+use crate::orders::orders_written;
 use crate::sources::{has_program, is_defined};
 use crate::turns::{goes_on, still_running, stop_line};
+use crate::watched::{cause_of, field_range, no_range, off};
 use cx_base_lists::List;
 use cx_ebcdic::{Name4, Name8};
 use cx_edf::{Answer, Debugged, EdfEvent};
-use cx_look_abend::{LastAbends, apply_noted};
+use cx_look_abend::{LastAbends, apply_keeping_abends};
+use cx_look_ahead::Row;
 use cx_look_symbols::{Sources, statement_places};
+use cx_look_watch::{Cause, Kept, Watches, change_lines};
+use cx_look_words::Report;
 use cx_region::Event;
-use cx_script::edf_stage;
+use cx_script::edf_performer;
 use cx_script_actions::{Action, Performer, answer_text};
 use cx_source::Text;
 use cx_storage::Store;
@@ -28,13 +39,14 @@ use indexmap::IndexMap;
 use std::alloc::{AllocError, Global};
 use std::marker::Model;
 
-/// A region under EDF that is looked at, with each terminal's last abend, what is kept of the sources that defined programs, and whether
-/// the last event was a turn that one more turn follows.
+/// A region under EDF that is looked at, with each terminal's last abend, what is kept of the sources that defined programs, the ranges
+/// of bytes that are watched, and whether the last event was a turn that one more turn follows.
 #[derive(Drop)]
 pub struct Looking<S: Store + Drop> {
     pub(crate) state: Debugged<S>,
     pub(crate) abends: LastAbends,
     pub(crate) sources: Sources,
+    pub(crate) watches: Watches,
     pub(crate) goes_on: bool,
 }
 
@@ -44,19 +56,32 @@ impl<S: Store + Drop> Model for Looking<S> {
     ghost Value = { LookState };
 
     ghost view = { λ held.
-        record { edf = held.state; abends = held.abends.entries; sources = held.sources; goes_on = held.goes_on } };
+        record {
+          edf = held.state;
+          abends = held.abends.entries;
+          sources = held.sources;
+          watched = held.watches;
+          goes_on = held.goes_on;
+        } };
 }
 
 impl<S: Store + Drop> Looking<S> {
     /// A region under EDF without a terminal and without a program, to be looked at. It takes no memory.
     pub fn new(alloc: Global, state: Debugged<S>) -> Looking<S>
         ensures { result
-            ≡ record { edf = state; abends = []; sources = record { lines = []; places = [] }; goes_on = false } }
+            ≡ record {
+              edf = state;
+              abends = [];
+              sources = record { lines = []; places = [] };
+              watched = [];
+              goes_on = false;
+            } }
     {
         Looking {
             state,
             abends: IndexMap::new(alloc),
             sources: Sources::new(alloc),
+            watches: Watches::new(alloc),
             goes_on: false,
         }
     }
@@ -66,7 +91,7 @@ impl<S: Store + Drop> Looking<S> {
         requires { IsAllowedEdf event.now }
         ensures { IfOk result (λ given. AppliesAtLooks self.old event.now given self.new) }
     {
-        let answer = apply_noted(&mut self.state, &mut self.abends, event)?;
+        let answer = apply_keeping_abends(&mut self.state, &mut self.abends, event)?;
         self.goes_on = goes_on(&self.state, event, &answer);
         Ok(answer)
     }
@@ -162,16 +187,88 @@ impl<S: Store + Drop> Looking<S> {
         self.sources.keep(name, lines, places, is_new)?;
         Ok(text)
     }
+
+    /// Watches a range more.
+    fn watch_range(&mut self, alloc: Global, range: Row) -> Result<Report, AllocError>
+        ensures { IfOk result (λ report.
+            (report ≡ begun self.old.watched self.old.edf.region.storage range)
+            × (self.new ≡ record self.old { watched = with_range self.old.watched range })) }
+    {
+        self.watches
+            .watch(alloc, &self.state.region().shared().store, range)
+    }
+
+    /// Watches a field of the current level of a terminal's task, where there is one.
+    fn watch_field(&mut self, alloc: Global, term: Name4, name: Name8) -> Result<Report, AllocError>
+        ensures { IfOk result (λ report.
+            (report ≡ watch_lines self.old (watch.Field term name))
+            × (self.new ≡ record self.old { watched = watched_after self.old (watch.Field term name) })) }
+    {
+        match field_range(alloc, self, term, name)? {
+            Some(range) => self.watch_range(alloc, range),
+            None => no_range(alloc, term, name),
+        }
+    }
+
+    /// Watches nothing any more.
+    fn watch_nothing(&mut self, alloc: Global) -> Result<Report, AllocError>
+        ensures { IfOk result (λ report.
+            (report ≡ watch_lines self.old watch.Off) × (self.new ≡ record self.old { watched = [] })) }
+    {
+        self.watches.stop();
+        off(alloc)
+    }
+
+    /// Does what WATCH asks.
+    fn watch(&mut self, alloc: Global, line: WatchLine) -> Result<Vec<u8>, AllocError>
+        ensures { IfOk result (λ text.
+            (text.items ≡ marked (watch_lines self.old line))
+            × (self.new ≡ record self.old { watched = watched_after self.old line })) }
+    {
+        let report = match line {
+            WatchLine::Range(at, length) => self.watch_range(alloc, Row { at, length })?,
+            WatchLine::Field(term, name) => self.watch_field(alloc, term, name)?,
+            WatchLine::Off => self.watch_nothing(alloc)?,
+        };
+        report.marked()
+    }
+
+    /// The lines of the ranges whose bytes aren't as they were kept.
+    fn changed(&self, alloc: Global, cause: &Cause, kept: &[Kept]) -> Result<Vec<u8>, AllocError>
+        ensures { IfOk result (λ text.
+            text.items ≡ marked (flat_map (change_line cause.now self.now.edf.region.storage) kept.now)) }
+    {
+        let report = change_lines(alloc, cause, &self.state.region().shared().store, kept)?;
+        report.marked()
+    }
+
+    /// Does an action, but for what is written of the bytes that are watched.
+    #[tactic(auto, unfolding(crate::specs::Looking::Acts))]
+    fn act(&mut self, alloc: Global, action: LookAction) -> Result<Vec<u8>, AllocError>
+        requires { IsAllowedLook action }
+        ensures { IfOk result (λ text. Acts self.old action text.items self.new) }
+    {
+        match action {
+            LookAction::Script(action) => self.do_action(alloc, action),
+            LookAction::Source(name, lines, action) => self.define(alloc, name, lines, action),
+            LookAction::Run(name, _, stop) => self.run_turn(alloc, name, stop),
+            LookAction::RunOn(name, n, stop) => self.run_on(alloc, name, n, stop),
+            LookAction::Watch(line) => self.watch(alloc, line),
+            LookAction::Look(look) => look_text(alloc, self, look),
+            LookAction::Orders(block) => orders_written(alloc, self, block),
+            LookAction::BadLook(number, subject) => bad_look_text(alloc, number, subject),
+        }
+    }
 }
 
 /// What a script of `cicslook` is performed on.
-pub type LookStage = Looking<KeepingStore<PagedStore>>;
+pub type LookPerformer = Looking<KeepingStore<PagedStore>>;
 
 /// The performer of a script of `cicslook` at its beginning: a fresh region, with EDF Off at each terminal.
-pub fn look_stage(alloc: Global) -> Result<LookStage, AllocError>
+pub fn look_performer(alloc: Global) -> Result<LookPerformer, AllocError>
     ensures { IfOk result (λ performer. performer ≡ fresh_look_state) }
 {
-    Ok(Looking::new(alloc, edf_stage(alloc)?))
+    Ok(Looking::new(alloc, edf_performer(alloc)?))
 }
 
 impl<S: Store + Drop> Performer for Looking<S> {
@@ -181,15 +278,16 @@ impl<S: Store + Drop> Performer for Looking<S> {
 
     ghost refused = { λ _ _ _. Unit {0} };
 
-    #[tactic(auto, unfolding(crate::specs::Looking::LookPerforms))]
+    /// Keeps the bytes that are watched, does the action, and adds a line for each range of which a byte has changed. Where memory for
+    /// these lines is refused the action has been done, as where it is refused for what is written for the action itself.
+    #[tactic(auto, unfolding(crate::specs::Watched::watched_text, cx_look_watch::specs::Watching::changes))]
     fn perform(&mut self, alloc: Global, action: LookAction) -> Result<Vec<u8>, AllocError> {
-        match action {
-            LookAction::Script(action) => self.do_action(alloc, action),
-            LookAction::Source(name, lines, action) => self.define(alloc, name, lines, action),
-            LookAction::Run(name, _, stop) => self.run_turn(alloc, name, stop),
-            LookAction::RunOn(name, n, stop) => self.run_on(alloc, name, n, stop),
-            LookAction::Look(look) => look_text(alloc, self, look),
-            LookAction::BadLook(number, subject) => bad_look_text(alloc, number, subject),
-        }
+        let cause = cause_of(&action);
+        let kept = self
+            .watches
+            .kept(alloc, &self.state.region().shared().store)?;
+        let mut text = self.act(alloc, action)?;
+        text.extend_from_slice(&self.changed(alloc, &cause, &kept)?)?;
+        Ok(text)
     }
 }

@@ -3,6 +3,7 @@ use Rattle.std.proofs.Common.{◌≡◌, ℕ, zero, suc, ◌+◌, ◌-◌, ◌<�
 use Rattle.std.proofs.lemmas.Bool.{cases_lt}
 use Rattle.std.proofs.lemmas.List.{drop-append-le}
 use Rattle.circular_buffer.specs.Buffer.{Buffer, buffer, keep_last}
+use Rattle.cx_exec.specs.Advance.{Passes}
 use Rattle.cx_exec.specs.Machine.{Machine}
 use Rattle.cx_exec.specs.Step.{Steps}
 use Rattle.cx_exec.specs.declared.machine.Interruption.{Interruption}
@@ -10,6 +11,7 @@ use Rattle.cx_exec.specs.declared.machine.Step.TheVariants.{Done, AtEntry, Inter
 use Rattle.cx_look_steps.specs.Parts.Runs.{Begins}
 use Rattle.cx_look_steps.specs.Traces.{IsTrace, Visits, visit}
 use Rattle.cx_look_steps.specs.declared.traces.Visit.{Visit}
+use Rattle.cx_look_steps.proofs.LeftLemmas.{passes_more}
 
 -- ---- the last of one more
 drop_one : {X : Type 0} (k : ℕ) (xs : List X) → drop 1 (drop k xs) ≡ drop (suc k) xs
@@ -132,7 +134,8 @@ ends_at_limit limit most count first now last so_far all =
 
 -- ---- with what is kept
 abbrev pub IsSoFar : ℕ → ℕ → Machine → Machine → ℕ → Buffer Visit → Type 0
-IsSoFar limit most first now count last = (count ≤ limit) × (last.capacity ≡ most) × Begins limit first now most count last.items
+IsSoFar limit most first now count last =
+    (count ≤ limit) × (last.capacity ≡ most) × Passes count first now × Begins limit first now most count last.items
 
 abbrev IsPushed : Buffer Visit → Machine → Buffer Visit → Type 0
 IsPushed last now newer = newer ≡ buffer (keep_last last.capacity (last.items ++ visit now ∷ [])) last.capacity
@@ -140,19 +143,24 @@ IsPushed last now newer = newer ≡ buffer (keep_last last.capacity (last.items 
 pub one_more : (limit most count new : ℕ) (first now after : Machine) (last newer : Buffer Visit) → IsSoFar limit most first now count last → count < limit
     → Steps now Done after → new ≡ count + 1 → IsPushed last now newer → IsSoFar limit most first after new newer
 one_more limit most count new first now after last newer so_far less step counted pushed =
-    rw (counted, pushed, so_far.1) (omega (arith, less), refl, goes_on limit most count first now after last.items so_far.2 less step)
+    rw (counted, pushed, so_far.1) (
+      omega (arith, less),
+      refl,
+      passes_more count first now after so_far.2 step,
+      goes_on limit most count first now after last.items so_far.3 less step,
+    )
 
 pub at_entry : (limit most count new : ℕ) (first now after : Machine) (last newer : Buffer Visit) → IsSoFar limit most first now count last → count < limit
     → Steps now AtEntry after → new ≡ count → newer ≡ last → IsTrace limit first most new newer.items
 at_entry limit most count new first now after last newer so_far less step counted same =
-    rw (counted, same) (ends_at_entry limit most count first now after last.items so_far.2 less step)
+    rw (counted, same) (ends_at_entry limit most count first now after last.items so_far.3 less step)
 
 pub interrupted : (limit most count new : ℕ) (first now after : Machine) (last newer : Buffer Visit) (cause : Interruption)
     → IsSoFar limit most first now count last → count < limit → Steps now (Interrupt cause) after → new ≡ count + 1 → IsPushed last now newer
     → IsTrace limit first most new newer.items
 interrupted limit most count new first now after last newer cause so_far less step counted pushed =
-    rw (counted, pushed, so_far.1) (ends_interrupted limit most count first now after last.items cause so_far.2 less step)
+    rw (counted, pushed, so_far.1) (ends_interrupted limit most count first now after last.items cause so_far.3 less step)
 
 pub at_limit : (limit most count : ℕ) (first now : Machine) (last : Buffer Visit) → IsSoFar limit most first now count last → limit ≤ count
     → IsTrace limit first most count last.items
-at_limit limit most count first now last so_far all = ends_at_limit limit most count first now last.items so_far.2 all
+at_limit limit most count first now last so_far all = ends_at_limit limit most count first now last.items so_far.3 all

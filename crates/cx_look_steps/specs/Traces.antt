@@ -1,9 +1,11 @@
 -- The instructions that a run comes to, one after another (own).
 use Rattle.std.specs.Prelude.{◌≡◌, ℕ, zero, suc, List, [], ◌∷◌, length}
 use Rattle.circular_buffer.specs.Buffer.{keep_last}
+use Rattle.cx_exec.specs.Advance.{Advances}
 use Rattle.cx_exec.specs.Fetch.{code_bytes}
 use Rattle.cx_exec.specs.Machine.{Machine}
 use Rattle.cx_exec.specs.Step.{Steps}
+use Rattle.cx_exec.specs.declared.machine.Halt.{Halt}
 use Rattle.cx_exec.specs.declared.machine.Step.{Step}
 use Rattle.cx_exec.specs.declared.machine.Step.TheVariants.{Done, AtEntry, Interrupt}
 use Rattle.cx_look_steps.specs.declared.traces.Visit.{Visit}
@@ -30,3 +32,8 @@ pub record IsTrace (limit : ℕ) (m : Machine) (most count : ℕ) (last : List V
   pub are : Visits limit m visits
   pub counted : count ≡ length visits
   pub kept : last ≡ keep_last most visits
+
+-- what the run leaves
+pub record Leaves (limit : ℕ) (m after : Machine) : Type 0 where
+  pub how : Halt
+  pub advances : Advances limit m how after

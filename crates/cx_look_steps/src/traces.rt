@@ -1,9 +1,9 @@
 //! The instructions that a run comes to.
-ghost use Rattle.std.specs.Prelude.{◌≡◌, ◌+◌, ◌<◌, ◌^◌, ◌++◌, ◌∷◌, [], IfOk};
+ghost use Rattle.std.specs.Prelude.{◌≡◌, ◌+◌, ◌<◌, ◌^◌, ◌++◌, ◌∷◌, [], IfOk, OnErr, OnOk};
 ghost use Rattle.circular_buffer.specs.Buffer.{buffer, keep_last};
 ghost use Rattle.cx_exec.specs.Machine.{machine};
 ghost use Rattle.cx_exec.specs.Step.{Steps};
-ghost use Rattle.cx_look_steps.specs.Traces.{IsTrace, visit};
+ghost use Rattle.cx_look_steps.specs.Traces.{IsTrace, Leaves, visit};
 ghost use Rattle.cx_look_steps.specs.Parts.Runs.{count_after, last_after};
 
 use crate::code::{Code, code_at};
@@ -70,7 +70,8 @@ fn pass<S: Store>(cpu: &mut Cpu, store: &mut S, trace: &mut Trace) -> Step
 /// it has performed as many as the limit: how many they are, with the one that is interrupted, and the last of them, at
 /// most `most`. The processor and the store are left as the run leaves them.
 ///
-/// An error comes only where memory for the last ones was refused; it is refused before the first instruction.
+/// An error comes only where memory for the last ones was refused, before the first instruction.
+#[tactic(auto, using(crate::proofs::LeftLemmas::passes_none))]
 pub fn trace_run<S: Store>(
     alloc: Global,
     cpu: &mut Cpu,
@@ -78,8 +79,12 @@ pub fn trace_run<S: Store>(
     limit: u32,
     most: usize,
 ) -> Result<Trace, AllocError>
-    ensures { let m = machine cpu.old (S.storage store.old) in
+    ensures trace { let m = machine cpu.old (S.storage store.old) in
         IfOk result (λ trace. IsTrace limit m most trace.count trace.last.items) }
+    ensures leaves { let m = machine cpu.old (S.storage store.old) in
+        OnOk result (Leaves limit m (machine cpu.new (S.storage store.new))) }
+    ensures err { let m = machine cpu.old (S.storage store.old) in
+        OnErr result (machine cpu.new (S.storage store.new) ≡ m) }
 {
     let mut trace = Trace {
         count: 0,

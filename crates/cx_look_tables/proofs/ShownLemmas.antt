@@ -1,9 +1,9 @@
 -- A terminal that is stopped is shown as stopped.
-use Rattle.std.proofs.Common.{◌≡◌, ℕ, Bool, true, false, Option, Some, None, List, [], ◌∷◌, ◌++◌, codes, get_or, refl, ap, arith}
+use Rattle.std.proofs.Common.{◌≡◌, ℕ, true, false, Option, Some, None, List, ◌++◌, codes, get_or, refl, ap, arith}
 use Rattle.std.specs.Prelude.{◌↔◌}
 use Rattle.std.specs.Option.{option_map_or}
 use Rattle.cx_edf.specs.Sessions.{SessionState, is_stopped}
-use Rattle.cx_edf.specs.State.{EdfState, session_at}
+use Rattle.cx_edf.specs.State.{session_at}
 use Rattle.cx_edf.specs.declared.modes.Mode.{Mode}
 use Rattle.cx_edf.specs.declared.modes.Mode.TheVariants as mode
 use Rattle.cx_look_tables.specs.Laws.{IsShownAsStopped, StoppedTerminalsAreShown}

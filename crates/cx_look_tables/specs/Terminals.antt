@@ -9,7 +9,7 @@ use Rattle.cx_base_commands.specs.declared.conditions.Condition.{Condition}
 use Rattle.cx_base_text.specs.Digits.{digits}
 use Rattle.cx_base_text.specs.Texts.{shown_name}
 use Rattle.cx_region_state.specs.State.{Input, NextTransaction}
-use Rattle.cx_region.specs.State.{RegionState, TerminalState}
+use Rattle.cx_region.specs.State.{TerminalState}
 use Rattle.cx_edf.specs.Sessions.{SessionState, Sessions, session_in}
 use Rattle.cx_edf.specs.State.{EdfState}
 use Rattle.cx_edf.specs.Stops.{names}

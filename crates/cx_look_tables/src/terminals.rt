@@ -2,6 +2,7 @@
 ghost use Rattle.std.specs.Prelude.{◌≡◌, ◌++◌, [], if◌then◌else◌, IfOk, OnOk};
 ghost use Rattle.std.specs.List.{flat_map};
 ghost use Rattle.std.specs.Option.{option_copied};
+ghost use Rattle.cx_edf.specs.State.{EdfState};
 ghost use Rattle.cx_look_tables.specs.Terminals.{bytes_word, clock_line, commarea_word, condition_word, edf_word, held_word, mode_name, next_word, stops_word, terminal_line, terminal_lines, terminals_text};
 
 use crate::rows::first_bytes;
@@ -11,7 +12,7 @@ use cx_ebcdic::Name4;
 use cx_edf::{Debugged, Mode, Session, Stops};
 use cx_look_words::{Report, decimal, push_word, written_bytes, written_name};
 use cx_region::{Region, Terminal};
-use cx_region_state::{Following, Input};
+use cx_region_state::{Input, NextTransaction};
 use cx_storage::Store;
 use std::alloc::{AllocError, Global};
 
@@ -43,7 +44,7 @@ fn push_commarea(word: &mut Vec<u8>, alloc: Global, commarea: &[u8]) -> Result<(
 
 /// What the next key attaches.
 #[tactic(auto, unfolding(crate::specs::Terminals::next_word))]
-fn next_word(alloc: Global, following: &Option<Following>) -> Result<Vec<u8>, AllocError>
+fn next_word(alloc: Global, following: &Option<NextTransaction>) -> Result<Vec<u8>, AllocError>
     ensures { IfOk result (λ word. word.items ≡ next_word following.now) }
 {
     let Some(following) = following else {
@@ -170,12 +171,13 @@ fn terminal_line<S: Store + Drop>(
 /// Adds the line of each terminal; NONE where there is none.
 fn terminal_lines<S: Store + Drop>(
     report: &mut Report,
+    region: &Region<S>,
     state: &Debugged<S>,
 ) -> Result<(), AllocError>
-    ensures { let more = terminal_lines state.now.sessions state.now.region.terminals in
+    ensures { let more = terminal_lines state.now.sessions region.now.terminals in
         OnOk result (report.new ≡ report.old ++ more) }
 {
-    let terminals = state.region().terminals();
+    let terminals = region.terminals();
     if terminals.is_empty() {
         return report.line(&[b"TERMINALS", b"NONE"]);
     }
@@ -195,19 +197,21 @@ fn clock_line<S: Store + Drop>(report: &mut Report, region: &Region<S>) -> Resul
     report.line(&[b"CLOCK", &time, &date])
 }
 
-/// Looks at the clock and at all terminals: a line each, the first defined first, with what its next key attaches, the input that is
-/// held, and EDF's mode and stop conditions; NONE where there is no terminal.
+/// Looks at the clock and at all terminals of a region, with the sessions of a region under EDF: a line each, the first defined first,
+/// with what its next key attaches, the input that is held, and EDF's mode and stop conditions; NONE where there is no terminal.
 ///
 /// An error comes only where memory for the report was refused.
 #[tactic(auto, unfolding(crate::specs::Terminals::terminals_text))]
 pub fn terminals_text<S: Store + Drop>(
     alloc: Global,
+    region: &Region<S>,
     state: &Debugged<S>,
 ) -> Result<Report, AllocError>
-    ensures { IfOk result (λ report. report ≡ terminals_text state.now) }
+    ensures { let shown : EdfState = record { region = region.now; sessions = state.now.sessions } in
+        IfOk result (λ report. report ≡ terminals_text shown) }
 {
     let mut report = Report::new(alloc);
-    clock_line(&mut report, state.region())?;
-    terminal_lines(&mut report, state)?;
+    clock_line(&mut report, region)?;
+    terminal_lines(&mut report, region, state)?;
     Ok(report)
 }

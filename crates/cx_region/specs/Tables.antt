@@ -3,13 +3,13 @@ use Rattle.std.specs.Prelude.{ℕ, List, Option, None}
 use Rattle.std.specs.Option.{option_and_then}
 use Rattle.std.specs.Map.{lookup, set_value}
 use Rattle.cx_load.specs.declared.program.Loaded.{Loaded}
-use Rattle.cx_region_state.specs.State.{TaskState, fresh_station}
+use Rattle.cx_region_state.specs.State.{TaskState, fresh_terminal_entry}
 use Rattle.cx_region.specs.State.{RegionState, TerminalState, terminal_with}
 use Rattle.cx_ebcdic.specs.Names.{is_name}
 
 -- a new terminal: a blank screen, and nothing else
 abbrev pub fresh_terminal : ℕ → TerminalState
-fresh_terminal slot = terminal_with (fresh_station slot) None
+fresh_terminal slot = terminal_with (fresh_terminal_entry slot) None
 
 -- where the program of a name is
 abbrev pub program_of : RegionState → List ℕ → Option Loaded

@@ -27,8 +27,10 @@ use cx_exec::Cpu;
 use cx_load::Loaded;
 use cx_program::LevelStack;
 use cx_region_call::StorageSpan;
-use cx_region_call::eib::{Begun, begin};
-use cx_region_state::{FIRST_OF_TASKS, Following, Input, LAST_OF_TASKS, NewLevel, Shared, Task};
+use cx_region_call::eib::{InitialEib, begin};
+use cx_region_state::{
+    FIRST_OF_TASKS, Input, LAST_OF_TASKS, NewLevel, NextTransaction, Shared, Task,
+};
 use cx_region_task::{entry_level, entry_registers, put_cap};
 use cx_storage::laws::store_is_sound;
 use cx_storage::{Kind, Owner, Store};
@@ -80,7 +82,7 @@ fn padded(word: &[u8]) -> [u8; 4]
 }
 
 /// The transaction that a key asks for.
-fn transaction_named(following: &Option<Following>, bytes: &[u8]) -> Name4
+fn transaction_named(following: &Option<NextTransaction>, bytes: &[u8]) -> Name4
     ensures { result ≡ transaction_named following.now bytes.now }
 {
     match following {
@@ -90,7 +92,7 @@ fn transaction_named(following: &Option<Following>, bytes: &[u8]) -> Name4
 }
 
 /// The COMMAREA kept for a terminal's next transaction; no bytes where there is none.
-fn commarea_kept(following: &Option<Following>) -> &[u8]
+fn commarea_kept(following: &Option<NextTransaction>) -> &[u8]
     ensures value { result.now ≡ commarea_kept following.now }
     ensures short { length result.now ≤ 32767 }
 {
@@ -471,7 +473,13 @@ fn prepare<S: Store + Drop>(
 
 /// Fills the areas of a task that begins.
 #[tactic(auto, unfolding(crate::specs::Attach::with_areas_filled, crate::specs::Attach::with_copy))]
-fn fill<S: Store>(store: &mut S, places: &Places, begun: &Begun, commarea: &[u8], level: &NewLevel)
+fn fill<S: Store>(
+    store: &mut S,
+    places: &Places,
+    begun: &InitialEib,
+    commarea: &[u8],
+    level: &NewLevel,
+)
     requires below { ArePlacesBelow places.now }
     requires short { length commarea.now ≤ 32767 }
     ensures { S.storage store.new
@@ -490,7 +498,7 @@ fn fill_from<S: Store + Drop>(
     terminals: &IndexMap<Name4, Terminal>,
     name: Name4,
     ready: &Ready,
-    begun: &Begun,
+    begun: &InitialEib,
 )
     requires { ArePlacesBelow ready.now.places }
     ensures filled { let fields = fields_at_attach begun.now in
@@ -664,7 +672,7 @@ impl<S: Store + Drop> Region<S> {
             Err(StartFault::NoStorage) => return Ok(KeyReply::NoStorage),
             Err(StartFault::Memory(refused)) => return Err(refused),
         };
-        let begun = Begun {
+        let begun = InitialEib {
             time: self.time,
             date: self.date,
             tran: start.tran.bytes(),

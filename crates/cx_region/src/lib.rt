@@ -19,7 +19,7 @@ pub use changes::{AlterReply, Change};
 pub use cx_region_call::{Call, CallFault, read_call};
 pub use cx_region_state::TurnReply;
 #[doc(hidden)]
-pub use cx_region_state::{Following, Input, Shared, Task, TerminalEntry};
+pub use cx_region_state::{Input, NextTransaction, Shared, Task, TerminalEntry};
 pub use cx_region_task::{AbendRecord, Cause};
 pub use looking::command_name;
 #[doc(hidden)]

@@ -7,7 +7,7 @@ use Rattle.cx_storage.specs.Address.{address_after}
 use Rattle.cx_base_commands.specs.declared.eib.EibField.{EibField}
 use Rattle.cx_base_commands.specs.declared.eib.EibField.TheVariants.{Time, Date, Trnid, Taskn, Trmid, Calen, Aid}
 use Rattle.cx_base_commands.specs.Eib.{eib_field}
-use Rattle.cx_region_call.specs.declared.eib.Begun.{Begun}
+use Rattle.cx_region_call.specs.declared.eib.InitialEib.{InitialEib}
 
 -- the decimal digit of a number at a power of ten
 abbrev pub digit : ℕ → ℕ → ℕ
@@ -36,7 +36,7 @@ with_fields storage eib [] = storage
 with_fields storage eib (content ∷ contents) = with_fields (with_field storage eib content) eib contents
 
 -- what attach writes
-abbrev pub fields_at_attach : Begun → List Content
+abbrev pub fields_at_attach : InitialEib → List Content
 fields_at_attach begun =
     content Time (packed_decimal begun.time) ∷ content Date (packed_decimal begun.date) ∷ content Trnid begun.tran
     ∷ content Taskn (packed_decimal begun.number)

@@ -7,7 +7,7 @@ use cx_storage::{Store, along};
 
 /// What is in a task's EIB at attach.
 #[derive(Clone, Copy, Debug, PartialEq, Eq)]
-pub struct Begun {
+pub struct InitialEib {
     /// The time as hhmmss, and the date as yyddd.
     pub time: u32,
     pub date: u32,
@@ -57,7 +57,7 @@ pub(crate) fn put<S: Store>(store: &mut S, eib: u32, field: EibField, bytes: &[u
 
 /// Fills the EIB at an address (below 2^24) for a task that begins: EIBTIME, EIBDATE, EIBTRNID, EIBTASKN, EIBTRMID, EIBCALEN and
 /// EIBAID, each where all its bytes are in storage. No other byte changes.
-pub fn begin<S: Store>(store: &mut S, eib: u32, begun: &Begun)
+pub fn begin<S: Store>(store: &mut S, eib: u32, begun: &InitialEib)
     requires { eib < 2 ^ 24 }
     ensures { S.storage store.new ≡ with_fields (S.storage store.old) eib (fields_at_attach begun.now) }
 {

@@ -190,7 +190,7 @@ pub fn waiting_leaves_the_region()
 
 /// A key's answer other than Attached and Given leaves the region as it was.
 #[tactic(auto, using(crate::proofs::KeepsLemmas::still_keys_leave))]
-pub fn nothing_but_attached_and_given()
+pub fn only_attached_and_given_change()
     ensures { StillKeysLeaveTheRegion }
 {}
 

@@ -7,7 +7,7 @@ use crate::task::TaskSnapshot;
 use cx_base_copies::{Replica, Same, share, share_replica};
 use cx_base_hash::hash_with;
 use cx_ebcdic::Name4;
-use cx_region::{Following, Input, Task, Terminal, TerminalEntry};
+use cx_region::{Input, NextTransaction, Task, Terminal, TerminalEntry};
 use cx_service::Screen;
 use std::alloc::{AllocError, Global};
 use std::marker::Model;
@@ -20,7 +20,7 @@ pub struct TerminalSnapshot {
     slot: u8,
     screen: Rc<Screen>,
     input: Rc<Option<Input>>,
-    following: Rc<Option<Following>>,
+    following: Rc<Option<NextTransaction>>,
     task: Rc<Option<TaskSnapshot>>,
 }
 

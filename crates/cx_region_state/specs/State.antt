@@ -35,8 +35,8 @@ pub record TerminalEntryState : Type 0 where
   pub following : Option NextTransaction
 
 -- a new terminal: a blank screen, and nothing else
-abbrev pub fresh_station : ℕ → TerminalEntryState
-fresh_station slot = record { slot = slot; screen = blank_screen; input = None; following = None }
+abbrev pub fresh_terminal_entry : ℕ → TerminalEntryState
+fresh_terminal_entry slot = record { slot = slot; screen = blank_screen; input = None; following = None }
 
 -- A live task: its transaction, its number, the address of its EIB, its program levels, its registers, condition code
 -- and next address, and whether a command is due.

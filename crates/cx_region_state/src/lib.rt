@@ -7,7 +7,7 @@ mod state;
 mod verdict;
 
 pub use replies::TurnReply;
-pub use state::{Following, Input, Shared, Task, TerminalEntry};
+pub use state::{Input, NextTransaction, Shared, Task, TerminalEntry};
 pub use verdict::{
     Copying, Ended, FIRST_OF_TASKS, Fill, Got, LAST_OF_TASKS, Made, NewLevel, Next, Request,
     TaskChange, Verdict,

@@ -1,7 +1,7 @@
 //! Equal inputs and next transactions of their own memory, and whether two are equal.
 ghost use Rattle.std.specs.Prelude.{◌≡◌, ◌↔◌, IsTrue, IfOk};
 
-use crate::state::{Following, Input};
+use crate::state::{Input, NextTransaction};
 use cx_base_copies::{Replica, Same};
 use std::alloc::{AllocError, Global};
 
@@ -21,16 +21,16 @@ impl Replica for Input {
     }
 }
 
-impl Same for Following {
+impl Same for NextTransaction {
     fn is_same(&self, other: &Self) -> bool {
         self.tran.is_same(&other.tran) && self.commarea.is_same(&other.commarea)
     }
 }
 
-impl Replica for Following {
+impl Replica for NextTransaction {
     fn replica(&self, alloc: Global) -> Result<Self, AllocError> {
         let commarea = self.commarea.replica(alloc)?;
-        Ok(Following {
+        Ok(NextTransaction {
             tran: self.tran,
             commarea,
         })

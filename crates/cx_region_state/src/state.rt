@@ -64,14 +64,14 @@ impl Model for Input {
 /// The transaction that a terminal's next key attaches, with the COMMAREA kept for it: at most 32,767 bytes, and none
 /// where there is no COMMAREA.
 #[derive(Drop)]
-pub struct Following {
+pub struct NextTransaction {
     /// The transaction.
     pub tran: Name4,
     /// The bytes of the COMMAREA.
     pub commarea: List<u8>,
 }
 
-impl Model for Following {
+impl Model for NextTransaction {
     ghost use Rattle.std.specs.Prelude.{◌≤◌, length};
     ghost use Rattle.cx_region_state.specs.State.{NextTransaction as FollowingState};
 
@@ -92,7 +92,7 @@ pub struct TerminalEntry {
     /// The input that is held for its task.
     pub input: Option<Input>,
     /// What its next key attaches.
-    pub following: Option<Following>,
+    pub following: Option<NextTransaction>,
 }
 
 impl Model for TerminalEntry {
@@ -110,11 +110,11 @@ impl Model for TerminalEntry {
 }
 
 impl TerminalEntry {
-    ghost use Rattle.cx_region_state.specs.State.{fresh_station};
+    ghost use Rattle.cx_region_state.specs.State.{fresh_terminal_entry};
 
     /// A new terminal at a position counted from 1: its screen is blank.
     pub fn new(slot: u8) -> TerminalEntry
-        ensures { result ≡ fresh_station slot }
+        ensures { result ≡ fresh_terminal_entry slot }
     {
         TerminalEntry {
             slot,

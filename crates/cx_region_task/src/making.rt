@@ -21,7 +21,7 @@ use cx_ebcdic::Name8;
 use cx_program::HandleTable;
 use cx_region_call::{Listed, StorageSpan};
 use cx_region_state::{
-    Copying, Fill, Following, Got, Made, NewLevel, Next, Request, Shared, Task, TaskChange,
+    Copying, Fill, Got, Made, NewLevel, Next, NextTransaction, Request, Shared, Task, TaskChange,
     TerminalEntry,
 };
 use cx_service::{Enqueues, Queues, ResourceName, Screen};
@@ -351,7 +351,7 @@ fn keep_next<S: Store>(
     alloc: Global,
     store: &S,
     next: Option<Next>,
-) -> Result<Option<Following>, AllocError>
+) -> Result<Option<NextTransaction>, AllocError>
     requires { MatchOption next ⊤ (λ it. FitsPiece it.commarea (S.storage store.now)) }
     ensures kept { IfOk result (λ following. following ≡ kept_next (S.storage store.now) next) }
     ensures memory { OnErr result (change_takes_memory (TaskChange.TaskEnds next) ≡ true) }
@@ -360,7 +360,7 @@ fn keep_next<S: Store>(
         return Ok(None);
     };
     let commarea = kept_bytes(alloc, store, next.commarea)?;
-    Ok(Some(Following {
+    Ok(Some(NextTransaction {
         tran: next.tran,
         commarea,
     }))

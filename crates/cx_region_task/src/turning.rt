@@ -84,7 +84,7 @@ fn halt_cause(how: &Halt) -> Option<Cause>
 
 /// The reply where instructions ended so.
 #[tactic(auto, unfolding(crate::specs::Turn::EndsRun))]
-fn halt<S: Store + Drop>(
+fn reply_to_halt<S: Store + Drop>(
     how: Halt,
     shared: &mut Shared<S>,
     terminal_entry: &mut TerminalEntry,
@@ -116,7 +116,7 @@ fn run_on<S: Store + Drop>(
 {
     let how = advance(&mut task.cpu, &mut shared.store, MOST_STEPS);
     let abend_record = abend_record_with(halt_cause(&how), None, shared, terminal_entry, task);
-    let reply = halt(how, shared, terminal_entry, task);
+    let reply = reply_to_halt(how, shared, terminal_entry, task);
     (reply, abend_record)
 }
 

@@ -18,7 +18,7 @@ ghost use Rattle.cx_script_actions.specs.declared.actions.Action.{Action};
 ghost use Rattle.cx_script_blocks.specs.declared.faults.Summary.{Summary};
 ghost use Rattle.cx_script_io.specs.declared.input.Ending.TheVariants.{AtEnd};
 
-use crate::script::EdfStage;
+use crate::script::EdfPerformer;
 use cx_script_actions::{Performer, ScriptAction};
 use cx_script_io::ScriptDevices;
 
@@ -62,8 +62,8 @@ pub fn known_bytes_decide<D: ScriptDevices, E: ScriptDevices>()
     ensures { KnownBytesDecide (AreCallsOver D.reads D.writes D.left) (AreCallsOver E.reads E.writes E.left) }
 {
     the_input_decides();
-    known_bytes_are_read::<EdfStage, D>();
-    known_bytes_are_read::<EdfStage, E>();
+    known_bytes_are_read::<EdfPerformer, D>();
+    known_bytes_are_read::<EdfPerformer, E>();
 }
 
 /// A front of a script is a script: the actions that the lines complete in it give, and a fault met there, are those of

@@ -10,4 +10,4 @@ pub use cx_script_blocks::{RunFault, SourceKind, Summary, status};
 pub use cx_script_io::{
     DeviceFault, Devices, Ending, MemoryIn, MemoryOut, ScriptDevices, ScriptIn, ScriptOut, Std,
 };
-pub use script::{EdfStage, edf_stage, run_script, run_script_on};
+pub use script::{EdfPerformer, edf_performer, run_script, run_script_on};

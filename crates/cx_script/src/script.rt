@@ -18,10 +18,10 @@ use cx_storage_pages::PagedStore;
 use std::alloc::{AllocError, Global};
 
 /// What a script of `cicsedf` is performed on: a region under EDF.
-pub type EdfStage = Debugged<KeepingStore<PagedStore>>;
+pub type EdfPerformer = Debugged<KeepingStore<PagedStore>>;
 
 /// The performer of a script of `cicsedf` at its beginning: a fresh region, with EDF Off at each terminal.
-pub fn edf_stage(alloc: Global) -> Result<EdfStage, AllocError>
+pub fn edf_performer(alloc: Global) -> Result<EdfPerformer, AllocError>
     ensures { IfOk result (λ performer. performer ≡ fresh_state) }
 {
     let region = Region::new(alloc, KeepingStore::new(PagedStore::new(alloc)))?;
@@ -70,5 +70,5 @@ pub fn run_script<D: ScriptDevices>(alloc: Global, devices: &mut D) -> Result<Su
     ensures read { D.ScriptIn.has_failed devices.new ≡ is_read result }
     ensures write { D.ScriptOut.has_failed devices.new ≡ is_write result }
 {
-    run_script_on(edf_stage(alloc), alloc, devices)
+    run_script_on(edf_performer(alloc), alloc, devices)
 }

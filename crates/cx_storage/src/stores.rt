@@ -122,7 +122,7 @@ pub trait Store {
 
     /// Writes the bytes (at most 65,536) from `a` (below 2^24) on, where all of them are at hand. False, and no
     /// change, elsewhere, even with all addresses in areas: then `write` writes them.
-    fn write_at_hand(&mut self, a: u32, bytes: &[u8]) -> bool
+    fn write_fast(&mut self, a: u32, bytes: &[u8]) -> bool
         requires address { a < 2 ^ 24 }
         requires size { length bytes.now ≤ 65536 }
         ensures present { result ≡ true → is_some (span (storage self.old) a (length bytes.now)) ≡ true }
@@ -135,7 +135,7 @@ pub trait Store {
 
     /// Writes a byte `n` times (at most 65,536) from `a` (below 2^24) on, where all of the addresses are at hand. False,
     /// and no change, elsewhere, even with all of them in areas: then `write` writes the bytes.
-    fn fill_at_hand(&mut self, a: u32, n: usize, value: u8) -> bool
+    fn fill_fast(&mut self, a: u32, n: usize, value: u8) -> bool
         requires address { a < 2 ^ 24 }
         requires size { n ≤ 65536 }
         ensures present { result ≡ true → is_some (span (storage self.old) a n) ≡ true }

@@ -143,22 +143,22 @@ impl<S: Store + Drop> Store for KeepingStore<S> {
 
     #[tactic(auto, using(crate::proofs::SlotLemmas::stored_after_write))]
     #[inline(always)]
-    fn write_at_hand(&mut self, a: u32, bytes: &[u8]) -> bool {
+    fn write_fast(&mut self, a: u32, bytes: &[u8]) -> bool {
         span_after_write();
         if !is_aside(&self.slots, self.first, self.end, a, bytes.len()) {
             return false;
         }
-        self.store.write_at_hand(a, bytes)
+        self.store.write_fast(a, bytes)
     }
 
     #[tactic(auto, using(crate::proofs::SlotLemmas::stored_after_write))]
     #[inline(always)]
-    fn fill_at_hand(&mut self, a: u32, n: usize, value: u8) -> bool {
+    fn fill_fast(&mut self, a: u32, n: usize, value: u8) -> bool {
         span_after_write();
         if !is_aside(&self.slots, self.first, self.end, a, n) {
             return false;
         }
-        self.store.fill_at_hand(a, n, value)
+        self.store.fill_fast(a, n, value)
     }
 
     fn area_at(&self, start: u32) -> Option<Area> {

@@ -75,12 +75,12 @@ impl Store for PagedStore {
     }
 
     #[inline(always)]
-    fn write_at_hand(&mut self, a: u32, bytes: &[u8]) -> bool {
+    fn write_fast(&mut self, a: u32, bytes: &[u8]) -> bool {
         write_at_hand_of(&self.areas, &mut self.pages, a, bytes)
     }
 
     #[inline(always)]
-    fn fill_at_hand(&mut self, a: u32, n: usize, value: u8) -> bool {
+    fn fill_fast(&mut self, a: u32, n: usize, value: u8) -> bool {
         fill_at_hand_of(&self.areas, &mut self.pages, a, n, value)
     }
 

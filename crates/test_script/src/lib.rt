@@ -6,6 +6,8 @@ mod full;
 #[cfg(test)]
 mod lines;
 #[cfg(test)]
+mod looks;
+#[cfg(test)]
 mod runs;
 #[cfg(test)]
 mod sources;

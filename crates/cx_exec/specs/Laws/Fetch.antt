@@ -6,5 +6,7 @@ use Rattle.cx_exec.specs.Fetch.{code_at, read_as}
 
 -- at an even address, with all bytes present, an instruction that is spelled there is fetched, and read as itself
 abbrev pub SpelledIsFetched : Type 0
-SpelledIsFetched = (s : Storage) (a : ℕ) (i : Instruction) (bytes : List ℕ) → a % 2 ≡ 0 → Spells i bytes → span s a (length bytes) ≡ Some bytes
+SpelledIsFetched =
+    (s : Storage) (a : ℕ) (i : Instruction) (bytes : List ℕ) → a % 2 ≡ 0 → Spells i bytes
+    → span s a (length bytes) ≡ Some bytes
     → (code_at s a ≡ Ok bytes) × (read_as bytes ≡ Ok i)

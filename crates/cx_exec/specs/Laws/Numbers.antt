@@ -4,4 +4,6 @@ use Rattle.cx_exec.specs.Division.{IsDivision}
 
 -- a dividend and a divisor have one quotient and one remainder
 abbrev pub DivisionIsOne : Type 0
-DivisionIsOne = (dividend divisor q r p s : ℤ) → IsDivision dividend divisor q r → IsDivision dividend divisor p s → (q ≡ p) × (r ≡ s)
+DivisionIsOne =
+    (dividend divisor q r p s : ℤ) → IsDivision dividend divisor q r → IsDivision dividend divisor p s
+    → (q ≡ p) × (r ≡ s)

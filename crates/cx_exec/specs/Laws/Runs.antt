@@ -6,7 +6,9 @@ use Rattle.cx_exec.specs.Advance.{Passes, Advances}
 
 -- n steps and then a run of at most k steps are a run of at most n + k steps, with the same end
 abbrev pub RunsJoin : Type 0
-RunsJoin = (n k : ℕ) (m mid after : Machine) (end : Halt) → Passes n m mid → Advances k mid end after → Advances (n + k) m end after
+RunsJoin =
+    (n k : ℕ) (m mid after : Machine) (end : Halt) → Passes n m mid → Advances k mid end after
+    → Advances (n + k) m end after
 
 -- n steps and then k steps are n + k steps
 abbrev pub StepsJoin : Type 0

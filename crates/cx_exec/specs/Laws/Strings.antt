@@ -16,7 +16,8 @@ EachIsStored = (rule : List ℕ → ℕ → ℕ) (n k : ℕ) → k < n
 -- second before, and XC each byte of the first joined with the one of the second that was there before
 abbrev pub OutsideIsMoved : Type 0
 OutsideIsMoved = (s : Storage) (a1 a2 n : ℕ) (second : List ℕ) → a1 < 2 ^ 24 → a2 < 2 ^ 24 → n ≤ 2 ^ 24
-    → ((j : ℕ) → 0 < j → j < n → a1 ≢ address_after a2 j) → span s a2 n ≡ Some second → stored_by (moved_byte s a1 a2) n ≡ second
+    → ((j : ℕ) → 0 < j → j < n → a1 ≢ address_after a2 j) → span s a2 n ≡ Some second
+    → stored_by (moved_byte s a1 a2) n ≡ second
 
 abbrev pub OutsideIsJoined : Type 0
 OutsideIsJoined = (s : Storage) (a1 a2 n k : ℕ) (first second : List ℕ) → a1 < 2 ^ 24 → a2 < 2 ^ 24 → n ≤ 2 ^ 24

@@ -7,22 +7,25 @@ use Rattle.cx_script_actions.specs.declared.actions.Action.TheVariants as edf_ac
 use Rattle.cx_script.specs.Transcript.{Runs}
 use Rattle.cx_look_words.specs.Marked.{IsOfLooks}
 use Rattle.cx_look.specs.declared.look.Look.{Look}
-use Rattle.cx_look_script.specs.Looking.{IsLookText, LookPerforms, NotedPerforms}
+use Rattle.cx_look.specs.declared.orders.OrdersBlock.{OrdersBlock}
+use Rattle.cx_look_script.specs.Looking.{IsLookText, LookPerforms, NotedPerforms, ShowsOrders}
 use Rattle.cx_look_words.specs.Words.{marked}
 use Rattle.cx_look_script.specs.Help.{bad_look_text}
 use Rattle.cx_look_script.specs.Runs.{StopsWith, run_over, still_running, turn_of}
 use Rattle.cx_look_script.specs.Sources.{with_source}
 use Rattle.cx_look_script.specs.State.{LookState}
+use Rattle.cx_look_script.specs.Watched.{cause_of, watch_lines, watched_after, watched_text}
 use Rattle.cx_look_script.specs.declared.action.LookAction.{LookAction}
 use Rattle.cx_look_script.specs.declared.action.LookAction.TheVariants as action
 use Rattle.cx_look_script.specs.declared.action.Stop.{Stop}
 
--- What became of an action of a script with looks: actions of `cicsedf`, what these wrote, and what a look wrote after
--- it.
+-- What became of an action of a script with looks: actions of `cicsedf`, what these wrote, what a look wrote after
+-- them, and what was written of the bytes that are watched.
 pub record Part : Type 0 where
   pub plain : List Action
   pub written : List ℕ
   pub looked : List ℕ
+  pub watched : List ℕ
 
 -- a turn of a terminal
 abbrev pub turn_action : List ℕ → Action
@@ -48,7 +51,9 @@ IsPart there (action.Source name lines a) part = (part.plain ≡ a ∷ []) × (p
 IsPart there (action.Run name n s) part = IsTurnOfRun there name s part
 IsPart there (action.RunOn name n s) part =
     MatchBool there.goes_on (IsMoreOfRun there name n s part) ((part.plain ≡ []) × (part.looked ≡ []))
+IsPart there (action.Watch w) part = (part.plain ≡ []) × (part.looked ≡ marked (watch_lines there w))
 IsPart there (action.Look look) part = (part.plain ≡ []) × IsLookText look there part.looked
+IsPart there (action.Orders block) part = (part.plain ≡ []) × ShowsOrders block there part.looked
 IsPart there (action.BadLook number s) part = (part.plain ≡ []) × (part.looked ≡ marked (bad_look_text number s))
 
 -- after a part of RUN that has no turn RUN is over
@@ -56,11 +61,12 @@ abbrev pub after_turns : List Action → LookState → LookState
 after_turns [] new = run_over new
 after_turns (turn ∷ turns) new = new
 
--- after the actions of a source's part its lines are kept
+-- after the actions of a source's part its lines are kept, and after WATCH what it watches
 abbrev pub kept_after : LookState → LookAction → List Action → LookState → LookState
 kept_after old (action.Source name lines a) plain new = with_source old name lines new
 kept_after old (action.Run name n s) plain new = after_turns plain new
 kept_after old (action.RunOn name n s) plain new = after_turns plain new
+kept_after old (action.Watch w) plain new = record new { watched = watched_after old w }
 kept_after old _ plain new = new
 
 -- a part for each action, from the state that those before leave, with the last abends that their events lead to
@@ -68,7 +74,8 @@ unfoldable pub ArePartsOf : LookState → List LookAction → List Part → Look
 ArePartsOf old [] [] new = new ≡ old
 ArePartsOf old (a ∷ actions) (part ∷ parts) new =
     (done between : LookState) × IsPart old a part × Runs NotedPerforms old part.plain part.written done
-    × (between ≡ kept_after old a part.plain done) × ArePartsOf between actions parts new
+    × (between ≡ kept_after old a part.plain done) × (part.watched ≡ watched_text old (cause_of a) between)
+    × ArePartsOf between actions parts new
 ArePartsOf old _ _ new = ⊥
 
 abbrev pub plain_of : Part → List Action
@@ -77,12 +84,12 @@ plain_of part = part.plain
 abbrev pub written_of : Part → List ℕ
 written_of part = part.written
 
--- what a part and the look after it wrote
+-- what a part wrote, and the look and WATCH after it
 abbrev pub text_of : Part → List ℕ
-text_of part = part.written ++ part.looked
+text_of part = part.written ++ part.looked ++ part.watched
 
 -- There is a part for each action so that: the actions of all parts are a run of `cicsedf`, from the same state to the
--- same state; and the text is what this writes, with that of each look at its place.
+-- same state; and the text is what this writes, with that of each look, and of what is watched, at its place.
 pub record ChangesNothing (old : LookState) (actions : List LookAction) (text : List ℕ) (new : LookState) : Type 0 where
   pub parts : List Part
   pub each : ArePartsOf old actions parts new
@@ -96,6 +103,11 @@ LooksChangeNothing = (old : LookState) (actions : List LookAction) (text : List 
 -- what is written for a look is lines of looks
 abbrev pub LooksAreMarked : Type 0
 LooksAreMarked = (look : Look) (state : LookState) (text : List ℕ) → IsLookText look state text → IsOfLooks text
+
+-- and so is what is written for a block of ORDERS
+abbrev pub OrdersAreMarked : Type 0
+OrdersAreMarked =
+    (block : OrdersBlock) (state : LookState) (text : List ℕ) → ShowsOrders block state text → IsOfLooks text
 
 -- the text of a look is a function of the state
 abbrev pub LooksAreReportedOnce : Type 0

@@ -1,5 +1,5 @@
 -- A script of `cicsedf` is one of `cicslook`, and does the same.
-use Rattle.std.specs.Prelude.{◌≡◌, ℕ, List, map, Option, Some, None}
+use Rattle.std.specs.Prelude.{◌≡◌, ℕ, List, [], map, Option, Some, None}
 use Rattle.cx_script_actions.specs.Effects.{Performs}
 use Rattle.cx_script_actions.specs.Language.{edf_language}
 use Rattle.cx_script_actions.specs.declared.actions.Action.{Action}
@@ -36,7 +36,8 @@ abbrev pub ScriptsStay : Type 0
 ScriptsStay = (ending : Ending) (bytes : List ℕ) → HasNoBadLine (script_in edf_language ending bytes)
     → IsSame (script_in edf_language ending bytes) (script_in look_language ending bytes)
 
--- and its actions write the same, from the same state to the same state
+-- and where nothing is watched its actions write the same, from the same state to the same state
 abbrev pub ActionsStay : Type 0
 ActionsStay = (old : LookState) (actions : List LookAction) (plain : List Action) (text : List ℕ) (new : LookState)
-    → ArePlain actions plain → Runs LookPerforms old actions text new → Runs Performs old.edf plain text new.edf
+    → ArePlain actions plain → old.watched ≡ [] → Runs LookPerforms old actions text new
+    → Runs Performs old.edf plain text new.edf

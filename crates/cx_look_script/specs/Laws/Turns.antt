@@ -8,9 +8,11 @@ use Rattle.cx_edf.specs.declared.answers.Answer.TheVariants as answer
 use Rattle.cx_script_actions.specs.Texts.{answer_text}
 use Rattle.cx_script.specs.Transcript.{Runs}
 use Rattle.cx_look_abend.specs.Abends.{abend_code_in}
+use Rattle.cx_look_watch.specs.declared.watching.Cause.TheVariants as cause
 use Rattle.cx_look_script.specs.Looking.{LookPerforms}
 use Rattle.cx_look_script.specs.Runs.{AppliesAtLooks, StopsWith, goes_on, look_actions_of, run_over, still_running, stopped_before, turn_of}
 use Rattle.cx_look_script.specs.State.{LookState}
+use Rattle.cx_look_script.specs.Watched.{watched_text}
 use Rattle.cx_look_script.specs.declared.action.LookAction.TheVariants as action
 use Rattle.cx_look_script.specs.declared.action.Stop.{Stop}
 use Rattle.cx_look_script.specs.declared.action.Stop.TheVariants as stop
@@ -25,7 +27,7 @@ RunsOn old name s (suc n) text new =
     ((given : Answer) × (between : LookState) × (rest : List ℕ) × AppliesAtLooks old (turn_of name) given between
     × MatchBool (goes_on between.edf (turn_of name) given) (RunsOn between name s n rest new)
     ((rest ≡ []) × (new ≡ between))
-    × (text ≡ answer_text (turn_of name) given ++ rest))
+    × (text ≡ answer_text (turn_of name) given ++ watched_text old (cause.Turn name) between ++ rest))
     (λ l. (text ≡ l) × (new ≡ run_over old))
 
 -- so the actions of a RUN of n turns are

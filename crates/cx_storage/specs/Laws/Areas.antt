@@ -20,18 +20,23 @@ AreasApart = (s : Storage) (i j : ℕ) (d : Held) → IsSound s → i < j → j 
 -- a byte is present exactly where an area has its address, is below 256, and none is from 2^24 on
 abbrev pub PresentInAreas : Type 0
 PresentInAreas = (s : Storage) (x : ℕ) → IsSound s
-    → (is_some (byte_at s x) ≡ list_any (λ area. covers area x) (areas_of s)) × (is_some (byte_at s x) ≡ is_some (holder s x)) × ((v : ℕ) → byte_at s x ≡ Some v → v < 256) × (2 ^ 24 ≤ x → byte_at s x ≡ None)
+    → (is_some (byte_at s x) ≡ list_any (λ area. covers area x) (areas_of s))
+    × (is_some (byte_at s x) ≡ is_some (holder s x)) × ((v : ℕ) → byte_at s x ≡ Some v → v < 256)
+    × (2 ^ 24 ≤ x → byte_at s x ≡ None)
 
 -- two sound storages with equal areas and equal bytes are one
 abbrev pub SameStorage : Type 0
-SameStorage = (s t : Storage) → IsSound s → IsSound t → areas_of s ≡ areas_of t → ((x : ℕ) → byte_at s x ≡ byte_at t x) → s ≡ t
+SameStorage =
+    (s t : Storage) → IsSound s → IsSound t → areas_of s ≡ areas_of t → ((x : ℕ) → byte_at s x ≡ byte_at t x) → s ≡ t
 
 -- what an area put in at a place leaves: its bytes are zero, and all others are as before
 abbrev pub FreshArea : Type 0
-FreshArea = (s : Storage) (first last len a : ℕ) (owner : Owner) (x : ℕ) → IsSound s → 0 < len → CanPlace s first last len a
+FreshArea =
+    (s : Storage) (first last len a : ℕ) (owner : Owner) (x : ℕ) → IsSound s → 0 < len → CanPlace s first last len a
     → (byte_at (with_area s (Some a) len owner) x ≡ (if covers (area_from a len owner) x then Some 0 else byte_at s x))
     × (area_at (with_area s (Some a) len owner) x ≡ (if a == x then Some (area_from a len owner) else area_at s x))
-    × (holder (with_area s (Some a) len owner) x ≡ (if covers (area_from a len owner) x then Some (area_from a len owner) else holder s x))
+    × (holder (with_area s (Some a) len owner) x
+    ≡ (if covers (area_from a len owner) x then Some (area_from a len owner) else holder s x))
 
 -- what areas freed leave: the bytes of those kept, and no others
 abbrev pub AreasFreed : Type 0
@@ -48,13 +53,16 @@ pub record IsPresentArea (s : Storage) (start : ℕ) (area : Area) : Type 0 wher
   pub spans : (a n : ℕ) → start ≤ a → a + n ≤ end_of area → is_some (span s a n) ≡ true
 
 abbrev pub AreaIsPresent : Type 0
-AreaIsPresent = (s : Storage) (start : ℕ) (area : Area) → IsSound s → area_at s start ≡ Some area → IsPresentArea s start area
+AreaIsPresent =
+    (s : Storage) (start : ℕ) (area : Area) → IsSound s → area_at s start ≡ Some area → IsPresentArea s start area
 
 -- the next area is one of storage that starts at the address from or above, and none that starts there starts below it; None
 -- where no area starts there
 abbrev pub IsNextArea : Storage → ℕ → Option Area → Type 0
 IsNextArea s from None = (start : ℕ) → from ≤ start → area_at s start ≡ None
-IsNextArea s from (Some area) = (area_at s area.start ≡ Some area) × (from ≤ area.start) × ((start : ℕ) → from ≤ start → start < area.start → area_at s start ≡ None)
+IsNextArea s from (Some area) =
+    (area_at s area.start ≡ Some area) × (from ≤ area.start)
+    × ((start : ℕ) → from ≤ start → start < area.start → area_at s start ≡ None)
 
 abbrev pub NextArea : Type 0
 NextArea = (s : Storage) (from : ℕ) → IsSound s → IsNextArea s from (next_area s from)

@@ -9,6 +9,8 @@ use Rattle.cx_storage.specs.declared.areas.Owner.{Owner}
 -- every change keeps storage sound
 pub record SoundKept : Type 0 where
   pub set : (s : Storage) (a v : ℕ) → IsSound s → v < 256 → IsSound (with_byte s a v)
-  pub write : (s : Storage) (a : ℕ) (bytes : List ℕ) → IsSound s → AllByRecursion (λ b. b < 256) bytes → IsSound (after_write s a bytes)
-  pub get : (s : Storage) (first last len : ℕ) (start : Option ℕ) (owner : Owner) → IsSound s → last < 2 ^ 24 → 0 < len → IsLeastPlace s first last len start → IsSound (with_area s start len owner)
+  pub write : (s : Storage) (a : ℕ) (bytes : List ℕ) → IsSound s → AllByRecursion (λ b. b < 256) bytes
+      → IsSound (after_write s a bytes)
+  pub get : (s : Storage) (first last len : ℕ) (start : Option ℕ) (owner : Owner) → IsSound s → last < 2 ^ 24 → 0 < len
+      → IsLeastPlace s first last len start → IsSound (with_area s start len owner)
   pub free : (s : Storage) (keeps : Area → Bool) → IsSound s → IsSound (with_areas_kept keeps s)

@@ -6,4 +6,4 @@ second_pass-requires c =
     λ is.
     let le = c.requires.fits is in
     section_fits c.args.source.now c.args.places.now c.args.statements.now c.requires.placed c.requires.statements le
-    (c.what_stands_stands_apart.ensures c.args.source.now c.requires.sound le)
+    (c.made_lines_do_not_overlap.ensures c.args.source.now c.requires.sound le)

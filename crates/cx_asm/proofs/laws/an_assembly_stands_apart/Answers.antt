@@ -4,15 +4,15 @@ use Rattle.cx_asm.proofs.laws.an_assembly_stands_apart.Goals as goal
 
 pub returns-clause-size : goal.returns-clause-size
 returns-clause-size c source made e =
-    (section_stands (λ resolved size apart. (c.the_text_is_decided_by_its_bytes.ensures.is resolved size apart).long) c.what_stands_stands_apart.ensures source made e).size
+    (section_stands (λ resolved size apart. (c.the_text_is_decided_by_its_bytes.ensures.is resolved size apart).long) c.made_lines_do_not_overlap.ensures source made e).size
 
 pub returns-clause-short : goal.returns-clause-short
 returns-clause-short c source made e = (accepted source made e).short
 
 pub returns-clause-lines : goal.returns-clause-lines
 returns-clause-lines c source made e =
-    (section_stands (λ resolved size apart. (c.the_text_is_decided_by_its_bytes.ensures.is resolved size apart).long) c.what_stands_stands_apart.ensures source made e).lines
+    (section_stands (λ resolved size apart. (c.the_text_is_decided_by_its_bytes.ensures.is resolved size apart).long) c.made_lines_do_not_overlap.ensures source made e).lines
 
 pub returns-clause-words : goal.returns-clause-words
 returns-clause-words c source made e =
-    (section_stands (λ resolved size apart. (c.the_text_is_decided_by_its_bytes.ensures.is resolved size apart).long) c.what_stands_stands_apart.ensures source made e).words
+    (section_stands (λ resolved size apart. (c.the_text_is_decided_by_its_bytes.ensures.is resolved size apart).long) c.made_lines_do_not_overlap.ensures source made e).words

@@ -10,7 +10,7 @@ loop-number-preserved c =
     let s = c.index-statements-number.result in
     let is : s ≡ get_or c.args.statements.now c.loop-number.number s = c.index-statements-number.is in
     record {
-      bases = bases_more whole c.args.statements.now s c.loop-number.number c.loop-number.bases c.judge.new.bases within is c.loop-number.invariant.bases
+      bases = bases_more whole c.args.statements.now s c.loop-number.number c.loop-number.bases c.pass_line.new.bases within is c.loop-number.invariant.bases
           c.in_ok-fault.ensures.bases;
       faults = faults_more whole c.args.statements.now s c.loop-number.number c.loop-number.bases c.loop-number.faults c.add.new.self c.in_ok-fault.fault within is
           c.loop-number.invariant.bases c.loop-number.invariant.faults c.in_ok-fault.ensures.fault

@@ -7,8 +7,8 @@ use Rattle.cx_asm.proofs.FitLemmas.{kept_fits}
 use Rattle.cx_asm.proofs.JoinLemmas.{kept_more, standing_next}
 use Rattle.cx_asm.proofs.section.second_pass.Goals as goal
 
-pub judge-requires : goal.judge-requires
-judge-requires c =
+pub pass_line-requires : goal.pass_line-requires
+pass_line-requires c =
     let whole = whole_by c.args.places.now in
     let next = standing_next whole c.args.statements.now c.loop-number.bases c.args.statements.now c.index-statements-number.result c.loop-number.number c.loop-number-test.true in
     kept_fits c.args.keeps c.loop-number.standing _ _ _ empty_section (standing_from whole c.args.statements.now none_in_use c.args.statements.now) 65536
@@ -22,7 +22,7 @@ loop-number-preserved c =
     let is : s ≡ get_or c.args.statements.now c.loop-number.number s = c.index-statements-number.is in
     let next = standing_next whole c.args.statements.now c.loop-number.bases c.args.statements.now s c.loop-number.number within in
     record {
-      bases = bases_more whole c.args.statements.now s c.loop-number.number c.loop-number.bases c.judge.new.bases within is c.loop-number.invariant.bases
+      bases = bases_more whole c.args.statements.now s c.loop-number.number c.loop-number.bases c.pass_line.new.bases within is c.loop-number.invariant.bases
           c.in_ok-fault.ensures.bases;
       first = first_more whole c.args.statements.now s c.loop-number.number c.loop-number.bases c.loop-number.first c.first_fault_after-first.result c.in_ok-fault.fault
           within is c.loop-number.invariant.bases c.loop-number.invariant.first c.in_ok-fault.ensures.fault

@@ -5,5 +5,5 @@ use Rattle.cx_exec.proofs.stepping.fetch_fast.Goals as goal
 
 pub returns-clause-performed : goal.returns-clause-performed
 returns-clause-performed g c =
-    lent_performed (machine c.args.cpu.now (g.S.Store.storage c.fetched_front.new.store)) _ _ c.read_by_first_byte.ensures.known c.first_bits.ensures
+    lent_performed (machine c.args.cpu.now (g.S.Store.storage c.fetched_prefix.new.store)) _ _ c.read_by_first_byte.ensures.known c.first_bits.ensures
     (search rules) c.in_ok-prefix.ensures.even c.in_ok-prefix.ensures.bytes (search rules)

@@ -5,5 +5,5 @@ use Rattle.cx_look_faults.proofs.notes.notes_of_items.Given as goal
 
 abbrev pub invariant-loop-part : goal.invariant-loop-part
 invariant-loop-part l =
-    l.notes.items ++ filter_map (note_of_item l.items l.item l.stmt) (drop l.part-index l.parts)
-    ≡ l.initial.notes.items ++ filter_map (note_of_item l.items l.item l.stmt) l.parts
+    l.notes.items ++ filter_map (note_of_item l.found.items.now l.found.item.now l.found.stmt.now) (drop l.part-index l.parts)
+    ≡ l.initial.notes.items ++ filter_map (note_of_item l.found.items.now l.found.item.now l.found.stmt.now) l.parts

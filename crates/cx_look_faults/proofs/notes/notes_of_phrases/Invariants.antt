@@ -6,5 +6,5 @@ use Rattle.cx_look_faults.proofs.notes.notes_of_phrases.Given as goal
 
 abbrev pub invariant-loop-phrase : goal.invariant-loop-phrase
 invariant-loop-phrase l =
-    l.notes.items ++ filter_map (note_of_phrase (whole_by l.places) l.rewrites l.options l.items l.item l.stmt) (drop l.phrase-index l.phrases)
-    ≡ l.initial.notes.items ++ filter_map (note_of_phrase (whole_by l.places) l.rewrites l.options l.items l.item l.stmt) l.phrases
+    l.notes.items ++ filter_map (note_of_phrase (whole_by l.arguments.places.now) l.arguments.rewrites l.arguments.options.now l.found.items.now l.found.item.now l.found.stmt.now) (drop l.phrase-index l.phrases)
+    ≡ l.initial.notes.items ++ filter_map (note_of_phrase (whole_by l.arguments.places.now) l.arguments.rewrites l.arguments.options.now l.found.items.now l.found.item.now l.found.stmt.now) l.phrases

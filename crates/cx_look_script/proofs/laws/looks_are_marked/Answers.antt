@@ -1,5 +1,8 @@
-use Rattle.cx_look_script.proofs.MarkLemmas.{looks_are_marked as are_marked}
+use Rattle.cx_look_script.proofs.MarkLemmas as lemmas
 use Rattle.cx_look_script.proofs.laws.looks_are_marked.Goals as goal
 
-pub returns : goal.returns
-returns c = are_marked
+pub returns-clause-looks : goal.returns-clause-looks
+returns-clause-looks c = lemmas.looks_are_marked
+
+pub returns-clause-orders : goal.returns-clause-orders
+returns-clause-orders c = lemmas.orders_are_marked

@@ -6,4 +6,4 @@ use Rattle.cx_look_tables.proofs.terminals.terminal_lines.Given as goal
 abbrev pub invariant-loop-name : goal.invariant-loop-name
 invariant-loop-name g l =
     l.report ++ flat_map (terminal_line l.state.sessions) l.name-iterator
-    ≡ l.initial.report ++ flat_map (terminal_line l.state.sessions) l.state.region.terminals
+    ≡ l.initial.report ++ flat_map (terminal_line l.state.sessions) l.region.terminals

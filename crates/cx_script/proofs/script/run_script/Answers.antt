@@ -6,4 +6,4 @@ made_or_not (Ok a) start P X same p x = inl (subst P same p)
 made_or_not (Err e) start P X same p x = inr x
 
 pub returns-clause-ran : goal.returns-clause-ran
-returns-clause-ran g c = made_or_not c.edf_stage.result _ _ _ c.edf_stage.ensures c.run_script_on.ensures.ran c.run_script_on.ensures.unmade
+returns-clause-ran g c = made_or_not c.edf_performer.result _ _ _ c.edf_performer.ensures c.run_script_on.ensures.ran c.run_script_on.ensures.unmade

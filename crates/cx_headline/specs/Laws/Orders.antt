@@ -1,0 +1,72 @@
+-- What any order of turns and keys can do is what ORDERS writes of it.
+use Rattle.std.specs.Prelude.{◌≡◌, ◌↔◌, ℕ, List, Option, Some, None, IsSome, IsTrue, length, slice_get, Bool}
+use Rattle.cx_search.specs.Forever.{AtRest, IsLong}
+use Rattle.cx_search.specs.Rest.{IsNear}
+use Rattle.cx_region.specs.State.{RegionState}
+use Rattle.cx_edf.specs.Steps.{DisplayMaker}
+use Rattle.cx_edf.specs.Laws.Edf.{AreAnsweredOff}
+use Rattle.cx_orders.specs.Moves.{Moves, begun}
+use Rattle.cx_orders.specs.declared.states.KeyLine.{KeyLine}
+use Rattle.cx_orders.specs.declared.states.OrdersState.{OrdersState}
+use Rattle.cx_look_words.specs.Words.{Lines}
+use Rattle.cx_look_orders.specs.Laws.{AskFor, IsRunOf}
+use Rattle.cx_look_orders.specs.Outcomes.{EndsWith, HasText, IsStuck, NoLater}
+use Rattle.cx_look_orders.specs.Report.{CutText, WholeText}
+use Rattle.cx_look_orders.specs.Rest.{RestText}
+use Rattle.cx_look_orders.specs.Script.{steps_lines}
+use Rattle.cx_look_orders.specs.Steps.{AreSteps, moves_of}
+use Rattle.cx_look_orders.specs.declared.outcomes.Outcome.{Outcome}
+use Rattle.cx_look_orders.specs.declared.steps.Step.{Step}
+use Rattle.cx_look.specs.declared.orders.OrdersBlock.{OrdersBlock}
+use Rattle.cx_look_script.specs.Looking.{AreLookLines, ShowsOrders, at_region}
+use Rattle.cx_look_script.specs.Orders.{AreSeen, names_with_edf, sights_of}
+use Rattle.cx_look_script.specs.State.{LookState}
+
+-- An outcome is real. Its steps are moves that end at rest, and what is seen there is its text. The lines that are
+-- written of them ask for them, one after another; as keys and turns with EDF Off everywhere they lead `cicsedf` from
+-- that region to that very state. No list of moves that ends with that text is sooner.
+pub record IsReal (Shows : RegionState → Lines → Type 0) (keys : List KeyLine) (region : RegionState) (one : Outcome)
+    : Type 0 where
+  pub to : OrdersState
+  pub steps : AreSteps keys (begun region) one.steps to
+  pub rest : AtRest (Moves keys) to
+  pub shows : RestText Shows keys to one.text
+  pub script : AskFor region keys (steps_lines region keys None one.steps) one.steps
+  pub run : IsRunOf keys (begun region) one.steps to
+  pub off : (make : DisplayMaker) → AreAnsweredOff make region run.events run.replies to.region
+  pub soonest : (moves : List ℕ) → EndsWith Shows keys (begun region) moves one.text
+      → NoLater (moves_of one.steps) moves
+
+-- None is missed of lists of at most so many moves, where they are limited; each is real, and each text stands once.
+pub record AreAll (Shows : RegionState → Lines → Type 0) (keys : List KeyLine) (region : RegionState) (cut : Option ℕ)
+    (outcomes : List Outcome) : Type 0 where
+  pub none_missed : (moves : List ℕ) (text : Lines) → EndsWith Shows keys (begun region) moves text
+      → IsNear cut (length moves) → HasText outcomes text
+  pub real : (place : ℕ) (one : Outcome) → slice_get outcomes place ≡ Some one → IsReal Shows keys region one
+  pub once : (j k : ℕ) (one other : Outcome) → slice_get outcomes j ≡ Some one → slice_get outcomes k ≡ Some other
+      → one.text ≡ other.text → j ≡ k
+
+-- Where all states were found: all outcomes of lists of moves of whatever length; SOME NEVER REST stands exactly where
+-- there are lists of any length, SOME CANNOT REST exactly where one leads to a state from which none leads to rest.
+pub record AreWhole (Shows : RegionState → Lines → Type 0) (keys : List KeyLine) (region : RegionState)
+    (outcomes : List Outcome) (loop : Option (List Step)) (is_stuck : Bool) : Type 0 where
+  pub all : AreAll Shows keys region None outcomes
+  pub never_rest : IsSome loop ↔ ((least : ℕ) → IsLong (Moves keys) (begun region) least)
+  pub cannot_rest : IsTrue is_stuck ↔ IsStuck keys (begun region)
+
+-- what the lines of ORDERS say: where all states were found, and where not
+pub record AreTrue (Shows : RegionState → Lines → Type 0) (keys : List KeyLine) (region : RegionState)
+    (edf : List (List ℕ)) (most : ℕ) (lines : Lines) : Type 0 where
+  pub whole : (it : WholeText Shows keys region edf most lines)
+      → AreWhole Shows keys region it.outcomes it.loop it.is_stuck
+  pub cut : (it : CutText Shows keys region edf most lines) → AreAll Shows keys region (Some it.moves) it.outcomes
+
+-- what is to be seen of a region for a block of ORDERS, at a state
+abbrev pub Seen : OrdersBlock → LookState → RegionState → Lines → Type 0
+Seen block state region =
+    AreSeen (λ look. AreLookLines look (at_region state region)) region (sights_of block.sights state.edf.region)
+
+-- so it is of whatever `cicslook` writes for a block of ORDERS
+abbrev pub OrdersAreTrue : Type 0
+OrdersAreTrue = (block : OrdersBlock) (state : LookState) (text : List ℕ) (is : ShowsOrders block state text)
+    → AreTrue (Seen block state) is.keys state.edf.region (names_with_edf state.edf) block.most is.lines

@@ -1,0 +1,54 @@
+-- AHEAD: the instructions that a terminal's next turn will come to (own).
+use Rattle.std.specs.Prelude.{◌≡◌, ℕ, if◌then◌else◌, Option, Some, None, option_and_then, MatchOption, IsSomeAnd, List, [], ◌∷◌, ◌++◌, codes}
+use Rattle.std.specs.Fmt.{decimal}
+use Rattle.std.specs.List.{flat_map}
+use Rattle.std.specs.Option.{option_map_or}
+use Rattle.cx_base_text.specs.Digits.{hex_digits}
+use Rattle.cx_storage.specs.Storage.{Storage}
+use Rattle.cx_exec.specs.Machine.{Machine}
+use Rattle.cx_load.specs.declared.program.Loaded.{Loaded}
+use Rattle.cx_region_state.specs.State.{TaskState}
+use Rattle.cx_region_task.specs.Turn.{most_steps}
+use Rattle.cx_region.specs.State.{RegionState}
+use Rattle.cx_region.specs.Tables.{task_of}
+use Rattle.cx_look_words.specs.Words.{Lines, look_line}
+use Rattle.cx_look_symbols.specs.Places.{address_word, place_of}
+use Rattle.cx_look_symbols.specs.Sources.{Sources, led_by, statement_at}
+use Rattle.cx_look_symbols.specs.declared.places.Place.{Place}
+use Rattle.cx_look_steps.specs.Traces.{IsTrace}
+use Rattle.cx_look_steps.specs.declared.traces.Trace.{Trace}
+use Rattle.cx_look_steps.specs.declared.traces.Visit.{Visit}
+
+-- the machine that the turn runs on; None where a command is due, or there is no task
+abbrev pub runs_on : Storage → TaskState → Option Machine
+runs_on storage task =
+    if task.due then None
+    else Some (record { regs = task.regs; cc = task.cc; next = task.next; storage = storage })
+
+abbrev pub machine_ahead : RegionState → List ℕ → Option Machine
+machine_ahead region name = option_and_then (runs_on region.storage) (task_of region name)
+
+-- how many instructions it comes to, and the last n of them
+unfoldable pub IsAhead : RegionState → List ℕ → ℕ → Option Trace → Type 0
+IsAhead region name n trace =
+    MatchOption (machine_ahead region name) (trace ≡ None)
+    (λ m. IsSomeAnd trace (λ it. IsTrace most_steps m n it.count it.last.items))
+
+-- ---- how they are written: their number, and a line for each
+-- its address and where it is, its bytes, and the statement
+unfoldable pub visit_word : Sources → Place → Option (List ℕ) → List ℕ
+visit_word sources place code =
+    address_word place ++ codes " " ++ option_map_or hex_digits code (codes "--")
+    ++ led_by (codes " LINE ") (statement_at sources place.spot)
+
+unfoldable pub visit_line : Sources → List (List ℕ × Loaded) → Visit → Lines
+visit_line sources programs it =
+    look_line (codes "INSTRUCTION" ∷ visit_word sources (place_of programs it.at) it.code ∷ [])
+
+unfoldable pub count_line : ℕ → Lines
+count_line n = look_line (codes "INSTRUCTIONS" ∷ decimal n ∷ [])
+
+abbrev pub trace_lines : Sources → List (List ℕ × Loaded) → Option Trace → Lines
+trace_lines sources programs None = []
+trace_lines sources programs (Some trace) =
+    count_line trace.count ++ flat_map (visit_line sources programs) trace.last.items

@@ -1,0 +1,158 @@
+//! The instructions of the next turn.
+ghost use Rattle.std.specs.Prelude.{◌≡◌, ◌++◌, codes, IfOk, OnOk};
+ghost use Rattle.std.specs.List.{flat_map};
+ghost use Rattle.std.specs.Option.{option_map, option_map_or};
+ghost use Rattle.cx_base_text.specs.Digits.{hex_digits};
+ghost use Rattle.cx_exec.specs.Machine.{machine};
+ghost use Rattle.cx_region_task.specs.Turn.{most_steps};
+ghost use Rattle.cx_look_steps.specs.Traces.{IsTrace};
+ghost use Rattle.cx_look_ahead.specs.Instructions.{IsAhead, count_line, machine_ahead, trace_lines, visit_line, visit_word};
+
+use cx_ebcdic::{Name4, Name8};
+use cx_exec::Cpu;
+use cx_load::Loaded;
+use cx_look_steps::{Code, Trace, Visit, trace_run};
+use cx_look_symbols::{Place, Sources, address_word, place_of, push_led_by, statement_at};
+use cx_look_words::{Report, decimal, spelled};
+use cx_region::Region;
+use cx_storage::Store;
+use cx_storage_snapshot::StorageSnapshot;
+use indexmap::IndexMap;
+use std::alloc::{AllocError, Global};
+
+/// The most instructions of a turn.
+const MOST_STEPS: u32 = 65_536;
+
+/// The processor that a terminal's next turn runs; None where a command is due, or there is no task.
+fn cpu_ahead<S: Store + Drop>(region: &Region<S>, name: Name4) -> Option<Cpu>
+    ensures { option_map (λ cpu. machine cpu region.now.storage) result ≡ machine_ahead region.now name }
+{
+    let terminal = region.terminals().get(&name)?;
+    let task = terminal.task()?;
+    if task.due {
+        return None;
+    }
+    Some(Cpu {
+        regs: task.cpu.regs,
+        cc: task.cpu.cc,
+        next: task.cpu.next,
+    })
+}
+
+/// The instructions that a processor comes to over a store like this one, which stays as it is.
+fn trace_apart<S: Store + Drop>(
+    alloc: Global,
+    store: &S,
+    cpu: Cpu,
+    most: usize,
+) -> Result<Trace, AllocError>
+    ensures { let m = machine cpu (S.storage store.now) in
+        IfOk result (λ trace. IsTrace most_steps m most trace.count trace.last.items) }
+{
+    let snapshot = StorageSnapshot::take(alloc, store, None)?;
+    let mut apart = snapshot.store_like(store)?;
+    let mut cpu = cpu;
+    trace_run(alloc, &mut cpu, &mut apart, MOST_STEPS, most)
+}
+
+/// The instructions that a terminal's next turn will come to, where it runs some.
+#[tactic(auto, unfolding(crate::specs::Instructions::IsAhead))]
+pub(crate) fn trace_ahead<S: Store + Drop>(
+    alloc: Global,
+    region: &Region<S>,
+    name: Name4,
+    most: usize,
+) -> Result<Option<Trace>, AllocError>
+    ensures { IfOk result (λ trace. IsAhead region.now name most trace) }
+{
+    let Some(cpu) = cpu_ahead(region, name) else {
+        return Ok(None);
+    };
+    let trace = trace_apart(alloc, &region.shared().store, cpu, most)?;
+    Ok(Some(trace))
+}
+
+/// The bytes of an instruction.
+fn code_word(alloc: Global, code: &Option<Code>) -> Result<Vec<u8>, AllocError>
+    ensures { IfOk result (λ word. word.items ≡ option_map_or hex_digits code.now (codes "--")) }
+{
+    match code {
+        Some(code) => spelled(alloc, code.as_slice()),
+        None => b"--".to_vec(alloc),
+    }
+}
+
+/// An instruction: its address and where it is, its bytes, and the statement that has it.
+#[tactic(auto, unfolding(crate::specs::Instructions::visit_word))]
+fn visit_word(
+    alloc: Global,
+    sources: &Sources,
+    place: &Place,
+    code: &Option<Code>,
+) -> Result<Vec<u8>, AllocError>
+    ensures { IfOk result (λ word. word.items ≡ visit_word sources.now place.now code.now) }
+{
+    let mut word = address_word(alloc, place)?;
+    word.push(b' ')?;
+    word.extend_from_slice(&code_word(alloc, code)?)?;
+    push_led_by(
+        &mut word,
+        b" LINE ",
+        &statement_at(alloc, sources, &place.spot)?,
+    )?;
+    Ok(word)
+}
+
+/// Adds the line of an instruction.
+fn visit_line(
+    report: &mut Report,
+    sources: &Sources,
+    programs: &IndexMap<Name8, Loaded>,
+    visit: &Visit,
+) -> Result<(), AllocError>
+    ensures { OnOk result (report.new ≡ report.old ++ visit_line sources.now programs.now.entries visit.now) }
+{
+    let place = place_of(programs, visit.at);
+    let word = visit_word(report.alloc(), sources, &place, &visit.code)?;
+    report.line(&[b"INSTRUCTION", &word])
+}
+
+/// Adds the lines of the last instructions.
+fn visit_lines(
+    report: &mut Report,
+    sources: &Sources,
+    programs: &IndexMap<Name8, Loaded>,
+    trace: &Trace,
+) -> Result<(), AllocError>
+    ensures { let lines = flat_map (visit_line sources.now programs.now.entries) trace.now.last.items in
+        OnOk result (report.new ≡ report.old ++ lines) }
+{
+    for visit in trace.last.iter() {
+        visit_line(report, sources, programs, visit)?;
+    }
+    Ok(())
+}
+
+/// Adds how many instructions there are.
+fn count_line(report: &mut Report, count: u32) -> Result<(), AllocError>
+    ensures { OnOk result (report.new ≡ report.old ++ count_line count) }
+{
+    let count = decimal(report.alloc(), count as usize)?;
+    report.line(&[b"INSTRUCTIONS", &count])
+}
+
+/// Adds how many instructions there are, and the lines of the last ones, where the turn runs some.
+pub(crate) fn trace_lines(
+    report: &mut Report,
+    sources: &Sources,
+    programs: &IndexMap<Name8, Loaded>,
+    trace: &Option<Trace>,
+) -> Result<(), AllocError>
+    ensures { OnOk result (report.new ≡ report.old ++ trace_lines sources.now programs.now.entries trace.now) }
+{
+    let Some(trace) = trace else {
+        return Ok(());
+    };
+    count_line(report, trace.count)?;
+    visit_lines(report, sources, programs, trace)
+}

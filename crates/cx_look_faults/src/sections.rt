@@ -1,0 +1,71 @@
+//! What stands outside the control section since a section may not be known.
+
+ghost use Rattle.std.specs.Prelude.{◌≡◌, ◌++◌, ◌&&◌, nat_lt, None, OnOk, option_map, reverse};
+ghost use Rattle.std.specs.List.{find};
+ghost use Rattle.cx_look_faults.specs.Faults.{begins_any, is_adrift, is_outside, section_before, unknown_after, without_adrift};
+
+use crate::bases::{begins_any, begins_section};
+use crate::faults::FaultyLine;
+use cx_asm_build::SourceKind;
+use cx_source::Item;
+use std::alloc::AllocError;
+
+/// The last line before this one on which a section begins.
+fn section_before(items: &[Item], number: usize) -> Option<&Item>
+    ensures { option_map (λ item. item.now) result ≡ section_before items.now number }
+{
+    items
+        .iter()
+        .rev()
+        .find(|item| item.line < number && begins_any(item))
+}
+
+/// Whether after an unknown operation no section begins before a line, and before it none did or a dummy one.
+fn is_outside(items: &[Item], unknown: usize, number: usize) -> bool
+    ensures { result ≡ is_outside items.now unknown number }
+{
+    match section_before(items, number) {
+        Some(item) => item.line < unknown && !begins_section(item),
+        None => true,
+    }
+}
+
+/// Whether a fault is BadOperand after an unknown operation outside the control section.
+#[tactic(auto, unfolding(crate::specs::Faults::is_adrift))]
+fn is_adrift(items: &[Item], unknown: Option<usize>, fault: FaultyLine) -> bool
+    ensures { result ≡ is_adrift items.now unknown fault }
+{
+    match (fault.kind, unknown) {
+        (SourceKind::BadOperand, Some(line)) => is_outside(items, line, fault.line),
+        _ => false,
+    }
+}
+
+/// The line of an unknown operation after which there was no BadOperand, after one more fault.
+fn unknown_after(before: Option<usize>, fault: FaultyLine) -> Option<usize>
+    ensures { result ≡ unknown_after before fault.line fault.kind }
+{
+    match fault.kind {
+        SourceKind::UnknownOperation => Some(fault.line),
+        SourceKind::BadOperand => None,
+        _ => before,
+    }
+}
+
+/// Puts lines at the end of others, without those whose fault follows from a section that may not be known.
+pub(crate) fn push_unadrift(
+    lines: &mut Vec<FaultyLine>,
+    items: &[Item],
+    more: &[FaultyLine],
+) -> Result<(), AllocError>
+    ensures { OnOk result (lines.new.items ≡ lines.old.items ++ without_adrift items.now None more.now) }
+{
+    let mut unknown = None;
+    for fault in more {
+        if !is_adrift(items, unknown, *fault) {
+            lines.push(*fault)?;
+        }
+        unknown = unknown_after(unknown, *fault);
+    }
+    Ok(())
+}

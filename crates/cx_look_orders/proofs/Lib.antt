@@ -1,0 +1,8 @@
+mod ListLemmas
+mod StepLemmas
+mod PlaceLemmas
+mod OutcomeLemmas
+mod LoopLemmas
+mod DecideLemmas
+mod RunLemmas
+mod ScriptLemmas

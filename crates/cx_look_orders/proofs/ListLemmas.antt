@@ -1,0 +1,66 @@
+-- Items of lists.
+use Rattle.std.proofs.Common.{◌≡◌, ℕ, zero, suc, ◌+◌, ◌<◌, ◌≤◌, List, [], ◌∷◌, ◌++◌, length, drop, map, Some, ◌⊎◌, inl, inr, ap, refl, ◌∙◌, arith}
+use Rattle.std.specs.Prelude.{slice_get, Err, IfOk, Ok, Result}
+use Rattle.std.proofs.lemmas.Bool.{cases_lt}
+use Rattle.std.proofs.lemmas.Option.{none-some, same_Some}
+
+pub item_kept : {X : Type 0} (xs zs : List X) (i : ℕ) (y : X) → slice_get xs i ≡ Some y → slice_get (xs ++ zs) i ≡ Some y
+item_kept [] zs i y is = absurd (none-some y is)
+item_kept (x ∷ xs) zs zero y is = is
+item_kept (x ∷ xs) zs (suc i) y is = item_kept xs zs i y is
+
+pub item_last : {X : Type 0} (xs : List X) (y : X) → slice_get (xs ++ y ∷ []) (length xs) ≡ Some y
+item_last [] y = refl
+item_last (x ∷ xs) y = item_last xs y
+
+pub item_appended : {X : Type 0} (xs : List X) (x y : X) (i : ℕ) → slice_get (xs ++ x ∷ []) i ≡ Some y → (slice_get xs i ≡ Some y) ⊎ ((i ≡ length xs) × (x ≡ y))
+item_appended [] x y zero is = inr (refl, same_Some x y is)
+item_appended [] x y (suc i) is = absurd (none-some y is)
+item_appended (z ∷ xs) x y zero is = inl is
+item_appended (z ∷ xs) x y (suc i) is = elim (item_appended xs x y i is) [ inl h ↦ inl h | inr h ↦ inr (ap suc h.0, h.1) ]
+
+pub below_next : (i n : ℕ) → i < n + 1 → (i < n) ⊎ (i ≡ n)
+below_next i n l = elim (cases_lt i n) [ inl m ↦ inl m | inr m ↦ inr (omega (arith, l, m)) ]
+
+-- what is left of a list begins with the item there
+pub drop_item : {X : Type 0} (xs : List X) (i : ℕ) (x : X) → slice_get xs i ≡ Some x → drop i xs ≡ x ∷ drop (suc i) xs
+drop_item [] i x is = absurd (none-some x is)
+drop_item (y ∷ xs) zero x is = ap (λ z. z ∷ xs) (same_Some y x is)
+drop_item (y ∷ xs) (suc i) x is = drop_item xs i x is
+
+pub drop_all : {X : Type 0} (xs : List X) (i : ℕ) → length xs ≤ i → drop i xs ≡ []
+drop_all [] zero l = refl
+drop_all [] (suc i) l = refl
+drop_all (x ∷ xs) zero l = absurd (omega arith)
+drop_all (x ∷ xs) (suc i) l = drop_all xs i (omega arith)
+
+pub drop_none : {X : Type 0} (xs : List X) → drop 0 xs ≡ xs
+drop_none [] = refl
+drop_none (x ∷ xs) = refl
+
+-- the items of a list of what a function gives
+pub mapped_item : {X Y : Type 0} (f : X → Y) (xs : List X) (i : ℕ) (x : X) → slice_get xs i ≡ Some x → slice_get (map f xs) i ≡ Some (f x)
+mapped_item f [] i x is = absurd (none-some x is)
+mapped_item f (y ∷ xs) zero x is = ap (λ z. Some (f z)) (same_Some y x is)
+mapped_item f (y ∷ xs) (suc i) x is = mapped_item f xs i x is
+
+pub of_mapped : {X Y : Type 0} (f : X → Y) (xs : List X) (i : ℕ) (y : Y) → slice_get (map f xs) i ≡ Some y → (x : X) × ((slice_get xs i ≡ Some x) × (f x ≡ y))
+of_mapped f [] i y is = absurd (none-some y is)
+of_mapped f (x ∷ xs) zero y is = (x, (refl, same_Some (f x) y is))
+of_mapped f (x ∷ xs) (suc i) y is = of_mapped f xs i y is
+
+pub length_mapped : {X Y : Type 0} (f : X → Y) (xs : List X) → length (map f xs) ≡ length xs
+length_mapped f [] = refl
+length_mapped f (x ∷ xs) = ap suc (length_mapped f xs)
+
+-- what is said of a result goes on
+pub ok_on : {A E : Type 0} (P Q : A → Type 0) (r : Result A E) → ((x : A) → P x → Q x) → IfOk r P → IfOk r Q
+ok_on P Q (Ok x) on h = on x h
+ok_on P Q (Err e) on h = h
+
+-- what is added one after another to nothing
+pub two_added : {X : Type 0} (r s t a b : List X) → r ≡ [] → s ≡ r ++ a → t ≡ s ++ b → t ≡ a ++ b
+two_added r s t a b e f g = g ∙ ap (λ x. x ++ b) (f ∙ ap (λ x. x ++ a) e)
+
+pub four_added : {X : Type 0} (r s t u v a b c d : List X) → r ≡ [] → s ≡ r ++ a → t ≡ s ++ b → u ≡ t ++ c → v ≡ u ++ d → v ≡ a ++ b ++ c ++ d
+four_added r s t u v a b c d e f g h i = i ∙ ap (λ x. x ++ d) (h ∙ ap (λ x. x ++ c) (two_added r s t a b e f g))

@@ -1,0 +1,82 @@
+-- Steps are runs of the region.
+use Rattle.std.proofs.Common.{◌≡◌, ℕ, List, [], ◌∷◌, map, Option, Some, None, ap, refl, sym, ◌∙◌}
+use Rattle.std.specs.Prelude.{MatchOption, option_map, slice_get}
+use Rattle.std.specs.Map.{keys_of as names_of}
+use Rattle.std.specs.Option.{option_and_then}
+use Rattle.cx_region.specs.Events.{Applies, Run}
+use Rattle.cx_region.specs.State.{TerminalState}
+use Rattle.cx_region.specs.declared.replies.Event.{Event}
+use Rattle.cx_region.specs.declared.replies.Event.TheVariants as event
+use Rattle.cx_region.specs.declared.replies.Reply.{Reply}
+use Rattle.cx_region.specs.declared.replies.Reply.TheVariants as reply
+use Rattle.cx_region_laws.specs.Laws.Regions.{KeysKeepToTheirTerminal, TurnsKeepToTheirTask}
+use Rattle.cx_orders.specs.Laws.{IsOrder}
+use Rattle.cx_orders.specs.Moves.{KeyMoves, TurnMoves, keys_of}
+use Rattle.cx_orders.specs.declared.states.KeyLine.{KeyLine}
+use Rattle.cx_orders.specs.declared.states.OrdersState.{OrdersState}
+use Rattle.cx_look_orders.specs.Laws.{IsRunOf, StepsAreRuns, event_at, event_of}
+use Rattle.cx_look_orders.specs.Steps.{AreSteps}
+use Rattle.cx_look_orders.specs.declared.steps.Step.{Step}
+use Rattle.cx_look_orders.proofs.ListLemmas.{mapped_item}
+
+module _ (turned : TurnsKeepToTheirTask) (keyed : KeysKeepToTheirTerminal) (keys : List KeyLine) where
+  abbrev names : OrdersState → List (List ℕ)
+  names state = names_of state.region.terminals
+
+  -- a step's event, its reply, and that the names stay
+  record Does (from : OrdersState) (step : Step) (to : OrdersState) : Type 0 where
+    what : Event
+    answer : Reply
+    is : event_of (names from) keys step ≡ Some what
+    order : IsOrder what
+    applies : Applies from.region what answer to.region
+    same : names to ≡ names from
+
+  name_there : (from : OrdersState) (number : ℕ) (name : List ℕ) (terminal : TerminalState) → slice_get from.region.terminals number ≡ Some (name, terminal)
+      → slice_get (names from) number ≡ Some name
+  name_there from number name terminal at = mapped_item (λ (entry : List ℕ × TerminalState). entry.0) from.region.terminals number (name, terminal) at
+
+  does_by : (from to : OrdersState) (number : ℕ) (name : List ℕ) (terminal : TerminalState) (came : ℕ) (key : Option ℕ)
+      → slice_get from.region.terminals number ≡ Some (name, terminal)
+      → MatchOption key (TurnMoves from number name to) (λ before. (before ≡ came) × KeyMoves keys from number name terminal came to)
+      → Does from (record { number = number; key = key }) to
+  unfolding Applies
+  does_by from to number name terminal came None at t = record {
+    what = event.Turn name;
+    answer = reply.Turn t.reply;
+    is = ap (λ o. option_and_then (λ (n : List ℕ). event_at keys n None) o) (name_there from number name terminal at);
+    order = tt;
+    applies = t.takes;
+    same = (turned from.region name t.reply to.region t.takes).names;
+  }
+  does_by from to number name terminal came (Some before) at k = record {
+    what = event.Key name k.1.key.aid k.1.key.bytes;
+    answer = reply.Key k.1.comes.reply;
+    is = ap (λ o. option_and_then (λ (n : List ℕ). event_at keys n (Some before)) o) (name_there from number name terminal at)
+        ∙ ap (λ (o : Option KeyLine). option_map (λ (key : KeyLine). event.Key name key.aid key.bytes) o) (ap (λ n. slice_get (keys_of keys name) n) k.0 ∙ k.1.next);
+    order = tt;
+    applies = k.1.comes.takes;
+    same = (keyed from.region name _ k.1.comes.reply to.region k.1.comes.takes).names;
+  }
+
+  run_on : (from between to : OrdersState) (step : Step) (steps : List Step) → Does from step between → IsRunOf keys between steps to → IsRunOf keys from (step ∷ steps) to
+  unfolding Run
+  run_on from between to step steps one rest = record {
+    events = one.what ∷ rest.events;
+    replies = one.answer ∷ rest.replies;
+    are = ap (λ e. e ∷ map (event_of (names from) keys) steps) one.is
+        ∙ ap (λ es. Some one.what ∷ es) (ap (λ ns. map (event_of ns keys) steps) (sym one.same) ∙ rest.are);
+    orders = (one.order, rest.orders);
+    run = (between.region, one.applies, rest.run);
+  }
+
+  runs : (from to : OrdersState) (steps : List Step) → AreSteps keys from steps to → IsRunOf keys from steps to
+  unfolding AreSteps Run
+  runs from to [] are = record { events = []; replies = []; are = refl; orders = tt; run = ap (λ (s : OrdersState). s.region) are }
+  runs from to (step ∷ steps) are =
+      run_on from are.between to step steps
+      (does_by from are.between step.number are.is.name are.is.terminal are.is.came step.key are.is.at are.is.move)
+      (runs are.between to steps are.rest)
+
+pub steps_are_runs : TurnsKeepToTheirTask → KeysKeepToTheirTerminal → StepsAreRuns
+steps_are_runs turned keyed keys from to steps are = runs turned keyed keys from to steps are

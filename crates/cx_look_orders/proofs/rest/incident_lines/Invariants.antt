@@ -1,0 +1,8 @@
+use Rattle.std.proofs.Common.{◌≡◌, ◌++◌, drop}
+use Rattle.std.specs.List.{flat_map}
+use Rattle.cx_look_orders.specs.Rest.{incident_line}
+use Rattle.cx_look_orders.proofs.rest.incident_lines.Given as goal
+
+abbrev pub invariant-loop-one : goal.invariant-loop-one
+invariant-loop-one g l =
+    l.report ++ flat_map (incident_line l.region) (drop l.one-index l.incidents) ≡ l.initial.report ++ flat_map (incident_line l.region) l.incidents

@@ -1,0 +1,82 @@
+-- Steps lead as their moves do; and no two outcomes have one text.
+use Rattle.std.proofs.Common.{◌≡◌, ℕ, List, [], ◌∷◌, Option, Some, None, ◌⊎◌, inl, inr, sym, subst}
+use Rattle.std.specs.Prelude.{MatchOption, slice_get}
+use Rattle.std.proofs.lemmas.Bool.{cases_order}
+use Rattle.cx_search.specs.Laws.{SoonerOrders}
+use Rattle.cx_search.specs.Moves.{IsSooner, Leads}
+use Rattle.cx_region.specs.State.{RegionState}
+use Rattle.cx_orders.specs.Moves.{KeyMoves, Moves, TurnMoves}
+use Rattle.cx_orders.specs.declared.states.KeyLine.{KeyLine}
+use Rattle.cx_orders.specs.declared.states.OrdersState.{OrdersState}
+use Rattle.cx_look_words.specs.Words.{Lines}
+use Rattle.cx_look_orders.specs.Laws.{TextsStandOnce}
+use Rattle.cx_look_orders.specs.Outcomes.{EndsWith, IsOutcome, NoLater}
+use Rattle.cx_look_orders.specs.Rest.{RestText}
+use Rattle.cx_look_orders.specs.Steps.{AreSteps, IsStep, moves_of}
+use Rattle.cx_look_orders.specs.declared.outcomes.Outcome.{Outcome}
+use Rattle.cx_look_orders.specs.declared.steps.Step.{Step}
+
+-- ---- steps
+module _ (keys : List KeyLine) where
+  pub move_of : (from to : OrdersState) (step : Step) → IsStep keys from step to → Moves keys from step.number to
+  move_of from to step is = record {
+    name = is.name;
+    terminal = is.terminal;
+    at = is.at;
+    came = is.came;
+    come = is.come;
+    move = by step.key is.move;
+  }
+    where
+      by : (key : Option ℕ) → MatchOption key (TurnMoves from step.number is.name to)
+          (λ before. (before ≡ is.came) × KeyMoves keys from step.number is.name is.terminal is.came to)
+          → TurnMoves from step.number is.name to ⊎ KeyMoves keys from step.number is.name is.terminal is.came to
+      by None turn = inl turn
+      by (Some before) key = inr key.1
+
+  pub steps_lead : (from to : OrdersState) (steps : List Step) → AreSteps keys from steps to
+      → Leads (Moves keys) from (moves_of steps) to
+  unfolding AreSteps Leads
+  steps_lead from to [] are = are
+  steps_lead from to (step ∷ steps) are = record {
+    between = are.between;
+    goes = move_of from are.between step are.is;
+    rest = steps_lead are.between to steps are.rest;
+  }
+
+-- of two lists neither is later
+pub both_soonest : SoonerOrders → (ms ns : List ℕ) → NoLater ms ns → NoLater ns ms → ms ≡ ns
+both_soonest sooner ms ns (inl e) later = e
+both_soonest sooner ms ns (inr l) (inl e) = sym e
+both_soonest sooner ms ns (inr l) (inr m) = absurd (sooner.not_self ms (sooner.onward ms ns ms l m))
+
+-- ---- outcomes of one text
+module _ (Shows : RegionState → Lines → Type 0) (keys : List KeyLine) (start : OrdersState) (cut : Option ℕ) where
+  pub ends_with : (one : Outcome) (text : Lines) → IsOutcome Shows keys start cut one → one.text ≡ text
+      → EndsWith Shows keys start (moves_of one.steps) text
+  ends_with one text is e = record {
+    to = is.to;
+    leads = steps_lead keys start is.to one.steps is.steps;
+    rest = is.rest;
+    shows = subst (RestText Shows keys is.to) e is.shows;
+  }
+
+-- they have one list of moves
+pub same_moves : SoonerOrders → (Shows : RegionState → Lines → Type 0) (keys : List KeyLine) (start : OrdersState) (cut : Option ℕ) (one other : Outcome)
+    → IsOutcome Shows keys start cut one → IsOutcome Shows keys start cut other → one.text ≡ other.text → moves_of one.steps ≡ moves_of other.steps
+same_moves sooner Shows keys start cut one other is too e =
+    both_soonest sooner (moves_of one.steps) (moves_of other.steps)
+    (is.soonest (moves_of other.steps) (ends_with Shows keys start cut other one.text too (sym e)))
+    (too.soonest (moves_of one.steps) (ends_with Shows keys start cut one other.text is e))
+
+-- and stand at one place
+pub texts_stand_once : SoonerOrders → (Shows : RegionState → Lines → Type 0) (keys : List KeyLine) → TextsStandOnce Shows keys
+texts_stand_once sooner Shows keys start cut outcomes are j k one other at there e =
+    let moves = same_moves sooner Shows keys start cut one other (are.each j one at) (are.each k other there) e in
+    elim (cases_order j k) [
+      | inl same ↦ same
+      | inr (inl l) ↦ absurd (sooner.not_self (moves_of other.steps)
+          (subst (λ ms. IsSooner ms (moves_of other.steps)) moves (are.ordered j k one other l at there)))
+      | inr (inr l) ↦ absurd (sooner.not_self (moves_of one.steps)
+          (subst (λ ms. IsSooner ms (moves_of one.steps)) (sym moves) (are.ordered k j other one l there at)))
+    ]

@@ -1,0 +1,89 @@
+-- What follows of the report of every order.
+use Rattle.std.specs.Prelude.{◌≡◌, ℕ, ◌≤◌, if◌then◌else◌, List, Option, Some, None, is_none, map, option_map, replicate, slice_get}
+use Rattle.std.specs.Option.{option_and_then, option_map_or}
+use Rattle.std.specs.List.{AllByRecursion, IsDistinct, flat_map}
+use Rattle.std.specs.Map.{keys_of as names_of}
+use Rattle.cx_ebcdic.specs.Names.{is_name}
+use Rattle.cx_search.specs.Forever.{IsLong}
+use Rattle.cx_look_words.specs.Words.{Lines}
+use Rattle.cx_region.specs.Events.{Run}
+use Rattle.cx_region.specs.State.{RegionState}
+use Rattle.cx_region.specs.declared.replies.Event.{Event}
+use Rattle.cx_region.specs.declared.replies.Event.TheVariants as event
+use Rattle.cx_region.specs.declared.replies.Reply.{Reply}
+use Rattle.cx_orders.specs.Laws.{IsOrder}
+use Rattle.cx_orders.specs.Moves.{Moves, keys_of}
+use Rattle.cx_orders.specs.declared.states.KeyLine.{KeyLine}
+use Rattle.cx_orders.specs.declared.states.OrdersState.{OrdersState}
+use Rattle.cx_look_orders.specs.Outcomes.{AreOutcomes, MayLoop}
+use Rattle.cx_look_orders.specs.Report.{OrdersText}
+use Rattle.cx_look_orders.specs.Script.{key_line, row_lines, steps_lines}
+use Rattle.cx_look_orders.specs.declared.outcomes.Outcome.{Outcome}
+use Rattle.cx_look_orders.specs.Steps.{AreSteps}
+use Rattle.cx_look_orders.specs.declared.steps.Step.{Step}
+
+-- of a region in which no two terminals have one name one text is written
+abbrev pub ReportsDecide : (RegionState → Lines → Type 0) → List KeyLine → Type 0
+ReportsDecide Shows keys = (region : RegionState) (edf : List (List ℕ)) (most : ℕ) (one other : Lines)
+    → IsDistinct is_name (names_of region.terminals) → OrdersText Shows keys region edf most one
+    → OrdersText Shows keys region edf most other → one ≡ other
+
+-- no text stands twice among outcomes
+abbrev pub TextsStandOnce : (RegionState → Lines → Type 0) → List KeyLine → Type 0
+TextsStandOnce Shows keys = (start : OrdersState) (cut : Option ℕ) (outcomes : List Outcome)
+    → AreOutcomes Shows keys start cut outcomes → (j k : ℕ) (one other : Outcome) → slice_get outcomes j ≡ Some one
+    → slice_get outcomes k ≡ Some other → one.text ≡ other.text → j ≡ k
+
+-- the event of a terminal: a turn, or its key before which so many of its keys came
+abbrev pub event_at : List KeyLine → List ℕ → Option ℕ → Option Event
+event_at keys name None = Some (event.Turn name)
+event_at keys name (Some came) =
+    option_map (λ (key : KeyLine). event.Key name key.aid key.bytes) (slice_get (keys_of keys name) came)
+
+-- the event that a step is, where the terminals have those names
+abbrev pub event_of : List (List ℕ) → List KeyLine → Step → Option Event
+event_of names keys step = option_and_then (λ name. event_at keys name step.key) (slice_get names step.number)
+
+-- a run of the events that steps are, each a turn or a key
+pub record IsRunOf (keys : List KeyLine) (from : OrdersState) (steps : List Step) (to : OrdersState) : Type 0 where
+  pub events : List Event
+  pub replies : List Reply
+  pub are : map (event_of (names_of from.region.terminals) keys) steps ≡ map Some events
+  pub orders : AllByRecursion IsOrder events
+  pub run : Run from.region events replies to.region
+
+-- where steps lead, the run of their turns and keys leads the region, without EDF
+abbrev pub StepsAreRuns : Type 0
+StepsAreRuns = (keys : List KeyLine) (from to : OrdersState) (steps : List Step) → AreSteps keys from steps to
+    → IsRunOf keys from steps to
+
+-- the list that is written of moves without an end stands there exactly where there are lists of any length
+pub record LoopsAreEndless (keys : List KeyLine) : Type 0 where
+  pub endless : (start : OrdersState) (steps : List Step) → MayLoop keys start (Some steps) → (least : ℕ)
+      → IsLong (Moves keys) start least
+  pub bounded : (start : OrdersState) → MayLoop keys start None → ((least : ℕ) → IsLong (Moves keys) start least) → ⊥
+
+-- ---- the lines of a script
+-- a line asks for a step so many times in a row
+abbrev pub asked_lines : RegionState → List KeyLine → Step × ℕ → Lines
+asked_lines region keys (step, many) =
+    option_map_or (λ came. key_line region keys step) step.key
+    (row_lines region (Some (record { number = step.number; many = many })))
+
+abbrev pub asked_steps : Step × ℕ → List Step
+asked_steps (step, many) = replicate many step
+
+-- for a key once
+abbrev pub IsAsked : Step × ℕ → Type 0
+IsAsked (step, many) = (1 ≤ many) × (many ≤ (if is_none step.key then 4096 else 1))
+
+-- the lines ask for these steps, one after another
+pub record AskFor (region : RegionState) (keys : List KeyLine) (lines : Lines) (steps : List Step) : Type 0 where
+  pub asked : List (Step × ℕ)
+  pub each : AllByRecursion IsAsked asked
+  pub written : lines ≡ flat_map (asked_lines region keys) asked
+  pub done : flat_map asked_steps asked ≡ steps
+
+abbrev pub ScriptsAskForSteps : Type 0
+ScriptsAskForSteps = (region : RegionState) (keys : List KeyLine) (steps : List Step)
+    → AskFor region keys (steps_lines region keys None steps) steps

@@ -1,0 +1,40 @@
+//! What holds of the report of every order.
+
+ghost use Rattle.std.specs.Prelude.{List};
+ghost use Rattle.cx_look_orders.specs.Laws.{LoopsAreEndless, ReportsDecide, ScriptsAskForSteps, StepsAreRuns, TextsStandOnce};
+ghost use Rattle.cx_orders.specs.declared.states.KeyLine.{KeyLine};
+
+use crate::seen::Seen;
+use cx_orders::laws::moves_decide;
+use cx_region_laws::laws::{a_key_keeps_to_its_terminal, a_turn_keeps_to_its_task};
+use cx_search::laws::one_list_is_sooner;
+use cx_storage::Store;
+
+/// One text is written of a region, and no two of its outcomes have one text.
+pub fn reports_decide<S: Store + Drop, V: Seen<S>>()
+    ensures decide { (seen : V) (keys : List KeyLine) → ReportsDecide (V.shows seen) keys }
+    ensures once { (seen : V) (keys : List KeyLine) → TextsStandOnce (V.shows seen) keys }
+{
+    moves_decide();
+    a_turn_keeps_to_its_task();
+    a_key_keeps_to_its_terminal();
+    one_list_is_sooner();
+}
+
+/// Moves without an end are written of exactly where there are lists of moves of any length.
+pub fn loops_are_endless()
+    ensures { (keys : List KeyLine) → LoopsAreEndless keys }
+{}
+
+/// Steps lead the region as the run of their turns and keys does.
+pub fn steps_are_runs()
+    ensures { StepsAreRuns }
+{
+    a_turn_keeps_to_its_task();
+    a_key_keeps_to_its_terminal();
+}
+
+/// The lines of a script ask for its steps, one after another: each for a key, or for 1 to 4,096 turns in a row.
+pub fn scripts_ask_for_steps()
+    ensures { ScriptsAskForSteps }
+{}

@@ -1,0 +1,130 @@
+//! The outcomes of orders.
+
+ghost use Rattle.std.specs.Prelude.{◌≡◌, ◌↔◌, ◌+◌, IsTrue, IfOk, MatchBool, OnOk, slice_get};
+ghost use Rattle.cx_look_orders.specs.Outcomes.{AreOutcomes, HasText};
+ghost use Rattle.cx_look_orders.specs.Parts.Ways.{AreOfFirst, AreSorted, Reaches};
+ghost use Rattle.cx_orders.specs.Moves.{Moves, begun};
+ghost use Rattle.cx_search.specs.Finds.{Finds};
+
+use crate::rest::rest_text;
+use crate::seen::Seen;
+use crate::steps::{Step, steps_to};
+use cx_base_copies::are_same_items;
+use cx_base_lists::List;
+use cx_look_tasks::laws::texts_decide;
+use cx_look_words::Report;
+use cx_orders::Orders;
+use cx_region::Region;
+use cx_search::Found;
+use cx_search::laws::{one_list_is_sooner, one_list_leads_first};
+use cx_storage::Store;
+use std::alloc::AllocError;
+
+/// What is written of a state at rest, and the steps that lead there first.
+#[derive(Drop)]
+pub struct Outcome {
+    pub text: Report,
+    pub steps: List<Step>,
+}
+
+/// Whether two texts are the same.
+fn are_same(one: &Report, other: &Report) -> bool
+    ensures { IsTrue result ↔ (one.now ≡ other.now) }
+{
+    are_same_items(one.lines(), other.lines())
+}
+
+/// Whether an outcome has that text.
+fn has_text(outcomes: &[Outcome], text: &Report) -> bool
+    ensures { MatchBool result (HasText outcomes.now text.now) (HasText outcomes.now text.now → ⊥) }
+{
+    for one in outcomes {
+        if are_same(&one.text, text) {
+            return true;
+        }
+    }
+    false
+}
+
+/// One of some places.
+fn place_at(places: &[usize], index: usize) -> Option<usize>
+    ensures { result ≡ slice_get places.now index }
+{
+    places.get(index).copied()
+}
+
+/// Adds the outcome of the state at one of the places at rest, where none has its text.
+///
+/// An error comes only where memory was refused.
+fn add_outcome<S: Store + Drop, V: Seen<S>>(
+    region: &Region<S>,
+    orders: &Orders<S>,
+    found: &Found<Orders<S>>,
+    seen: &V,
+    work: &mut Region<S>,
+    places: &[usize],
+    index: usize,
+    outcomes: &mut Vec<Outcome>,
+) -> Result<(), AllocError>
+    requires found { Finds (Moves orders.now.keys.items) (begun region.now) found.now.states.entries }
+    requires sorted { AreSorted places.now }
+    requires so_far { AreOfFirst (V.shows seen.now) orders.now.keys.items (begun region.now) found.now.states.entries
+        places.now index outcomes.old.items }
+    ensures { OnOk result (AreOfFirst (V.shows seen.now) orders.now.keys.items (begun region.now)
+        found.now.states.entries places.now (index + 1) outcomes.new.items) }
+{
+    seen.shows_decide();
+    texts_decide();
+    let Some(place) = place_at(places, index) else {
+        return Ok(());
+    };
+    let Some((state, _origin)) = found.states.get_index(place) else {
+        return Ok(());
+    };
+    state.region.restore(work)?;
+    let text = rest_text(orders.alloc, work, state, orders.keys.as_slice(), seen)?;
+    if has_text(outcomes.as_slice(), &text) {
+        return Ok(());
+    }
+    let steps = steps_to(region, orders, found, work, place)?;
+    outcomes.push(Outcome { text, steps })?;
+    Ok(())
+}
+
+/// The outcomes of the states at rest that were found; where moves are limited, of those that at most so many lead to.
+///
+/// An error comes only where memory was refused.
+pub(crate) fn outcomes_of<S: Store + Drop, V: Seen<S>>(
+    region: &Region<S>,
+    orders: &Orders<S>,
+    found: &Found<Orders<S>>,
+    seen: &V,
+    work: &mut Region<S>,
+    cut: Option<usize>,
+) -> Result<Vec<Outcome>, AllocError>
+    requires finds { Finds (Moves orders.now.keys.items) (begun region.now) found.now.states.entries }
+    requires reaches { Reaches orders.now.keys.items (begun region.now) found.now.states.entries cut }
+    ensures { IfOk result (λ outcomes.
+        AreOutcomes (V.shows seen.now) orders.now.keys.items (begun region.now) cut outcomes.items) }
+{
+    seen.shows_decide();
+    texts_decide();
+    one_list_is_sooner();
+    one_list_leads_first::<Orders<S>>();
+    let resting = found.resting(orders, work, cut)?;
+    let places = resting.as_slice();
+    let mut outcomes = Vec::new(orders.alloc);
+    for index in 0..places.len() {
+        add_outcome(
+            region,
+            orders,
+            found,
+            seen,
+            work,
+            places,
+            index,
+            &mut outcomes,
+        )?;
+    }
+    Ok(outcomes)
+}

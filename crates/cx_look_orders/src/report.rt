@@ -1,0 +1,274 @@
+//! The report of ORDERS.
+
+ghost use Rattle.std.specs.Prelude.{◌≡◌, ◌≤◌, ◌++◌, IfOk, MatchBool, None, OnOk, length};
+ghost use Rattle.cx_look_orders.specs.Outcomes.{AllCanRest, AreOutcomes, HasStates, IsStuck, MayLoop};
+ghost use Rattle.cx_look_orders.specs.Report.{OrdersText, cut_line, loop_lines, outcome_lines, number_line, outcomes_lines, stuck_line, whole_line};
+ghost use Rattle.std.specs.Option.{option_copied};
+ghost use Rattle.cx_orders.specs.Moves.{Moves, begun};
+ghost use Rattle.cx_search.specs.Finds.{Finds, IsWhole};
+
+use crate::outcomes::{Outcome, outcomes_of};
+use crate::rest::push_lines;
+use crate::script::script_lines;
+use crate::seen::Seen;
+use crate::steps::{Step, steps_to};
+use cx_base_lists::List;
+use cx_ebcdic::Name4;
+use cx_look_words::{Report, decimal};
+use cx_orders::{KeyLine, Orders};
+use cx_region::Region;
+use cx_region_snapshot::RegionSnapshot;
+use cx_search::Found;
+use cx_search::laws::one_list_is_sooner;
+use cx_storage::Store;
+use std::alloc::AllocError;
+
+/// Adds the line with how many states and outcomes there are.
+fn whole_line(report: &mut Report, states: usize, outcomes: usize) -> Result<(), AllocError>
+    ensures { OnOk result (report.new ≡ report.old ++ whole_line states outcomes) }
+{
+    let states = decimal(report.alloc(), states)?;
+    let outcomes = decimal(report.alloc(), outcomes)?;
+    report.line(&[
+        b"ORDERS STATES",
+        states.as_slice(),
+        b"OUTCOMES",
+        outcomes.as_slice(),
+    ])
+}
+
+/// Adds the line that says that there are more states.
+fn cut_line(report: &mut Report, most: usize) -> Result<(), AllocError>
+    ensures { OnOk result (report.new ≡ report.old ++ cut_line most) }
+{
+    let most = decimal(report.alloc(), most)?;
+    report.line(&[b"ORDERS MORE THAN", most.as_slice(), b"STATES"])
+}
+
+/// Adds the line of an outcome's number.
+#[tactic(auto, unfolding(crate::specs::Report::number_line))]
+fn number_line(report: &mut Report, number: usize) -> Result<(), AllocError>
+    ensures { OnOk result (report.new ≡ report.old ++ number_line number) }
+{
+    let number = decimal(report.alloc(), number)?;
+    report.line(&[b"OUTCOME", number.as_slice()])
+}
+
+/// Adds what is to be seen of an outcome, and the script that ends with it.
+#[tactic(auto, unfolding(crate::specs::Report::outcome_lines))]
+fn outcome_lines<S: Store + Drop>(
+    report: &mut Report,
+    region: &Region<S>,
+    keys: &[KeyLine],
+    edf: &[Name4],
+    one: &Outcome,
+) -> Result<(), AllocError>
+    ensures { OnOk result (report.new ≡ report.old ++ outcome_lines region.now keys.now edf.now one.now) }
+{
+    push_lines(report, &one.text)?;
+    script_lines(report, region, keys, edf, one.steps.as_slice())
+}
+
+/// Adds outcomes, numbered from 1.
+#[tactic(auto, unfolding(crate::specs::Report::outcomes_lines))]
+fn outcomes_lines<S: Store + Drop>(
+    report: &mut Report,
+    region: &Region<S>,
+    keys: &[KeyLine],
+    edf: &[Name4],
+    outcomes: &[Outcome],
+) -> Result<(), AllocError>
+    ensures { OnOk result (report.new ≡ report.old ++ outcomes_lines region.now keys.now edf.now 1 outcomes.now) }
+{
+    for (i, one) in outcomes.iter().enumerate() {
+        number_line(report, i + 1)?;
+        outcome_lines(report, region, keys, edf, one)?;
+    }
+    Ok(())
+}
+
+/// The steps that lead first to a state that is come to again from itself; `None` where no list of moves is longer than some number.
+/// After a whole search.
+///
+/// An error comes only where memory was refused.
+fn loop_of<S: Store + Drop>(
+    region: &Region<S>,
+    orders: &Orders<S>,
+    found: &Found<Orders<S>>,
+    work: &mut Region<S>,
+) -> Result<Option<List<Step>>, AllocError>
+    requires finds { Finds (Moves orders.now.keys.items) (begun region.now) found.now.states.entries }
+    requires whole { IsWhole (Moves orders.now.keys.items) (begun region.now) found.now.states.entries
+        found.now.links.items }
+    ensures { IfOk result (MayLoop orders.now.keys.items (begun region.now)) }
+{
+    one_list_is_sooner();
+    let Some(place) = found.looping()? else {
+        return Ok(None);
+    };
+    let steps = steps_to(region, orders, found, work, place)?;
+    Ok(Some(steps))
+}
+
+/// Whether moves lead to a state from which none lead to rest. After a whole search.
+///
+/// An error comes only where memory was refused.
+fn is_stuck<S: Store + Drop>(
+    region: &Region<S>,
+    orders: &Orders<S>,
+    found: &Found<Orders<S>>,
+) -> Result<bool, AllocError>
+    requires finds { Finds (Moves orders.now.keys.items) (begun region.now) found.now.states.entries }
+    requires whole { IsWhole (Moves orders.now.keys.items) (begun region.now) found.now.states.entries
+        found.now.links.items }
+    ensures { IfOk result (λ stuck. MatchBool stuck (IsStuck orders.now.keys.items (begun region.now))
+        (AllCanRest orders.now.keys.items (begun region.now))) }
+{
+    region.counter();
+    orders.keys.len();
+    let place = found.restless()?;
+    Ok(place.is_some())
+}
+
+/// Adds the lines of moves without an end, where there are such.
+fn loop_lines<S: Store + Drop>(
+    report: &mut Report,
+    region: &Region<S>,
+    keys: &[KeyLine],
+    edf: &[Name4],
+    steps: Option<&List<Step>>,
+) -> Result<(), AllocError>
+    ensures { OnOk result (report.new
+        ≡ report.old ++ loop_lines region.now keys.now edf.now (option_copied steps.entry)) }
+{
+    let Some(steps) = steps else {
+        return Ok(());
+    };
+    report.line(&[b"ORDERS SOME NEVER REST"])?;
+    script_lines(report, region, keys, edf, steps.as_slice())
+}
+
+/// Adds the line that says that from some state no rest can be come to.
+fn stuck_line(report: &mut Report, is_stuck: bool) -> Result<(), AllocError>
+    ensures { OnOk result (report.new ≡ report.old ++ stuck_line is_stuck) }
+{
+    if is_stuck {
+        report.line(&[b"ORDERS SOME CANNOT REST"])?;
+    }
+    Ok(())
+}
+
+/// All that is written where all states were found.
+#[derive(Drop)]
+struct Whole {
+    states: usize,
+    outcomes: Vec<Outcome>,
+    /// The steps that lead first to a state that is come to again from itself.
+    looping: Option<List<Step>>,
+    /// Whether from some state no rest can be come to.
+    is_stuck: bool,
+}
+
+/// What is to be written where all states were found.
+///
+/// An error comes only where memory was refused.
+fn whole_of<S: Store + Drop, V: Seen<S>>(
+    region: &Region<S>,
+    orders: &Orders<S>,
+    found: &Found<Orders<S>>,
+    seen: &V,
+    work: &mut Region<S>,
+) -> Result<Whole, AllocError>
+    requires finds { Finds (Moves orders.now.keys.items) (begun region.now) found.now.states.entries }
+    requires whole { IsWhole (Moves orders.now.keys.items) (begun region.now) found.now.states.entries
+        found.now.links.items }
+    ensures many { IfOk result (λ whole. whole.states ≡ length found.now.states.entries) }
+    ensures count { IfOk result (λ whole. HasStates orders.now.keys.items (begun region.now) whole.states) }
+    ensures outcomes { IfOk result (λ whole.
+        AreOutcomes (V.shows seen.now) orders.now.keys.items (begun region.now) None whole.outcomes.items) }
+    ensures looping { IfOk result (λ whole. MayLoop orders.now.keys.items (begun region.now) whole.looping) }
+    ensures stuck { IfOk result (λ whole. MatchBool whole.is_stuck (IsStuck orders.now.keys.items (begun region.now))
+        (AllCanRest orders.now.keys.items (begun region.now))) }
+{
+    one_list_is_sooner();
+    let outcomes = outcomes_of(region, orders, found, seen, work, None)?;
+    let looping = loop_of(region, orders, found, work)?;
+    let is_stuck = is_stuck(region, orders, found)?;
+    Ok(Whole {
+        states: found.states.len(),
+        outcomes,
+        looping,
+        is_stuck,
+    })
+}
+
+/// The report where all states were found.
+///
+/// An error comes only where memory was refused.
+fn whole_report<S: Store + Drop>(
+    region: &Region<S>,
+    orders: &Orders<S>,
+    edf: &[Name4],
+    whole: &Whole,
+) -> Result<Report, AllocError>
+    ensures { IfOk result (λ report. report ≡ whole_line whole.now.states (length whole.now.outcomes.items)
+        ++ outcomes_lines region.now orders.now.keys.items edf.now 1 whole.now.outcomes.items
+        ++ loop_lines region.now orders.now.keys.items edf.now whole.now.looping ++ stuck_line whole.now.is_stuck) }
+{
+    let keys = orders.keys.as_slice();
+    let outcomes = whole.outcomes.as_slice();
+    let mut report = Report::new(orders.alloc);
+    whole_line(&mut report, whole.states, outcomes.len())?;
+    outcomes_lines(&mut report, region, keys, edf, outcomes)?;
+    loop_lines(&mut report, region, keys, edf, whole.looping.as_ref())?;
+    stuck_line(&mut report, whole.is_stuck)?;
+    Ok(report)
+}
+
+/// The report where more states can be come to.
+///
+/// An error comes only where memory was refused.
+fn cut_report<S: Store + Drop>(
+    region: &Region<S>,
+    orders: &Orders<S>,
+    edf: &[Name4],
+    most: usize,
+    outcomes: &[Outcome],
+) -> Result<Report, AllocError>
+    ensures { IfOk result (λ report. report
+        ≡ cut_line most ++ outcomes_lines region.now orders.now.keys.items edf.now 1 outcomes.now) }
+{
+    let keys = orders.keys.as_slice();
+    let mut report = Report::new(orders.alloc);
+    cut_line(&mut report, most)?;
+    outcomes_lines(&mut report, region, keys, edf, outcomes)?;
+    Ok(report)
+}
+
+/// What is written of every order of a region's turns and the keys of `orders`, of at most so many states: how many states can be
+/// come to and how many outcomes there are; of each outcome what is to be seen, and a script that leads there; and whether some
+/// orders never rest, and some can't. The script begins with a line that ends EDF at each of the terminals `edf`.
+///
+/// An error comes only where memory was refused.
+pub fn orders_text<S: Store + Drop, V: Seen<S>>(
+    region: &Region<S>,
+    orders: &Orders<S>,
+    most: usize,
+    edf: &[Name4],
+    seen: &V,
+) -> Result<Report, AllocError>
+    requires { 1 ≤ most }
+    ensures { IfOk result (OrdersText (V.shows seen.now) orders.now.keys.items region.now edf.now most) }
+{
+    one_list_is_sooner();
+    let start = RegionSnapshot::take(orders.alloc, region, None)?;
+    let mut work = start.region_in(orders.alloc, region.shared().store.emptied())?;
+    let end = orders.search(start, most, &mut work)?;
+    let found = &end.found;
+    let Some(moves) = end.cut else {
+        let whole = whole_of(region, orders, found, seen, &mut work)?;
+        return whole_report(region, orders, edf, &whole);
+    };
+    let outcomes = outcomes_of(region, orders, found, seen, &mut work, Some(moves))?;
+    cut_report(region, orders, edf, most, outcomes.as_slice())
+}

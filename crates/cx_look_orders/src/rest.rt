@@ -1,0 +1,210 @@
+//! What is written of a state at rest.
+
+ghost use Rattle.std.specs.Prelude.{◌≡◌, ◌++◌, ◌-◌, IfOk, OnOk, length};
+ghost use Rattle.std.specs.List.{flat_map, list_any};
+ghost use Rattle.cx_ebcdic.specs.Names.{is_name};
+ghost use Rattle.cx_look_orders.specs.Rest.{came_of, incident_line, incident_value, incident_word, key_lines, RestText, keys_text, left_line, name_at};
+ghost use Rattle.cx_orders.specs.Moves.{keys_of};
+
+use crate::seen::Seen;
+use cx_base_text::shown_name;
+use cx_ebcdic::Name4;
+use cx_look_tasks::waits_text;
+use cx_look_words::{Report, decimal};
+use cx_orders::{Incident, IncidentAt, KeyLine, OrdersState};
+use cx_region::Region;
+use cx_storage::Store;
+use std::alloc::{AllocError, Global};
+
+/// The word of what was kept of a way.
+fn incident_word(incident: &Incident) -> &'static [u8]
+    ensures { result.now ≡ incident_word incident.now }
+{
+    match incident {
+        Incident::Abended(_code) => b"ABENDS",
+        Incident::Refused(_reply) => b"ANSWERS",
+    }
+}
+
+/// The abend's code, or the answer.
+fn incident_value(alloc: Global, incident: &Incident) -> Result<Vec<u8>, AllocError>
+    ensures { IfOk result (λ value. value.items ≡ incident_value incident.now) }
+{
+    match incident {
+        Incident::Abended(code) => shown_name(alloc, *code),
+        Incident::Refused(reply) => reply.name().as_bytes().to_vec(alloc),
+    }
+}
+
+/// The name of the terminal with that number.
+pub(crate) fn name_at<S: Store + Drop>(
+    alloc: Global,
+    region: &Region<S>,
+    number: usize,
+) -> Result<Vec<u8>, AllocError>
+    ensures { IfOk result (λ name. name.items ≡ name_at region.now number) }
+{
+    match region.terminals().get_index(number) {
+        Some((name, _terminal)) => shown_name(alloc, *name),
+        None => Ok(Vec::new(alloc)),
+    }
+}
+
+/// Adds the line of what was kept of a way.
+#[tactic(auto, unfolding(crate::specs::Rest::incident_line))]
+fn incident_line<S: Store + Drop>(
+    report: &mut Report,
+    region: &Region<S>,
+    one: &IncidentAt,
+) -> Result<(), AllocError>
+    ensures { OnOk result (report.new ≡ report.old ++ incident_line region.now one.now) }
+{
+    let name = name_at(report.alloc(), region, one.number)?;
+    let value = incident_value(report.alloc(), &one.incident)?;
+    report.line(&[
+        incident_word(&one.incident),
+        name.as_slice(),
+        value.as_slice(),
+    ])
+}
+
+/// Adds a line for each that was kept.
+fn incident_lines<S: Store + Drop>(
+    report: &mut Report,
+    region: &Region<S>,
+    incidents: &[IncidentAt],
+) -> Result<(), AllocError>
+    ensures { let more = flat_map (incident_line region.now) incidents.now in
+        OnOk result (report.new ≡ report.old ++ more) }
+{
+    for one in incidents {
+        incident_line(report, region, one)?;
+    }
+    Ok(())
+}
+
+/// How many keys of a terminal came.
+fn came_of<S: Store + Drop>(region: &Region<S>, state: &OrdersState, name: Name4) -> usize
+    requires { region.now ≡ state.now.region }
+    ensures { result ≡ came_of state.now name }
+{
+    let Some(number) = region.terminals().get_index_of(&name) else {
+        return 0;
+    };
+    state.come.as_slice().get(number).copied().unwrap_or(0)
+}
+
+/// How many keys there are of a terminal.
+fn many_of(keys: &[KeyLine], name: Name4) -> usize
+    ensures { result ≡ length (keys_of keys.now name) }
+{
+    keys.iter().filter(|key| key.name == name).count()
+}
+
+/// Whether one of some keys is of a terminal.
+fn has_key(keys: &[KeyLine], name: Name4) -> bool
+    ensures { result ≡ list_any (λ (other : KeyLine). is_name other.name name) keys.now }
+{
+    keys.iter().any(|key| key.name == name)
+}
+
+/// Adds the lines of another report.
+pub(crate) fn push_lines(report: &mut Report, more: &Report) -> Result<(), AllocError>
+    ensures { OnOk result (report.new ≡ report.old ++ more.now) }
+{
+    let lines = more.lines();
+    for line in lines {
+        let line = line.as_slice().to_vec(report.alloc())?;
+        report.push(line)?;
+    }
+    Ok(())
+}
+
+/// Adds how many keys of a terminal are left, where some are.
+fn left_line(report: &mut Report, name: Name4, left: usize) -> Result<(), AllocError>
+    ensures { OnOk result (report.new ≡ report.old ++ left_line name left) }
+{
+    if left == 0 {
+        return Ok(());
+    }
+    let shown = shown_name(report.alloc(), name)?;
+    let number = decimal(report.alloc(), left)?;
+    report.line(&[b"KEYS", shown.as_slice(), number.as_slice()])
+}
+
+/// How many keys of a terminal didn't come.
+fn left_of<S: Store + Drop>(
+    region: &Region<S>,
+    state: &OrdersState,
+    keys: &[KeyLine],
+    name: Name4,
+) -> usize
+    requires { region.now ≡ state.now.region }
+    ensures { result ≡ length (keys_of keys.now name) - came_of state.now name }
+{
+    many_of(keys, name).saturating_sub(came_of(region, state, name))
+}
+
+/// Adds how many keys of a terminal are left, where none of the later keys is of it.
+#[tactic(auto, unfolding(crate::specs::Rest::key_lines))]
+fn key_lines(
+    report: &mut Report,
+    name: Name4,
+    left: usize,
+    later: &[KeyLine],
+) -> Result<(), AllocError>
+    ensures { OnOk result (report.new ≡ report.old ++ key_lines name left later.now) }
+{
+    if has_key(later, name) {
+        return Ok(());
+    }
+    left_line(report, name, left)
+}
+
+/// Adds the lines of keys that couldn't come.
+#[tactic(auto, unfolding(crate::specs::Rest::keys_text))]
+fn keys_text<S: Store + Drop>(
+    report: &mut Report,
+    region: &Region<S>,
+    state: &OrdersState,
+    keys: &[KeyLine],
+) -> Result<(), AllocError>
+    requires { region.now ≡ state.now.region }
+    ensures { OnOk result (report.new ≡ report.old ++ keys_text state.now keys.now keys.now) }
+{
+    let mut rest = keys;
+    while let Some((key, later)) = rest.split_first() {
+        let left = left_of(region, state, keys, key.name);
+        key_lines(report, key.name, left, later)?;
+        rest = later;
+    }
+    Ok(())
+}
+
+/// What is written of a state at rest: a line `ABENDS` with the terminal and the code of each abend that ended a task on the way,
+/// a line `ANSWERS` with the terminal and the answer of each key that was neither answered Attached nor Given, the line of each
+/// terminal whose task waits, a line `KEYS` with each terminal of which keys couldn't come and how many, and what is to be seen.
+/// The region is at that state.
+///
+/// An error comes only where memory was refused.
+pub fn rest_text<S: Store + Drop, V: Seen<S>>(
+    alloc: Global,
+    region: &Region<S>,
+    state: &OrdersState,
+    keys: &[KeyLine],
+    seen: &V,
+) -> Result<Report, AllocError>
+    requires { region.now ≡ state.now.region }
+    ensures { IfOk result (RestText (V.shows seen.now) keys.now state.now) }
+{
+    // First, since its clause says that the region is sound, which the calls after it need.
+    region.counter();
+    let waits = waits_text(alloc, region)?;
+    let sight = seen.seen(alloc, region)?;
+    let mut report = Report::new(alloc);
+    incident_lines(&mut report, region, state.incidents.as_slice())?;
+    push_lines(&mut report, &waits)?;
+    keys_text(&mut report, region, state, keys)?;
+    push_lines(&mut report, &sight)?;
+    Ok(report)
+}

@@ -1,0 +1,27 @@
+//! What is to be seen of an outcome.
+
+ghost use Rattle.std.specs.Prelude.{◌≡◌, IfOk};
+ghost use Rattle.cx_look_words.specs.Words.{Lines};
+ghost use Rattle.cx_region.specs.State.{RegionState};
+
+use cx_look_words::Report;
+use cx_region::Region;
+use cx_storage::Store;
+use std::alloc::{AllocError, Global};
+
+/// What is to be seen of a region.
+pub trait Seen<S: Store + Drop> {
+    /// These lines show a region.
+    ghost shows: { Self → RegionState → Lines → Type 0 };
+
+    /// The lines that show a region.
+    ///
+    /// An error comes only where memory was refused.
+    fn seen(&self, alloc: Global, region: &Region<S>) -> Result<Report, AllocError>
+        ensures { IfOk result (λ report. shows self.now region.now report) };
+
+    /// No other lines show it.
+    fn shows_decide(&self)
+        ensures { (region : RegionState) (one other : Lines)
+            → shows self.now region one → shows self.now region other → one ≡ other };
+}

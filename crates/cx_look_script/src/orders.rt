@@ -1,0 +1,248 @@
+//! ORDERS: every order of a region's turns and of keys that are to come.
+ghost use Rattle.std.specs.Prelude.{◌≡◌, ◌≤◌, ◌∷◌, ◌++◌, [], IfOk, OnOk, map};
+ghost use Rattle.std.specs.List.{AllByRecursion};
+ghost use Rattle.cx_look.specs.Orders.{IsFew};
+ghost use Rattle.cx_look.specs.declared.orders.Sight.TheVariants as sight;
+ghost use Rattle.cx_look_script.specs.Looking.{AreLookLines, ShowsOrders, at_region};
+ghost use Rattle.cx_look_script.specs.Orders.{AreSeen, IsSeen, asked_key, names_with_edf, sights_of};
+ghost use Rattle.cx_script_actions.specs.Effects.{screen_text};
+ghost use Rattle.cx_script_io.specs.Lines.{last_met, lines_met};
+ghost use Rattle.cx_script_io.specs.declared.input.Ending.TheVariants.{AtEnd};
+
+use crate::looks::look_lines;
+use crate::performer::Looking;
+use cx_base_lists::List;
+use cx_code::Bytes;
+use cx_ebcdic::Name4;
+use cx_edf::Debugged;
+use cx_look::{OrdersBlock, OrdersKey, Sight};
+use cx_look_orders::{Seen, orders_text};
+use cx_look_words::Report;
+use cx_orders::{KeyLine, Orders};
+use cx_region::Region;
+use cx_script_actions::screen_text;
+use cx_script_io::{Ending, last_line, split_line, strip_carriage_return};
+use cx_storage::Store;
+use std::alloc::{AllocError, Global};
+
+/// Adds a line.
+fn push_line(report: &mut Report, line: &[u8]) -> Result<(), AllocError>
+    ensures { OnOk result (report.new ≡ report.old ++ line.now ∷ []) }
+{
+    let line = line.to_vec(report.alloc())?;
+    report.push(line)
+}
+
+/// Adds the line that the bytes after the last line feed are.
+fn push_last(report: &mut Report, bytes: &[u8]) -> Result<(), AllocError>
+    ensures { OnOk result (report.new ≡ report.old ++ last_met AtEnd bytes.now) }
+{
+    match last_line(bytes, Ending::AtEnd) {
+        Some(line) => push_line(report, line),
+        None => Ok(()),
+    }
+}
+
+/// Adds the lines of a text.
+#[tactic(auto, using(crate::proofs::OrdersLemmas::line_pushed, crate::proofs::OrdersLemmas::last_pushed))]
+fn push_text(report: &mut Report, text: &[u8]) -> Result<(), AllocError>
+    ensures { OnOk result (report.new ≡ report.old ++ lines_met AtEnd text.now) }
+{
+    let mut rest = text;
+    while let Some((line, more)) = split_line(rest) {
+        push_line(report, strip_carriage_return(line))?;
+        rest = more;
+    }
+    push_last(report, rest)
+}
+
+/// The lines that SCREEN writes of a terminal.
+fn screen_lines<S: Store + Drop>(
+    alloc: Global,
+    region: &Region<S>,
+    name: Name4,
+) -> Result<Report, AllocError>
+    ensures { IfOk result (λ report. report ≡ lines_met AtEnd (screen_text region.now name)) }
+{
+    let text = screen_text(alloc, region, name)?;
+    let mut report = Report::new(alloc);
+    push_text(&mut report, &text)?;
+    Ok(report)
+}
+
+/// Adds the lines of another report.
+fn push_report(report: &mut Report, more: &Report) -> Result<(), AllocError>
+    ensures { OnOk result (report.new ≡ report.old ++ more.now) }
+{
+    let lines = more.lines();
+    for line in lines {
+        push_line(report, line.as_slice())?;
+    }
+    Ok(())
+}
+
+/// One thing to be seen of a region, in place of the one that is looked at.
+#[tactic(auto, unfolding(crate::specs::Orders::IsSeen))]
+fn sight_lines<S: Store + Drop>(
+    alloc: Global,
+    looking: &Looking<S>,
+    region: &Region<S>,
+    sight: &Sight,
+) -> Result<Report, AllocError>
+    ensures { let state = at_region looking.now region.now in
+        IfOk result (IsSeen (λ l. AreLookLines l state) region.now sight.now) }
+{
+    match sight {
+        Sight::Screen(name) => screen_lines(alloc, region, *name),
+        Sight::Look(look) => look_lines(alloc, looking, region, look),
+    }
+}
+
+/// One after the other.
+#[tactic(auto, using(crate::proofs::OrdersLemmas::seen_all, crate::proofs::OrdersLemmas::seen_before_all, crate::proofs::OrdersLemmas::seen_one_more))]
+fn sights_lines<S: Store + Drop>(
+    alloc: Global,
+    looking: &Looking<S>,
+    region: &Region<S>,
+    sights: &[Sight],
+) -> Result<Report, AllocError>
+    ensures { let state = at_region looking.now region.now in
+        IfOk result (AreSeen (λ l. AreLookLines l state) region.now sights.now) }
+{
+    let mut report = Report::new(alloc);
+    let mut rest = sights;
+    while let Some((sight, later)) = rest.split_first() {
+        let shown = sight_lines(alloc, looking, region, sight)?;
+        push_report(&mut report, &shown)?;
+        rest = later;
+    }
+    Ok(report)
+}
+
+/// What is to be seen of a region in place of the one that is looked at.
+#[derive(Drop)]
+struct Sights<'a, S: Store + Drop> {
+    looking: &'a Looking<S>,
+    sights: &'a [Sight],
+}
+
+impl<'a, S: Store + Drop> Seen<S> for Sights<'a, S> {
+    ghost shows = { λ it region. AreSeen (λ l. AreLookLines l (at_region it.looking.now region)) region it.sights.now };
+
+    fn seen(&self, alloc: Global, region: &Region<S>) -> Result<Report, AllocError> {
+        sights_lines(alloc, self.looking, region, self.sights)
+    }
+
+    fn shows_decide(&self) {
+        cx_look_tasks::laws::texts_decide();
+        cx_look_ahead::laws::the_next_turn_is_shown();
+    }
+}
+
+/// A key that is to come.
+fn key_line(alloc: Global, key: &OrdersKey) -> Result<KeyLine, AllocError>
+    requires { IsFew key.now }
+    ensures { IfOk result (λ made. asked_key made ≡ key.now) }
+{
+    let bytes = key.bytes.as_slice().to_vec(alloc)?;
+    let line = List::from_slice(alloc, key.line.as_slice())?;
+    Ok(KeyLine {
+        name: key.name,
+        aid: key.aid,
+        bytes: Bytes::from_vec(bytes),
+        line,
+    })
+}
+
+/// The keys that are to come.
+#[tactic(auto, using(crate::proofs::OrdersLemmas::key_more))]
+fn key_lines(alloc: Global, keys: &[OrdersKey]) -> Result<Vec<KeyLine>, AllocError>
+    requires { AllByRecursion IsFew keys.now }
+    ensures { IfOk result (λ all. map asked_key all.items ≡ keys.now) }
+{
+    let mut all = Vec::new(alloc);
+    let mut rest = keys;
+    while let Some((key, later)) = rest.split_first() {
+        let line = key_line(alloc, key)?;
+        all.push(line)?;
+        rest = later;
+    }
+    Ok(all)
+}
+
+/// What a block says that is to come.
+fn asked_keys(alloc: Global, keys: Vec<OrdersKey>) -> Result<Vec<KeyLine>, AllocError>
+    requires { AllByRecursion IsFew keys.items }
+    ensures { IfOk result (λ all. map asked_key all.items ≡ keys.items) }
+{
+    let all = key_lines(alloc, keys.as_slice())?;
+    Ok(all)
+}
+
+/// The terminals that have EDF on, in the order of their definition.
+fn names_with_edf<S: Store + Drop>(
+    alloc: Global,
+    state: &Debugged<S>,
+) -> Result<Vec<Name4>, AllocError>
+    ensures { IfOk result (λ names. names.items ≡ names_with_edf state.now) }
+{
+    let mut names = Vec::new(alloc);
+    let terminals = state.region().terminals();
+    for (name, _terminal) in terminals.iter() {
+        if state.session(*name).is_some() {
+            names.push(*name)?;
+        }
+    }
+    Ok(names)
+}
+
+/// The screen of each terminal.
+fn screens<S: Store + Drop>(alloc: Global, region: &Region<S>) -> Result<Vec<Sight>, AllocError>
+    ensures { IfOk result (λ all. all.items ≡ map (λ t. sight.Screen t.0) region.now.terminals) }
+{
+    let mut all = Vec::new(alloc);
+    let terminals = region.terminals();
+    for (name, _terminal) in terminals.iter() {
+        all.push(Sight::Screen(*name))?;
+    }
+    Ok(all)
+}
+
+/// What a block says is to be seen; where it says nothing, each terminal's screen.
+fn sights_of<S: Store + Drop>(
+    alloc: Global,
+    sights: Vec<Sight>,
+    region: &Region<S>,
+) -> Result<Vec<Sight>, AllocError>
+    ensures { IfOk result (λ all. all.items ≡ sights_of sights.items region.now) }
+{
+    if sights.is_empty() {
+        screens(alloc, region)
+    } else {
+        Ok(sights)
+    }
+}
+
+/// What is written for a block of ORDERS.
+pub(crate) fn orders_written<S: Store + Drop>(
+    alloc: Global,
+    looking: &Looking<S>,
+    block: OrdersBlock,
+) -> Result<Vec<u8>, AllocError>
+    requires most { 1 ≤ block.most }
+    requires few { AllByRecursion IsFew block.keys }
+    ensures { IfOk result (λ text. ShowsOrders block looking.now text.items) }
+{
+    let OrdersBlock { most, keys, sights } = block;
+    let region = looking.state.region();
+    let orders = Orders::new(alloc, asked_keys(alloc, keys.into_vec())?);
+    let sights = sights_of(alloc, sights.into_vec(), region)?;
+    let edf = names_with_edf(alloc, &looking.state)?;
+    let seen = Sights {
+        looking,
+        sights: sights.as_slice(),
+    };
+    let report = orders_text(region, &orders, most as usize, edf.as_slice(), &seen)?;
+    let text = report.marked()?;
+    Ok(text)
+}
