@@ -2,7 +2,7 @@
 
 What RUN did is read from the transcript: each of its turns wrote a TURN line. It ended (docs/LOOKS.md, "RUN") at one that was answered Idle,
 Waiting, Held, Ended, Abended or NoSuchTerminal; at one after which EDF stopped the task, so that a further turn would be answered Held; or
-where it says that the task is still running, or that it stopped in front of an abend.
+where it says that the task is still running, that it stopped in front of an abend or of a line, or that the line has no statement.
 """
 import re
 from dataclasses import dataclass, field
@@ -13,9 +13,9 @@ OF_CICSLOOK = {"RUN", "QUEUES", "QUEUE", "PROGRAMS", "TASKS", "RESOURCES", "COMM
                "XREF", "FAULTS", "HELP", "TERMINALS", "AHEAD", "FIELD", "FIELDS",
                "WHERE", "WATCH", "ORDERS"}
 BLOCKS = ("IMAGE", "SOURCE", "FAULTS", "ORDERS")
-RUN = re.compile(r"RUN [A-Z0-9@#$]{1,4}(?: ([0-9]{1,5}))?(?: BEFORE ABEND)?")
+RUN = re.compile(r"RUN [A-Z0-9@#$]{1,4}(?: ([0-9]{1,5}))?(?: BEFORE ABEND| TO [A-Z0-9@#$]{1,8} (?!0+$)[0-9]{1,5})?")
 CHANGE = re.compile(r"> WATCH [0-9A-F]{6} [0-9]+ FROM ")  # what an event changed of the bytes that are watched
-RUN_ENDED = re.compile(r"> RUN \S+ (?:STOPPED|STILL) ")
+RUN_ENDED = re.compile(r"> RUN \S+ (?:STOPPED|STILL|TO) ")
 MOST_TURNS = 4096
 PAGED = ("SCREEN", "DISPLAY")
 ENDS = ("Idle", "Waiting", "Held", "Ended", "Abended", "NoSuchTerminal")

@@ -128,11 +128,13 @@ class Camera:
         """Does the turns of a RUN, each an event, up to where RUN ends."""
         found = RUN.fullmatch(action.text)
         assert found
+        stop = found[3] or ""
+        sent = [f"RUN {found[1]} 1{stop}"] if stop.startswith(" TO ") else None
         for turn in range(1, turns + 1):
-            if found[3] and self.would_abend(found[1]):
+            if stop == " BEFORE ABEND" and self.would_abend(found[1]):
                 return
-            answer = self.event(action, [f"TURN {found[1]}"], found[1], turn)
-            stopped = f"display {found[1]}" in self.shown
+            answer = self.event(action, [f"TURN {found[1]}"], found[1], turn, sent)
+            stopped = f"display {found[1]}" in self.shown or is_not_done(answer)
             if stopped or answer[-1:] and answer[-1].split(" ")[2] in LAST_OF_RUN:
                 return
 
@@ -151,12 +153,15 @@ class Camera:
                 with_fields(source, self.child.ask([[f"SYMBOLS {source.name}"]])[0])
             self.film.sources[source.name] = source
 
-    def event(self, action: Action, lines: Lines, terminal: str | None, turn: int = 0) -> Lines:
-        """Gives an event, keeps what it changed, and returns what was answered."""
+    def event(self, action: Action, lines: Lines, terminal: str | None, turn: int = 0, sent: Lines | None = None) -> Lines:
+        """Gives an event, by the lines that are sent where they are others, keeps what it changed, and returns what was answered. One that is
+        stopped in front of a line isn't done, and is none."""
         self.done += 1
         self.report(self.done)
         if self.done <= self.skipped:
-            answer, *display = self.child.ask([lines, *([[f"DISPLAY {terminal}"]] if turn else [])])
+            answer, *display = self.child.ask([sent or lines, *([[f"DISPLAY {terminal}"]] if turn else [])])
+            self.done -= is_not_done(answer)
+            answer = without_looks(answer) or answer
             self.note_terminal(action, answer)
             self.shown = {f"display {terminal}": it for it in display if is_there(it)}
             return answer
@@ -165,7 +170,11 @@ class Camera:
         asked = self.questions(set(self.film.terminals) if is_first else {terminal or ""} - {""})
         before_it = self.instructions_ahead(lines, terminal)
         ahead = self.child.ask([before_it])[0] if before_it else []
-        answer, *given = self.child.ask([lines, *([it] for it in asked.values())])
+        answer, *given = self.child.ask([sent or lines, *([it] for it in asked.values())])
+        if is_not_done(answer):
+            self.done -= 1
+            return answer
+        answer = without_looks(answer) or answer
         self.note_terminal(action, answer)
         shown = dict(zip(asked, given))
         shown.update(self.more(shown, terminal))
@@ -177,10 +186,9 @@ class Camera:
             self.film.before, before = now, now
         gone: Shown = {key: [] for key in before if key not in now}
         changes = {**{key: it for key, it in now.items() if before.get(key) != it}, **gone}
-        answer_shown = [it for it in answer if not it.startswith("> ")]
-        event = Event(action.line, turn, lines[0] if turn else action.text, terminal, answer_shown[-1:], changes, action.comments if turn < 2 else [])
+        event = Event(action.line, turn, lines[0] if turn else action.text, terminal, without_looks(answer)[-1:], changes, action.comments if turn < 2 else [])
         if terminal:
-            self.note_place(event, terminal, answer_shown[-1:], [it for it in map(INSTRUCTION.match, ahead) if it])
+            self.note_place(event, terminal, without_looks(answer)[-1:], [it for it in map(INSTRUCTION.match, ahead) if it])
         self.film.events.append(event)
         return answer
 
@@ -295,6 +303,15 @@ class Camera:
         source = self.film.sources.get(program)
         line = source.line_of(address) if source else None
         return (program, line) if line else None
+
+
+def without_looks(lines: Lines) -> Lines:
+    return [it for it in lines if not it.startswith("> ")]
+
+
+def is_not_done(answer: Lines) -> bool:
+    """Whether a RUN of one turn did none: it stopped in front of the turn, or its line has no statement."""
+    return answer[-1:] != [] and answer[-1].startswith("> RUN ") and not without_looks(answer)
 
 
 def length_of(question: str) -> int:

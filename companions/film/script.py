@@ -7,7 +7,7 @@ from dataclasses import dataclass, field
 BLOCKS = ("IMAGE", "SOURCE", "FAULTS", "ORDERS")
 EVENTS = ("IMAGE", "SOURCE", "TRANSACTION", "TERMINAL", "CLOCK", "KEY", "TURN", "EDF", "ALTER", "RUN")
 ANY_CASE = ("RUN", "WATCH", "FAULTS", "ORDERS")  # words of `cicslook` that may be in lower case, and their operands with them
-RUN = re.compile(r"RUN ([A-Z0-9@#$]{1,4})(?: ([1-9][0-9]{0,3}))?( BEFORE ABEND)?")
+RUN = re.compile(r"RUN ([A-Z0-9@#$]{1,4})(?: ([1-9][0-9]{0,3}))?( BEFORE ABEND| TO [A-Z0-9@#$]{1,8} (?!0+$)[0-9]{1,5})?")
 SOURCE = re.compile(r"SOURCE ([A-Z0-9@#$]{1,8})( DISASM)?")  # without LIST
 RUN_TURNS = 1_000  # of a RUN without a number
 MOST_TURNS, LONGEST = 4_096, 4_096  # of a RUN; bytes of a line

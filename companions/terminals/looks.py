@@ -23,6 +23,7 @@ LOOKS: dict[str, list[str]] = {
     "WHERE address": [],
     "ABEND term": [],
     "ABEND term STORAGE": [],
+    "ABEND term FIELDS": [],
     "SYMBOL program program": [],
     "SYMBOLS program": [],
     "XREF program": [],

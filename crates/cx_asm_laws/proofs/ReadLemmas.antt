@@ -1,5 +1,5 @@
 -- The lines of a disassembly are read back.
-use Rattle.std.specs.Prelude.{◌↔◌, codes, flat_map, decimal, nat_le, int_le, pos, option_map, take, drop, ◌&&◌}
+use Rattle.std.specs.Prelude.{codes, flat_map, decimal, nat_le, int_le, pos, option_map, take, drop, ◌&&◌}
 use Rattle.std.proofs.Common.{◌≡◌, ◌≤◌, ◌<◌, ℕ, ◌+◌, ◌-◌, ◌^◌, Bool, true, false, cond, ◌==◌, Option, Some, None, Ok, List, [], ◌∷◌, ◌++◌, length, map, refl, sym, ◌∙◌, ap, subst, arith}
 use Rattle.std.specs.List.{AllByRecursion, list_all, prefix_len, take_while}
 use Rattle.std.proofs.Math.Seq.{drop-append_seam, drop-length, take-append_seam, take-length}
@@ -38,8 +38,7 @@ use Rattle.cx_asm_operands.specs.Context.{Context, expression_value, number_at_m
 use Rattle.cx_asm_operands.specs.Forms.{fields_in, form_of_op, instruction_or_fault, operands_of}
 use Rattle.cx_asm_operands.specs.Storage.{counted_in, expression_and_list, explicit_address, index_in, indexed_in, is_literal, operand, operand_in, plain_in}
 use Rattle.cx_asm_operands.specs.declared.forms.Form.TheVariants as form
-use Rattle.cx_asm_operations.specs.Operations.{operation_name, operation_named}
-use Rattle.cx_asm_operations.specs.declared.operations.Operation.{Operation}
+use Rattle.cx_asm_operations.specs.Operations.{operation_named}
 use Rattle.cx_asm_operations.specs.declared.operations.Operation.TheVariants as operation
 use Rattle.cx_asm_laws.specs.Facts.Hexadecimals.{AreBytes, constant_is, hex_length, hex_plain, made_is}
 use Rattle.cx_asm_laws.specs.Facts.Plain.{ArePlain, Cut, decimal_plain, decimal_read, decimal_term, neither, plain_cut, plain_part, split}
@@ -489,9 +488,9 @@ lines_are_statements (Code i) = refl
 lines_are_statements (Data bytes) = refl
 lines_are_statements (Space n) = refl
 
-pub instructions_read : ((name : List ℕ) (it : Operation) → (operation_named name ≡ Some it) ↔ (operation_name it ≡ name)) → InstructionsAreReadBack
+pub instructions_read : ((op : Op) → operation_named (mnemonic_of op) ≡ Some (operation.Machine op)) → InstructionsAreReadBack
 unfolding statement_of
-instructions_read named i c formed = ((named (mnemonic_of i.op) (operation.Machine i.op)).1 refl, instruction_read i c formed)
+instructions_read named i c formed = (named i.op, instruction_read i c formed)
 
 pub bytes_read : BytesAreReadBack
 unfolding statement_of

@@ -1,5 +1,5 @@
 -- What a form's operands give fits the form's fields.
-use Rattle.std.proofs.Common.{◌≡◌, ℕ, ◌≤◌, ◌<◌, ◌^◌, Bool, true, false, Option, Some, None, List, [], ◌∷◌, Ok, Err, refl, ◌∙◌, ap, subst, arith}
+use Rattle.std.proofs.Common.{◌≡◌, ℕ, ◌≤◌, ◌<◌, ◌^◌, Bool, true, false, cond, Option, Some, None, List, [], ◌∷◌, Ok, Err, refl, ◌∙◌, ap, subst, arith}
 use Rattle.std.specs.Prelude.{Result}
 use Rattle.std.specs.Option.{option_map_or, option_zip}
 use Rattle.cx_asm_expressions.specs.declared.faults.FaultKind.TheVariants.{UnknownOperation}
@@ -13,11 +13,8 @@ use Rattle.cx_code.specs.declared.table.Format.TheVariants as format
 use Rattle.cx_code.specs.declared.instruction.Fields.{Fields}
 use Rattle.cx_code.specs.declared.instruction.Fields.TheVariants.{Rr, Rx, Rs, Si, Ss, Ss2}
 use Rattle.cx_asm_expressions.specs.declared.faults.FaultKind.{FaultKind}
-use Rattle.cx_asm_operations.specs.Operations.{base_row, branch_of, register_branch_of}
-use Rattle.cx_asm_operations.specs.declared.operations.Branch.{Branch}
-use Rattle.cx_asm_operations.specs.declared.operations.Branch.TheVariants as on
-use Rattle.cx_asm_operations.specs.declared.operations.RegisterBranch.{RegisterBranch}
-use Rattle.cx_asm_operations.specs.declared.operations.RegisterBranch.TheVariants as to
+use Rattle.cx_asm_operations.specs.Operations.{base_row, number}
+use Rattle.cx_asm_operations.specs.declared.operations.Mask.{Mask}
 use Rattle.cx_asm_operations.specs.declared.operations.Operation.{Operation}
 use Rattle.cx_asm_operations.specs.declared.operations.Operation.TheVariants as operation
 use Rattle.cx_asm_operands.specs.Checking.{both_or_lower_fault, made_of}
@@ -188,27 +185,12 @@ fields_agree (form.Format format.Ss2) c texts fields mask sixteen e = two_length
 fields_agree (form.Branch m) c texts fields mask sixteen e = branch_agrees m c texts fields mask sixteen e
 fields_agree (form.RegisterBranch m) c texts fields mask sixteen e = register_branch_agrees m c texts fields mask e
 
-branch_mask : (b : Branch) → (branch_of b).1 ≤ 15
-branch_mask on.B = omega arith
-branch_mask on.Nop = omega arith
-branch_mask on.Bh = omega arith
-branch_mask on.Bp = omega arith
-branch_mask on.Bl = omega arith
-branch_mask on.Bm = omega arith
-branch_mask on.Be = omega arith
-branch_mask on.Bz = omega arith
-branch_mask on.Bnh = omega arith
-branch_mask on.Bnp = omega arith
-branch_mask on.Bnl = omega arith
-branch_mask on.Bnm = omega arith
-branch_mask on.Bne = omega arith
-branch_mask on.Bnz = omega arith
-branch_mask on.Bo = omega arith
-branch_mask on.Bno = omega arith
+bit_most : (is : Bool) (n : ℕ) → cond is n 0 ≤ n
+bit_most true n = omega arith
+bit_most false n = omega arith
 
-register_branch_mask : (b : RegisterBranch) → (register_branch_of b).1 ≤ 15
-register_branch_mask to.Br = omega arith
-register_branch_mask to.Nopr = omega arith
+mask_most : (m : Mask) → number m ≤ 15
+mask_most m = omega (arith, bit_most m.on_0 8, bit_most m.on_1 4, bit_most m.on_2 2, bit_most m.on_3 1)
 
 -- a row of the table agrees with its form
 abbrev pub FormOf : Op → Form → Type 0
@@ -273,13 +255,13 @@ op_form Trt = (refl, tt, λ s. cc)
 op_form Pack = (refl, tt, λ s. cc)
 op_form Unpk = (refl, tt, λ s. cc)
 
-branch_form : (b : Branch) → FormOf Bc (form.Branch (branch_of b).1)
+branch_form : (m : Mask) → FormOf Bc (form.Branch (number m))
 unfolding row_of is_shift
-branch_form b = (refl, branch_mask b, λ s. cc)
+branch_form m = (refl, mask_most m, λ s. cc)
 
-register_branch_form : (b : RegisterBranch) → FormOf Bcr (form.RegisterBranch (register_branch_of b).1)
+register_branch_form : (m : Mask) → FormOf Bcr (form.RegisterBranch (number m))
 unfolding row_of is_shift
-register_branch_form b = (refl, register_branch_mask b, λ s. cc)
+register_branch_form m = (refl, mask_most m, λ s. cc)
 
 -- what fits a form is well formed as an instruction of a row of that form
 pub agrees_well : (op : Op) (f : Form) (fields : Fields) → FormOf op f → Agrees f fields → IsWellFormed (instruction op fields)
@@ -288,8 +270,8 @@ agrees_well op f fields row agrees = (agrees.0 ∙ row.0, agrees.1, λ s. agrees
 
 operation_form : (o : Operation) (op : Op) (f : Form) → base_row o ≡ Some op → form_of o ≡ Some f → FormOf op f
 operation_form (operation.Machine m) op f e g = subst (λ x. FormOf op x) (same_Some _ _ g) (subst (λ y. FormOf y (form_of_op m)) (same_Some _ _ e) (op_form m))
-operation_form (operation.Branch b) op f e g = subst (λ x. FormOf op x) (same_Some _ _ g) (subst (λ y. FormOf y (form.Branch (branch_of b).1)) (same_Some _ _ e) (branch_form b))
-operation_form (operation.RegisterBranch b) op f e g = subst (λ x. FormOf op x) (same_Some _ _ g) (subst (λ y. FormOf y (form.RegisterBranch (register_branch_of b).1)) (same_Some _ _ e) (register_branch_form b))
+operation_form (operation.Branch b) op f e g = subst (λ x. FormOf op x) (same_Some _ _ g) (subst (λ y. FormOf y (form.Branch (number b))) (same_Some _ _ e) (branch_form b))
+operation_form (operation.RegisterBranch b) op f e g = subst (λ x. FormOf op x) (same_Some _ _ g) (subst (λ y. FormOf y (form.RegisterBranch (number b))) (same_Some _ _ e) (register_branch_form b))
 operation_form (operation.Directive d) op f e g = cc
 
 pub resolved_well : (o : Operation) (op : Op) (f : Form) (c : Context) (texts : List (List ℕ)) (fields : Fields)

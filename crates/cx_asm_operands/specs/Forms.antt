@@ -12,7 +12,7 @@ use Rattle.cx_code.specs.declared.instruction.Fields.{Fields}
 use Rattle.cx_code.specs.declared.instruction.Fields.TheVariants.{Rr, Rx, Rs, Si, Ss, Ss2}
 use Rattle.cx_asm_expressions.specs.declared.faults.FaultKind.{FaultKind}
 use Rattle.cx_asm_expressions.specs.declared.faults.FaultKind.TheVariants.{UnknownOperation, BadOperand}
-use Rattle.cx_asm_operations.specs.Operations.{base_row, branch_of, register_branch_of}
+use Rattle.cx_asm_operations.specs.Operations.{base_row, number}
 use Rattle.cx_asm_operations.specs.declared.operations.Operation.{Operation}
 use Rattle.cx_asm_operations.specs.declared.operations.Operation.TheVariants as operation
 use Rattle.cx_asm_operands.specs.Checking.{both_or_lower_fault, made_of}
@@ -60,8 +60,8 @@ form_of_op op = if is_shift op then form.Shift else form.Format (format_of op)
 
 abbrev pub form_of : Operation → Option Form
 form_of (operation.Machine op) = Some (form_of_op op)
-form_of (operation.Branch branch) = Some (form.Branch (branch_of branch).1)
-form_of (operation.RegisterBranch branch) = Some (form.RegisterBranch (register_branch_of branch).1)
+form_of (operation.Branch mask) = Some (form.Branch (number mask))
+form_of (operation.RegisterBranch mask) = Some (form.RegisterBranch (number mask))
 form_of (operation.Directive directive) = None
 
 -- ---- a statement's instruction

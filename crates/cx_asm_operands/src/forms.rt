@@ -258,8 +258,8 @@ impl Form {
     {
         match operation {
             Operation::Machine(op) => Some(Form::of_op(op)),
-            Operation::Branch(branch) => Some(Form::Branch(branch.mask())),
-            Operation::RegisterBranch(branch) => Some(Form::RegisterBranch(branch.mask())),
+            Operation::Branch(mask) => Some(Form::Branch(mask.number())),
+            Operation::RegisterBranch(mask) => Some(Form::RegisterBranch(mask.number())),
             Operation::Directive(_) => None,
         }
     }

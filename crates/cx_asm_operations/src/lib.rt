@@ -4,4 +4,4 @@
 pub mod laws;
 mod operations;
 
-pub use operations::{Branch, Directive, Operation, RegisterBranch};
+pub use operations::{Directive, Mask, Operation};

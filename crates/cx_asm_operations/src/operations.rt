@@ -1,58 +1,23 @@
 //! The table of operations.
 
-ghost use Rattle.std.specs.Prelude.{◌≡◌};
-ghost use Rattle.std.specs.List.{find};
+ghost use Rattle.std.specs.Prelude.{◌≡◌, ◌≤◌, if◌then◌else◌, map};
+ghost use Rattle.std.specs.Map.{lookup};
 ghost use Rattle.std.specs.Str.{bytes_eq};
-ghost use Rattle.cx_asm_operations.specs.Operations.{base_row, branch_of, branches, directive_name, directives, mask_of, operation_name, operation_named, register_branch_of, register_branches};
+ghost use Rattle.cx_asm_operations.specs.Operations.{base_row, branches, directives, mask, number, operation_named, register_branches};
 
 use cx_code::Op;
 
-/// A branch on condition to a storage operand, by the condition that its name says (GC33-4010, "Extended Mnemonic
-/// Codes").
+/// The condition codes that a branch on condition goes on (GC33-4010, "Extended Mnemonic Codes").
 #[derive(Clone, Copy, Debug, PartialEq, Eq)]
-pub enum Branch {
-    /// Branch.
-    B,
-    /// No operation.
-    Nop,
-    /// Branch on high.
-    Bh,
-    /// Branch on plus.
-    Bp,
-    /// Branch on low.
-    Bl,
-    /// Branch on minus.
-    Bm,
-    /// Branch on equal.
-    Be,
-    /// Branch on zero.
-    Bz,
-    /// Branch on not high.
-    Bnh,
-    /// Branch on not plus.
-    Bnp,
-    /// Branch on not low.
-    Bnl,
-    /// Branch on not minus.
-    Bnm,
-    /// Branch on not equal.
-    Bne,
-    /// Branch on not zero.
-    Bnz,
-    /// Branch on overflow or ones.
-    Bo,
-    /// Branch on not overflow or not ones.
-    Bno,
-}
-
-/// A branch on condition to the address in a register, by the condition that its name says (GC33-4010, "Extended
-/// Mnemonic Codes").
-#[derive(Clone, Copy, Debug, PartialEq, Eq)]
-pub enum RegisterBranch {
-    /// Branch to the address in a register.
-    Br,
-    /// No operation.
-    Nopr,
+pub struct Mask {
+    /// Condition code 0.
+    pub on_0: bool,
+    /// Condition code 1.
+    pub on_1: bool,
+    /// Condition code 2.
+    pub on_2: bool,
+    /// Condition code 3.
+    pub on_3: bool,
 }
 
 /// An operation that makes no instruction (GC33-4010, "Assembler Instructions").
@@ -97,195 +62,123 @@ pub enum Directive {
 pub enum Operation {
     /// A machine instruction by its own mnemonic.
     Machine(Op),
-    /// A branch on condition to a storage operand, without its mask.
-    Branch(Branch),
-    /// A branch on condition to the address in a register, without its mask.
-    RegisterBranch(RegisterBranch),
+    /// A branch on condition to a storage operand, whose name says its mask.
+    Branch(Mask),
+    /// A branch on condition to the address in a register, whose name says its mask.
+    RegisterBranch(Mask),
     /// An operation that makes no instruction.
     Directive(Directive),
 }
 
-impl Branch {
-    /// All of them.
-    const ALL: [Branch; 16] = [
-        Branch::B,
-        Branch::Nop,
-        Branch::Bh,
-        Branch::Bp,
-        Branch::Bl,
-        Branch::Bm,
-        Branch::Be,
-        Branch::Bz,
-        Branch::Bnh,
-        Branch::Bnp,
-        Branch::Bnl,
-        Branch::Bnm,
-        Branch::Bne,
-        Branch::Bnz,
-        Branch::Bo,
-        Branch::Bno,
-    ];
+/// The branches to a storage operand that have a name of their own, with their masks.
+const BRANCHES: [(&str, u8); 16] = [
+    ("B", 15),
+    ("NOP", 0),
+    ("BH", 2),
+    ("BP", 2),
+    ("BL", 4),
+    ("BM", 4),
+    ("BE", 8),
+    ("BZ", 8),
+    ("BNH", 13),
+    ("BNP", 13),
+    ("BNL", 11),
+    ("BNM", 11),
+    ("BNE", 7),
+    ("BNZ", 7),
+    ("BO", 1),
+    ("BNO", 14),
+];
 
-    /// The row of the table: mnemonic and mask.
-    fn row(self) -> (&'static str, u8)
-        ensures { branch_of self ≡ (result.0.now, result.1) }
+/// Those to the address in a register.
+const REGISTER_BRANCHES: [(&str, u8); 2] = [("BR", 15), ("NOPR", 0)];
+
+/// The operations that make no instruction.
+const DIRECTIVES: [(&str, Directive); 16] = [
+    ("CSECT", Directive::Csect),
+    ("DSECT", Directive::Dsect),
+    ("START", Directive::Start),
+    ("USING", Directive::Using),
+    ("DROP", Directive::Drop),
+    ("EQU", Directive::Equ),
+    ("DS", Directive::Ds),
+    ("DC", Directive::Dc),
+    ("LTORG", Directive::Ltorg),
+    ("END", Directive::End),
+    ("TITLE", Directive::Title),
+    ("PRINT", Directive::Print),
+    ("EJECT", Directive::Eject),
+    ("SPACE", Directive::Space),
+    ("DFHREGS", Directive::Dfhregs),
+    ("COPY", Directive::Copy),
+];
+
+/// A bit of a mask, or 0.
+fn bit(is_on: bool, bit: u8) -> u8
+    ensures value { result ≡ (if is_on then bit else 0) }
+    ensures bound { result ≤ bit }
+{
+    if is_on { bit } else { 0 }
+}
+
+impl Mask {
+    /// The mask of four bits: 8 for condition code 0, 4 for 1, 2 for 2, 1 for 3.
+    fn of(bits: u8) -> Mask
+        ensures { result ≡ mask bits }
     {
-        match self {
-            Branch::B => ("B", 15),
-            Branch::Nop => ("NOP", 0),
-            Branch::Bh => ("BH", 2),
-            Branch::Bp => ("BP", 2),
-            Branch::Bl => ("BL", 4),
-            Branch::Bm => ("BM", 4),
-            Branch::Be => ("BE", 8),
-            Branch::Bz => ("BZ", 8),
-            Branch::Bnh => ("BNH", 13),
-            Branch::Bnp => ("BNP", 13),
-            Branch::Bnl => ("BNL", 11),
-            Branch::Bnm => ("BNM", 11),
-            Branch::Bne => ("BNE", 7),
-            Branch::Bnz => ("BNZ", 7),
-            Branch::Bo => ("BO", 1),
-            Branch::Bno => ("BNO", 14),
+        Mask {
+            on_0: bits & 8 != 0,
+            on_1: bits & 4 != 0,
+            on_2: bits & 2 != 0,
+            on_3: bits & 1 != 0,
         }
     }
 
-    /// The mnemonic, in capital letters.
-    pub fn name(self) -> &'static str
-        ensures { result.now ≡ (branch_of self).0 }
+    /// Its four bits, as the instruction has them: 8 for condition code 0, 4 for 1, 2 for 2, 1 for 3. It takes no memory.
+    pub fn number(self) -> u8
+        ensures { result ≡ number self }
     {
-        self.row().0
-    }
-
-    /// The mask: the condition codes that it branches on, 8 for code 0, 4 for 1, 2 for 2, 1 for 3.
-    pub fn mask(self) -> u8
-        ensures { result ≡ (branch_of self).1 }
-    {
-        self.row().1
-    }
-
-    /// The one of this mnemonic (ASCII, in capital letters); None where none has it.
-    #[tactic(auto, unfolding(crate::specs::Operations::branches))]
-    pub fn from_name(name: &[u8]) -> Option<Branch>
-        ensures { result ≡ find (λ b. bytes_eq (branch_of b).0 name.now) branches }
-    {
-        Branch::ALL
-            .iter()
-            .copied()
-            .find(|row| row.name().as_bytes() == name)
+        bit(self.on_0, 8) + bit(self.on_1, 4) + bit(self.on_2, 2) + bit(self.on_3, 1)
     }
 }
 
-impl RegisterBranch {
-    /// All of them.
-    const ALL: [RegisterBranch; 2] = [RegisterBranch::Br, RegisterBranch::Nopr];
-
-    /// The row of the table: mnemonic and mask.
-    fn row(self) -> (&'static str, u8)
-        ensures { register_branch_of self ≡ (result.0.now, result.1) }
-    {
-        match self {
-            RegisterBranch::Br => ("BR", 15),
-            RegisterBranch::Nopr => ("NOPR", 0),
+/// The value under a name.
+fn named<T: Copy>(rows: &[(&'static str, T)], name: &[u8]) -> Option<T>
+    ensures { result ≡ lookup (bytes_eq name.now) (map (λ row. (row.0.now, row.1)) rows.now) }
+{
+    for row in rows {
+        if name == row.0.as_bytes() {
+            return Some(row.1);
         }
     }
-
-    /// The mnemonic, in capital letters.
-    pub fn name(self) -> &'static str
-        ensures { result.now ≡ (register_branch_of self).0 }
-    {
-        self.row().0
-    }
-
-    /// The mask: the condition codes that it branches on, 8 for code 0, 4 for 1, 2 for 2, 1 for 3.
-    pub fn mask(self) -> u8
-        ensures { result ≡ (register_branch_of self).1 }
-    {
-        self.row().1
-    }
-
-    /// The one of this mnemonic (ASCII, in capital letters); None where none has it.
-    #[tactic(auto, unfolding(crate::specs::Operations::register_branches))]
-    pub fn from_name(name: &[u8]) -> Option<RegisterBranch>
-        ensures { result ≡ find (λ b. bytes_eq (register_branch_of b).0 name.now) register_branches }
-    {
-        RegisterBranch::ALL
-            .iter()
-            .copied()
-            .find(|row| row.name().as_bytes() == name)
-    }
+    None
 }
 
-impl Directive {
-    /// All of them.
-    const ALL: [Directive; 16] = [
-        Directive::Csect,
-        Directive::Dsect,
-        Directive::Start,
-        Directive::Using,
-        Directive::Drop,
-        Directive::Equ,
-        Directive::Ds,
-        Directive::Dc,
-        Directive::Ltorg,
-        Directive::End,
-        Directive::Title,
-        Directive::Print,
-        Directive::Eject,
-        Directive::Space,
-        Directive::Dfhregs,
-        Directive::Copy,
-    ];
+/// The mask of a branch to a storage operand.
+#[tactic(auto, unfolding(crate::specs::Operations::branches))]
+fn branch_named(name: &[u8]) -> Option<u8>
+    ensures { result ≡ lookup (bytes_eq name.now) branches }
+{
+    named(&BRANCHES, name)
+}
 
-    /// Its name, in capital letters.
-    pub fn name(self) -> &'static str
-        ensures { result.now ≡ directive_name self }
-    {
-        match self {
-            Directive::Csect => "CSECT",
-            Directive::Dsect => "DSECT",
-            Directive::Start => "START",
-            Directive::Using => "USING",
-            Directive::Drop => "DROP",
-            Directive::Equ => "EQU",
-            Directive::Ds => "DS",
-            Directive::Dc => "DC",
-            Directive::Ltorg => "LTORG",
-            Directive::End => "END",
-            Directive::Title => "TITLE",
-            Directive::Print => "PRINT",
-            Directive::Eject => "EJECT",
-            Directive::Space => "SPACE",
-            Directive::Dfhregs => "DFHREGS",
-            Directive::Copy => "COPY",
-        }
-    }
+/// The mask of a branch to the address in a register.
+#[tactic(auto, unfolding(crate::specs::Operations::register_branches))]
+fn register_branch_named(name: &[u8]) -> Option<u8>
+    ensures { result ≡ lookup (bytes_eq name.now) register_branches }
+{
+    named(&REGISTER_BRANCHES, name)
+}
 
-    /// The one of this name (ASCII, in capital letters); None where none has it.
-    #[tactic(auto, unfolding(crate::specs::Operations::directives))]
-    pub fn from_name(name: &[u8]) -> Option<Directive>
-        ensures { result ≡ find (λ d. bytes_eq (directive_name d) name.now) directives }
-    {
-        Directive::ALL
-            .iter()
-            .copied()
-            .find(|row| row.name().as_bytes() == name)
-    }
+/// The operation of a name that makes no instruction.
+#[tactic(auto, unfolding(crate::specs::Operations::directives))]
+fn directive_named(name: &[u8]) -> Option<Directive>
+    ensures { result ≡ lookup (bytes_eq name.now) directives }
+{
+    named(&DIRECTIVES, name)
 }
 
 impl Operation {
-    /// Its name, in capital letters.
-    pub fn name(self) -> &'static str
-        ensures { result.now ≡ operation_name self }
-    {
-        match self {
-            Operation::Machine(op) => op.name(),
-            Operation::Branch(branch) => branch.name(),
-            Operation::RegisterBranch(branch) => branch.name(),
-            Operation::Directive(directive) => directive.name(),
-        }
-    }
-
     /// The operation of this name (ASCII, in capital letters); None where none has it. It takes no memory.
     #[tactic(auto, using(crate::proofs::NameLemmas::by_kinds))]
     pub fn from_name(name: &[u8]) -> Option<Operation>
@@ -294,13 +187,13 @@ impl Operation {
         if let Some(op) = Op::from_name_bytes(name) {
             return Some(Operation::Machine(op));
         }
-        if let Some(branch) = Branch::from_name(name) {
-            return Some(Operation::Branch(branch));
+        if let Some(bits) = branch_named(name) {
+            return Some(Operation::Branch(Mask::of(bits)));
         }
-        if let Some(branch) = RegisterBranch::from_name(name) {
-            return Some(Operation::RegisterBranch(branch));
+        if let Some(bits) = register_branch_named(name) {
+            return Some(Operation::RegisterBranch(Mask::of(bits)));
         }
-        match Directive::from_name(name) {
+        match directive_named(name) {
             Some(directive) => Some(Operation::Directive(directive)),
             None => None,
         }
@@ -315,17 +208,6 @@ impl Operation {
             Operation::Branch(_) => Some(Op::Bc),
             Operation::RegisterBranch(_) => Some(Op::Bcr),
             Operation::Directive(_) => None,
-        }
-    }
-
-    /// The mask that a branch stands for; None of every other operation.
-    pub fn mask(self) -> Option<u8>
-        ensures { result ≡ mask_of self }
-    {
-        match self {
-            Operation::Branch(branch) => Some(branch.mask()),
-            Operation::RegisterBranch(branch) => Some(branch.mask()),
-            Operation::Machine(_) | Operation::Directive(_) => None,
         }
     }
 }

@@ -12,20 +12,20 @@ pub record ConditionRow : Type 0 where
   pub name : List ℕ
   pub abend : Option (List ℕ)
 
-abbrev pub entry : ℕ → List ℕ → Option (List ℕ) → ConditionRow
-entry number name abend = record { number = number; name = name; abend = abend }
+abbrev pub condition_row : ℕ → List ℕ → Option (List ℕ) → ConditionRow
+condition_row number name abend = record { number = number; name = name; abend = abend }
 
 abbrev pub entry_of : Condition → ConditionRow
-entry_of Normal = entry 0 (codes "NORMAL") None
-entry_of Error = entry 1 (codes "ERROR") None
-entry_of Invreq = entry 16 (codes "INVREQ") (Some (codes "AEIP"))
-entry_of Nospace = entry 18 (codes "NOSPACE") None
-entry_of Lengerr = entry 22 (codes "LENGERR") (Some (codes "AEIV"))
-entry_of Itemerr = entry 26 (codes "ITEMERR") (Some (codes "AEIZ"))
-entry_of Pgmiderr = entry 27 (codes "PGMIDERR") (Some (codes "AEI0"))
-entry_of Nostg = entry 42 (codes "NOSTG") None
-entry_of Qiderr = entry 44 (codes "QIDERR") (Some (codes "AEYH"))
-entry_of Enqbusy = entry 55 (codes "ENQBUSY") None
+entry_of Normal = condition_row 0 (codes "NORMAL") None
+entry_of Error = condition_row 1 (codes "ERROR") None
+entry_of Invreq = condition_row 16 (codes "INVREQ") (Some (codes "AEIP"))
+entry_of Nospace = condition_row 18 (codes "NOSPACE") None
+entry_of Lengerr = condition_row 22 (codes "LENGERR") (Some (codes "AEIV"))
+entry_of Itemerr = condition_row 26 (codes "ITEMERR") (Some (codes "AEIZ"))
+entry_of Pgmiderr = condition_row 27 (codes "PGMIDERR") (Some (codes "AEI0"))
+entry_of Nostg = condition_row 42 (codes "NOSTG") None
+entry_of Qiderr = condition_row 44 (codes "QIDERR") (Some (codes "AEYH"))
+entry_of Enqbusy = condition_row 55 (codes "ENQBUSY") None
 
 -- the conditions that a program can handle: all but NORMAL
 abbrev pub handled_conditions : List Condition

@@ -8,7 +8,7 @@ ghost use Rattle.cx_base_hash.specs.Hash.{hash_with, hash_of};
 /// lower ones).
 const FACTOR: u64 = 0x9E37_79B9_7F4A_7C15;
 
-/// The hash with one number more.
+/// The hash of a list of numbers, by the hash of all but the last and the last number.
 #[inline(always)]
 #[tactic(auto, unfolding(crate::specs::Hash::hash_with))]
 pub fn hash_with(hash: u64, number: u64) -> u64

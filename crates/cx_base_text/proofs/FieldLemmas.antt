@@ -4,7 +4,7 @@ use Rattle.std.specs.Prelude.{slice_set}
 use Rattle.std.proofs.lemmas.List.{append_assoc, append-nil, length-replicate, length-set, take_more}
 use Rattle.std.proofs.Math.ListN.{get_or}
 use Rattle.cx_base_text.specs.Texts.{in_columns}
-use Rattle.cx_base_text.specs.Parts.Fields.{Holds}
+use Rattle.cx_base_text.specs.Parts.Fields.{HoldsText}
 
 blanks : (n : ℕ) → replicate n 32 ≡ in_columns n []
 unfolding in_columns
@@ -12,7 +12,7 @@ blanks zero = refl
 blanks (suc n) = ap (λ l. 32 ∷ l) (blanks n)
 
 -- a blank field shows no text
-pub blank_field : (n : ℕ) → Holds (replicate n 32) 0 []
+pub blank_field : (n : ℕ) → HoldsText (replicate n 32) 0 []
 blank_field n = record {
   place = omega arith;
   shows = ap (λ m. replicate m 32) (sym (length-replicate n 32)) ∙ blanks (length (replicate n 32));
@@ -37,7 +37,7 @@ past (suc n) [] more full = absurd (omega (arith, full))
 past (suc n) (d ∷ text) more full = ap (λ l. d ∷ l) (past n text more (omega (arith, full)))
 
 -- one character more
-pub one_more : (field text : List ℕ) (at c : ℕ) → at < length field → Holds field at text → Holds (slice_set field at c) (at + 1) (text ++ c ∷ [])
+pub one_more : (field text : List ℕ) (at c : ℕ) → at < length field → HoldsText field at text → HoldsText (slice_set field at c) (at + 1) (text ++ c ∷ [])
 one_more field text at c within h =
     let kept = length-set field at c in
     let len = length-append text (c ∷ []) in
@@ -49,7 +49,7 @@ one_more field text at c within h =
     }
 
 -- there is no room for more
-pub no_more : (field text : List ℕ) (at c : ℕ) → length field ≤ at → Holds field at text → Holds field at (text ++ c ∷ [])
+pub no_more : (field text : List ℕ) (at c : ℕ) → length field ≤ at → HoldsText field at text → HoldsText field at (text ++ c ∷ [])
 no_more field text at c full h =
     let len = length-append text (c ∷ []) in
     let long : length field ≤ length text = omega (arith, h.place, full) in
@@ -59,10 +59,10 @@ no_more field text at c full h =
     }
 
 -- one character more after a text and the beginning of a piece
-pub next_of : (field text piece : List ℕ) (at i d : ℕ) → i < length piece → Holds field at ((text ++ take i piece) ++ get_or piece i d ∷ []) → Holds field at (text ++ take (i + 1) piece)
+pub next_of : (field text piece : List ℕ) (at i d : ℕ) → i < length piece → HoldsText field at ((text ++ take i piece) ++ get_or piece i d ∷ []) → HoldsText field at (text ++ take (i + 1) piece)
 next_of field text piece at i d within h =
-    subst (λ l. Holds field at l) (append_assoc text (take i piece) (get_or piece i d ∷ []) ∙ ap (λ l. text ++ l) (sym (take_more piece i d within))) h
+    subst (λ l. HoldsText field at l) (append_assoc text (take i piece) (get_or piece i d ∷ []) ∙ ap (λ l. text ++ l) (sym (take_more piece i d within))) h
 
 -- none of a piece yet
-pub no_piece : (field text : List ℕ) (at : ℕ) → Holds field at text → Holds field at (text ++ [])
-no_piece field text at h = subst (λ l. Holds field at l) (sym (append-nil text)) h
+pub no_piece : (field text : List ℕ) (at : ℕ) → HoldsText field at text → HoldsText field at (text ++ [])
+no_piece field text at h = subst (λ l. HoldsText field at l) (sym (append-nil text)) h

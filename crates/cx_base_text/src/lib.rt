@@ -7,4 +7,4 @@ mod texts;
 
 pub use digits::{decimal, hexadecimal, spell};
 pub use pages::{COLUMNS, LINES, Page};
-pub use texts::{in_columns, shown, shown_byte, shown_bytes, shown_name, trimmed, written_line};
+pub use texts::{in_columns, shown, shown_byte, shown_bytes, shown_name, trim, written_line};

@@ -5,7 +5,7 @@ ghost use Rattle.cx_base_text.specs.Pages.{IsPage, blank_page, lines_from, numbe
 ghost use Rattle.cx_base_text.specs.Texts.{in_columns, join, shown_text, trim};
 
 use crate::digits::decimal;
-use crate::texts::{in_columns, shown_bytes, trimmed};
+use crate::texts::{in_columns, shown_bytes, trim};
 use std::alloc::{AllocError, Global};
 use std::marker::Model;
 
@@ -100,7 +100,7 @@ fn push_lines(text: &mut Vec<u8>, lines: &[[u8; COLUMNS]]) -> Result<(), AllocEr
 fn push_line(text: &mut Vec<u8>, number: u32, line: &[u8]) -> Result<(), AllocError>
     ensures { OnOk result (text.new.items ≡ text.old.items ++ numbered_line number (trim line.now)) }
 {
-    let line = trimmed(line);
+    let line = trim(line);
     if line.is_empty() {
         return Ok(());
     }

@@ -2,10 +2,10 @@
 
 ghost use Rattle.std.specs.Prelude.{◌≡◌, ◌≤◌, ◌++◌, ℕ, IfOk, List, [], ◌∷◌, length, map, take_while};
 ghost use Rattle.cx_ebcdic.specs.Characters.{shown_as};
-ghost use Rattle.cx_base_text.specs.Parts.Fields.{Holds};
+ghost use Rattle.cx_base_text.specs.Parts.Fields.{HoldsText};
 ghost use Rattle.cx_base_text.specs.Texts.{in_columns, is_filled, join, shown_text, shown_name, trim, written_line};
 
-use cx_ebcdic::{Name, display};
+use cx_ebcdic::{Name, shown_as};
 use std::alloc::{AllocError, Global};
 
 /// The code of a blank, which fills names.
@@ -16,7 +16,7 @@ const BLANK: u8 = 0x40;
 pub fn shown_byte(byte: u8) -> u8
     ensures { result ≡ shown_as byte }
 {
-    display(byte) as u8
+    shown_as(byte) as u8
 }
 
 /// Bytes as they are shown.
@@ -86,7 +86,7 @@ pub fn written_line(alloc: Global, first: &[u8], words: &[&[u8]]) -> Result<Vec<
 }
 
 /// A text without the blanks at its end. It takes no memory.
-pub fn trimmed(text: &[u8]) -> &[u8]
+pub fn trim(text: &[u8]) -> &[u8]
     ensures { result.now ≡ trim text.now }
 {
     let mut len = text.len();
@@ -100,8 +100,8 @@ pub fn trimmed(text: &[u8]) -> &[u8]
 #[tactic(auto, using(crate::proofs::FieldLemmas::one_more, crate::proofs::FieldLemmas::no_more))]
 fn put(field: &mut [u8], at: usize, character: u8) -> usize
     requires { at ≤ length field.old }
-    ensures holds { (text : List ℕ) → Holds field.old at text
-        → Holds field.new result (text ++ character ∷ []) }
+    ensures holds { (text : List ℕ) → HoldsText field.old at text
+        → HoldsText field.new result (text ++ character ∷ []) }
     ensures within { result ≤ length field.new }
     ensures length { length field.new ≡ length field.old }
 {
@@ -116,7 +116,7 @@ fn put(field: &mut [u8], at: usize, character: u8) -> usize
 #[tactic(auto, using(crate::proofs::FieldLemmas::no_piece, crate::proofs::FieldLemmas::next_of))]
 fn put_piece(field: &mut [u8], at: usize, piece: &[u8]) -> usize
     requires { at ≤ length field.old }
-    ensures holds { (text : List ℕ) → Holds field.old at text → Holds field.new result (text ++ piece.now) }
+    ensures holds { (text : List ℕ) → HoldsText field.old at text → HoldsText field.new result (text ++ piece.now) }
     ensures within { result ≤ length field.new }
     ensures length { length field.new ≡ length field.old }
 {

@@ -6,7 +6,7 @@ ghost use Rattle.cx_code.specs.Lines.{bytes_in, line_of, lines};
 
 use crate::image::{Bytes, Span, SpanKind};
 use crate::instruction::Inst;
-use crate::spelling::{encode, instruction_at};
+use crate::spelling::{encode, reading};
 use std::alloc::{AllocError, Global};
 
 /// What a line of a disassembly stands for.
@@ -20,7 +20,7 @@ pub enum What {
     Space(u32),
 }
 
-/// A line of a disassembly.
+/// A line of a disassembly: what begins at an offset. An instruction, bytes or space of any length is one line.
 #[derive(Debug, Drop)]
 pub struct Line {
     /// The offset in the text, in bytes.
@@ -34,7 +34,7 @@ pub struct Line {
 fn canonical(bytes: &[u8]) -> Option<Inst>
     ensures { result ≡ canonical bytes.now }
 {
-    let inst = instruction_at(bytes)?;
+    let inst = reading(bytes)?;
     (encode(&inst).as_slice() == bytes).then_some(inst)
 }
 

@@ -201,7 +201,7 @@ fn fields_at(op: Op, bytes: &[u8]) -> Fields
 /// The instruction at the front of the bytes.
 #[tactic(auto, unfolding(crate::specs::Reading::reading))]
 #[inline(always)]
-pub(crate) fn instruction_at(bytes: &[u8]) -> Option<Inst>
+pub(crate) fn reading(bytes: &[u8]) -> Option<Inst>
     ensures { result ≡ reading bytes.now }
 {
     let op = Op::from_code(*bytes.first()?)?;
@@ -220,6 +220,6 @@ pub fn decode(bytes: &[u8]) -> Option<(Inst, usize)>
     ensures found { IfSome result (λ f. (f.1 ≤ length bytes.now) × Reads (take f.1 bytes.now) f.0) }
     ensures none { IfNone result ((i : Instruction) (n : ℕ) → Reads (take n bytes.now) i → ⊥) }
 {
-    let inst = instruction_at(bytes)?;
+    let inst = reading(bytes)?;
     Some((inst, inst.op().length()))
 }

@@ -57,7 +57,7 @@ pub fn to_ebcdic(character: char) -> Option<u8>
 
 /// The character that shows a byte: the one whose EBCDIC code it is, or a period.
 #[tactic(auto, using(crate::proofs::CharacterLemmas::shown_at))]
-pub fn display(byte: u8) -> char
+pub fn shown_as(byte: u8) -> char
     ensures { result ≡ shown_as byte }
 {
     SHOWN[byte as usize]

@@ -8,6 +8,6 @@ mod lines;
 mod names;
 
 pub use aids::Aid;
-pub use characters::{display, to_ebcdic};
+pub use characters::{shown_as, to_ebcdic};
 pub use lines::{TextFault, encode_line};
 pub use names::{Name, Name4, Name8};

@@ -36,7 +36,7 @@ impl<const WIDTH: usize> Name<WIDTH> {
     pub fn from_text(text: &str) -> Option<Self>
         ensures { result ≡ padded_name WIDTH text.now }
     {
-        let bytes = padded_codes(text.as_bytes())?;
+        let bytes = padded_name(text.as_bytes())?;
         Some(Name { bytes })
     }
 
@@ -58,7 +58,7 @@ impl<const WIDTH: usize> Name<WIDTH> {
 
 /// The code of a character that a name may have.
 #[tactic(auto, unfolding(crate::specs::Names::name_code, crate::specs::Names::is_name_character))]
-fn code_in_name(character: u8) -> Option<u8>
+fn name_code(character: u8) -> Option<u8>
     ensures { result ≡ name_code character }
 {
     match character {
@@ -69,7 +69,7 @@ fn code_in_name(character: u8) -> Option<u8>
 
 /// The codes of a text that fits, filled with blanks on the right.
 #[tactic(auto, unfolding(crate::specs::Names::padded_name))]
-fn padded_codes<const WIDTH: usize>(text: &[u8]) -> Option<[u8; WIDTH]>
+fn padded_name<const WIDTH: usize>(text: &[u8]) -> Option<[u8; WIDTH]>
     ensures { result ≡ padded_name WIDTH text.now }
 {
     if text.is_empty() || text.len() > WIDTH {
@@ -77,7 +77,7 @@ fn padded_codes<const WIDTH: usize>(text: &[u8]) -> Option<[u8; WIDTH]>
     }
     let mut bytes = [BLANK; WIDTH];
     for (i, character) in text.iter().enumerate() {
-        bytes[i] = code_in_name(*character)?;
+        bytes[i] = name_code(*character)?;
     }
     Some(bytes)
 }

@@ -11,7 +11,7 @@ use Rattle.cx_region.specs.State.{RegionState, TerminalState}
 use Rattle.cx_region.specs.Tables.{task_of, terminal_of}
 use Rattle.cx_region.specs.Events.{Applies, Run}
 use Rattle.cx_region.specs.Turn.{TaskTakesTurn, TakesTurn}
-use Rattle.cx_region_laws.specs.Laws.Regions.{EventsDecide, RunsDecide}
+use Rattle.cx_region_laws.specs.Laws.Regions.{EventsDecide, RegionRunsDecide}
 use Rattle.cx_region.specs.declared.changes.AlterReply.TheVariants as alter
 use Rattle.cx_region.specs.declared.changes.Change.TheVariants as change
 use Rattle.cx_region.specs.declared.replies.Event.{Event}
@@ -77,7 +77,7 @@ edf_runs_decide decide old events answers others new later h k =
     (same.0, sym h.ends ∙ ap (last_state old) same.1 ∙ k.ends, same.1)
 
 -- ---- watching changes nothing
-pub a_plain_run_agrees : RunsDecide → PlainRunsAgree
+pub a_plain_run_agrees : RegionRunsDecide → PlainRunsAgree
 a_plain_run_agrees decide make old events answers states trace replies after plain =
     decide old.region _ replies _ after (last_state old states).region plain (what_is_left_is_a_run make old events answers states trace)
 

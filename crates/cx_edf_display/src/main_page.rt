@@ -15,7 +15,7 @@ use cx_base_commands::{Command, EibField};
 use cx_base_text::{Page, decimal, hexadecimal, shown_bytes};
 use cx_ebcdic::Name4;
 use cx_region::Region;
-use cx_storage::{Store, address_in, along};
+use cx_storage::{Store, address_after, address_in};
 
 /// Line 24.
 const KEYS: &[u8] =
@@ -32,7 +32,7 @@ pub(crate) fn main_page<S: Store + Drop>(
 {
     let mut page = Page::blank();
     put_heading(&mut page, name, task);
-    page.put_line(2, &[b"STATUS ", status(kind)]);
+    page.put_line(2, &[b"STATUS ", status_of(kind)]);
     put_task(&mut page, region, kind, task);
     put_outcome(&mut page, kind);
     page.put_line(24, &[KEYS]);
@@ -84,7 +84,7 @@ fn put_task<S: Store + Drop>(
     let Some(task) = task else {
         return;
     };
-    page.put_line(3, &[b"COMMAND ", command(region, kind, task)]);
+    page.put_line(3, &[b"COMMAND ", command_text(region, kind, task)]);
     put_arguments_due(page, region, kind, task);
     put_registers(page, task);
     put_state(page, task);
@@ -92,7 +92,7 @@ fn put_task<S: Store + Drop>(
 }
 
 /// What line 2 says.
-fn status(kind: &StopPoint) -> &'static [u8]
+fn status_of(kind: &StopPoint) -> &'static [u8]
     ensures { result.now ≡ status_of kind.now }
 {
     match kind {
@@ -106,14 +106,14 @@ fn status(kind: &StopPoint) -> &'static [u8]
 
 /// The command's name on line 3: before it by the block, after it by EIBFN.
 #[tactic(auto, unfolding(crate::specs::Displays::command_text))]
-fn command<S: Store + Drop>(region: &Region<S>, kind: &StopPoint, task: &Seen) -> &'static [u8]
+fn command_text<S: Store + Drop>(region: &Region<S>, kind: &StopPoint, task: &Seen) -> &'static [u8]
     ensures { result.now ≡ command_text region.now.storage task.now kind.now }
 {
     match kind {
-        StopPoint::Before => function_name(function_due(region, task)),
-        StopPoint::After(_) => function_name(halfword(
+        StopPoint::Before => name_of_function(function_due(region, task)),
+        StopPoint::After(_) => name_of_function(halfword(
             region,
-            along(task.eib, EibField::Fn.offset()),
+            address_after(task.eib, EibField::Fn.offset()),
         )),
         StopPoint::Exit(_) => b"",
         StopPoint::Over(_) => b"",
@@ -131,7 +131,7 @@ fn function_due<S: Store + Drop>(region: &Region<S>, task: &Seen) -> Option<u16>
 
 /// The name of a function's command; a question mark where there is none.
 #[tactic(auto, unfolding(crate::specs::Displays::name_of_function))]
-fn function_name(function: Option<u16>) -> &'static [u8]
+fn name_of_function(function: Option<u16>) -> &'static [u8]
     ensures { result.now ≡ name_of_function function }
 {
     let Some(function) = function else {
@@ -172,7 +172,7 @@ fn put_arguments<S: Store + Drop>(page: &mut Page, region: &Region<S>, list: u32
     let Some((k, rest)) = numbers.split_first() else {
         return;
     };
-    let Some(argument) = word(region, along(list, 4 * *k)) else {
+    let Some(argument) = word(region, address_after(list, 4 * *k)) else {
         return;
     };
     put_argument(page, region, *k, address_in(argument));
@@ -244,12 +244,22 @@ fn put_state(page: &mut Page, task: &Seen)
 fn put_eib<S: Store + Drop>(page: &mut Page, region: &Region<S>, task: &Seen)
     ensures { page.new ≡ with_line page.old 20 (eib_line region.now.storage task.now) }
 {
-    let function = along(task.eib, EibField::Fn.offset());
-    let length = along(task.eib, EibField::Calen.offset());
+    let function = address_after(task.eib, EibField::Fn.offset());
+    let length = address_after(task.eib, EibField::Calen.offset());
     let a = hex_at(region, function, 2, 0);
     let b = hex_at(region, function, 2, 1);
-    let c = hex_group(region, along(task.eib, EibField::Resp.offset()), 4, 0);
-    let d = hex_at(region, along(task.eib, EibField::Aid.offset()), 1, 0);
+    let c = hex_group(
+        region,
+        address_after(task.eib, EibField::Resp.offset()),
+        4,
+        0,
+    );
+    let d = hex_at(
+        region,
+        address_after(task.eib, EibField::Aid.offset()),
+        1,
+        0,
+    );
     let e = hex_at(region, length, 2, 0);
     let f = hex_at(region, length, 2, 1);
     page.put_line(

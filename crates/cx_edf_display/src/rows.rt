@@ -7,7 +7,7 @@ ghost use Rattle.cx_edf_display.specs.Texts.{character_at, character_group, hex_
 
 use cx_base_text::{hexadecimal, in_columns, shown_byte};
 use cx_region::Region;
-use cx_storage::{Store, along};
+use cx_storage::{Store, address_after};
 
 /// A byte in hexadecimal; an absent one is two hyphens.
 fn hex_of(byte: Option<u8>) -> [u8; 2]
@@ -42,7 +42,7 @@ pub(crate) fn hex_at<S: Store + Drop>(
     if k >= count {
         return *b"  ";
     }
-    hex_of(region.byte(along(address, k)))
+    hex_of(region.byte(address_after(address, k)))
 }
 
 /// The character of a byte of a row of `count` bytes; a blank stands for one past its end.
@@ -53,7 +53,7 @@ fn character_at<S: Store + Drop>(region: &Region<S>, address: u32, count: u32, k
     if k >= count {
         return *b" ";
     }
-    character_of(region.byte(along(address, k)))
+    character_of(region.byte(address_after(address, k)))
 }
 
 /// Four bytes of a row of `count` bytes from an address on, from the one with that number on, in hexadecimal: hyphens

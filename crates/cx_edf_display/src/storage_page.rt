@@ -13,7 +13,7 @@ use crate::seen::Seen;
 use cx_base_text::{Page, hexadecimal};
 use cx_ebcdic::Name4;
 use cx_region::Region;
-use cx_storage::{Store, along};
+use cx_storage::{Store, address_after};
 
 /// The rows of 16 bytes that are shown.
 const ROWS: [u32; 22] = [
@@ -63,7 +63,7 @@ fn put_row<S: Store + Drop>(page: &mut Page, region: &Region<S>, task: &Seen, ro
     if 16 * row >= task.stg_len {
         return;
     }
-    let address = along(task.stg, 16 * row);
+    let address = address_after(task.stg, 16 * row);
     let count = task.stg_len - 16 * row;
     let place = hexadecimal::<6>(address);
     let a = hex_group(region, address, count, 0);

@@ -1,3 +1,4 @@
+pub mod ProgramStatus
 pub mod Machine
 pub mod Numbers
 pub mod Outcome

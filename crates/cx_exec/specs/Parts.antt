@@ -1,6 +1,6 @@
 -- Vocabulary of private functions: what is performed, an operand that is there or not, and rows whose code is kept
 -- together.
-use Rattle.std.specs.Prelude.{◌≡◌, ◌+◌, ◌^◌, ◌<◌, ◌≤◌, unwrap_or, IfSome, ℕ, List, Option, Some, None, Result, MatchResult, Bool, true, false, ◌||◌, if◌then◌else◌}
+use Rattle.std.specs.Prelude.{◌≡◌, unwrap_or, ℕ, List, Option, Some, None, Result, MatchResult, Bool, true, false, ◌||◌, if◌then◌else◌}
 use Rattle.cx_storage.specs.Storage.{Storage}
 use Rattle.cx_storage.specs.Word.{word_at}
 use Rattle.cx_code.specs.declared.table.Op.{Op}
@@ -15,11 +15,6 @@ use Rattle.cx_exec.specs.declared.machine.Updated.{Updated}
 use Rattle.cx_exec.specs.declared.places.Place.{Place}
 use Rattle.cx_exec.specs.declared.machine.Interruption.{Interruption}
 use Rattle.cx_exec.specs.declared.machine.Interruption.TheVariants as interruption
-
--- the instruction and what comes after it are inside storage, and so is what is given
-abbrev pub IsPlace : Place → Type 0
-IsPlace place =
-    (place.from + 8 ≤ 2 ^ 24) × IfSome place.given (λ updated. updated.length_code ≤ 3) × IfSome place.given (λ updated. updated.address < 2 ^ 24)
 
 -- what the program-status word is updated to after an instruction of this many bytes
 abbrev pub updated_at : Place → ℕ → Updated

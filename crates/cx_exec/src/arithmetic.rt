@@ -34,7 +34,6 @@ pub(crate) fn complement(word: u32) -> i64
 #[inline(never)]
 fn put_overflow(cpu: &mut Cpu, r: u8, x: i64, updated: Updated) -> Result<(), Interruption>
     requires register { r < 16 }
-    requires address { updated.address < 2 ^ 24 }
     requires large { fits_word x ≡ false }
     ensures done { result ≡ Ok tt }
     ensures regs { cpu.new.regs ≡ slice_set cpu.old.regs r (word_of x) }
@@ -48,7 +47,6 @@ fn put_overflow(cpu: &mut Cpu, r: u8, x: i64, updated: Updated) -> Result<(), In
 #[tactic(auto, unfolding(crate::specs::Numbers::sum_code))]
 pub(crate) fn put_sum(cpu: &mut Cpu, r: u8, x: i64, updated: Updated) -> Result<(), Interruption>
     requires register { r < 16 }
-    requires address { updated.address < 2 ^ 24 }
     ensures done { result ≡ Ok tt }
     ensures regs { cpu.new.regs ≡ slice_set cpu.old.regs r (word_of x) }
     ensures code { cpu.new.cc ≡ sum_code x }

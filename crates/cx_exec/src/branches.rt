@@ -28,8 +28,6 @@ fn mask_bit(cc: u8) -> u8
 /// The link word of a branch.
 #[tactic(auto, unfolding(crate::specs::Branches::link_word))]
 fn link_word(updated: Updated, cc: u8) -> u32
-    requires length { updated.length_code ≤ 3 }
-    requires address { updated.address < 2 ^ 24 }
     requires code { cc ≤ 3 }
     ensures { result ≡ link_word updated cc }
 {
@@ -39,7 +37,6 @@ fn link_word(updated: Updated, cc: u8) -> u32
 /// Where a branch to a register's address goes: register 0 is no branch.
 pub(crate) fn branch_address(regs: &[u32; 16], r: u8, updated: Updated) -> u32
     requires register { r < 16 }
-    requires address { updated.address < 2 ^ 24 }
     ensures value { result ≡ branch_address regs.now r updated }
     ensures short { result < 2 ^ 24 }
 {
@@ -54,8 +51,6 @@ pub(crate) fn branch_address(regs: &[u32; 16], r: u8, updated: Updated) -> u32
 pub(crate) fn link(cpu: &mut Cpu, r: u8, to: u32, updated: Updated) -> Result<(), Interruption>
     requires register { r < 16 }
     requires to { to < 2 ^ 24 }
-    requires length { updated.length_code ≤ 3 }
-    requires address { updated.address < 2 ^ 24 }
     ensures done { result ≡ Ok tt }
     ensures regs { cpu.new.regs ≡ slice_set cpu.old.regs r (link_word updated cpu.old.cc) }
     ensures code { cpu.new.cc ≡ cpu.old.cc }
@@ -81,7 +76,6 @@ pub(crate) fn go_on(cpu: &mut Cpu, to: u32) -> Result<(), Interruption>
 /// Goes on elsewhere where the mask selects the condition code.
 pub(crate) fn branch(cpu: &mut Cpu, mask: u8, to: u32, updated: Updated) -> Result<(), Interruption>
     requires to { to < 2 ^ 24 }
-    requires address { updated.address < 2 ^ 24 }
     ensures done { result ≡ Ok tt }
     ensures regs { cpu.new.regs ≡ cpu.old.regs }
     ensures code { cpu.new.cc ≡ cpu.old.cc }
@@ -99,7 +93,6 @@ pub(crate) fn branch(cpu: &mut Cpu, mask: u8, to: u32, updated: Updated) -> Resu
 pub(crate) fn count(cpu: &mut Cpu, r: u8, to: u32, updated: Updated) -> Result<(), Interruption>
     requires register { r < 16 }
     requires to { to < 2 ^ 24 }
-    requires address { updated.address < 2 ^ 24 }
     ensures done { result ≡ Ok tt }
     ensures regs { cpu.new.regs ≡ slice_set cpu.old.regs r (less_one (slice_index cpu.old.regs r)) }
     ensures code { cpu.new.cc ≡ cpu.old.cc }

@@ -8,6 +8,7 @@ ghost use Rattle.cx_exec.specs.Comparison.{ComparesStrings};
 
 use crate::machine::{Cpu, Interruption, Updated};
 use crate::numbers::{eight_at, order_code};
+use crate::operands::of_length;
 use crate::results::set_code;
 use cx_storage::Store;
 
@@ -101,7 +102,6 @@ fn clc_copies<S: Store>(
     requires first { a1 < 2 ^ 24 }
     requires second { a2 < 2 ^ 24 }
     requires count { n ≤ 256 }
-    requires address { updated.address < 2 ^ 24 }
     ensures { let before = machine cpu.old (S.storage store.now) in let after = machine cpu.new (S.storage store.now) in
         ComparesStrings n a1 a2 updated before result after }
 {
@@ -119,34 +119,8 @@ fn clc_copies<S: Store>(
     set_code(cpu, cc, updated)
 }
 
-/// CLC of a length, for which its code is made where that is known.
-#[tactic(auto, using(cx_storage::specs::Facts::Spans::span_length), unfolding(crate::specs::Comparison::ComparesStrings))]
-#[inline(always)]
-fn clc_by<S: Store>(
-    cpu: &mut Cpu,
-    store: &S,
-    a1: u32,
-    a2: u32,
-    updated: Updated,
-    n: u32,
-) -> Result<(), Interruption>
-    requires first { a1 < 2 ^ 24 }
-    requires second { a2 < 2 ^ 24 }
-    requires count { n ≤ 256 }
-    requires address { updated.address < 2 ^ 24 }
-    ensures { let before = machine cpu.old (S.storage store.now) in let after = machine cpu.new (S.storage store.now) in
-        ComparesStrings n a1 a2 updated before result after }
-{
-    if let Some(first) = store.slice(a1, n as usize) {
-        if let Some(second) = store.slice(a2, n as usize) {
-            let cc = string_order(first, second);
-            return set_code(cpu, cc, updated);
-        }
-    }
-    clc_copies(cpu, store, a1, a2, updated, n)
-}
-
 /// CLC of `N` bytes, for which there is code of its own.
+#[tactic(auto, using(cx_storage::specs::Facts::Spans::span_length), unfolding(crate::specs::Comparison::ComparesStrings))]
 #[inline(never)]
 fn clc_few<S: Store, const N: u32>(
     cpu: &mut Cpu,
@@ -158,14 +132,20 @@ fn clc_few<S: Store, const N: u32>(
     requires first { a1 < 2 ^ 24 }
     requires second { a2 < 2 ^ 24 }
     requires count { N ≤ 256 }
-    requires address { updated.address < 2 ^ 24 }
     ensures { let before = machine cpu.old (S.storage store.now) in let after = machine cpu.new (S.storage store.now) in
         ComparesStrings N a1 a2 updated before result after }
 {
-    clc_by(cpu, store, a1, a2, updated, N)
+    if let Some(first) = store.slice_fast(a1, N as usize) {
+        if let Some(second) = store.slice_fast(a2, N as usize) {
+            let cc = string_order(of_length(first, N as usize), of_length(second, N as usize));
+            return set_code(cpu, cc, updated);
+        }
+    }
+    clc_many(cpu, store, a1, a2, updated, N)
 }
 
 /// CLC of any length.
+#[tactic(auto, using(cx_storage::specs::Facts::Spans::span_length), unfolding(crate::specs::Comparison::ComparesStrings))]
 #[inline(never)]
 fn clc_many<S: Store>(
     cpu: &mut Cpu,
@@ -178,11 +158,16 @@ fn clc_many<S: Store>(
     requires first { a1 < 2 ^ 24 }
     requires second { a2 < 2 ^ 24 }
     requires count { n ≤ 256 }
-    requires address { updated.address < 2 ^ 24 }
     ensures { let before = machine cpu.old (S.storage store.now) in let after = machine cpu.new (S.storage store.now) in
         ComparesStrings n a1 a2 updated before result after }
 {
-    clc_by(cpu, store, a1, a2, updated, n)
+    if let Some(first) = store.slice(a1, n as usize) {
+        if let Some(second) = store.slice(a2, n as usize) {
+            let cc = string_order(first, second);
+            return set_code(cpu, cc, updated);
+        }
+    }
+    clc_copies(cpu, store, a1, a2, updated, n)
 }
 
 /// CLC. The operands, of `l` bytes and one, begin at `a1` and `a2`.
@@ -197,7 +182,6 @@ pub(crate) fn clc<S: Store>(
 ) -> Result<(), Interruption>
     requires first { a1 < 2 ^ 24 }
     requires second { a2 < 2 ^ 24 }
-    requires address { updated.address < 2 ^ 24 }
     ensures { let before = machine cpu.old (S.storage store.now) in let after = machine cpu.new (S.storage store.now) in
         ComparesStrings (l + 1) a1 a2 updated before result after }
 {

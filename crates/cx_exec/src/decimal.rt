@@ -64,7 +64,6 @@ fn fits_word(number: i64) -> bool
 #[tactic(auto, unfolding(crate::specs::Decimal::Converts))]
 fn convert(cpu: &mut Cpu, r1: u8, number: i64, updated: Updated) -> Result<(), Interruption>
     requires first { r1 < 16 }
-    requires address { updated.address < 2 ^ 24 }
     ensures { (storage : Storage) → let before = machine cpu.old storage in let after = machine cpu.new storage in
         Converts r1 number updated before result after }
 {
@@ -89,7 +88,6 @@ pub(crate) fn cvb<S: Store>(
 ) -> Result<(), Interruption>
     requires first { r1 < 16 }
     requires operand { a < 2 ^ 24 }
-    requires address { updated.address < 2 ^ 24 }
     ensures { let before = machine cpu.old (S.storage store.now) in let after = machine cpu.new (S.storage store.now) in
         CvbEffect r1 a updated before result after }
 {
@@ -144,7 +142,6 @@ pub(crate) fn cvd<S: Store>(
 ) -> Result<(), Interruption>
     requires first { r1 < 16 }
     requires operand { a < 2 ^ 24 }
-    requires address { updated.address < 2 ^ 24 }
     ensures { let before = machine cpu.old (S.storage store.old) in let after = machine cpu.new (S.storage store.new) in
         CvdEffect r1 a updated before result after }
 {

@@ -32,7 +32,6 @@ pub(crate) fn division(dividend: i64, divisor: i64) -> Option<(i64, i64)>
 #[inline(never)]
 pub(crate) fn divide(cpu: &mut Cpu, r: u8, word: u32, updated: Updated) -> Result<(), Interruption>
     requires register { r < 15 }
-    requires address { updated.address < 2 ^ 24 }
     ensures { (storage : Storage)
         → DividesRegisters r word updated (machine cpu.old storage) result (machine cpu.new storage) }
 {

@@ -43,7 +43,6 @@ pub(crate) fn put_logical<S: Store>(
     updated: Updated,
 ) -> Result<(), Interruption>
     requires operand { a < 2 ^ 24 }
-    requires address { updated.address < 2 ^ 24 }
     ensures { let before = machine cpu.old (S.storage store.old) in let after = machine cpu.new (S.storage store.new) in
         StoresLogical a byte updated before result after }
 {

@@ -2,6 +2,8 @@
 
 ghost use Rattle.std.specs.Prelude.{◌<◌, ◌≤◌, ◌^◌};
 
+use std::marker::Model;
+
 /// The address at which execution stops: the entry to the region. No storage is there.
 pub const ENTRY: u32 = 0x800;
 
@@ -85,4 +87,17 @@ pub enum Halt {
 pub struct Updated {
     pub length_code: u8,
     pub address: u32,
+}
+
+impl Model for Updated {
+    ghost use Rattle.std.specs.Prelude.{◌<◌, ◌≤◌, ◌^◌};
+    ghost use Rattle.cx_exec.specs.ProgramStatus.{ProgramStatus};
+
+    ghost Value = { ProgramStatus };
+
+    ghost view = { λ updated. record { length_code = updated.length_code; address = updated.address } };
+
+    ghost invariant = { λ updated. (updated.length_code ≤ 3) × (updated.address < 2 ^ 24) };
+
+    ghost inverse = { λ status. record { length_code = status.length_code; address = status.address } };
 }

@@ -73,7 +73,6 @@ fn stcm_slow<S: Store>(
 ) -> Result<(), Interruption>
     requires first { r1 < 16 }
     requires operand { a < 2 ^ 24 }
-    requires address { updated.address < 2 ^ 24 }
     ensures { let before = machine cpu.old (S.storage store.old) in let after = machine cpu.new (S.storage store.new) in
         StcmEffect r1 mask a updated before result after }
 {
@@ -95,7 +94,6 @@ fn stcm_by<S: Store>(
 ) -> Result<(), Interruption>
     requires first { r1 < 16 }
     requires operand { a < 2 ^ 24 }
-    requires address { updated.address < 2 ^ 24 }
     ensures { let before = machine cpu.old (S.storage store.old) in let after = machine cpu.new (S.storage store.new) in
         StcmEffect r1 mask a updated before result after }
 {
@@ -119,28 +117,18 @@ pub(crate) fn stcm<S: Store>(
 ) -> Result<(), Interruption>
     requires first { r1 < 16 }
     requires operand { a < 2 ^ 24 }
-    requires address { updated.address < 2 ^ 24 }
     ensures { let before = machine cpu.old (S.storage store.old) in let after = machine cpu.new (S.storage store.new) in
         StcmEffect r1 mask a updated before result after }
 {
-    match mask {
-        1 => stcm_by(cpu, store, r1, 1, a, updated),
-        2 => stcm_by(cpu, store, r1, 2, a, updated),
-        3 => stcm_by(cpu, store, r1, 3, a, updated),
-        4 => stcm_by(cpu, store, r1, 4, a, updated),
-        5 => stcm_by(cpu, store, r1, 5, a, updated),
-        6 => stcm_by(cpu, store, r1, 6, a, updated),
-        7 => stcm_by(cpu, store, r1, 7, a, updated),
-        8 => stcm_by(cpu, store, r1, 8, a, updated),
-        9 => stcm_by(cpu, store, r1, 9, a, updated),
-        10 => stcm_by(cpu, store, r1, 10, a, updated),
-        11 => stcm_by(cpu, store, r1, 11, a, updated),
-        12 => stcm_by(cpu, store, r1, 12, a, updated),
-        13 => stcm_by(cpu, store, r1, 13, a, updated),
-        14 => stcm_by(cpu, store, r1, 14, a, updated),
-        15 => stcm_by(cpu, store, r1, 15, a, updated),
-        _ => stcm_by(cpu, store, r1, mask, a, updated),
+    macro_rules! by {
+        ($($known:literal)*) => {
+            match mask {
+                $($known => stcm_by(cpu, store, r1, $known, a, updated),)*
+                _ => stcm_by(cpu, store, r1, mask, a, updated),
+            }
+        };
     }
+    by!(1 2 3 4 5 6 7 8 9 10 11 12 13 14 15)
 }
 
 /// The `k`-th byte (`k` is below 4) that ICM leaves in a register; there are as many bytes as places chosen.
@@ -196,7 +184,6 @@ fn insert(
 ) -> Result<(), Interruption>
     requires first { r1 < 16 }
     requires size { length bytes.now ≡ length (selected_bytes mask 4) }
-    requires address { updated.address < 2 ^ 24 }
     ensures done { result ≡ Ok tt }
     ensures regs { let word = word_inserted mask (slice_index cpu.old.regs r1) bytes.now in
         cpu.new.regs ≡ slice_set cpu.old.regs r1 word }
@@ -221,7 +208,6 @@ fn icm_slow<S: Store>(
 ) -> Result<(), Interruption>
     requires first { r1 < 16 }
     requires operand { a < 2 ^ 24 }
-    requires address { updated.address < 2 ^ 24 }
     ensures { let before = machine cpu.old (S.storage store.now) in let after = machine cpu.new (S.storage store.now) in
         IcmEffect r1 mask a updated before result after }
 {
@@ -246,7 +232,6 @@ fn icm_by<S: Store>(
 ) -> Result<(), Interruption>
     requires first { r1 < 16 }
     requires operand { a < 2 ^ 24 }
-    requires address { updated.address < 2 ^ 24 }
     ensures { let before = machine cpu.old (S.storage store.now) in let after = machine cpu.new (S.storage store.now) in
         IcmEffect r1 mask a updated before result after }
 {
@@ -268,26 +253,16 @@ pub(crate) fn icm<S: Store>(
 ) -> Result<(), Interruption>
     requires first { r1 < 16 }
     requires operand { a < 2 ^ 24 }
-    requires address { updated.address < 2 ^ 24 }
     ensures { let before = machine cpu.old (S.storage store.now) in let after = machine cpu.new (S.storage store.now) in
         IcmEffect r1 mask a updated before result after }
 {
-    match mask {
-        1 => icm_by(cpu, store, r1, 1, a, updated),
-        2 => icm_by(cpu, store, r1, 2, a, updated),
-        3 => icm_by(cpu, store, r1, 3, a, updated),
-        4 => icm_by(cpu, store, r1, 4, a, updated),
-        5 => icm_by(cpu, store, r1, 5, a, updated),
-        6 => icm_by(cpu, store, r1, 6, a, updated),
-        7 => icm_by(cpu, store, r1, 7, a, updated),
-        8 => icm_by(cpu, store, r1, 8, a, updated),
-        9 => icm_by(cpu, store, r1, 9, a, updated),
-        10 => icm_by(cpu, store, r1, 10, a, updated),
-        11 => icm_by(cpu, store, r1, 11, a, updated),
-        12 => icm_by(cpu, store, r1, 12, a, updated),
-        13 => icm_by(cpu, store, r1, 13, a, updated),
-        14 => icm_by(cpu, store, r1, 14, a, updated),
-        15 => icm_by(cpu, store, r1, 15, a, updated),
-        _ => icm_by(cpu, store, r1, mask, a, updated),
+    macro_rules! by {
+        ($($known:literal)*) => {
+            match mask {
+                $($known => icm_by(cpu, store, r1, $known, a, updated),)*
+                _ => icm_by(cpu, store, r1, mask, a, updated),
+            }
+        };
     }
+    by!(1 2 3 4 5 6 7 8 9 10 11 12 13 14 15)
 }

@@ -23,7 +23,6 @@ pub(crate) fn multiply(
     updated: Updated,
 ) -> Result<(), Interruption>
     requires register { r < 15 }
-    requires address { updated.address < 2 ^ 24 }
     ensures done { result ≡ Ok tt }
     ensures regs { let first = slice_index cpu.old.regs (r + 1) in
         cpu.new.regs ≡ with_pair cpu.old.regs r (double_of (signed_word first *ℤ signed_word word)) }

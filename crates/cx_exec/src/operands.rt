@@ -81,6 +81,16 @@ pub(crate) fn word_at<S: Store>(store: &S, a: u32) -> Result<u32, Interruption>
     }
 }
 
+/// The same bytes, as many as is said, so that code is made for that many where it is known.
+#[tactic(auto, using(std::proofs::lemmas::List::take_all))]
+#[inline(always)]
+pub(crate) fn of_length(bytes: &[u8], n: usize) -> &[u8]
+    requires { length bytes.now ≡ n }
+    ensures { result.now ≡ bytes.now }
+{
+    &bytes[..n]
+}
+
 /// The first register of a pair, which is even, or interruption 6.
 pub(crate) fn even(r: u8) -> Result<u8, Interruption>
     ensures { let even = r % 2 == 0 in
@@ -106,7 +116,6 @@ pub(crate) fn put_fast<S: Store>(
 ) -> bool
     requires operand { a < 2 ^ 24 }
     requires size { length bytes.now ≤ 65536 }
-    requires address { updated.address < 2 ^ 24 }
     ensures done { let before = machine cpu.old (S.storage store.old) in let after = machine cpu.new (S.storage store.new) in
         result ≡ true → Stores a bytes.now cpu.old.cc updated before (Ok tt) after }
     ensures same { result ≡ false → machine cpu.new (S.storage store.new) ≡ machine cpu.old (S.storage store.old) }
@@ -132,7 +141,6 @@ pub(crate) fn put_coded_at_hand<S: Store>(
     requires operand { a < 2 ^ 24 }
     requires size { length bytes.now ≤ 65536 }
     requires code { cc ≤ 3 }
-    requires address { updated.address < 2 ^ 24 }
     ensures done { let before = machine cpu.old (S.storage store.old) in let after = machine cpu.new (S.storage store.new) in
         result ≡ true → Stores a bytes.now cc updated before (Ok tt) after }
     ensures same { result ≡ false → machine cpu.new (S.storage store.new) ≡ machine cpu.old (S.storage store.old) }
@@ -161,7 +169,6 @@ pub(crate) fn fill_fast<S: Store>(
     requires operand { a < 2 ^ 24 }
     requires size { n ≤ 65536 }
     requires code { cc ≤ 3 }
-    requires address { updated.address < 2 ^ 24 }
     ensures present { result ≡ true → is_some (span (S.storage store.old) a n) ≡ true }
     ensures done { let before = machine cpu.old (S.storage store.old) in let after = machine cpu.new (S.storage store.new) in
         result ≡ true → Stores a (replicate n byte) cc updated before (Ok tt) after }
@@ -187,7 +194,6 @@ pub(crate) fn put_bytes<S: Store>(
 ) -> Result<(), Interruption>
     requires operand { a < 2 ^ 24 }
     requires size { length bytes.now ≤ 65536 }
-    requires address { updated.address < 2 ^ 24 }
     ensures { let before = machine cpu.old (S.storage store.old) in let after = machine cpu.new (S.storage store.new) in
         Stores a bytes.now cpu.old.cc updated before result after }
 {
@@ -212,7 +218,6 @@ pub(crate) fn put_coded<S: Store>(
     requires operand { a < 2 ^ 24 }
     requires size { length bytes.now ≤ 65536 }
     requires code { cc ≤ 3 }
-    requires address { updated.address < 2 ^ 24 }
     ensures { let before = machine cpu.old (S.storage store.old) in let after = machine cpu.new (S.storage store.new) in
         Stores a bytes.now cc updated before result after }
 {
@@ -235,7 +240,6 @@ pub(crate) fn put_apart<S: Store, const N: usize>(
     requires operand { a < 2 ^ 24 }
     requires size { N ≤ 65536 }
     requires code { cc ≤ 3 }
-    requires address { updated.address < 2 ^ 24 }
     ensures { let before = machine cpu.old (S.storage store.old) in let after = machine cpu.new (S.storage store.new) in
         Stores a bytes.entry cc updated before result after }
 {
@@ -254,7 +258,6 @@ pub(crate) fn put_few<S: Store, const N: usize>(
 ) -> Result<(), Interruption>
     requires operand { a < 2 ^ 24 }
     requires size { N ≤ 65536 }
-    requires address { updated.address < 2 ^ 24 }
     ensures { let before = machine cpu.old (S.storage store.old) in let after = machine cpu.new (S.storage store.new) in
         Stores a bytes.entry cpu.old.cc updated before result after }
 {

@@ -1,25 +1,28 @@
 //! What an instruction goes on by.
 
-ghost use Rattle.std.specs.Prelude.{◌≡◌, ◌+◌, ◌<◌, ◌≤◌, ◌^◌, None, Some};
-ghost use Rattle.cx_exec.specs.Parts.{updated_at, IsPlace};
+ghost use Rattle.std.specs.Prelude.{◌+◌, ◌≤◌, ◌^◌};
 
 use crate::machine::Updated;
 
-/// What an instruction goes on by: the address that it is at, or, in its stead, what the program-status word is updated to.
+/// What an instruction goes on by: the address that it is at, from which eight bytes are inside storage, or, in its stead,
+/// what the program-status word is updated to.
 #[derive(Clone, Copy)]
 pub struct Place {
     pub from: u32,
     pub given: Option<Updated>,
+    pub ghost room: { from + 8 ≤ 2 ^ 24 },
 }
 
 impl Place {
-    /// That of an instruction at an address, from which eight bytes are inside storage.
+    ghost use Rattle.std.specs.Prelude.{◌≡◌, ◌+◌, ◌≤◌, ◌^◌, None, Some};
+    ghost use Rattle.cx_exec.specs.Parts.{updated_at};
+
+    /// That of an instruction at an address.
     #[inline(always)]
     pub(crate) fn at(from: u32) -> Place
         requires { from + 8 ≤ 2 ^ 24 }
         ensures from { result.from ≡ from }
         ensures given { result.given ≡ None }
-        ensures place { IsPlace result }
     {
         Place { from, given: None }
     }
@@ -27,10 +30,7 @@ impl Place {
     /// That of an instruction which goes on as given.
     #[inline(always)]
     pub(crate) fn after(updated: Updated) -> Place
-        requires length { updated.length_code ≤ 3 }
-        requires address { updated.address < 2 ^ 24 }
-        ensures given { result.given ≡ Some updated }
-        ensures place { IsPlace result }
+        ensures { result.given ≡ Some updated }
     {
         Place {
             from: 0,
@@ -41,11 +41,8 @@ impl Place {
     /// What the program-status word is updated to after an instruction of `length` bytes.
     #[inline(always)]
     pub(crate) fn updated(self, length: u32) -> Updated
-        requires place { IsPlace self }
-        requires length { length ≤ 6 }
-        ensures value { result ≡ updated_at self length }
-        ensures length { result.length_code ≤ 3 }
-        ensures address { result.address < 2 ^ 24 }
+        requires { length ≤ 6 }
+        ensures { result ≡ updated_at self length }
     {
         match self.given {
             Some(updated) => updated,

@@ -10,7 +10,7 @@ ghost use Rattle.cx_exec.specs.Registers.{place_after, register_count, words_at,
 use crate::machine::{Cpu, Interruption, Updated};
 use crate::operands::{put_bytes, word_at};
 use byteorder::{BigEndian, ByteOrder};
-use cx_storage::{Store, along};
+use cx_storage::{Store, address_after};
 
 /// How many registers after the first one a given one comes, 0 following 15.
 pub(crate) fn place_after(first: u8, r: u8) -> u8
@@ -62,7 +62,7 @@ fn read_slow<S: Store>(
         (λ cause. (read ≡ None) × (cause ≡ interruption.Addressing)) }
 {
     for k in 0..count {
-        let word = word_at(store, along(a, 4 * k as u32))?;
+        let word = word_at(store, address_after(a, 4 * k as u32))?;
         words[k] = word;
     }
     Ok(())
@@ -116,7 +116,6 @@ pub(crate) fn store_multiple<S: Store>(
     requires first { first < 16 }
     requires last { last < 16 }
     requires operand { a < 2 ^ 24 }
-    requires address { updated.address < 2 ^ 24 }
     ensures { let before = machine cpu.old (S.storage store.old) in let after = machine cpu.new (S.storage store.new) in
         Stores a (register_bytes cpu.old.regs first (register_count first last))
         cpu.old.cc updated before result after }
@@ -143,7 +142,6 @@ fn load_slow<S: Store>(
     requires first { first < 16 }
     requires last { last < 16 }
     requires operand { a < 2 ^ 24 }
-    requires address { updated.address < 2 ^ 24 }
     ensures { let before = machine cpu.old (S.storage store.now) in let after = machine cpu.new (S.storage store.now) in
         LoadsRegisters first last a updated before result after }
 {
@@ -171,7 +169,6 @@ pub(crate) fn load_multiple<S: Store>(
     requires first { first < 16 }
     requires last { last < 16 }
     requires operand { a < 2 ^ 24 }
-    requires address { updated.address < 2 ^ 24 }
     ensures { let before = machine cpu.old (S.storage store.now) in let after = machine cpu.new (S.storage store.now) in
         LoadsRegisters first last a updated before result after }
 {

@@ -9,7 +9,6 @@ use crate::machine::{Cpu, Interruption, Updated};
 /// Changes a register.
 pub(crate) fn load(cpu: &mut Cpu, r: u8, word: u32, updated: Updated) -> Result<(), Interruption>
     requires register { r < 16 }
-    requires address { updated.address < 2 ^ 24 }
     ensures done { result ≡ Ok tt }
     ensures regs { cpu.new.regs ≡ slice_set cpu.old.regs r word }
     ensures code { cpu.new.cc ≡ cpu.old.cc }
@@ -23,7 +22,6 @@ pub(crate) fn load(cpu: &mut Cpu, r: u8, word: u32, updated: Updated) -> Result<
 /// Sets the condition code.
 pub(crate) fn set_code(cpu: &mut Cpu, cc: u8, updated: Updated) -> Result<(), Interruption>
     requires code { cc ≤ 3 }
-    requires address { updated.address < 2 ^ 24 }
     ensures done { result ≡ Ok tt }
     ensures regs { cpu.new.regs ≡ cpu.old.regs }
     ensures code { cpu.new.cc ≡ cc }
@@ -44,7 +42,6 @@ pub(crate) fn load_coded(
 ) -> Result<(), Interruption>
     requires register { r < 16 }
     requires code { cc ≤ 3 }
-    requires address { updated.address < 2 ^ 24 }
     ensures done { result ≡ Ok tt }
     ensures regs { cpu.new.regs ≡ slice_set cpu.old.regs r word }
     ensures code { cpu.new.cc ≡ cc }
@@ -74,7 +71,6 @@ pub(crate) fn load_pair(
 ) -> Result<(), Interruption>
     requires register { r < 15 }
     requires code { cc ≤ 3 }
-    requires address { updated.address < 2 ^ 24 }
     ensures done { result ≡ Ok tt }
     ensures regs { cpu.new.regs ≡ with_pair cpu.old.regs r double }
     ensures code { cpu.new.cc ≡ cc }

@@ -9,7 +9,7 @@ ghost use Rattle.cx_exec.specs.Machine.{machine};
 ghost use Rattle.cx_exec.specs.Machine.{address_part, effective};
 ghost use Rattle.cx_exec.specs.Step.{is_execute};
 ghost use Rattle.cx_exec.specs.Rows.{Effect};
-ghost use Rattle.cx_exec.specs.Parts.{IsPlace, updated_at, has_registers, has_word, has_word_result, has_half, has_address, has_immediate};
+ghost use Rattle.cx_exec.specs.Parts.{updated_at, has_registers, has_word, has_word_result, has_half, has_address, has_immediate};
 
 use crate::arithmetic::{complement, difference, put_sum, sum};
 use crate::branches::{branch, branch_address, count, go_on, link, selects};
@@ -33,7 +33,7 @@ use crate::translation::{tr, trt};
 use crate::words::second_row;
 use crate::zoned::{pack, unpk};
 use cx_code::Op;
-use cx_storage::{Store, along};
+use cx_storage::{Store, address_after};
 
 /// An address and what a register gives to it: register 0 gives zero.
 #[inline(always)]
@@ -75,7 +75,6 @@ pub struct Registers {
 /// The operands of format RR.
 #[inline(always)]
 fn registers_of(cpu: &Cpu, prefix: &Prefix, place: Place) -> Registers
-    requires place { IsPlace place }
     ensures r1 { result.r1 ≡ left_half prefix.now }
     ensures r2 { result.r2 ≡ right_half prefix.now }
     ensures low1 { result.r1 < 16 }
@@ -83,8 +82,6 @@ fn registers_of(cpu: &Cpu, prefix: &Prefix, place: Place) -> Registers
     ensures first { result.first ≡ slice_index cpu.now.regs result.r1 }
     ensures second { result.second ≡ slice_index cpu.now.regs result.r2 }
     ensures updated { result.updated ≡ updated_at place 2 }
-    ensures length { result.updated.length_code ≤ 3 }
-    ensures address { result.updated.address < 2 ^ 24 }
 {
     let second = prefix.second();
     let (r1, r2) = (second >> 4, second & 15);
@@ -113,7 +110,6 @@ pub struct Operands {
 #[inline(always)]
 fn operands_of(cpu: &Cpu, prefix: &Prefix, index: u8, place: Place) -> Operands
     requires index { index < 16 }
-    requires place { IsPlace place }
     ensures byte { result.i2 ≡ slice_index prefix.now 1 }
     ensures r1 { result.r1 ≡ left_half prefix.now }
     ensures r3 { result.r3 ≡ right_half prefix.now }
@@ -123,8 +119,6 @@ fn operands_of(cpu: &Cpu, prefix: &Prefix, index: u8, place: Place) -> Operands
     ensures operand { result.a ≡ effective cpu.now.regs index (base_at 2 prefix.now) (displacement_at 2 prefix.now) }
     ensures short { result.a < 2 ^ 24 }
     ensures updated { result.updated ≡ updated_at place 4 }
-    ensures length { result.updated.length_code ≤ 3 }
-    ensures address { result.updated.address < 2 ^ 24 }
 {
     let i2 = prefix.second();
     let (r1, r3) = (i2 >> 4, i2 & 15);
@@ -146,7 +140,6 @@ fn operands_of(cpu: &Cpu, prefix: &Prefix, index: u8, place: Place) -> Operands
 /// The operands of format RX.
 #[inline(always)]
 pub(crate) fn indexed_of(cpu: &Cpu, prefix: &Prefix, place: Place) -> Operands
-    requires place { IsPlace place }
     ensures r1 { result.r1 ≡ left_half prefix.now }
     ensures low1 { result.r1 < 16 }
     ensures first { result.first ≡ slice_index cpu.now.regs result.r1 }
@@ -154,8 +147,6 @@ pub(crate) fn indexed_of(cpu: &Cpu, prefix: &Prefix, place: Place) -> Operands
         result.a ≡ effective cpu.now.regs (right_half bytes) (base_at 2 bytes) (displacement_at 2 bytes) }
     ensures short { result.a < 2 ^ 24 }
     ensures updated { result.updated ≡ updated_at place 4 }
-    ensures length { result.updated.length_code ≤ 3 }
-    ensures address { result.updated.address < 2 ^ 24 }
 {
     operands_of(cpu, prefix, prefix.second() & 15, place)
 }
@@ -172,15 +163,12 @@ pub struct Strings {
 /// The operands of formats SS.
 #[inline(always)]
 fn strings_of(cpu: &Cpu, prefix: &Prefix, place: Place) -> Strings
-    requires place { IsPlace place }
     ensures lengths { result.l ≡ slice_index prefix.now 1 }
     ensures first { result.a1 ≡ effective cpu.now.regs 0 (base_at 2 prefix.now) (displacement_at 2 prefix.now) }
     ensures second { result.a2 ≡ effective cpu.now.regs 0 (base_at 4 prefix.now) (displacement_at 4 prefix.now) }
     ensures short1 { result.a1 < 2 ^ 24 }
     ensures short2 { result.a2 < 2 ^ 24 }
     ensures updated { result.updated ≡ updated_at place 6 }
-    ensures length { result.updated.length_code ≤ 3 }
-    ensures address { result.updated.address < 2 ^ 24 }
 {
     Strings {
         l: prefix.second(),
@@ -211,7 +199,6 @@ pub(crate) fn strings_effect<S: Store>(
     place: Place,
 ) -> Result<(), Interruption>
     requires strings { length_of op ≡ 6 }
-    requires place { IsPlace place }
     ensures { Effect (instruction op (fields_at op prefix.now))
         (updated_at place (length_of op))
         (machine cpu.old (S.storage store.old)) result (machine cpu.new (S.storage store.new)) }
@@ -277,7 +264,6 @@ pub(crate) fn register_rows<S: Store>(
     place: Place,
 ) -> Result<(), Interruption>
     requires rows { has_registers op ≡ true }
-    requires place { IsPlace place }
     ensures { Effect (instruction op (fields_at op prefix.now))
         (updated_at place (length_of op))
         (machine cpu.old (S.storage store.old)) result (machine cpu.new (S.storage store.new)) }
@@ -402,7 +388,6 @@ pub(crate) fn word_rows<S: Store>(
     place: Place,
 ) -> Result<(), Interruption>
     requires rows { has_word op ≡ true }
-    requires place { IsPlace place }
     ensures { Effect (instruction op (fields_at op prefix.now))
         (updated_at place (length_of op))
         (machine cpu.old (S.storage store.old)) result (machine cpu.new (S.storage store.new)) }
@@ -436,7 +421,6 @@ pub(crate) fn word_result_rows<S: Store>(
     place: Place,
 ) -> Result<(), Interruption>
     requires rows { has_word_result op ≡ true }
-    requires place { IsPlace place }
     ensures { Effect (instruction op (fields_at op prefix.now))
         (updated_at place (length_of op))
         (machine cpu.old (S.storage store.old)) result (machine cpu.new (S.storage store.new)) }
@@ -474,7 +458,6 @@ pub(crate) fn half_rows<S: Store>(
     place: Place,
 ) -> Result<(), Interruption>
     requires rows { has_half op ≡ true }
-    requires place { IsPlace place }
     ensures { Effect (instruction op (fields_at op prefix.now))
         (updated_at place (length_of op))
         (machine cpu.old (S.storage store.old)) result (machine cpu.new (S.storage store.new)) }
@@ -512,7 +495,6 @@ pub(crate) fn indexed_rows<S: Store>(
     place: Place,
 ) -> Result<(), Interruption>
     requires rows { has_address op ≡ true }
-    requires place { IsPlace place }
     ensures { Effect (instruction op (fields_at op prefix.now))
         (updated_at place (length_of op))
         (machine cpu.old (S.storage store.old)) result (machine cpu.new (S.storage store.new)) }
@@ -580,7 +562,6 @@ pub(crate) fn immediate_rows<S: Store>(
     place: Place,
 ) -> Result<(), Interruption>
     requires rows { has_immediate op ≡ true }
-    requires place { IsPlace place }
     ensures { Effect (instruction op (fields_at op prefix.now))
         (updated_at place (length_of op))
         (machine cpu.old (S.storage store.old)) result (machine cpu.new (S.storage store.new)) }
@@ -615,9 +596,57 @@ pub(crate) fn immediate_rows<S: Store>(
     }
 }
 
+/// The match of an operation: the macro `$perform` is called with the function of its group, and EX goes its own way.
+macro_rules! in_group {
+    ($op:expr, $perform:ident, $execute:expr) => {
+        match $op {
+            Op::Balr
+            | Op::Bctr
+            | Op::Bcr
+            | Op::Ltr
+            | Op::Lcr
+            | Op::Clr
+            | Op::Xr
+            | Op::Lr
+            | Op::Cr
+            | Op::Ar
+            | Op::Sr
+            | Op::Mr
+            | Op::Dr
+            | Op::Srl
+            | Op::Sll
+            | Op::Sra
+            | Op::Sla
+            | Op::Srda
+            | Op::Stm
+            | Op::Lm
+            | Op::Stcm
+            | Op::Icm => $perform!(register_rows),
+            Op::L | Op::Cl | Op::C => $perform!(word_rows),
+            Op::A | Op::S | Op::M | Op::D => $perform!(word_result_rows),
+            Op::Lh | Op::Ch | Op::Ah | Op::Sh => $perform!(half_rows),
+            Op::Sth
+            | Op::La
+            | Op::Stc
+            | Op::Bal
+            | Op::Bct
+            | Op::Bc
+            | Op::St
+            | Op::Cvd
+            | Op::Ic
+            | Op::Cvb => $perform!(indexed_rows),
+            Op::Tm | Op::Mvi | Op::Ni | Op::Cli | Op::Oi => $perform!(immediate_rows),
+            Op::Mvc | Op::Clc | Op::Xc | Op::Tr | Op::Trt | Op::Pack | Op::Unpk => $perform!(strings_effect),
+            Op::Ex => $execute,
+        }
+    };
+}
+
+pub(crate) use in_group;
+
 /// The effect of the row `op` except EX, whose bytes begin so. It goes on by a place.
 #[tactic(auto, unfolding(crate::specs::Rows::Effect, crate::specs::Rows::RxEffect, cx_code::specs::Reading::fields_at, cx_code::specs::Reading::fields_in, cx_code::specs::Table::row_of, cx_code::specs::Table::is_shift))]
-#[inline(always)]
+#[inline(never)]
 pub(crate) fn effect<S: Store>(
     cpu: &mut Cpu,
     store: &mut S,
@@ -625,70 +654,15 @@ pub(crate) fn effect<S: Store>(
     prefix: &Prefix,
     place: Place,
 ) -> Result<(), Interruption>
-    requires place { IsPlace place }
     ensures { Effect (instruction op (fields_at op prefix.now))
         (updated_at place (length_of op))
         (machine cpu.old (S.storage store.old)) result (machine cpu.new (S.storage store.new)) }
 {
-    match op {
-        Op::Balr
-        | Op::Bctr
-        | Op::Bcr
-        | Op::Ltr
-        | Op::Lcr
-        | Op::Clr
-        | Op::Xr
-        | Op::Lr
-        | Op::Cr
-        | Op::Ar
-        | Op::Sr
-        | Op::Mr
-        | Op::Dr
-        | Op::Srl
-        | Op::Sll
-        | Op::Sra
-        | Op::Sla
-        | Op::Srda
-        | Op::Stm
-        | Op::Lm
-        | Op::Stcm
-        | Op::Icm => { register_rows(cpu, store, op, prefix, place) }
-        Op::L | Op::Cl | Op::C => { word_rows(cpu, store, op, prefix, place) }
-        Op::A | Op::S | Op::M | Op::D => { word_result_rows(cpu, store, op, prefix, place) }
-        Op::Lh | Op::Ch | Op::Ah | Op::Sh => { half_rows(cpu, store, op, prefix, place) }
-        Op::Sth
-        | Op::La
-        | Op::Stc
-        | Op::Bal
-        | Op::Bct
-        | Op::Bc
-        | Op::St
-        | Op::Cvd
-        | Op::Ic
-        | Op::Cvb => { indexed_rows(cpu, store, op, prefix, place) }
-        Op::Tm | Op::Mvi | Op::Ni | Op::Cli | Op::Oi => {
-            immediate_rows(cpu, store, op, prefix, place)
-        }
-        Op::Mvc | Op::Clc | Op::Xc | Op::Tr | Op::Trt | Op::Pack | Op::Unpk => {
-            strings_effect(cpu, store, op, prefix, place)
-        }
-        // An EX is performed by its target.
-        Op::Ex => Err(Interruption::Operation),
+    macro_rules! perform {
+        ($rows:ident) => {
+            $rows(cpu, store, op, prefix, place)
+        };
     }
-}
-
-/// The same, in code of its own.
-#[inline(never)]
-pub(crate) fn effect_slow<S: Store>(
-    cpu: &mut Cpu,
-    store: &mut S,
-    op: Op,
-    prefix: &Prefix,
-    place: Place,
-) -> Result<(), Interruption>
-    requires place { IsPlace place }
-    ensures { Effect (instruction op (fields_at op prefix.now)) (updated_at place (length_of op))
-        (machine cpu.old (S.storage store.old)) result (machine cpu.new (S.storage store.new)) }
-{
-    effect(cpu, store, op, prefix, place)
+    // An EX is performed by its target.
+    in_group!(op, perform, Err(Interruption::Operation))
 }

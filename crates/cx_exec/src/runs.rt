@@ -8,8 +8,8 @@ ghost use Rattle.cx_exec.specs.declared.machine.Halt.TheVariants as halt;
 use crate::machine::{Cpu, ENTRY, Halt};
 use crate::places::Place;
 use crate::rows::{
-    half_rows, immediate_rows, indexed_rows, register_rows, strings_effect, word_result_rows,
-    word_rows,
+    half_rows, immediate_rows, in_group, indexed_rows, register_rows, strings_effect,
+    word_result_rows, word_rows,
 };
 use crate::stepping::{execute_found, fetch_fast, step_slow};
 use cx_code::Op;
@@ -56,59 +56,24 @@ fn pass<S: Store>(cpu: &mut Cpu, store: &mut S, steps: u32) -> Option<Halt>
         };
         let place = Place::at(cpu.next);
         // Each arm goes on or ends by itself, since results that were joined would be taken apart again.
-        macro_rules! perform {
-            ($rows:ident) => {
-                match $rows(cpu, store, found.op, &found.prefix, place) {
+        macro_rules! go_on_after {
+            ($performed:expr) => {
+                match $performed {
                     Ok(()) => {}
                     Err(cause) => return Some(Halt::Interrupt(cause, cpu.next)),
                 }
             };
         }
-        match found.op {
-            Op::Balr
-            | Op::Bctr
-            | Op::Bcr
-            | Op::Ltr
-            | Op::Lcr
-            | Op::Clr
-            | Op::Xr
-            | Op::Lr
-            | Op::Cr
-            | Op::Ar
-            | Op::Sr
-            | Op::Mr
-            | Op::Dr
-            | Op::Srl
-            | Op::Sll
-            | Op::Sra
-            | Op::Sla
-            | Op::Srda
-            | Op::Stm
-            | Op::Lm
-            | Op::Stcm
-            | Op::Icm => perform!(register_rows),
-            Op::L | Op::Cl | Op::C => perform!(word_rows),
-            Op::A | Op::S | Op::M | Op::D => perform!(word_result_rows),
-            Op::Lh | Op::Ch | Op::Ah | Op::Sh => perform!(half_rows),
-            Op::Sth
-            | Op::La
-            | Op::Stc
-            | Op::Bal
-            | Op::Bct
-            | Op::Bc
-            | Op::St
-            | Op::Cvd
-            | Op::Ic
-            | Op::Cvb => perform!(indexed_rows),
-            Op::Tm | Op::Mvi | Op::Ni | Op::Cli | Op::Oi => perform!(immediate_rows),
-            Op::Mvc | Op::Clc | Op::Xc | Op::Tr | Op::Trt | Op::Pack | Op::Unpk => perform!(
-                strings_effect
-            ),
-            Op::Ex => match execute_found(cpu, store, &found.prefix) {
-                Ok(()) => {}
-                Err(cause) => return Some(Halt::Interrupt(cause, cpu.next)),
-            },
+        macro_rules! perform {
+            ($rows:ident) => {
+                go_on_after!($rows(cpu, store, found.op, &found.prefix, place))
+            };
         }
+        in_group!(
+            found.op,
+            perform,
+            go_on_after!(execute_found(cpu, store, &found.prefix))
+        )
     }
     None
 }

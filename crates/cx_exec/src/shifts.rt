@@ -53,7 +53,6 @@ pub(crate) fn shifted_arithmetic(word: u32, n: u8) -> u32
 pub(crate) fn shift_right(cpu: &mut Cpu, r: u8, n: u8, updated: Updated) -> Result<(), Interruption>
     requires register { r < 16 }
     requires amount { n < 64 }
-    requires address { updated.address < 2 ^ 24 }
     ensures done { result ≡ Ok tt }
     ensures regs { let word = slice_index cpu.old.regs r in
         cpu.new.regs ≡ slice_set cpu.old.regs r (word_of (floor_shifted (signed_word word) n)) }
@@ -75,7 +74,6 @@ pub(crate) fn shift_right(cpu: &mut Cpu, r: u8, n: u8, updated: Updated) -> Resu
 pub(crate) fn shift_left(cpu: &mut Cpu, r: u8, n: u8, updated: Updated) -> Result<(), Interruption>
     requires register { r < 16 }
     requires amount { n < 64 }
-    requires address { updated.address < 2 ^ 24 }
     ensures done { result ≡ Ok tt }
     ensures regs { cpu.new.regs ≡ slice_set cpu.old.regs r (shifted_arithmetic (slice_index cpu.old.regs r) n) }
     ensures code { cpu.new.cc ≡ sum_code (times_power (slice_index cpu.old.regs r) n) }
@@ -96,7 +94,6 @@ pub(crate) fn shift_left(cpu: &mut Cpu, r: u8, n: u8, updated: Updated) -> Resul
 pub(crate) fn shift_pair(cpu: &mut Cpu, r: u8, n: u8, updated: Updated) -> Result<(), Interruption>
     requires register { r < 15 }
     requires amount { n < 64 }
-    requires address { updated.address < 2 ^ 24 }
     ensures done { result ≡ Ok tt }
     ensures regs { let double = pair cpu.old.regs r in
         cpu.new.regs ≡ with_pair cpu.old.regs r (double_of (floor_shifted (signed_double double) n)) }

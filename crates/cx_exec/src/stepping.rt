@@ -17,9 +17,9 @@ use crate::fetch::code_at;
 use crate::machine::{Cpu, ENTRY, Interruption, Step, Updated};
 use crate::places::Place;
 use crate::prefix::{Prefix, fetched_prefix, op_in};
-use crate::rows::{effect, effect_slow, effective, indexed_of};
+use crate::rows::{effect, effective, indexed_of, strings_effect};
 use cx_code::{Fields, Inst, Op};
-use cx_storage::{Store, along};
+use cx_storage::{Store, address_after};
 
 /// An instruction to be performed, and what comes after it.
 #[derive(Drop)]
@@ -59,13 +59,11 @@ fn target_at<S: Store>(cpu: &Cpu, store: &S, r1: u8, a: u32) -> Result<Inst, Int
 #[inline(always)]
 fn fetch_slow<S: Store>(cpu: &Cpu, store: &S) -> Result<PendingInstruction, Interruption>
     ensures value { result ≡ instruction_to_perform (machine cpu.now (S.storage store.now)) }
-    ensures length { IfOk result (λ due. due.updated.length_code ≤ 3) }
-    ensures address { IfOk result (λ due. due.updated.address < 2 ^ 24) }
 {
     let code = code_at(store, cpu.next)?;
     let updated = Updated {
         length_code: (code.len() / 2) as u8,
-        address: along(cpu.next, code.len() as u32),
+        address: address_after(cpu.next, code.len() as u32),
     };
     let inst = code.read()?;
     match inst.fields() {
@@ -131,6 +129,21 @@ fn target_fast<S: Store>(cpu: &Cpu, store: &mut S, r1: u8, a: u32) -> Option<Fou
     Some(Found { op, prefix })
 }
 
+/// Performs the row `op` except EX, whose bytes begin so, and goes on where that is given.
+#[inline(never)]
+fn effect_after<S: Store>(
+    cpu: &mut Cpu,
+    store: &mut S,
+    op: Op,
+    prefix: Prefix,
+    updated: Updated,
+) -> Result<(), Interruption>
+    ensures { let before = machine cpu.old (S.storage store.old) in let after = machine cpu.new (S.storage store.new) in
+        Effect (instruction op (fields_at op prefix)) updated before result after }
+{
+    effect(cpu, store, op, &prefix, Place::after(updated))
+}
+
 /// Performs an instruction except EX, and goes on where that is given.
 #[cold]
 #[inline(never)]
@@ -140,13 +153,30 @@ fn perform_slow<S: Store>(
     inst: &Inst,
     updated: Updated,
 ) -> Result<(), Interruption>
-    requires length { updated.length_code ≤ 3 }
-    requires address { updated.address < 2 ^ 24 }
     ensures { let before = machine cpu.old (S.storage store.old) in let after = machine cpu.new (S.storage store.new) in
         Effect inst.now updated before result after }
 {
-    let prefix = Prefix::with_fields(inst);
-    effect_slow(cpu, store, inst.op(), &prefix, Place::after(updated))
+    effect_after(cpu, store, inst.op(), Prefix::with_fields(inst), updated)
+}
+
+/// Performs the target at `a` (below 2^24) of an EX, wherever it lies. `r1` is below 16.
+#[cold]
+#[inline(never)]
+fn execute_slow<S: Store>(
+    cpu: &mut Cpu,
+    store: &mut S,
+    r1: u8,
+    a: u32,
+    updated: Updated,
+) -> Result<(), Interruption>
+    requires first { r1 < 16 }
+    requires operand { a < 2 ^ 24 }
+    ensures { let before = machine cpu.old (S.storage store.old) in let after = machine cpu.new (S.storage store.new) in
+        MatchResult (target_at before r1 a) (λ target. Effect target updated before result after)
+        (λ cause. IsSuppressed cause before result after) }
+{
+    let target = target_at(cpu, store, r1, a)?;
+    perform_slow(cpu, store, &target, updated)
 }
 
 /// Performs the target at `a` (below 2^24) of an EX at the next address. `r1` is below 16.
@@ -160,13 +190,17 @@ fn execute<S: Store>(cpu: &mut Cpu, store: &mut S, r1: u8, a: u32) -> Result<(),
 {
     let updated = Updated {
         length_code: 2,
-        address: along(cpu.next, 4),
+        address: address_after(cpu.next, 4),
     };
-    if let Some(found) = target_fast(cpu, store, r1, a) {
-        return effect(cpu, store, found.op, &found.prefix, Place::after(updated));
+    let Some(found) = target_fast(cpu, store, r1, a) else {
+        return execute_slow(cpu, store, r1, a, updated);
+    };
+    match found.op {
+        Op::Mvc | Op::Clc | Op::Xc | Op::Tr | Op::Trt | Op::Pack | Op::Unpk => {
+            strings_effect(cpu, store, found.op, &found.prefix, Place::after(updated))
+        }
+        _ => effect_after(cpu, store, found.op, found.prefix, updated),
     }
-    let target = target_at(cpu, store, r1, a)?;
-    perform_slow(cpu, store, &target, updated)
 }
 
 /// Performs an EX at the next address.
@@ -207,7 +241,7 @@ fn run<S: Store>(cpu: &mut Cpu, store: &mut S) -> Result<(), Interruption>
     if found.op == Op::Ex {
         return execute_found(cpu, store, &found.prefix);
     }
-    effect_slow(cpu, store, found.op, &found.prefix, Place::at(cpu.next))
+    effect(cpu, store, found.op, &found.prefix, Place::at(cpu.next))
 }
 
 /// Performs the instruction at the next address, unless that is the entry.

@@ -9,10 +9,10 @@ ghost use Rattle.cx_exec.specs.Strings.{moved_byte, xored_byte, MvcEffect, XcEff
 
 use crate::logic::string_code;
 use crate::machine::{Cpu, Interruption, Updated};
-use crate::operands::{fill_fast, put_bytes, put_coded, put_fast};
+use crate::operands::{fill_fast, of_length, put_bytes, put_coded, put_fast};
 use crate::repeats::repeat;
 use crate::sequence::{content, distance, is_present, seen};
-use cx_storage::{Store, along};
+use cx_storage::{Store, address_after};
 
 /// Puts the bytes that MVC stores at the front of the buffer.
 #[tactic(auto, using(crate::proofs::SequenceLemmas::stored_none))]
@@ -23,7 +23,7 @@ fn move_bytes<S: Store>(store: &S, n: u32, a1: u32, a2: u32, new: &mut [u8; 256]
     ensures { take n new.new ≡ stored_by (moved_byte (S.storage store.now) a1 a2) n }
 {
     for k in 0..n {
-        let from = along(a2, k);
+        let from = address_after(a2, k);
         let byte = seen(store, &new[..k as usize], distance(a1, from), from);
         new[k as usize] = byte;
     }
@@ -55,9 +55,9 @@ fn xor_bytes<S: Store>(store: &S, n: u32, a1: u32, a2: u32, new: &mut [u8; 256])
     ensures { take n new.new ≡ stored_by (xored_byte (S.storage store.now) a1 a2) n }
 {
     for k in 0..n {
-        let from = along(a2, k);
+        let from = address_after(a2, k);
         let second = seen(store, &new[..k as usize], distance(a1, from), from);
-        new[k as usize] = content(store, along(a1, k)) ^ second;
+        new[k as usize] = content(store, address_after(a1, k)) ^ second;
     }
 }
 
@@ -89,7 +89,6 @@ fn copy_through<S: Store>(
     requires second { a2 < 2 ^ 24 }
     requires count { length bytes.old ≤ 256 }
     requires outside { (j : ℕ) → 0 < j → j < length bytes.old → a1 ≢ address_after a2 j }
-    requires address { updated.address < 2 ^ 24 }
     ensures { let before = machine cpu.old (S.storage store.old) in let after = machine cpu.new (S.storage store.new) in
         MvcEffect (length bytes.old) a1 a2 updated before result after }
 {
@@ -113,7 +112,6 @@ fn copy_long<S: Store>(
     requires second { a2 < 2 ^ 24 }
     requires count { n ≤ 256 }
     requires outside { (j : ℕ) → 0 < j → j < n → a1 ≢ address_after a2 j }
-    requires address { updated.address < 2 ^ 24 }
     ensures { let before = machine cpu.old (S.storage store.old) in let after = machine cpu.new (S.storage store.new) in
         MvcEffect n a1 a2 updated before result after }
 {
@@ -140,15 +138,15 @@ fn copy_at_hand<S: Store>(
     requires second { a2 < 2 ^ 24 }
     requires count { length bytes.old ≤ 256 }
     requires outside { (j : ℕ) → 0 < j → j < length bytes.old → a1 ≢ address_after a2 j }
-    requires address { updated.address < 2 ^ 24 }
     ensures done { let before = machine cpu.old (S.storage store.old) in let after = machine cpu.new (S.storage store.new) in
         result ≡ true → MvcEffect (length bytes.old) a1 a2 updated before (Ok tt) after }
     ensures same { result ≡ false → machine cpu.new (S.storage store.new) ≡ machine cpu.old (S.storage store.old) }
 {
-    let Some(part) = store.slice(a2, bytes.len()) else {
+    let n = bytes.len();
+    let Some(part) = store.slice_fast(a2, n) else {
         return false;
     };
-    bytes.copy_from_slice(part);
+    bytes.copy_from_slice(of_length(part, n));
     put_fast(cpu, store, a1, bytes, updated)
 }
 
@@ -166,7 +164,6 @@ fn copy_few<S: Store, const N: usize>(
     requires second { a2 < 2 ^ 24 }
     requires count { N ≤ 256 }
     requires outside { (j : ℕ) → 0 < j → j < N → a1 ≢ address_after a2 j }
-    requires address { updated.address < 2 ^ 24 }
     ensures { let before = machine cpu.old (S.storage store.old) in let after = machine cpu.new (S.storage store.new) in
         MvcEffect N a1 a2 updated before result after }
 {
@@ -190,29 +187,18 @@ fn copy<S: Store>(
     requires first { a1 < 2 ^ 24 }
     requires second { a2 < 2 ^ 24 }
     requires outside { (j : ℕ) → 0 < j → j < l + 1 → a1 ≢ address_after a2 j }
-    requires address { updated.address < 2 ^ 24 }
     ensures { let before = machine cpu.old (S.storage store.old) in let after = machine cpu.new (S.storage store.new) in
         MvcEffect (l + 1) a1 a2 updated before result after }
 {
-    match l {
-        0 => copy_few::<S, 1>(cpu, store, a1, a2, updated),
-        1 => copy_few::<S, 2>(cpu, store, a1, a2, updated),
-        2 => copy_few::<S, 3>(cpu, store, a1, a2, updated),
-        3 => copy_few::<S, 4>(cpu, store, a1, a2, updated),
-        4 => copy_few::<S, 5>(cpu, store, a1, a2, updated),
-        5 => copy_few::<S, 6>(cpu, store, a1, a2, updated),
-        6 => copy_few::<S, 7>(cpu, store, a1, a2, updated),
-        7 => copy_few::<S, 8>(cpu, store, a1, a2, updated),
-        8 => copy_few::<S, 9>(cpu, store, a1, a2, updated),
-        9 => copy_few::<S, 10>(cpu, store, a1, a2, updated),
-        10 => copy_few::<S, 11>(cpu, store, a1, a2, updated),
-        11 => copy_few::<S, 12>(cpu, store, a1, a2, updated),
-        12 => copy_few::<S, 13>(cpu, store, a1, a2, updated),
-        13 => copy_few::<S, 14>(cpu, store, a1, a2, updated),
-        14 => copy_few::<S, 15>(cpu, store, a1, a2, updated),
-        15 => copy_few::<S, 16>(cpu, store, a1, a2, updated),
-        _ => copy_long(cpu, store, a1, a2, updated, u32::from(l) + 1),
+    macro_rules! by {
+        ($($l:literal $n:literal)*) => {
+            match l {
+                $($l => copy_few::<S, $n>(cpu, store, a1, a2, updated),)*
+                _ => copy_long(cpu, store, a1, a2, updated, u32::from(l) + 1),
+            }
+        };
     }
+    by!(0 1 1 2 2 3 3 4 4 5 5 6 6 7 7 8 8 9 9 10 10 11 11 12 12 13 13 14 14 15 15 16)
 }
 
 /// Puts the bytes of two strings, joined by exclusive or, into a buffer of their length.
@@ -288,7 +274,6 @@ fn join_through<S: Store>(
     requires second { a2 < 2 ^ 24 }
     requires count { length bytes.old ≤ 256 }
     requires outside { (j : ℕ) → 0 < j → j < length bytes.old → a1 ≢ address_after a2 j }
-    requires address { updated.address < 2 ^ 24 }
     ensures { let before = machine cpu.old (S.storage store.old) in let after = machine cpu.new (S.storage store.new) in
         XcEffect (length bytes.old) a1 a2 updated before result after }
 {
@@ -313,7 +298,6 @@ fn join_long<S: Store>(
     requires second { a2 < 2 ^ 24 }
     requires count { n ≤ 256 }
     requires outside { (j : ℕ) → 0 < j → j < n → a1 ≢ address_after a2 j }
-    requires address { updated.address < 2 ^ 24 }
     ensures { let before = machine cpu.old (S.storage store.old) in let after = machine cpu.new (S.storage store.new) in
         XcEffect n a1 a2 updated before result after }
 {
@@ -336,7 +320,6 @@ fn join<S: Store>(
     requires second { a2 < 2 ^ 24 }
     requires count { n ≤ 256 }
     requires outside { (j : ℕ) → 0 < j → j < n → a1 ≢ address_after a2 j }
-    requires address { updated.address < 2 ^ 24 }
     ensures { let before = machine cpu.old (S.storage store.old) in let after = machine cpu.new (S.storage store.new) in
         XcEffect n a1 a2 updated before result after }
 {
@@ -368,7 +351,6 @@ fn spread<S: Store>(
     requires some { 0 < n }
     requires count { n ≤ 256 }
     requires begins { a1 ≡ address_after a2 1 }
-    requires address { updated.address < 2 ^ 24 }
     ensures { let before = machine cpu.old (S.storage store.old) in let after = machine cpu.new (S.storage store.new) in
         MvcEffect n a1 a2 updated before result after }
 {
@@ -396,7 +378,6 @@ fn fill<S: Store>(
     requires first { a1 < 2 ^ 24 }
     requires second { a2 < 2 ^ 24 }
     requires count { n ≤ 256 }
-    requires address { updated.address < 2 ^ 24 }
     ensures { let before = machine cpu.old (S.storage store.old) in let after = machine cpu.new (S.storage store.new) in
         MvcEffect n a1 a2 updated before result after }
 {
@@ -422,7 +403,6 @@ fn join_each<S: Store>(
     requires first { a1 < 2 ^ 24 }
     requires second { a2 < 2 ^ 24 }
     requires count { n ≤ 256 }
-    requires address { updated.address < 2 ^ 24 }
     ensures { let before = machine cpu.old (S.storage store.old) in let after = machine cpu.new (S.storage store.new) in
         XcEffect n a1 a2 updated before result after }
 {
@@ -441,7 +421,6 @@ fn join_each<S: Store>(
 fn clear<S: Store>(cpu: &mut Cpu, store: &mut S, n: u32, a: u32, updated: Updated) -> bool
     requires operand { a < 2 ^ 24 }
     requires count { n ≤ 256 }
-    requires address { updated.address < 2 ^ 24 }
     ensures done { let before = machine cpu.old (S.storage store.old) in let after = machine cpu.new (S.storage store.new) in
         result ≡ true → XcEffect n a a updated before (Ok tt) after }
     ensures same { result ≡ false → machine cpu.new (S.storage store.new) ≡ machine cpu.old (S.storage store.old) }
@@ -461,7 +440,6 @@ pub(crate) fn mvc<S: Store>(
 ) -> Result<(), Interruption>
     requires first { a1 < 2 ^ 24 }
     requires second { a2 < 2 ^ 24 }
-    requires address { updated.address < 2 ^ 24 }
     ensures { let before = machine cpu.old (S.storage store.old) in let after = machine cpu.new (S.storage store.new) in
         MvcEffect (l + 1) a1 a2 updated before result after }
 {
@@ -490,7 +468,6 @@ pub(crate) fn xc<S: Store>(
     requires first { a1 < 2 ^ 24 }
     requires second { a2 < 2 ^ 24 }
     requires count { n ≤ 256 }
-    requires address { updated.address < 2 ^ 24 }
     ensures { let before = machine cpu.old (S.storage store.old) in let after = machine cpu.new (S.storage store.new) in
         XcEffect n a1 a2 updated before result after }
 {

@@ -9,7 +9,7 @@ ghost use Rattle.cx_exec.specs.Translation.{table_byte, HasTable, translated_byt
 use crate::loads::inserted;
 use crate::machine::{Cpu, Interruption, Updated};
 use crate::sequence::{content, distance, is_present, seen};
-use cx_storage::{Store, along};
+use cx_storage::{Store, address_after};
 
 /// The table's byte for the `k`-th argument byte (`k` is at most 256), where both are present.
 fn table_byte<S: Store>(store: &S, a1: u32, a2: u32, k: u32) -> Option<u8>
@@ -18,8 +18,8 @@ fn table_byte<S: Store>(store: &S, a1: u32, a2: u32, k: u32) -> Option<u8>
     requires place { k ≤ 256 }
     ensures { result ≡ table_byte (S.storage store.now) a1 a2 k }
 {
-    let argument = store.byte(along(a1, k))?;
-    store.byte(along(a2, u32::from(argument)))
+    let argument = store.byte(address_after(a1, k))?;
+    store.byte(address_after(a2, u32::from(argument)))
 }
 
 /// Whether each of `n` argument bytes, and the table's byte for it, is present.
@@ -48,8 +48,8 @@ fn translate_bytes<S: Store>(store: &S, n: u32, a1: u32, a2: u32, new: &mut [u8;
     ensures { take n new.new ≡ stored_by (translated_byte (S.storage store.now) a1 a2) n }
 {
     for k in 0..n {
-        let argument = content(store, along(a1, k));
-        let from = along(a2, u32::from(argument));
+        let argument = content(store, address_after(a1, k));
+        let from = address_after(a2, u32::from(argument));
         let byte = seen(store, &new[..k as usize], distance(a1, from), from);
         new[k as usize] = byte;
     }
@@ -125,7 +125,6 @@ pub(crate) fn tr<S: Store>(
     requires first { a1 < 2 ^ 24 }
     requires second { a2 < 2 ^ 24 }
     requires count { n ≤ 256 }
-    requires address { updated.address < 2 ^ 24 }
     ensures { let before = machine cpu.old (S.storage store.old) in let after = machine cpu.new (S.storage store.new) in
         TrEffect n a1 a2 updated before result after }
 {
@@ -204,11 +203,10 @@ fn set_found(cpu: &mut Cpu, n: u32, a1: u32, k: u32, byte: u8, updated: Updated)
     requires first { a1 < 2 ^ 24 }
     requires place { k < n }
     requires count { n ≤ 256 }
-    requires address { updated.address < 2 ^ 24 }
     ensures { (storage : Storage)
         → machine cpu.new storage ≡ found_at n a1 k byte updated (machine cpu.old storage) }
 {
-    cpu.regs[1] = with_address(cpu.regs[1], along(a1, k));
+    cpu.regs[1] = with_address(cpu.regs[1], address_after(a1, k));
     cpu.regs[2] = inserted(cpu.regs[2], byte);
     cpu.cc = if k + 1 == n { 2 } else { 1 };
     cpu.next = updated.address;
@@ -228,7 +226,6 @@ pub(crate) fn trt<S: Store>(
     requires first { a1 < 2 ^ 24 }
     requires second { a2 < 2 ^ 24 }
     requires count { n ≤ 256 }
-    requires address { updated.address < 2 ^ 24 }
     ensures { let before = machine cpu.old (S.storage store.now) in let after = machine cpu.new (S.storage store.now) in
         TrtEffect n a1 a2 updated before result after }
 {

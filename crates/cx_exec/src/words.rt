@@ -29,7 +29,6 @@ fn with_second<S: Store>(
     requires rows { takes_second op ≡ true }
     requires first { r1 < 16 }
     requires second { second_at op (S.storage _store.now) _a ≡ Some second }
-    requires address { updated.address < 2 ^ 24 }
     ensures { let before = machine cpu.old (S.storage _store.now) in let after = machine cpu.new (S.storage _store.now) in
         RxEffect op r1 _a updated before result after }
 {
@@ -90,7 +89,6 @@ fn second_row_apart<S: Store>(
     requires rows { takes_second op ≡ true }
     requires first { r1 < 16 }
     requires operand { a < 2 ^ 24 }
-    requires address { updated.address < 2 ^ 24 }
     ensures { let before = machine cpu.old (S.storage store.now) in let after = machine cpu.new (S.storage store.now) in
         RxEffect op r1 a updated before result after }
 {
@@ -111,7 +109,6 @@ pub(crate) fn second_row<S: Store>(
     requires rows { takes_second op ≡ true }
     requires first { r1 < 16 }
     requires operand { a < 2 ^ 24 }
-    requires address { updated.address < 2 ^ 24 }
     ensures { let before = machine cpu.old (S.storage store.now) in let after = machine cpu.new (S.storage store.now) in
         RxEffect op r1 a updated before result after }
 {

@@ -11,7 +11,7 @@ use crate::digits::{align, pack_aligned, unpack_aligned};
 use crate::machine::{Cpu, Interruption, Updated};
 use crate::operands::put_bytes;
 use crate::sequence::{distance, seen};
-use cx_storage::{Store, along};
+use cx_storage::{Store, address_after};
 
 /// The address `k` bytes (at most 256) before `a` (below 2^24); before 0 comes X'FFFFFF'.
 fn leftward(a: u32, k: u32) -> u32
@@ -20,7 +20,7 @@ fn leftward(a: u32, k: u32) -> u32
     ensures value { result ≡ address_before a k }
     ensures short { result < 2 ^ 24 }
 {
-    along(a, 0x100_0000 - k)
+    address_after(a, 0x100_0000 - k)
 }
 
 /// The `i`-th byte (`i` is at most 256) from the right of a source of `n2` bytes whose last one is at `e2`, once some
@@ -213,7 +213,14 @@ fn pack_each<S: Store>(store: &S, n1: u32, n2: u32, a1: u32, a2: u32, new: &mut 
     if !store.has_span(a2, n2 as usize) {
         return false;
     }
-    pack_bytes(store, n1, along(a1, n1 - 1), n2, along(a2, n2 - 1), new);
+    pack_bytes(
+        store,
+        n1,
+        address_after(a1, n1 - 1),
+        n2,
+        address_after(a2, n2 - 1),
+        new,
+    );
     new.reverse();
     true
 }
@@ -237,7 +244,14 @@ fn unpack_each<S: Store>(store: &S, n1: u32, n2: u32, a1: u32, a2: u32, new: &mu
     if !store.has_span(a2, n2 as usize) {
         return false;
     }
-    unpack_bytes(store, n1, along(a1, n1 - 1), n2, along(a2, n2 - 1), new);
+    unpack_bytes(
+        store,
+        n1,
+        address_after(a1, n1 - 1),
+        n2,
+        address_after(a2, n2 - 1),
+        new,
+    );
     new.reverse();
     true
 }
@@ -259,7 +273,6 @@ pub(crate) fn pack<S: Store>(
     requires count2 { n2 ≤ 16 }
     requires some1 { 0 < n1 }
     requires some2 { 0 < n2 }
-    requires address { updated.address < 2 ^ 24 }
     ensures { let before = machine cpu.old (S.storage store.old) in let after = machine cpu.new (S.storage store.new) in
         PackEffect n1 n2 a1 a2 updated before result after }
 {
@@ -287,7 +300,6 @@ pub(crate) fn unpk<S: Store>(
     requires count2 { n2 ≤ 16 }
     requires some1 { 0 < n1 }
     requires some2 { 0 < n2 }
-    requires address { updated.address < 2 ^ 24 }
     ensures { let before = machine cpu.old (S.storage store.old) in let after = machine cpu.new (S.storage store.new) in
         UnpkEffect n1 n2 a1 a2 updated before result after }
 {

@@ -27,8 +27,8 @@ use Rattle.cx_region.specs.declared.replies.Reply.TheVariants as reply
 use Rattle.cx_ebcdic.specs.Names.{is_name}
 use Rattle.cx_region.specs.State.{RegionState, TerminalState, terminal_with}
 use Rattle.cx_region.specs.Tables.{fresh_terminal, program_of, terminal_of, transaction_of, with_terminal}
-use Rattle.cx_region.specs.Defining.{DefinesProgram, DefinesTerminal, DefinesTransaction, Loads, fresh_region, program_fault, terminal_fault, transaction_fault}
-use Rattle.cx_region.specs.Attach.{Attaches, Gives, TakesKey, OnlyAnswers, Starts, commarea_kept, first_level, fresh_task, input_from, next_number, transaction_named, with_task}
+use Rattle.cx_region.specs.Defining.{DefinesProgram, DefinesTerminal, DefinesTransaction, LoadsProgram, fresh_region, program_fault, terminal_fault, transaction_fault}
+use Rattle.cx_region.specs.Attach.{Attaches, Gives, TakesKey, OnlyAnswers, StartsTask, commarea_kept, first_level, fresh_task, input_from, next_number, transaction_named, with_task}
 use Rattle.cx_region.specs.Turn.{TaskTakesTurn, TakesTurn, context_of, task_after}
 use Rattle.cx_region.specs.Alter.{Alters, alter_refusal, after_change, altered_at, altered_region, ends_task, task_left}
 use Rattle.cx_region.specs.Events.{Applies, Run}
@@ -90,12 +90,12 @@ program_kept : (old new : RegionState) (name : List ℕ) (image : Image) (result
 unfolding DefinesProgram
 program_kept old new name image result kept h = by_fault (program_fault old name) h
   where
-    loads : (answer : Result Loaded DefineFault) → Loads old name image answer new → KeepsWhatIsDue new
+    loads : (answer : Result Loaded DefineFault) → LoadsProgram old name image answer new → KeepsWhatIsDue new
     loads (Ok loaded) h = subst KeepsWhatIsDue (sym h.1) kept
     loads (Err NoRoom) h = subst KeepsWhatIsDue (sym h.1) kept
     loads (Err _) h = absurd h
 
-    by_fault : (o : Option DefineFault) → MatchOption o (Loads old name image result new) (λ fault. (result ≡ Err fault) × (new ≡ old)) → KeepsWhatIsDue new
+    by_fault : (o : Option DefineFault) → MatchOption o (LoadsProgram old name image result new) (λ fault. (result ≡ Err fault) × (new ≡ old)) → KeepsWhatIsDue new
     by_fault None h = loads result h
     by_fault (Some fault) h = subst KeepsWhatIsDue (sym h.1) kept
 
@@ -169,12 +169,12 @@ key_kept old new name input reply kept h = at_terminal (terminal_of old name) re
     at_input t there (Some held) h = only key.AlreadyHeldInput h
 
     at_task : (t : TerminalState) → terminal_of old name ≡ Some t → (o : Option TaskState)
-        → MatchOption o (Starts old name t input (transaction_named t.following input.bytes) reply new) (λ task. Gives old name t input reply new) → KeepsWhatIsDue new
+        → MatchOption o (StartsTask old name t input (transaction_named t.following input.bytes) reply new) (λ task. Gives old name t input reply new) → KeepsWhatIsDue new
     at_task t there None h =
         let tran = transaction_named t.following input.bytes in at_tran t tran there (transaction_of old tran) h
     at_task t there (Some task) h = at_input t there t.input h
 
-    at_terminal : (o : Option TerminalState) → terminal_of old name ≡ o → MatchOption o (OnlyAnswers key.NoSuchTerminal old reply new) (λ t. MatchOption t.task (Starts old name t input (transaction_named t.following input.bytes) reply new) (λ task. Gives old name t input reply new)) → KeepsWhatIsDue new
+    at_terminal : (o : Option TerminalState) → terminal_of old name ≡ o → MatchOption o (OnlyAnswers key.NoSuchTerminal old reply new) (λ t. MatchOption t.task (StartsTask old name t input (transaction_named t.following input.bytes) reply new) (λ task. Gives old name t input reply new)) → KeepsWhatIsDue new
     at_terminal None there h = only key.NoSuchTerminal h
     at_terminal (Some t) there h = at_task t there t.task h
 

@@ -14,7 +14,7 @@ use Rattle.cx_script_io.specs.Lines.{lines_met}
 use Rattle.cx_script_io.specs.declared.input.Ending.{Ending}
 use Rattle.cx_script.specs.Facts.Fronts.{part_first}
 use Rattle.cx_script.specs.Script.{Script, first_place, script_in}
-use Rattle.cx_script.specs.Transcript.{Ends, Runs, Wrote, front_of}
+use Rattle.cx_script.specs.Transcript.{EndsScript, PerformsAll, Wrote, front_of}
 use Rattle.cx_script.specs.Laws.Events.{ScriptsRunTheirEvents, events_of}
 use Rattle.cx_script.specs.Laws.Inputs.{was_stopped}
 use Rattle.cx_look_script.specs.Laws.Looks.{LooksChangeNothing, plain_of, written_of}
@@ -33,7 +33,7 @@ record Done {A S : Type 0} (performs : S → A → List ℕ → S → Type 0) (b
   text : List ℕ
   written : WasWritten answer wrote text
   new : S
-  runs : Runs performs begin actions text new
+  runs : PerformsAll performs begin actions text new
 
 -- all of its actions
 of_whole : {A S : Type 0} (performs : S → A → List ℕ → S → Type 0) (begin : S) (script : Script A) (answer : Result Summary RunFault) (wrote : List ℕ)
@@ -51,8 +51,8 @@ of_whole performs begin script answer wrote w written =
     }
 
 done_in : {A S : Type 0} (language : Language A) (performs : S → A → List ℕ → S → Type 0) (begin : S) (ending : Ending) (bytes : List ℕ) (answer : Result Summary RunFault)
-    (wrote : List ℕ) → Ends language performs begin ending bytes answer wrote → Done performs begin (script_in language ending bytes) answer wrote
-unfolding Ends script_in
+    (wrote : List ℕ) → EndsScript language performs begin ending bytes answer wrote → Done performs begin (script_in language ending bytes) answer wrote
+unfolding EndsScript script_in
 done_in language performs begin ending bytes (Ok summary) wrote e = of_whole performs begin (script_in language ending bytes) (Ok summary) wrote e.2 e.2.written
 done_in language performs begin ending bytes (Err (BadLine n)) wrote e = of_whole performs begin (script_in language ending bytes) (Err (BadLine n)) wrote e.1 e.1.written
 done_in language performs begin ending bytes (Err (BadLook n)) wrote e = of_whole performs begin (script_in language ending bytes) (Err (BadLook n)) wrote e.1 e.1.written
@@ -86,7 +86,7 @@ done_in {A} language performs begin ending bytes (Err Write) wrote e =
     }
 
 done_of : ScriptsRunTheirEvents → (ending : Ending) (bytes : List ℕ) (answer : Result Summary RunFault) (wrote : List ℕ)
-    → Ends edf_language Performs fresh_state ending bytes answer wrote → IsDoneOf (script_in edf_language ending bytes) answer wrote
+    → EndsScript edf_language Performs fresh_state ending bytes answer wrote → IsDoneOf (script_in edf_language ending bytes) answer wrote
 done_of law ending bytes answer wrote e =
     let d = done_in edf_language Performs fresh_state ending bytes answer wrote e in
     record {

@@ -14,7 +14,7 @@ use Rattle.cx_region.specs.declared.replies.Reply.TheVariants as reply
 use Rattle.cx_region.specs.State.{RegionState}
 use Rattle.cx_region.specs.Tables.{terminal_of}
 use Rattle.cx_region.specs.Events.{Run}
-use Rattle.cx_region_laws.specs.Laws.Regions.{RunsDecide}
+use Rattle.cx_region_laws.specs.Laws.Regions.{RegionRunsDecide}
 use Rattle.cx_edf.specs.declared.answers.Answer.{Answer}
 use Rattle.cx_edf.specs.declared.answers.Answer.TheVariants as answer
 use Rattle.cx_edf.specs.declared.answers.EdfEvent.{EdfEvent}
@@ -116,7 +116,7 @@ no_alterations (e ∷ es) [] = tt
 no_alterations (edf_event.Plain e ∷ es) (answer.Region r ∷ gs) = one_more (is_alteration e) e r (answered_in es gs) refl (no_alterations es gs)
 no_alterations (_ ∷ es) (_ ∷ gs) = no_alterations es gs
 
-off_same : RunsDecide → OffIsTheRegion → (old : EdfState) (left : List Event) (replies : List Reply) (region : RegionState) → AllByRecursion (λ e. is_alteration e ≡ false) left
+off_same : RegionRunsDecide → OffIsTheRegion → (old : EdfState) (left : List Event) (replies : List Reply) (region : RegionState) → AllByRecursion (λ e. is_alteration e ≡ false) left
     → Run old.region left replies region → (make : DisplayMaker) (others : List Answer) (states : List EdfState)
     → Trace make (off_at old.region) (map (λ e. edf_event.Plain e) left) others states
     → (others ≡ map (λ r. answer.Region r) replies) × ((last_state (off_at old.region) states).region ≡ region)
@@ -128,7 +128,7 @@ off_same decide law old left replies region all plain make others states trace =
 -- ---- the same states
 -- what the proof cites
 pub record WatchLaws : Type 0 where
-  pub decide : RunsDecide
+  pub decide : RegionRunsDecide
   pub fronts : FrontsAreTraces
   pub whole : WhatIsLeftIsARun
   pub own : OwnEventsHaveOwnAnswers

@@ -8,13 +8,14 @@ ghost use Rattle.cx_edf.specs.Laws.Watched.{RunsCanBeWatched};
 ghost use Rattle.cx_headline.specs.Laws.Due.{AlwaysKeepsWhatIsDue, EventsKeepWhatIsDue, KeepsWhatIsDue, RunsKeepWhatIsDue, StillKeepsWhatIsDue};
 ghost use Rattle.cx_headline.specs.Laws.Entries.{EntriesHoldTheirBases, TasksBeginSo};
 ghost use Rattle.cx_headline.specs.Laws.Looks.{ScriptsAreLookedOver};
-ghost use Rattle.cx_headline.specs.Laws.Orders.{OrdersAreTrue};
+ghost use Rattle.cx_headline.specs.Laws.Orders.{LinesAskForSteps, OrdersAreTrue};
 ghost use Rattle.cx_headline.specs.Laws.Pointers.{PointersAreGiven};
 ghost use Rattle.cx_headline.specs.Laws.Rows.{EachIsItsRow};
 ghost use Rattle.cx_headline.specs.Laws.Runs.{OfEachRun, OfEachScript};
 ghost use Rattle.cx_headline.specs.Laws.Sources.{BlocksComeBack};
 ghost use Rattle.cx_headline.specs.Laws.Watching.{IsAsUnwatched, ShowingChangesNothing};
 ghost use Rattle.cx_look_script.specs.Laws.Looks.{LooksAreMarked, LooksAreReportedOnce, LooksChangeNothing};
+ghost use Rattle.cx_look_script.specs.Laws.Orders.{OrdersAreReportedOnce};
 ghost use Rattle.cx_region.specs.Defining.{fresh_region};
 
 /// Each event of a run changes the region exactly as its row says. A turn is one half-turn of the terminal's task: the
@@ -86,16 +87,25 @@ pub fn looking_changes_nothing()
 }
 
 /// No order is missed. Where ORDERS finds all states, each list of turns and keys that ends at rest, of whatever length, ends with one
-/// of the outcomes that are written; else each list of so many moves as were tried. Each outcome is real: the lines that are written
-/// with it lead there, in `cicsedf` with EDF Off too, and no other list is sooner. No text stands twice. SOME NEVER REST and SOME
-/// CANNOT REST stand exactly where that is so.
+/// of the outcomes that are written; else each list of so many moves as were tried. Each outcome is real: its steps end at rest, what is
+/// seen there is its text, their turns and keys lead there in `cicsedf` with EDF Off too, and no other list is sooner. No text stands
+/// twice. SOME NEVER REST and SOME CANNOT REST stand exactly where that is so.
+///
+/// The lines that are written of steps are read as lines of a script, and ask for EDF OFF where EDF is on, and then for the steps' turns,
+/// by RUN with their number, and keys, in their order. And of a region in which no two terminals share a name what is written for a
+/// block is one text.
 pub fn no_order_is_missed()
-    ensures { OrdersAreTrue }
+    ensures missed { OrdersAreTrue }
+    ensures read { LinesAskForSteps }
+    ensures reported { OrdersAreReportedOnce }
 {
     cx_edf::laws::off_is_the_region();
+    cx_look::laws::keys_are_asked_by_their_lines();
     cx_look_orders::laws::steps_are_runs();
     cx_look_orders::laws::scripts_ask_for_steps();
     cx_look_orders::laws::loops_are_endless();
+    cx_look_script::laws::scripts_ask_for_events();
+    cx_look_script::laws::orders_are_reported_once();
     cx_search::laws::one_list_is_sooner();
 }
 

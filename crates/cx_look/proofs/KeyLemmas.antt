@@ -5,20 +5,20 @@ use Rattle.std.proofs.lemmas.Slice.Eq.{bytes_eq-Decides}
 use Rattle.cx_ebcdic.specs.Names.{padded_name}
 use Rattle.cx_ebcdic.specs.declared.aids.Aid.{Aid}
 use Rattle.cx_region.specs.declared.replies.Event.TheVariants as event
-use Rattle.cx_script_actions.specs.Actions.{does, is_blank_or_comment, key_with_text, line_asked_for, line_of}
+use Rattle.cx_script_actions.specs.Actions.{event_line, is_blank_or_comment, key_with_text, line_asked_for, line_of}
 use Rattle.cx_script_actions.specs.Words.{after_first_blank, word}
 use Rattle.cx_script_actions.specs.declared.actions.Line.TheVariants as line
 use Rattle.cx_look.specs.Orders.{event_in, is_key, key_in, key_of}
 
 -- what KEY asks, by what follows it
-pressed : (text name : List ℕ) (o : Option (Aid × List ℕ)) → is_some (option_map (λ key. does (event.Key name key.0 key.1)) o) ≡ true
-    → is_some (option_and_then (key_in text) (option_and_then event_in (option_map (λ (key : Aid × List ℕ). does (event.Key name key.0 key.1)) o))) ≡ true
+pressed : (text name : List ℕ) (o : Option (Aid × List ℕ)) → is_some (option_map (λ key. event_line (event.Key name key.0 key.1)) o) ≡ true
+    → is_some (option_and_then (key_in text) (option_and_then event_in (option_map (λ (key : Aid × List ℕ). event_line (event.Key name key.0 key.1)) o))) ≡ true
 pressed text name None e = e
 pressed text name (Some key) e = refl
 
 at_terminal : (text : List ℕ) (o : Option (List ℕ)) (key : Option (Aid × List ℕ))
-    → is_some (option_and_then (λ name. option_map (λ (pressed : Aid × List ℕ). does (event.Key name pressed.0 pressed.1)) key) o) ≡ true
-    → is_some (option_and_then (key_in text) (option_and_then event_in (option_and_then (λ name. option_map (λ (pressed : Aid × List ℕ). does (event.Key name pressed.0 pressed.1)) key) o))) ≡ true
+    → is_some (option_and_then (λ name. option_map (λ (pressed : Aid × List ℕ). event_line (event.Key name pressed.0 pressed.1)) key) o) ≡ true
+    → is_some (option_and_then (key_in text) (option_and_then event_in (option_and_then (λ name. option_map (λ (pressed : Aid × List ℕ). event_line (event.Key name pressed.0 pressed.1)) key) o))) ≡ true
 at_terminal text None key e = e
 at_terminal text (Some name) key e = pressed text name key e
 

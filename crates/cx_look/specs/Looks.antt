@@ -82,10 +82,12 @@ abbrev pub ahead_look : List ℕ → Option (List ℕ) → Option Look
 ahead_look term None = Some (look.Ahead term 16)
 ahead_look term (Some text) = option_map (look.Ahead term) (count_of 256 text)
 
--- the last abend of a terminal, or its storage
+-- the last abend of a terminal, its storage, or its fields
 abbrev pub abend_look : List ℕ → Option (List ℕ) → Option Look
 abend_look name None = Some (look.Abend name)
-abend_look name (Some text) = if bytes_eq text (codes "STORAGE") then Some (look.AbendStorage name) else None
+abend_look name (Some text) =
+    if bytes_eq text (codes "STORAGE") then Some (look.AbendStorage name)
+    else if bytes_eq text (codes "FIELDS") then Some (look.AbendFields name) else None
 
 -- a look by its first word, and by the words after it where there are some
 unfoldable pub look_by_word : Subject → Option (List ℕ) → Option Look

@@ -1,5 +1,5 @@
 -- ORDERS: which lines its block may have, and what they ask (own).
-use Rattle.std.specs.Prelude.{ℕ, ◌&&◌, ◌≤◌, nat_le, nat_lt, not, Bool, true, false, count_by, if◌then◌else◌, Option, Some, None, is_some, List, [], ◌∷◌, ◌++◌, length, map, codes}
+use Rattle.std.specs.Prelude.{ℕ, ◌&&◌, nat_le, nat_lt, not, Bool, true, false, count_by, if◌then◌else◌, Option, Some, None, is_some, List, [], ◌∷◌, ◌++◌, length, map, codes}
 use Rattle.std.specs.Char.{to_ascii_uppercase}
 use Rattle.std.specs.List.{flat_map}
 use Rattle.std.specs.Option.{option_and_then, option_map, option_or}
@@ -8,6 +8,7 @@ use Rattle.cx_ebcdic.specs.Names.{padded_name}
 use Rattle.cx_region.specs.declared.replies.Event.TheVariants as event
 use Rattle.cx_edf.specs.declared.answers.EdfEvent.{EdfEvent}
 use Rattle.cx_edf.specs.declared.answers.EdfEvent.TheVariants as edf
+use Rattle.cx_orders.specs.declared.states.KeyLine.{KeyLine}
 use Rattle.cx_script_actions.specs.Actions.{is_blank_or_comment, line_of}
 use Rattle.cx_script_actions.specs.Words.{after_first_blank, number_of, word}
 use Rattle.cx_script_actions.specs.declared.actions.Action.{Action}
@@ -18,7 +19,6 @@ use Rattle.cx_look.specs.Looks.{at_most, look_of}
 use Rattle.cx_look.specs.declared.look.Look.{Look}
 use Rattle.cx_look.specs.declared.look.Look.TheVariants as look
 use Rattle.cx_look.specs.declared.orders.OrdersBlock.{OrdersBlock}
-use Rattle.cx_look.specs.declared.orders.OrdersKey.{OrdersKey}
 use Rattle.cx_look.specs.declared.orders.OrdersLine.{OrdersLine}
 use Rattle.cx_look.specs.declared.orders.OrdersLine.TheVariants as says
 use Rattle.cx_look.specs.declared.orders.Sight.{Sight}
@@ -38,18 +38,19 @@ abbrev pub event_in : Line Action → Option EdfEvent
 event_in (line.Action (action.Event e)) = Some e
 event_in _ = None
 
-abbrev pub key_in : List ℕ → EdfEvent → Option OrdersKey
+abbrev pub key_in : List ℕ → EdfEvent → Option KeyLine
 key_in text (edf.Plain (event.Key name aid bytes)) =
     Some (record { name = name; aid = aid; bytes = bytes; line = text })
 key_in text _ = None
 
-abbrev pub key_of : List ℕ → Option OrdersKey
+abbrev pub key_of : List ℕ → Option KeyLine
 key_of text = option_and_then (key_in text) (option_and_then event_in (line_of text))
 
 -- what may be seen of an outcome: SCREEN, as a script of `cicsedf` has it, and looks at what is in the region
 abbrev pub is_sight : Look → Bool
 is_sight (look.Abend name) = false
 is_sight (look.AbendStorage name) = false
+is_sight (look.AbendFields name) = false
 is_sight (look.Ahead name n) = false
 is_sight (look.Faults source) = false
 is_sight (look.Help word) = false
@@ -90,7 +91,7 @@ orders_with lines text =
     if is_blank_or_comment text then Some lines
     else if has_room lines text && is_some (orders_line_of text) then Some (lines ++ text ∷ []) else None
 
-abbrev pub keys_in : Option OrdersLine → List OrdersKey
+abbrev pub keys_in : Option OrdersLine → List KeyLine
 keys_in (Some (says.Key key)) = key ∷ []
 keys_in _ = []
 
@@ -106,7 +107,3 @@ orders_block most lines =
       keys = flat_map (λ l. keys_in (orders_line_of l)) lines;
       sights = flat_map (λ l. sights_in (orders_line_of l)) lines;
     }
-
--- a key has at most 1,920 bytes
-abbrev pub IsFew : OrdersKey → Type 0
-IsFew key = length key.bytes ≤ 1920

@@ -1,8 +1,9 @@
 //! What a line that looks at a region asks.
 #![tactic(auto)]
 
+pub mod laws;
 mod look;
 mod orders;
 
 pub use look::{Look, SourceLines, Subject, look_of, subject_of};
-pub use orders::{OrdersBlock, OrdersKey, OrdersLine, Sight, orders_block, orders_with, states_of};
+pub use orders::{OrdersBlock, OrdersLine, Sight, orders_block, orders_with, states_of};

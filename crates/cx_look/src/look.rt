@@ -41,7 +41,7 @@ pub struct SourceLines {
     pub lines: List<Text>,
 }
 
-/// What is looked at.
+/// A look, with what its line says of it.
 #[derive(Debug, Drop)]
 pub enum Look {
     /// Storage from an address on, and how many bytes: 1 to 4,096.
@@ -60,6 +60,8 @@ pub enum Look {
     Abend(Name4),
     /// The DFHEISTG of the level that abended, as it was then.
     AbendStorage(Name4),
+    /// The fields of that DFHEISTG.
+    AbendFields(Name4),
     /// All queues.
     Queues,
     /// A queue and its items.
@@ -121,7 +123,7 @@ pub enum Subject {
 }
 
 impl Subject {
-    /// All of these words.
+    /// Each word of a look, in the order of HELP.
     pub const ALL: [Subject; 23] = [
         Subject::Storage,
         Subject::Where,
@@ -222,7 +224,7 @@ fn decode(word: &[u8], bytes: &mut [u8]) -> bool
 }
 
 /// The name of a queue whose eight bytes sixteen hexadecimal digits spell.
-fn name_of_digits(word: &[u8]) -> Option<Name8>
+fn hex_bytes(word: &[u8]) -> Option<Name8>
     requires { length word.now ≡ 16 }
     ensures { result ≡ hex_bytes word.now }
 {
@@ -240,7 +242,7 @@ fn queue_name_of(word: &[u8]) -> Option<Name8>
     ensures { result ≡ queue_name_of word.now }
 {
     if word.len() == NAME_DIGITS {
-        name_of_digits(word)
+        hex_bytes(word)
     } else {
         name8(word)
     }
@@ -331,7 +333,7 @@ fn fields(text: &[u8]) -> Option<Look>
     Some(Look::Fields(term, k))
 }
 
-/// The last abend of a terminal, or its storage, by what follows the terminal.
+/// The last abend of a terminal, its storage, or its fields, by what follows the terminal.
 fn abend_look(name: Name4, rest: Option<&[u8]>) -> Option<Look>
     ensures { result ≡ abend_look name (option_copied rest.entry) }
 {
@@ -340,6 +342,8 @@ fn abend_look(name: Name4, rest: Option<&[u8]>) -> Option<Look>
     };
     if rest == b"STORAGE".as_slice() {
         Some(Look::AbendStorage(name))
+    } else if rest == b"FIELDS".as_slice() {
+        Some(Look::AbendFields(name))
     } else {
         None
     }

@@ -5,15 +5,17 @@ ghost use Rattle.std.specs.List.{AllByRecursion, flat_map};
 ghost use Rattle.std.specs.Option.{option_copied};
 ghost use Rattle.cx_edf.specs.Runs.{IsAllowedEdf};
 ghost use Rattle.cx_script_actions.specs.Actions.{is_blank_or_comment};
-ghost use Rattle.cx_script_actions.specs.Allowed.{IsAllowed, IsAllowedLine};
-ghost use Rattle.cx_look.specs.Orders.{IsFew, event_in, has_room, is_key, is_sight, key_in, key_of, keys_in, look_line, look_seen, orders_block, orders_line_of, orders_with, screen_of, sight_of, sights_in, states_of};
+ghost use Rattle.cx_script_actions.specs.Allowed.{IsAllowedAction, IsAllowedLine};
+ghost use Rattle.cx_look.specs.Orders.{event_in, has_room, is_key, is_sight, key_in, key_of, keys_in, look_line, look_seen, orders_block, orders_line_of, orders_with, screen_of, sight_of, sights_in, states_of};
 ghost use Rattle.cx_look.specs.declared.orders.OrdersLine.TheVariants as says;
+ghost use Rattle.cx_orders.specs.Moves.{IsFew};
 
 use crate::look::{Look, look_of};
 use cx_base_lists::List;
 use cx_code::Bytes;
-use cx_ebcdic::{Aid, Name4};
+use cx_ebcdic::Name4;
 use cx_edf::EdfEvent;
+use cx_orders::KeyLine;
 use cx_region::Event;
 use cx_script_actions::{Action, Line, line_of, name4, number, split_word};
 use cx_source::Text;
@@ -34,15 +36,6 @@ const MOST_SIGHTS: usize = 64;
 /// The most bytes of a line.
 const MOST_IN_LINE: usize = 4_096;
 
-/// A key that is to come: its terminal, the key, the bytes that it sends, at most 1,920 of them, and the line that asks it.
-#[derive(Drop)]
-pub struct OrdersKey {
-    pub name: Name4,
-    pub aid: Aid,
-    pub bytes: Bytes,
-    pub line: Text,
-}
-
 /// What is to be seen of an outcome.
 #[derive(Drop)]
 pub enum Sight {
@@ -58,7 +51,7 @@ pub enum OrdersLine {
     /// Nothing: it is empty, or a comment.
     Blank,
     /// A key is to come.
-    Key(OrdersKey),
+    Key(KeyLine),
     /// This is to be seen of an outcome.
     Sight(Sight),
 }
@@ -68,8 +61,8 @@ pub enum OrdersLine {
 pub struct OrdersBlock {
     /// The most states.
     pub most: u32,
-    /// The keys that are to come, those of one terminal in their order.
-    pub keys: List<OrdersKey>,
+    /// The keys that are to come, those of one terminal in their order, each of at most 1,920 bytes.
+    pub keys: List<KeyLine>,
     /// What is to be seen of an outcome; each terminal's screen where there is none.
     pub sights: List<Sight>,
 }
@@ -106,7 +99,7 @@ fn is_key(text: &[u8]) -> bool
 
 /// The event that a line gives.
 fn event_in(line: Line<Action>) -> Option<EdfEvent>
-    requires { IsAllowedLine IsAllowed line }
+    requires { IsAllowedLine IsAllowedAction line }
     ensures value { result ≡ event_in line }
     ensures allowed { IfSome result IsAllowedEdf }
 {
@@ -117,18 +110,18 @@ fn event_in(line: Line<Action>) -> Option<EdfEvent>
 }
 
 /// The key that an event is, with the line that asks it.
-fn key_in(alloc: Global, event: &EdfEvent, text: &[u8]) -> Result<Option<OrdersKey>, AllocError>
+fn key_in(alloc: Global, event: &EdfEvent, text: &[u8]) -> Result<Option<KeyLine>, AllocError>
     requires { IsAllowedEdf event.now }
     ensures value { IfOk result (λ key. key ≡ key_in text.now event.now) }
     ensures memory { OnErr result (is_some (key_in text.now event.now) ≡ true) }
     ensures few { IfOk result (λ key. IfSome key IsFew) }
 {
     match event {
-        EdfEvent::Plain(Event::Key(name, aid, bytes)) => Ok(Some(OrdersKey {
+        EdfEvent::Plain(Event::Key(name, aid, bytes)) => Ok(Some(KeyLine {
             name: *name,
             aid: *aid,
             bytes: Bytes::from_vec(bytes.as_slice().to_vec(alloc)?),
-            line: Text::from_slice(alloc, text)?,
+            line: List::from_slice(alloc, text)?,
         })),
         _ => Ok(None),
     }
@@ -136,7 +129,7 @@ fn key_in(alloc: Global, event: &EdfEvent, text: &[u8]) -> Result<Option<OrdersK
 
 /// The key that a line asks which begins with KEY.
 #[tactic(auto, using(crate::proofs::KeyLemmas::is_asked))]
-fn key_of(alloc: Global, text: &[u8]) -> Result<Option<OrdersKey>, AllocError>
+fn key_of(alloc: Global, text: &[u8]) -> Result<Option<KeyLine>, AllocError>
     requires more { is_blank_or_comment text.now ≡ false }
     requires key { is_key text.now ≡ true }
     ensures value { IfOk result (λ key. key ≡ key_of text.now) }
@@ -170,7 +163,12 @@ fn is_sight(look: &Look) -> bool
 {
     !matches!(
         look,
-        Look::Abend(_) | Look::AbendStorage(_) | Look::Ahead(_, _) | Look::Faults(_) | Look::Help(_)
+        Look::Abend(_)
+            | Look::AbendFields(_)
+            | Look::AbendStorage(_)
+            | Look::Ahead(_, _)
+            | Look::Faults(_)
+            | Look::Help(_)
     )
 }
 
@@ -292,7 +290,7 @@ pub fn orders_with(
 /// The keys that lines of a block ask, in their order.
 ///
 /// An error comes only where an allocation failed.
-fn keys_of(alloc: Global, lines: &[Text]) -> Result<List<OrdersKey>, AllocError>
+fn keys_of(alloc: Global, lines: &[Text]) -> Result<List<KeyLine>, AllocError>
     ensures value { IfOk result (λ keys. keys ≡ flat_map (λ l. keys_in (orders_line_of l)) lines.now) }
     ensures few { IfOk result (λ keys. AllByRecursion IsFew keys) }
 {

@@ -1,3 +1,4 @@
 pub mod CallerLemmas
 pub mod DumpLemmas
+pub mod FieldLemmas
 pub mod KeptLemmas

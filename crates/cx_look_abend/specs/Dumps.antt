@@ -2,7 +2,7 @@
 use Rattle.std.specs.Prelude.{◌≡◌, ℕ, zero, suc, ◌+◌, ◌*◌, ◌/◌, min, Bool, MatchBool, MatchOption, Option, None, is_some, List, [], ◌∷◌, ◌++◌, codes, drop, length, take}
 use Rattle.std.specs.Option.{option_map, option_map_or}
 use Rattle.cx_base_text.specs.Digits.{digits, hex_digits}
-use Rattle.cx_base_text.specs.Texts.{in_columns, join, shown_text}
+use Rattle.cx_base_text.specs.Texts.{in_columns, join, shown_name, shown_text}
 use Rattle.cx_exec.specs.Advance.{Advances}
 use Rattle.cx_exec.specs.Machine.{Machine}
 use Rattle.cx_exec.specs.declared.machine.Halt.{Halt}
@@ -13,10 +13,13 @@ use Rattle.cx_region.specs.State.{RegionState}
 use Rattle.cx_region.specs.Tables.{task_of}
 use Rattle.cx_region_state.specs.State.{TaskState}
 use Rattle.cx_region_task.specs.Turn.{most_steps}
-use Rattle.cx_look_words.specs.Words.{look_line, Lines}
+use Rattle.cx_look_words.specs.Words.{look_line, or_none, Lines}
+use Rattle.cx_look_symbols.specs.Sources.{Sources, source_lines}
+use Rattle.cx_look_levels.specs.KeptFields.{kept_fields}
 
--- the address of its first byte, and its bytes
+-- the level's program, the address of the first byte, and the bytes
 pub record Dump : Type 0 where
+  pub program : List ℕ
   pub at : ℕ
   pub bytes : List ℕ
 
@@ -24,7 +27,7 @@ pub record Dump : Type 0 where
 unfoldable pub dump_in : Storage → Level → Option Dump
 dump_in s level =
     let at = address_in level.stg in
-    option_map (λ bytes. record { at = at; bytes = bytes }) (span s at (min level.stg_len 65520))
+    option_map (λ bytes. record { program = level.program; at = at; bytes = bytes }) (span s at (min level.stg_len 65520))
 
 -- ---- at the abend
 -- the machine that a task runs on
@@ -80,3 +83,13 @@ dump_lines dump =
 -- hyphens where it wasn't kept, as of an operator's abend
 abbrev pub if_dumped : Option Dump → Lines
 if_dumped dump = option_map_or dump_lines dump (look_line (codes "DFHEISTG" ∷ codes "--" ∷ []))
+
+-- ---- its fields, by the source of the level's program, as FIELDS has them
+abbrev pub field_lines : Sources → List ℕ → Dump → Lines
+field_lines sources term dump =
+    or_none (codes "FIELDS " ++ shown_name term)
+    (kept_fields term (source_lines sources dump.program) dump.at dump.bytes)
+
+abbrev pub if_fields : Sources → List ℕ → Option Dump → Lines
+if_fields sources term dump =
+    option_map_or (field_lines sources term) dump (look_line (codes "DFHEISTG" ∷ codes "--" ∷ []))

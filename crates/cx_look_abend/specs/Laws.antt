@@ -1,7 +1,10 @@
 -- Which turns keep an abend; what is kept is decided.
-use Rattle.std.specs.Prelude.{◌≡◌, ℕ, true, is_some, List, Option, Some}
+use Rattle.std.specs.Prelude.{◌≡◌, ◌≤◌, ◌+◌, ℕ, length, min, true, is_some, List, Option, Some}
 use Rattle.cx_base_commands.specs.declared.commands.Command.{Command}
 use Rattle.cx_exec.specs.Machine.{Machine}
+use Rattle.cx_storage.specs.Storage.{Storage}
+use Rattle.cx_program.specs.declared.level.Level.{Level}
+use Rattle.cx_asm_expressions.specs.declared.values.Value.{Value}
 use Rattle.cx_region_state.specs.State.{TaskState}
 use Rattle.cx_region_state.specs.declared.replies.TurnReply.{TurnReply}
 use Rattle.cx_region_state.specs.declared.replies.TurnReply.TheVariants as turn
@@ -18,6 +21,9 @@ use Rattle.cx_edf.specs.declared.answers.Answer.{Answer}
 use Rattle.cx_edf.specs.declared.answers.Answer.TheVariants as answer
 use Rattle.cx_edf.specs.declared.answers.EdfEvent.{EdfEvent}
 use Rattle.cx_edf.specs.declared.answers.EdfEvent.TheVariants as edf_event
+use Rattle.cx_look_levels.specs.FieldTexts.{field_line, typed}
+use Rattle.cx_look_levels.specs.KeptFields.{kept_field, kept_line}
+use Rattle.cx_look_values.specs.declared.readings.NamedReading.{NamedReading}
 use Rattle.cx_look_abend.specs.Noting.{Abends, AppliesWithAbends, with_last}
 use Rattle.cx_look_abend.specs.Abends.{kept_task}
 use Rattle.cx_look_abend.specs.Dumps.{Dump, TurnHasDump, dump_in}
@@ -52,6 +58,13 @@ DumpsAreOfRecords = (region : RegionState) (name : List ℕ) (task : TaskState) 
     → task_of region name ≡ Some task → TurnHasAbendRecord region name (Some abend_record)
     → TurnHasDump region name (Some dump)
     → IsOfRecord task abend_record dump
+
+-- and what is written of a field of it that is all there is what FIELD writes of it in that machine's storage
+abbrev pub FieldsAreOfDumps : Type 0
+FieldsAreOfDumps = (s : Storage) (level : Level) (dump : Dump) (term name : List ℕ) (readings : List NamedReading)
+    → (value : Value) (offset : ℕ) → Some dump ≡ dump_in s level → offset + min 32 value.length ≤ length dump.bytes
+    → kept_line term readings dump.at dump.bytes name value offset
+    ≡ field_line s term name (typed readings name (kept_field dump.at offset value))
 
 abbrev pub AbendsAreKept : Type 0
 AbendsAreKept = (old new : EdfState) (before after : Abends) (name : List ℕ) (given : TurnReply)

@@ -22,7 +22,7 @@ use Rattle.cx_look_symbols.specs.Places.{address_word, place_of, place_word, spo
 use Rattle.cx_look_symbols.specs.Sources.{Sources, led_by, statement_at}
 use Rattle.cx_look_symbols.specs.declared.places.Place.{Place}
 use Rattle.cx_look_abend.specs.Noting.{Abends}
-use Rattle.cx_look_abend.specs.Dumps.{if_dumped}
+use Rattle.cx_look_abend.specs.Dumps.{if_dumped, if_fields}
 use Rattle.cx_look_abend.specs.declared.abends.Caller.{Caller}
 use Rattle.cx_look_abend.specs.declared.abends.LastAbend.{LastAbend}
 use Rattle.cx_look_abend.specs.declared.abends.Explanation.{Explanation}
@@ -151,6 +151,14 @@ dumped last = if_dumped (option_and_then (λ it. it.dump) last.explanation)
 unfoldable pub abend_storage_text : Abends → List ℕ → Lines
 abend_storage_text abends name =
     option_map_or (λ last. head_line name last ++ dumped last) (last_of abends name) (none_line name)
+
+-- and its fields
+abbrev pub fields_dumped : Sources → List ℕ → LastAbend → Lines
+fields_dumped sources name last = if_fields sources name (option_and_then (λ it. it.dump) last.explanation)
+
+unfoldable pub abend_fields_text : Sources → Abends → List ℕ → Lines
+abend_fields_text sources abends name =
+    option_map_or (λ last. head_line name last ++ fields_dumped sources name last) (last_of abends name) (none_line name)
 
 unfoldable pub abend_text : Sources → List (List ℕ × Loaded) → Abends → List ℕ → Lines
 abend_text sources programs abends name =

@@ -1,13 +1,16 @@
 //! The DFHEISTG of a level as it is at an abend.
 ghost use Rattle.std.specs.Prelude.{◌≡◌, ◌≤◌, ◌+◌, ◌*◌, ◌/◌, ◌<◌, ◌^◌, ◌++◌, IfOk, OnOk, drop, length, take};
-ghost use Rattle.cx_look_abend.specs.Dumps.{HasDump, RunLeaves, dump_in, dump_lines, first_rows, group_of, if_dumped, is_wide, row_line, row_of};
+ghost use Rattle.cx_look_abend.specs.Dumps.{HasDump, RunLeaves, dump_in, dump_lines, field_lines, first_rows, group_of, if_dumped, if_fields, is_wide, row_line, row_of};
 
 use cx_base_text::{hexadecimal, in_columns, shown};
+use cx_ebcdic::{Name4, Name8};
 use cx_exec::{Cpu, advance};
+use cx_look_levels::{fields_word, kept_fields};
+use cx_look_symbols::Sources;
 use cx_look_words::{Report, spelled};
 use cx_program::Level;
 use cx_region_state::Task;
-use cx_storage::{Store, address_in, along};
+use cx_storage::{Store, address_after, address_in};
 use cx_storage_snapshot::StorageSnapshot;
 use std::alloc::{AllocError, Global};
 use std::marker::Model;
@@ -27,9 +30,10 @@ const ROW: u32 = 16;
 /// The bytes of a group.
 const GROUP: usize = 4;
 
-/// A level's DFHEISTG: the address of its first byte, and its bytes.
+/// A level's DFHEISTG: the level's program, the address of the first byte, and the bytes.
 #[derive(Drop)]
 pub struct StorageDump {
+    program: Name8,
     at: u32,
     bytes: Vec<u8>,
 }
@@ -40,7 +44,7 @@ impl Model for StorageDump {
 
     ghost Value = { Dump };
 
-    ghost view = { λ dump. record { at = dump.at; bytes = dump.bytes.items } };
+    ghost view = { λ dump. record { program = dump.program; at = dump.at; bytes = dump.bytes.items } };
 
     ghost invariant = { λ dump. length dump.bytes.items ≤ 65520 };
 }
@@ -68,7 +72,11 @@ fn dump_in<S: Store>(
     if !store.read(at, &mut bytes) {
         return Ok(None);
     }
-    Ok(Some(StorageDump { at, bytes }))
+    Ok(Some(StorageDump {
+        program: level.program,
+        at,
+        bytes,
+    }))
 }
 
 /// The DFHEISTG of a task's current level as the instructions of its turn leave it, which run in this store.
@@ -175,7 +183,7 @@ fn row_of(report: &mut Report, at: u32, bytes: &[u8], k: u32) -> Result<(), Allo
 {
     let offset = ROW * k;
     let row = first_bytes(after(bytes, offset as usize), ROW as usize);
-    row_line(report, along(at, offset), row)
+    row_line(report, address_after(at, offset), row)
 }
 
 /// Adds the rows of bytes from an address on.
@@ -204,6 +212,40 @@ impl StorageDump {
         report.line(&[b"DFHEISTG", &at, b"LENGTH", &length])?;
         all_rows(report, self.at, &self.bytes)
     }
+
+    /// A line for each field of the level's working storage, by the source of its program; NONE without one.
+    ///
+    /// An error comes only where memory was refused.
+    fn field_lines(
+        &self,
+        alloc: Global,
+        sources: &Sources,
+        term: Name4,
+    ) -> Result<Report, AllocError>
+        ensures { IfOk result (λ report. report ≡ field_lines sources.now term self.now) }
+    {
+        let mut report = Report::new(alloc);
+        let lines = sources.source_lines(self.program);
+        kept_fields(&mut report, lines, term, self.at, &self.bytes)?;
+        report.or_none(&fields_word(alloc, term)?)
+    }
+}
+
+/// The lines of the fields of a DFHEISTG, where it was kept.
+pub(crate) fn if_fields(
+    alloc: Global,
+    sources: &Sources,
+    term: Name4,
+    dump: &Option<StorageDump>,
+) -> Result<Report, AllocError>
+    ensures { IfOk result (λ report. report ≡ if_fields sources.now term dump.now) }
+{
+    if let Some(dump) = dump {
+        return dump.field_lines(alloc, sources, term);
+    }
+    let mut report = Report::new(alloc);
+    report.line(&[b"DFHEISTG", b"--"])?;
+    Ok(report)
 }
 
 /// Adds the lines of a DFHEISTG, where it was kept.

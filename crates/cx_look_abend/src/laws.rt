@@ -1,5 +1,5 @@
 //! Which abends are kept.
-ghost use Rattle.cx_look_abend.specs.Laws.{AbendsAreKept, DumpsAreOfRecords, NotedDecide};
+ghost use Rattle.cx_look_abend.specs.Laws.{AbendsAreKept, DumpsAreOfRecords, FieldsAreOfDumps, NotedDecide};
 
 /// Each turn that is answered as an abend is kept as its terminal's last one, with its task, its code and why it came; any other turn leaves
 /// what is kept.
@@ -24,4 +24,12 @@ pub fn dumps_are_of_records()
     ensures { DumpsAreOfRecords }
 {
     cx_exec_laws::laws::runs_decide();
+}
+
+/// What is written of a field of the working storage that is kept, all of whose bytes are among those, is what FIELD writes of it in the
+/// storage at the abend.
+pub fn fields_are_of_dumps()
+    ensures { FieldsAreOfDumps }
+{
+    cx_look_levels::laws::kept_fields_are_of_storage();
 }

@@ -11,4 +11,4 @@ mod texts;
 pub use abends::{Caller, Callers, Explanation, Kept, KeptTask, LastAbend, LastAbends, TaskBefore};
 pub use dumps::StorageDump;
 pub use noting::apply_keeping_abends;
-pub use texts::{abend_storage_text, abend_text};
+pub use texts::{abend_fields_text, abend_storage_text, abend_text};

@@ -2,10 +2,10 @@
 ghost use Rattle.std.specs.Prelude.{◌≡◌, ◌++◌, [], IfOk, OnOk, is_some, take};
 ghost use Rattle.std.specs.Option.{option_copied, option_map_or};
 ghost use Rattle.std.specs.List.{flat_map, list_all};
-ghost use Rattle.cx_look_abend.specs.Texts.{abend_storage_text, abend_text, argument_lines, byte_digits, bytes_word, caller_line, caller_lines, cause_word, code_line, command_lines, command_word, dumped, exit_line, explanation_lines, goes_on_word, head_line, instruction_word, interruption_word, last_of, last_text, list_word, next_line, none_line, task_word, where_lines, why_word};
+ghost use Rattle.cx_look_abend.specs.Texts.{abend_fields_text, abend_storage_text, abend_text, argument_lines, byte_digits, bytes_word, caller_line, caller_lines, cause_word, code_line, command_lines, command_word, dumped, exit_line, explanation_lines, fields_dumped, goes_on_word, head_line, instruction_word, interruption_word, last_of, last_text, list_word, next_line, none_line, task_word, where_lines, why_word};
 
 use crate::abends::{Caller, Explanation, KeptTask, LastAbend, LastAbends};
-use crate::dumps::if_dumped;
+use crate::dumps::{if_dumped, if_fields};
 use cx_base_commands::Command;
 use cx_base_lists::List;
 use cx_base_text::{decimal, hexadecimal, shown, shown_name};
@@ -390,6 +390,46 @@ pub fn abend_storage_text(
         Some(last) => {
             head_line(&mut report, name, last)?;
             dumped(&mut report, last)?;
+        }
+        None => none_line(&mut report, name)?,
+    }
+    Ok(report)
+}
+
+/// The lines of the fields of the DFHEISTG of an abend, where it was kept.
+fn fields_dumped(
+    alloc: Global,
+    sources: &Sources,
+    name: Name4,
+    last: &LastAbend,
+) -> Result<Report, AllocError>
+    ensures { IfOk result (λ report. report ≡ fields_dumped sources.now name last.now) }
+{
+    match &last.explanation {
+        Some(explanation) => if_fields(alloc, sources, name, &explanation.dump),
+        None => if_fields(alloc, sources, name, &None),
+    }
+}
+
+/// Looks at the fields of the DFHEISTG of the level of a terminal's last abend, by their bytes as they were then; NONE where the terminal
+/// has had no abend, or there is no such terminal.
+///
+/// An error comes only where memory for the report, or for what is made of the source, was refused.
+#[tactic(auto, unfolding(crate::specs::Texts::abend_fields_text))]
+pub fn abend_fields_text(
+    alloc: Global,
+    sources: &Sources,
+    abends: &LastAbends,
+    name: Name4,
+) -> Result<Report, AllocError>
+    ensures { IfOk result (λ report. report ≡ abend_fields_text sources.now abends.now.entries name) }
+{
+    let mut report = Report::new(alloc);
+    match last_of(abends, name) {
+        Some(last) => {
+            head_line(&mut report, name, last)?;
+            let fields = fields_dumped(alloc, sources, name, last)?;
+            push_lines(&mut report, fields.lines())?;
         }
         None => none_line(&mut report, name)?,
     }

@@ -1,3 +1,4 @@
 pub mod GapLemmas
 pub mod RowLemmas
 pub mod AheadLemmas
+pub mod ArrivalLemmas

@@ -1,4 +1,5 @@
 -- What a look ahead has to do with the turn that is then done.
+pub mod Arrivals
 use Rattle.std.specs.Prelude.{◌≡◌, ◌≢◌, ◌↔◌, ℕ, Option, Some, List, IsTrue, length}
 use Rattle.std.specs.List.{list_any}
 use Rattle.circular_buffer.specs.Buffer.{keep_last}

@@ -9,7 +9,7 @@ use crate::rows::Row;
 use cx_base_text::hexadecimal;
 use cx_look_words::{Report, decimal};
 use cx_region::Region;
-use cx_storage::{Store, along};
+use cx_storage::{Store, address_after};
 use std::alloc::{AllocError, Global};
 
 /// The most bytes of a row that are shown.
@@ -39,7 +39,7 @@ pub fn bytes_word<S: Store>(
 {
     let mut text = Vec::new(alloc);
     for k in 0..count {
-        text.extend_from_slice(&byte_word(store, along(at, k)))?;
+        text.extend_from_slice(&byte_word(store, address_after(at, k)))?;
     }
     Ok(text)
 }

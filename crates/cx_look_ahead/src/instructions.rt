@@ -21,7 +21,7 @@ use indexmap::IndexMap;
 use std::alloc::{AllocError, Global};
 
 /// The most instructions of a turn.
-const MOST_STEPS: u32 = 65_536;
+pub(crate) const MOST_STEPS: u32 = 65_536;
 
 /// The processor that a terminal's next turn runs; None where a command is due, or there is no task.
 fn cpu_ahead<S: Store + Drop>(region: &Region<S>, name: Name4) -> Option<Cpu>

@@ -1,4 +1,5 @@
 //! A look ahead is that of the turn which is then done.
+ghost use Rattle.cx_look_ahead.specs.Laws.Arrivals.{ArrivalsDecide, TurnsDoSome};
 ghost use Rattle.cx_look_ahead.specs.Laws.{AheadDecides, NextTurnIsShown, RowsAreTheDifference, RowsDecide, TurnsRunThem};
 
 /// What is written is that of the region's next turn: the words of its reply, its instructions, and the rows of bytes
@@ -24,3 +25,13 @@ pub fn rows_are_the_difference()
     ensures difference { RowsAreTheDifference }
     ensures decides { RowsDecide }
 {}
+
+/// The next turn comes to a line exactly where the turn, when it is done, does something of it: one of the instructions of its run is on the
+/// line, or the command that it performs. Whether it does is a function of the state.
+pub fn turns_do_some()
+    ensures done { TurnsDoSome }
+    ensures decides { ArrivalsDecide }
+{
+    turns_run_them();
+    cx_look_steps::laws::traces_decide();
+}

@@ -15,7 +15,7 @@ use cx_storage::{Store, address_in};
 use std::alloc::{AllocError, Global};
 
 /// The line of a terminal of which one word says all.
-fn noted(alloc: Global, name: Name4, word: &[u8]) -> Result<Report, AllocError>
+fn command_look_line(alloc: Global, name: Name4, word: &[u8]) -> Result<Report, AllocError>
     ensures { IfOk result (λ report. report ≡ command_look_line name word.now) }
 {
     let mut report = Report::new(alloc);
@@ -36,7 +36,7 @@ fn due_text<S: Store>(
 {
     match read_call(store, address_in(task.cpu.regs[1])) {
         Ok(call) => call_text(alloc, store, &call),
-        Err(_fault) => noted(alloc, name, b"?"),
+        Err(_fault) => command_look_line(alloc, name, b"?"),
     }
 }
 
@@ -62,6 +62,6 @@ pub fn command_text<S: Store + Drop>(
 {
     match task_due(region, name) {
         Some(task) => due_text(alloc, &region.shared().store, name, task),
-        None => noted(alloc, name, b"NONE"),
+        None => command_look_line(alloc, name, b"NONE"),
     }
 }

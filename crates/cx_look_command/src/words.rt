@@ -181,7 +181,7 @@ fn push_conditions(
 fn push_nohandle(text: &mut Vec<u8>, call: &Call) -> Result<(), AllocError>
     ensures { OnOk result (text.new.items ≡ text.old.items ++ with_blanks (nohandle_words call.now)) }
 {
-    if call.is_nohandle() {
+    if call.has_nohandle() {
         push_word(text, b"NOHANDLE")?;
     }
     Ok(())

@@ -78,16 +78,16 @@ all_stays fault table [] has = has
 all_stays fault table (one ∷ more) has = all_stays fault (put_line table one) more (put_stays fault table one has)
 
 -- the first fault is there, and without one there is none
-abbrev first_of : List FaultyLine → Option PrepareFault
+abbrev pub first_of : List FaultyLine → Option PrepareFault
 first_of faults = option_map fault_of (slice_get faults 0)
 
-first_there : (faults : List FaultyLine) → IsAmong (first_of faults) (by_number faults)
+pub first_there : (faults : List FaultyLine) → IsAmong (first_of faults) (by_number faults)
 unfolding put_line
 first_there [] = refl
 first_there (one ∷ more) = all_stays (fault_of one) ((one.line, one.kind) ∷ []) more (inl refl)
 
 -- ---- the first fault of the stages
-abbrev Tells : Result Prepared PrepareFault → List FaultyLine → Type 0
+abbrev pub Tells : Result Prepared PrepareFault → List FaultyLine → Type 0
 Tells due faulty = result_err due ≡ first_of faulty
 
 -- a fault other than Memory is of a line
@@ -203,7 +203,7 @@ read_reported listing disassembly whole read [] is h =
 read_reported listing disassembly whole read (f ∷ faults) is h =
     first_lines (of_source f) _ _ _ (no_memory (of_source f) (Err (of_source f)) refl h)
 
-stages_reported : (listing disassembly : Bool) (all : List (List ℕ)) → Tells (prepared.prepared_of listing disassembly all) (lines_by_stages all)
+pub stages_reported : (listing disassembly : Bool) (all : List (List ℕ)) → Tells (prepared.prepared_of listing disassembly all) (lines_by_stages all)
 unfolding prepared.prepared_of source_in
 stages_reported listing disassembly all =
     read_reported listing disassembly (source_from (up_to_end false (map text_of all))) (source_read all) (line_faults false 1 all) (source_whole all)

@@ -1,5 +1,6 @@
 -- The definitions, in reading order, and what the law states.
 pub mod Faults
+pub mod Kept
 pub mod Spans
 pub mod Judging
 pub mod Operands

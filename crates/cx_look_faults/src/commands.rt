@@ -33,7 +33,7 @@ use crate::judging::has_exec_fault;
 use crate::spans::{Cut, Span, cells_of, spans_of, text_in};
 use cx_asm_build::SourceKind;
 use cx_base_commands::{Command, CommandOption, Rule};
-use cx_source::trimmed;
+use cx_source::trim_blanks;
 use std::alloc::{AllocError, Global};
 
 /// A word of an EXEC statement.
@@ -114,7 +114,7 @@ pub(crate) fn written_phrase(operand: &[u8], phrase: Phrase) -> Span
     let (front, _) = operand.split_at(operand.len().min(phrase.full.end));
     Span {
         start: phrase.full.start,
-        end: trimmed(front).len(),
+        end: trim_blanks(front).len(),
     }
 }
 
@@ -199,7 +199,7 @@ fn head_before<'a>(operand: &'a [u8], more: &[Span]) -> &'a [u8]
         None => operand.len(),
     };
     let (head, _) = operand.split_at(operand.len().min(end));
-    trimmed(head)
+    trim_blanks(head)
 }
 
 /// A word of some.

@@ -4,6 +4,7 @@ ghost use Rattle.std.specs.Prelude.{ℕ, List, Bool};
 ghost use Rattle.std.specs.Result.{result_err};
 ghost use Rattle.cx_asm_build.specs.Prepared.{prepared_of};
 ghost use Rattle.cx_look_faults.specs.Faults.{faults_of};
+ghost use Rattle.cx_look_faults.specs.Kept.{kept_faults};
 ghost use Rattle.cx_look_faults.specs.Laws.First.{IsAmong};
 
 /// What a source is refused for is the fault of one of them; a source that isn't refused has none, and no other.
@@ -11,4 +12,11 @@ ghost use Rattle.cx_look_faults.specs.Laws.First.{IsAmong};
 pub fn what_a_source_is_refused_for_is_among_them()
     ensures { (listing disassembly : Bool) (all : List (List ℕ))
         → IsAmong (result_err (prepared_of listing disassembly all)) (faults_of all) }
+{}
+
+/// It is on one of the first 10,001 lines: so of these lines' faults there is none exactly where the source isn't refused.
+#[tactic(auto, using(crate::proofs::KeptLemmas::is_among_kept))]
+pub fn what_a_source_is_refused_for_is_kept()
+    ensures { (listing disassembly : Bool) (all : List (List ℕ))
+        → IsAmong (result_err (prepared_of listing disassembly all)) (kept_faults all) }
 {}

@@ -32,7 +32,7 @@ use crate::positions::{SourceStmt, Spot, columns};
 use crate::spans::{Span, text_in};
 use cx_asm_build::SourceKind;
 use cx_ebcdic::to_ebcdic;
-use cx_source::{Item, Text, is_name_character, source_with_faults, trimmed};
+use cx_source::{Item, Text, is_name_character, source_with_faults, trim_blanks};
 use cx_translate::translate_with_faults;
 use std::alloc::{AllocError, Global};
 
@@ -95,7 +95,9 @@ fn bad_continuation(number: usize, line: &[u8]) -> Spot
     Spot {
         line: number,
         column: at + 1,
-        length: trimmed(columns(line, 1, MARGIN)).len().saturating_sub(at),
+        length: trim_blanks(columns(line, 1, MARGIN))
+            .len()
+            .saturating_sub(at),
     }
 }
 

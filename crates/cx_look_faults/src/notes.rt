@@ -44,7 +44,7 @@ use crate::spans::{Cut, Span, cells_of, spans_of, text_in};
 use cx_asm_expressions::{Constant, TermFault, parenthesized_body, value_of};
 use cx_asm_pass1::{Places, place_with_faults};
 use cx_base_commands::{ArgumentKind, CommandOption};
-use cx_source::{Item, Source, Text, skip_blanks, source_with_faults, trimmed};
+use cx_source::{Item, Source, Text, skip_blanks, source_with_faults, trim_blanks};
 use cx_translate::translate_with_faults;
 use std::alloc::{AllocError, Global};
 
@@ -64,7 +64,7 @@ pub struct Note {
 fn bare(text: &[u8]) -> &[u8]
     ensures { result.now ≡ bare text.now }
 {
-    trimmed(skip_blanks(text))
+    trim_blanks(skip_blanks(text))
 }
 
 /// The argument after a word; empty where there is none.

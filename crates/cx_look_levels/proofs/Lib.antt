@@ -1,2 +1,3 @@
 pub mod LevelLemmas
 pub mod FieldLemmas
+pub mod KeptLemmas

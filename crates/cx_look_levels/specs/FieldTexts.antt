@@ -32,11 +32,15 @@ bytes_word reading bytes =
 abbrev pub typed : List NamedReading → List ℕ → Field → TypedField
 typed readings name field = record { field = field; reading = reading_named readings name }
 
-unfoldable pub field_line : Storage → List ℕ → List ℕ → TypedField → Lines
+unfoldable pub field_words : List ℕ → List ℕ → Field → List ℕ → Lines
+field_words term name field bytes =
+    look_line (codes "FIELD" ∷ shown_name term ∷ written_name name ∷ codes "AT" ∷ digits 16 6 field.address
+    ∷ codes "LENGTH" ∷ decimal field.length ∷ bytes ∷ [])
+
+abbrev pub field_line : Storage → List ℕ → List ℕ → TypedField → Lines
 field_line storage term name it =
-    look_line (codes "FIELD" ∷ shown_name term ∷ written_name name ∷ codes "AT" ∷ digits 16 6 it.field.address
-    ∷ codes "LENGTH" ∷ decimal it.field.length
-    ∷ bytes_word it.reading (span storage it.field.address (min 32 it.field.length)) ∷ [])
+    field_words term name it.field
+    (bytes_word it.reading (span storage it.field.address (min 32 it.field.length)))
 
 abbrev pub no_field : List ℕ → List ℕ → Lines
 no_field term name = look_line (codes "FIELD" ∷ shown_name term ∷ written_name name ∷ codes "NONE" ∷ [])

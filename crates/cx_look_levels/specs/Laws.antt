@@ -1,7 +1,8 @@
--- Where a field is.
-use Rattle.std.specs.Prelude.{◌≡◌, ℕ, true, false, Some, None, Ok, List, [], ◌∷◌, ◌++◌, reverse}
+-- Where a field is, and what is written of one that was kept.
+use Rattle.std.specs.Prelude.{◌≡◌, ◌≤◌, ◌<◌, ◌^◌, ◌+◌, ℕ, min, true, false, Some, None, Ok, List, [], ◌∷◌, ◌++◌, reverse}
 use Rattle.std.specs.List.{AllByRecursion}
 use Rattle.cx_exec.specs.Machine.{effective}
+use Rattle.cx_storage.specs.Storage.{Storage, span}
 use Rattle.cx_source.specs.declared.source.Source.{Source}
 use Rattle.cx_asm_expressions.specs.declared.values.Value.{Value}
 use Rattle.cx_asm_operands.specs.Context.{Context}
@@ -11,7 +12,10 @@ use Rattle.cx_asm_pass1.specs.Locations.{final_state}
 use Rattle.cx_asm_pass2.specs.SecondFaults.{bases_after_all}
 use Rattle.cx_asm_pass2.specs.Statements.{PlacedStatement, statements_of}
 use Rattle.cx_asm_pass2.specs.Whole.{instruction_context, whole_of}
+use Rattle.cx_look_values.specs.declared.readings.NamedReading.{NamedReading}
 use Rattle.cx_look_levels.specs.Fields.{field_in, stands_at}
+use Rattle.cx_look_levels.specs.FieldTexts.{field_line, typed}
+use Rattle.cx_look_levels.specs.KeptFields.{kept_field, kept_line}
 
 -- the statement that has the byte at an offset: none in front of it has the byte
 pub record IsStatementAt (source : Source) (offset : ℕ) (before : List PlacedStatement) (s : PlacedStatement)
@@ -36,3 +40,11 @@ FieldsAreOperands =
     → plain_in true (context_at source before s) text ≡ Ok address
     → field_in source regs offset name
     ≡ Some (record { address = effective regs 0 address.base address.displacement; length = value.length })
+
+-- Of a field that is all in the bytes that were kept of a storage, what is written is what FIELD writes in that storage.
+abbrev pub KeptFieldsAreOfStorage : Type 0
+KeptFieldsAreOfStorage =
+    (s : Storage) (at count : ℕ) (bytes term : List ℕ) (readings : List NamedReading) (name : List ℕ) (value : Value)
+    → (offset : ℕ) → at < 2 ^ 24 → span s at count ≡ Some bytes → offset + min 32 value.length ≤ count
+    → kept_line term readings at bytes name value offset
+    ≡ field_line s term name (typed readings name (kept_field at offset value))

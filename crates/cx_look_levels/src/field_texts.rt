@@ -1,12 +1,12 @@
 //! FIELD and FIELDS.
-ghost use Rattle.std.specs.Prelude.{◌≡◌, ◌<◌, ◌^◌, ◌++◌, [], IfOk, IfSome, OnOk, None, min, option_and_then, codes};
+ghost use Rattle.std.specs.Prelude.{◌≡◌, ◌<◌, ◌^◌, ◌++◌, [], IfOk, IfSome, OnOk, None, Some, min, option_and_then, codes};
 ghost use Rattle.std.specs.List.{flat_map};
 ghost use Rattle.cx_asm_pass1.specs.Locations.{IsPlaced, final_state};
 ghost use Rattle.cx_storage.specs.Storage.{span};
 ghost use Rattle.cx_base_text.specs.Texts.{shown_name};
-ghost use Rattle.cx_look_levels.specs.FieldTexts.{bytes_word, field_line, field_text, field_there, fields_text, fields_there, no_field, program_at, row_line, source_lines, standing_at, typed_in};
+ghost use Rattle.cx_look_levels.specs.FieldTexts.{bytes_word, field_line, field_text, field_there, field_words, fields_text, fields_there, no_field, program_at, row_line, source_lines, standing_at, typed_in};
 
-use crate::fields::{Field, TypedField, bases_in, field_by, field_in, is_field};
+use crate::fields::{Field, SourcePoint, TypedField, bases_in, field_by, field_in, is_field};
 use crate::standing::{Standing, standing_of};
 use crate::tasks::task_of;
 use cx_asm_operands::Bases;
@@ -25,7 +25,7 @@ use std::alloc::{AllocError, Global};
 const MOST_BYTES: usize = 32;
 
 /// How many bytes of a field are written.
-fn count_of(length: u128) -> usize
+pub(crate) fn count_of(length: u128) -> usize
     ensures { result ≡ min 32 length }
 {
     if length < 32 {
@@ -33,6 +33,22 @@ fn count_of(length: u128) -> usize
     } else {
         MOST_BYTES
     }
+}
+
+/// Bytes in hexadecimal digits and in characters, and the number that they are.
+pub(crate) fn word_of(
+    alloc: Global,
+    bytes: &[u8],
+    reading: Option<Reading>,
+) -> Result<Vec<u8>, AllocError>
+    ensures { IfOk result (λ word. word.items ≡ bytes_word reading (Some bytes.now)) }
+{
+    let characters = in_apostrophes(alloc, &shown(alloc, bytes)?)?;
+    let mut word = spelled(alloc, bytes)?;
+    word.push(b' ')?;
+    word.extend_from_slice(&characters)?;
+    word.extend_from_slice(&value_text(alloc, reading, bytes)?)?;
+    Ok(word)
 }
 
 /// A field's first bytes in hexadecimal digits and in characters, and the number that they are.
@@ -52,29 +68,21 @@ fn bytes_word<S: Store>(
     if !store.read(field.address, bytes) {
         return b"--".to_vec(alloc);
     }
-    let characters = in_apostrophes(alloc, &shown(alloc, bytes)?)?;
-    let mut word = spelled(alloc, bytes)?;
-    word.push(b' ')?;
-    word.extend_from_slice(&characters)?;
-    word.extend_from_slice(&value_text(alloc, reading, bytes)?)?;
-    Ok(word)
+    word_of(alloc, bytes, reading)
 }
 
-/// Adds the line of a field.
-#[tactic(auto, unfolding(crate::specs::FieldTexts::field_line))]
-fn field_line<S: Store>(
+/// Adds the line of a field, whose bytes are written so.
+#[tactic(auto, unfolding(crate::specs::FieldTexts::field_words))]
+pub(crate) fn field_words(
     report: &mut Report,
-    store: &S,
     term: Name4,
     name: Name8,
-    typed: TypedField,
+    field: Field,
+    bytes: &[u8],
 ) -> Result<(), AllocError>
-    requires { typed.field.address < 2 ^ 24 }
-    ensures { OnOk result (report.new ≡ report.old ++ field_line (S.storage store.now) term name typed) }
+    ensures { OnOk result (report.new ≡ report.old ++ field_words term name field bytes.now) }
 {
     let alloc = report.alloc();
-    let field = typed.field;
-    let bytes = bytes_word(alloc, store, field, typed.reading)?;
     let length = length_word(alloc, field.length)?;
     let term = shown_name(alloc, term)?;
     let name = written_name(alloc, &name.bytes())?;
@@ -86,8 +94,23 @@ fn field_line<S: Store>(
         &hexadecimal::<6>(field.address),
         b"LENGTH",
         &length,
-        &bytes,
+        bytes,
     ])
+}
+
+/// Adds the line of a field.
+fn field_line<S: Store>(
+    report: &mut Report,
+    store: &S,
+    term: Name4,
+    name: Name8,
+    typed: TypedField,
+) -> Result<(), AllocError>
+    requires { typed.field.address < 2 ^ 24 }
+    ensures { OnOk result (report.new ≡ report.old ++ field_line (S.storage store.now) term name typed) }
+{
+    let bytes = bytes_word(report.alloc(), store, typed.field, typed.reading)?;
+    field_words(report, term, name, typed.field, &bytes)
 }
 
 /// The report of a name that is no field there.
@@ -127,14 +150,13 @@ pub fn program_at<S: Store + Drop>(region: &Region<S>, term: Name4, k: Option<u8
 fn typed_in(
     alloc: Global,
     source: &Source,
-    regs: &[u32; 16],
-    offset: u32,
+    at: SourcePoint<'_>,
     name: Name8,
 ) -> Result<Option<TypedField>, AllocError>
-    ensures value { IfOk result (λ field. field ≡ typed_in source.now regs.now offset name) }
+    ensures value { IfOk result (λ field. field ≡ typed_in source.now at.entry.regs.now at.entry.offset name) }
     ensures short { IfOk result (λ field. IfSome field (λ it. it.field.address < 2 ^ 24)) }
 {
-    let Some(field) = field_in(alloc, source, regs, offset, name)? else {
+    let Some(field) = field_in(alloc, source, at, name)? else {
         return Ok(None);
     };
     let readings = readings_of(alloc, source)?;
@@ -158,7 +180,11 @@ fn field_there(
     let Some(source) = translated_in(alloc, lines)? else {
         return Ok(None);
     };
-    typed_in(alloc, &source, &standing.regs, offset, name)
+    let at = SourcePoint {
+        regs: &standing.regs,
+        offset,
+    };
+    typed_in(alloc, &source, at, name)
 }
 
 /// The field of a name, where there is such a level and it stands at a statement of its source, which has these lines.
@@ -205,107 +231,100 @@ pub fn field_text<S: Store + Drop>(
     Ok(report)
 }
 
-/// Adds the line of a symbol, where it is a field that a base reaches.
-fn row_line<S: Store>(
-    report: &mut Report,
-    store: &S,
+/// What the fields that a base reaches are written by.
+#[derive(Drop)]
+struct ReachedFields<'a, S: Store> {
+    store: &'a S,
     term: Name4,
-    readings: &[NamedReading],
-    regs: &[u32; 16],
-    bases: &Bases,
-    control: Option<Name8>,
-    name: Name8,
-    symbol: &Symbol,
-) -> Result<(), AllocError>
-    ensures { let line = row_line (S.storage store.now) term readings.now regs.now bases.now control (name, symbol.now) in
-        OnOk result (report.new ≡ report.old ++ line) }
-{
-    if !is_field(control, &symbol.value) {
-        return Ok(());
-    }
-    let Some(field) = field_by(regs, bases, symbol.value) else {
-        return Ok(());
-    };
-    let reading = reading_named(readings, name);
-    field_line(report, store, term, name, TypedField { field, reading })
+    readings: &'a [NamedReading],
+    regs: &'a [u32; 16],
+    bases: &'a Bases,
+    names: &'a Names,
 }
 
-/// Adds the lines of symbols that are fields which a base reaches.
-fn rows_lines<S: Store>(
-    report: &mut Report,
-    store: &S,
-    term: Name4,
-    readings: &[NamedReading],
-    regs: &[u32; 16],
-    bases: &Bases,
-    names: &Names,
-) -> Result<(), AllocError>
-    ensures { let line = row_line (S.storage store.now) term readings.now regs.now bases.now names.now.control in
-        OnOk result (report.new ≡ report.old ++ flat_map line names.now.symbols.entries) }
-{
-    for (name, symbol) in names.symbols.iter() {
-        row_line(
+impl<'a, S: Store> ReachedFields<'a, S> {
+    /// Adds the line of a symbol, where it is a field that a base reaches.
+    fn row_line(&self, report: &mut Report, name: Name8, symbol: &Symbol) -> Result<(), AllocError>
+        ensures { let line = row_line (S.storage self.now.store.now) self.now.term self.now.readings.now
+            self.now.regs.now self.now.bases.now self.now.names.now.control in
+            OnOk result (report.new ≡ report.old ++ line (name, symbol.now)) }
+    {
+        if !is_field(self.names.control, &symbol.value) {
+            return Ok(());
+        }
+        let Some(field) = field_by(self.regs, self.bases, symbol.value) else {
+            return Ok(());
+        };
+        let reading = reading_named(self.readings, name);
+        field_line(
             report,
-            store,
-            term,
-            readings,
-            regs,
-            bases,
-            names.control,
-            *name,
-            symbol,
-        )?;
+            self.store,
+            self.term,
+            name,
+            TypedField { field, reading },
+        )
     }
-    Ok(())
+
+    /// Adds the lines of the symbols that are fields which a base reaches.
+    fn rows_lines(&self, report: &mut Report) -> Result<(), AllocError>
+        ensures { let line = row_line (S.storage self.now.store.now) self.now.term self.now.readings.now
+            self.now.regs.now self.now.bases.now self.now.names.now.control in
+            OnOk result (report.new ≡ report.old ++ flat_map line self.now.names.now.symbols.entries) }
+    {
+        for (name, symbol) in self.names.symbols.iter() {
+            self.row_line(report, *name, symbol)?;
+        }
+        Ok(())
+    }
 }
 
-/// Adds the lines of the fields of a source that is placed.
-fn placed_fields<S: Store>(
-    report: &mut Report,
-    store: &S,
+/// What the fields of a level are written by.
+#[derive(Drop)]
+struct LevelFields<'a, S: Store> {
+    store: &'a S,
     term: Name4,
-    standing: &Standing,
-    offset: u32,
-    source: &Source,
-    places: &Places<'_>,
-) -> Result<(), AllocError>
-    requires fault { (final_state source.now).fault ≡ None }
-    requires placed { IsPlaced (final_state source.now) places.now }
-    ensures { let more = source_lines (S.storage store.now) term standing.now.regs offset source.now in
-        OnOk result (report.new ≡ report.old ++ more) }
-{
-    let alloc = report.alloc();
-    let Some(bases) = bases_in(alloc, source, places, offset)? else {
-        return Ok(());
-    };
-    let names = names_of_places(alloc, source, places)?;
-    let readings = readings_of(alloc, source)?;
-    rows_lines(
-        report,
-        store,
-        term,
-        readings.as_slice(),
-        &standing.regs,
-        &bases,
-        &names,
-    )
+    at: SourcePoint<'a>,
 }
 
-/// Adds the lines of the fields of a source.
-fn source_lines<S: Store>(
-    report: &mut Report,
-    store: &S,
-    term: Name4,
-    standing: &Standing,
-    offset: u32,
-    source: &Source,
-) -> Result<(), AllocError>
-    ensures { let more = source_lines (S.storage store.now) term standing.now.regs offset source.now in
-        OnOk result (report.new ≡ report.old ++ more) }
-{
-    match place_all(report.alloc(), source)? {
-        Ok(places) => placed_fields(report, store, term, standing, offset, source, &places),
-        Err(_) => Ok(()),
+impl<'a, S: Store> LevelFields<'a, S> {
+    /// Adds the lines of the fields of a source that is placed.
+    fn placed_fields(
+        &self,
+        report: &mut Report,
+        source: &Source,
+        places: &Places<'_>,
+    ) -> Result<(), AllocError>
+        requires fault { (final_state source.now).fault ≡ None }
+        requires placed { IsPlaced (final_state source.now) places.now }
+        ensures { let lines = source_lines (S.storage self.now.store.now) self.now.term self.now.at.regs.now
+            self.now.at.offset in OnOk result (report.new ≡ report.old ++ lines source.now) }
+    {
+        let alloc = report.alloc();
+        let Some(bases) = bases_in(alloc, source, places, self.at.offset)? else {
+            return Ok(());
+        };
+        let names = names_of_places(alloc, source, places)?;
+        let readings = readings_of(alloc, source)?;
+        let reached = ReachedFields {
+            store: self.store,
+            term: self.term,
+            readings: readings.as_slice(),
+            regs: self.at.regs,
+            bases: &bases,
+            names: &names,
+        };
+        reached.rows_lines(report)
+    }
+
+    /// Adds the lines of the fields of a source.
+    fn source_lines(&self, report: &mut Report, source: &Source) -> Result<(), AllocError>
+        ensures { let lines = source_lines (S.storage self.now.store.now) self.now.term self.now.at.regs.now
+            self.now.at.offset in OnOk result (report.new ≡ report.old ++ lines source.now) }
+    {
+        match place_all(report.alloc(), source)? {
+            Ok(places) => self.placed_fields(report, source, &places),
+            Err(_) => Ok(()),
+        }
     }
 }
 
@@ -326,11 +345,21 @@ fn fields_there<S: Store>(
     let Some(source) = translated_in(report.alloc(), lines)? else {
         return Ok(());
     };
-    source_lines(report, store, term, standing, offset, &source)
+    let level = LevelFields {
+        store,
+        term,
+        at: SourcePoint {
+            regs: &standing.regs,
+            offset,
+        },
+    };
+    level.source_lines(report, &source)
 }
 
 /// The words that a look at all fields begins with.
-fn fields_word(alloc: Global, term: Name4) -> Result<Vec<u8>, AllocError>
+///
+/// An error comes only where memory for them was refused.
+pub fn fields_word(alloc: Global, term: Name4) -> Result<Vec<u8>, AllocError>
     ensures { IfOk result (λ word. word.items ≡ codes "FIELDS " ++ shown_name term) }
 {
     let term = shown_name(alloc, term)?;

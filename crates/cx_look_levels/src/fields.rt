@@ -30,6 +30,13 @@ pub struct TypedField {
     pub reading: Option<Reading>,
 }
 
+/// Where a level stands in its source: the registers it has there, and the offset in the control section.
+#[derive(Clone, Copy)]
+pub struct SourcePoint<'a> {
+    pub regs: &'a [u32; 16],
+    pub offset: u32,
+}
+
 /// Whether a statement has the byte at an offset of the control section.
 fn stands_at(
     alloc: Global,
@@ -125,37 +132,35 @@ fn field_placed(
     alloc: Global,
     source: &Source,
     places: &Places<'_>,
-    regs: &[u32; 16],
-    offset: u32,
+    at: SourcePoint<'_>,
     name: Name8,
 ) -> Result<Option<Field>, AllocError>
     requires fault { (final_state source.now).fault ≡ None }
     requires placed { IsPlaced (final_state source.now) places.now }
-    ensures value { IfOk result (λ field. field ≡ field_in source.now regs.now offset name) }
+    ensures value { IfOk result (λ field. field ≡ field_in source.now at.entry.regs.now at.entry.offset name) }
     ensures short { IfOk result (λ field. IfSome field (λ it. it.address < 2 ^ 24)) }
 {
-    let Some(bases) = bases_in(alloc, source, places, offset)? else {
+    let Some(bases) = bases_in(alloc, source, places, at.offset)? else {
         return Ok(None);
     };
     let Some(value) = places.symbols.get(name) else {
         return Ok(None);
     };
-    Ok(field_by(regs, &bases, value))
+    Ok(field_by(at.regs, &bases, value))
 }
 
 /// The field of a symbol of a source.
 pub(crate) fn field_in(
     alloc: Global,
     source: &Source,
-    regs: &[u32; 16],
-    offset: u32,
+    at: SourcePoint<'_>,
     name: Name8,
 ) -> Result<Option<Field>, AllocError>
-    ensures value { IfOk result (λ field. field ≡ field_in source.now regs.now offset name) }
+    ensures value { IfOk result (λ field. field ≡ field_in source.now at.entry.regs.now at.entry.offset name) }
     ensures short { IfOk result (λ field. IfSome field (λ it. it.address < 2 ^ 24)) }
 {
     match place_all(alloc, source)? {
-        Ok(places) => field_placed(alloc, source, &places, regs, offset, name),
+        Ok(places) => field_placed(alloc, source, &places, at, name),
         Err(_) => Ok(None),
     }
 }

@@ -16,7 +16,7 @@ use cx_look_symbols::{
 use cx_look_words::Report;
 use cx_program::{Entries, Exit, Handler, Handling, Level, LevelStack};
 use cx_region_state::Shared;
-use cx_storage::{Store, address_in, along, word_at};
+use cx_storage::{Store, address_after, address_in, word_at};
 use indexmap::IndexMap;
 use std::alloc::{AllocError, Global};
 
@@ -24,7 +24,7 @@ use std::alloc::{AllocError, Global};
 fn cap_word<S: Store>(alloc: Global, store: &S, level: &Level) -> Result<Vec<u8>, AllocError>
     ensures { IfOk result (λ word. word.items ≡ cap_word (S.storage store.now) level.now) }
 {
-    match word_at(store, along(level.stg, EistgField::Eicap.offset())) {
+    match word_at(store, address_after(level.stg, EistgField::Eicap.offset())) {
         Some(word) => hexadecimal::<8>(word).to_vec(alloc),
         None => b"--".to_vec(alloc),
     }
@@ -136,113 +136,103 @@ fn ignore_line(report: &mut Report, of: Handles, condition: Condition) -> Result
     report.line(&[b"LEVEL", &number, b"IGNORE", name])
 }
 
-/// Adds the line of a condition with a label.
-fn label_line(
-    report: &mut Report,
-    sources: &SourcePlaces,
-    programs: &IndexMap<Name8, Loaded>,
+/// The handles that are written, and the sources and programs in which their labels are places.
+#[derive(Drop)]
+struct LevelHandles<'a> {
     of: Handles,
-    condition: Condition,
-    label: u32,
-) -> Result<(), AllocError>
-    ensures { let line = label_line sources.now.entries programs.now.entries (number_of of) condition label in
-        OnOk result (report.new ≡ report.old ++ line) }
-{
-    let number = number_of(report.alloc(), of)?;
-    let name = condition.name().as_bytes();
-    let place = place_word(report.alloc(), sources, &place_of(programs, label))?;
-    report.line(&[b"LEVEL", &number, b"HANDLE", name, &place])
+    sources: &'a SourcePlaces,
+    programs: &'a IndexMap<Name8, Loaded>,
 }
 
-/// Adds the line of a condition, where it has an entry.
-fn handle_line(
-    report: &mut Report,
-    sources: &SourcePlaces,
-    programs: &IndexMap<Name8, Loaded>,
-    of: Handles,
-    condition: Condition,
-    entry: Handler,
-) -> Result<(), AllocError>
-    ensures { let more = handle_line sources.now.entries programs.now.entries (number_of of) condition entry in
-        OnOk result (report.new ≡ report.old ++ more) }
-{
-    match entry {
-        Handler::NoEntry => Ok(()),
-        Handler::Ignored => ignore_line(report, of, condition),
-        Handler::Label(label) => label_line(report, sources, programs, of, condition, label),
+impl LevelHandles<'_> {
+    /// Adds the line of a condition with a label.
+    fn label_line(
+        &self,
+        report: &mut Report,
+        condition: Condition,
+        label: u32,
+    ) -> Result<(), AllocError>
+        ensures { let more = label_line self.now.sources.now.entries self.now.programs.now.entries
+            (number_of self.now.of) condition label in OnOk result (report.new ≡ report.old ++ more) }
+    {
+        let number = number_of(report.alloc(), self.of)?;
+        let name = condition.name().as_bytes();
+        let place = place_word(
+            report.alloc(),
+            self.sources,
+            &place_of(self.programs, label),
+        )?;
+        report.line(&[b"LEVEL", &number, b"HANDLE", name, &place])
     }
-}
 
-/// Adds the lines of those of some conditions that have an entry.
-fn handle_lines(
-    report: &mut Report,
-    sources: &SourcePlaces,
-    programs: &IndexMap<Name8, Loaded>,
-    of: Handles,
-    entries: &Entries,
-    conditions: &[Condition],
-) -> Result<(), AllocError>
-    ensures { let number = number_of of in
-        let more = handle_lines sources.now.entries programs.now.entries number entries.now conditions.now in
-        OnOk result (report.new ≡ report.old ++ more) }
-{
-    for condition in conditions {
-        let entry = entries.entry_for(*condition);
-        handle_line(report, sources, programs, of, *condition, entry)?;
+    /// Adds the line of a condition, where it has an entry.
+    fn handle_line(
+        &self,
+        report: &mut Report,
+        condition: Condition,
+        entry: Handler,
+    ) -> Result<(), AllocError>
+        ensures { let more = handle_line self.now.sources.now.entries self.now.programs.now.entries
+            (number_of self.now.of) condition entry in OnOk result (report.new ≡ report.old ++ more) }
+    {
+        match entry {
+            Handler::NoEntry => Ok(()),
+            Handler::Ignored => ignore_line(report, self.of, condition),
+            Handler::Label(label) => self.label_line(report, condition, label),
+        }
     }
-    Ok(())
-}
 
-/// Adds the line of an exit, with the word that says whether it is on.
-fn exit_words(
-    report: &mut Report,
-    sources: &SourcePlaces,
-    programs: &IndexMap<Name8, Loaded>,
-    of: Handles,
-    label: u32,
-    state: &[u8],
-) -> Result<(), AllocError>
-    ensures { let line = exit_words sources.now.entries programs.now.entries (number_of of) label state.now in
-        OnOk result (report.new ≡ report.old ++ line) }
-{
-    let number = number_of(report.alloc(), of)?;
-    let place = place_word(report.alloc(), sources, &place_of(programs, label))?;
-    report.line(&[b"LEVEL", &number, b"EXIT", &place, state])
-}
-
-/// Adds the line of an exit, where there is one.
-fn exit_line(
-    report: &mut Report,
-    sources: &SourcePlaces,
-    programs: &IndexMap<Name8, Loaded>,
-    of: Handles,
-    exit: Exit,
-) -> Result<(), AllocError>
-    ensures { let more = exit_line sources.now.entries programs.now.entries (number_of of) exit in
-        OnOk result (report.new ≡ report.old ++ more) }
-{
-    match exit {
-        Exit::NoExit => Ok(()),
-        Exit::On(label) => exit_words(report, sources, programs, of, label, b"ON"),
-        Exit::Off(label) => exit_words(report, sources, programs, of, label, b"OFF"),
+    /// Adds the lines of those of some conditions that have an entry.
+    fn handle_lines(
+        &self,
+        report: &mut Report,
+        entries: &Entries,
+        conditions: &[Condition],
+    ) -> Result<(), AllocError>
+        ensures { let more = handle_lines self.now.sources.now.entries self.now.programs.now.entries
+            (number_of self.now.of) entries.now conditions.now in OnOk result (report.new ≡ report.old ++ more) }
+    {
+        for condition in conditions {
+            self.handle_line(report, *condition, entries.entry_for(*condition))?;
+        }
+        Ok(())
     }
-}
 
-/// Adds the lines of what is asked for.
-#[tactic(auto, unfolding(crate::specs::Levels::handling_lines))]
-fn handling_lines(
-    report: &mut Report,
-    sources: &SourcePlaces,
-    programs: &IndexMap<Name8, Loaded>,
-    of: Handles,
-    handling: &Handling,
-) -> Result<(), AllocError>
-    ensures { let more = handling_lines sources.now.entries programs.now.entries (number_of of) handling.now in
-        OnOk result (report.new ≡ report.old ++ more) }
-{
-    let conditions = Condition::handled();
-    handle_lines(report, sources, programs, of, &handling.entries, conditions)?;
-    exit_line(report, sources, programs, of, handling.exit)
+    /// Adds the line of an exit, with the word that says whether it is on.
+    fn exit_words(&self, report: &mut Report, label: u32, state: &[u8]) -> Result<(), AllocError>
+        ensures { let more = exit_words self.now.sources.now.entries self.now.programs.now.entries
+            (number_of self.now.of) label state.now in OnOk result (report.new ≡ report.old ++ more) }
+    {
+        let number = number_of(report.alloc(), self.of)?;
+        let place = place_word(
+            report.alloc(),
+            self.sources,
+            &place_of(self.programs, label),
+        )?;
+        report.line(&[b"LEVEL", &number, b"EXIT", &place, state])
+    }
+
+    /// Adds the line of an exit, where there is one.
+    fn exit_line(&self, report: &mut Report, exit: Exit) -> Result<(), AllocError>
+        ensures { let more = exit_line self.now.sources.now.entries self.now.programs.now.entries
+            (number_of self.now.of) exit in OnOk result (report.new ≡ report.old ++ more) }
+    {
+        match exit {
+            Exit::NoExit => Ok(()),
+            Exit::On(label) => self.exit_words(report, label, b"ON"),
+            Exit::Off(label) => self.exit_words(report, label, b"OFF"),
+        }
+    }
+
+    /// Adds the lines of what is asked for.
+    #[tactic(auto, unfolding(crate::specs::Levels::handling_lines))]
+    fn handling_lines(&self, report: &mut Report, handling: &Handling) -> Result<(), AllocError>
+        ensures { let more = handling_lines self.now.sources.now.entries self.now.programs.now.entries
+            (number_of self.now.of) handling.now in OnOk result (report.new ≡ report.old ++ more) }
+    {
+        self.handle_lines(report, &handling.entries, Condition::handled())?;
+        self.exit_line(report, handling.exit)
+    }
 }
 
 /// Adds the lines of what PUSH HANDLEs keep, the first kept first.
@@ -260,7 +250,12 @@ fn pushed_lines(
 {
     for (index, handling) in kept.iter().enumerate() {
         let of = Handles::Pushed(k, index as u32 + 1);
-        handling_lines(report, sources, programs, of, handling)?;
+        let pushed = LevelHandles {
+            of,
+            sources,
+            programs,
+        };
+        pushed.handling_lines(report, handling)?;
     }
     Ok(())
 }
@@ -273,12 +268,18 @@ fn asked_text(
     k: u32,
     level: &Level,
 ) -> Result<(), AllocError>
-    ensures { let asked = handling_lines places.now.entries programs.now.entries (level_number k) level.now.handles.active in
-        let pushed = pushed_lines places.now.entries programs.now.entries k 1 (reverse level.now.handles.kept) in
+    ensures { let handles = level.now.handles in
+        let asked = handling_lines places.now.entries programs.now.entries (level_number k) handles.active in
+        let pushed = pushed_lines places.now.entries programs.now.entries k 1 (reverse handles.kept) in
         OnOk result (report.new ≡ report.old ++ (asked ++ pushed)) }
 {
     let active = level.handles.active();
-    handling_lines(report, places, programs, Handles::InForce(k), active)?;
+    let in_force = LevelHandles {
+        of: Handles::InForce(k),
+        sources: places,
+        programs,
+    };
+    in_force.handling_lines(report, active)?;
     pushed_lines(report, places, programs, k, level.handles.kept())
 }
 

@@ -23,8 +23,9 @@ use Rattle.cx_look_orders.specs.Steps.{moves_of}
 use Rattle.cx_look_orders.specs.declared.outcomes.Outcome.{Outcome}
 use Rattle.cx_look_orders.specs.declared.steps.Step.{Step}
 use Rattle.cx_look_orders.proofs.ListLemmas.{below_next, item_appended, item_kept, item_last}
-use Rattle.cx_look_orders.proofs.PlaceLemmas.{kept_least, kept_moves, near_less, no_later, one_state}
+use Rattle.cx_look_orders.proofs.PlaceLemmas.{kept_least, kept_moves, no_later, one_state}
 use Rattle.std.specs.List.{flat_map}
+use Rattle.cx_look_orders.specs.Facts.Outcomes.{many_moves, near_less}
 
 -- what is seen of a region is determined
 abbrev pub ShowsDecide : (RegionState → Lines → Type 0) → Type 0
@@ -38,11 +39,6 @@ rest_texts_decide Shows shown waits keys state one other p q =
     ∙ ap (λ w. flat_map (incident_line state.region) state.incidents ++ w ++ keys_text state keys keys ++ p.sight) (waits state.region p.waits q.waits p.waiting q.waiting)
     ∙ ap (λ s. flat_map (incident_line state.region) state.incidents ++ q.waits ++ keys_text state keys keys ++ s) (shown state.region p.sight q.sight p.seen q.seen)
     ∙ sym q.is
-
--- a list of steps is as long as that of its moves
-pub many_moves : (steps : List Step) → length (moves_of steps) ≡ length steps
-many_moves [] = refl
-many_moves (step ∷ steps) = omega (arith, many_moves steps)
 
 module _ (Shows : RegionState → Lines → Type 0) (keys : List KeyLine) (start : OrdersState) (found : List (OrdersState × Origin)) (places : List ℕ)
     (shown : ShowsDecide Shows) (waits : WaitsTextsDecide) where

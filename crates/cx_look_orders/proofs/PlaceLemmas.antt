@@ -19,11 +19,6 @@ use Rattle.cx_look_orders.specs.Steps.{moves_of}
 use Rattle.cx_look_orders.specs.declared.steps.Step.{Step}
 use Rattle.cx_look_orders.proofs.ListLemmas.{item_appended, length_mapped, mapped_item, of_mapped}
 
--- ---- at most so many moves
-pub near_less : (cut : Option ℕ) (m n : ℕ) → m ≤ n → IsNear cut n → IsNear cut m
-near_less None m n l near = tt
-near_less (Some most) m n l near = omega (arith, l, near)
-
 -- a list that is no later is no longer
 pub no_longer : (ms ns : List ℕ) → NoLater ms ns → length ms ≤ length ns
 no_longer ms ns (inl e) = omega (arith, ap length e)

@@ -33,8 +33,8 @@ module _ (Shows : RegionState → Lines → Type 0) (keys : List KeyLine) (start
     pub rest : AtRest (Moves keys) to
     pub shows : RestText Shows keys to text
 
-  -- an outcome: what is written of the state that its steps end with, at rest, the soonest of the lists that end with that text; it
-  -- has at most so many moves, where they are limited
+  -- an outcome: what is written of the state that its steps end with, at rest, the soonest of the lists that end with
+  -- that text; it has at most so many moves, where they are limited
   pub record IsOutcome (cut : Option ℕ) (one : Outcome) : Type 0 where
     pub to : OrdersState
     pub steps : AreSteps keys start one.steps to
@@ -43,7 +43,8 @@ module _ (Shows : RegionState → Lines → Type 0) (keys : List KeyLine) (start
     pub near : IsNear cut (length one.steps)
     pub soonest : (moves : List ℕ) → EndsWith moves one.text → NoLater (moves_of one.steps) moves
 
-  -- All outcomes of lists of at most so many moves, where they are limited: none is missed, in the order of their lists.
+  -- All outcomes of lists of at most so many moves, where they are limited: none is missed, in the order of their
+  -- lists.
   pub record AreOutcomes (cut : Option ℕ) (outcomes : List Outcome) : Type 0 where
     pub each : (place : ℕ) (one : Outcome) → slice_get outcomes place ≡ Some one → IsOutcome cut one
     pub all : (moves : List ℕ) (text : Lines) → EndsWith moves text → IsNear cut (length moves) → HasText outcomes text

@@ -1,5 +1,5 @@
--- What is written of a state at rest: how tasks ended by abends on the way, keys that were refused, tasks that wait, keys that
--- couldn't come, and what is to be seen there (this product's own).
+-- What is written of a state at rest: how tasks ended by abends on the way, keys that were refused, tasks that wait,
+-- keys that couldn't come, and what is to be seen there (this product's own).
 use Rattle.std.specs.Prelude.{◌≡◌, ℕ, ◌==◌, ◌-◌, if◌then◌else◌, List, [], ◌∷◌, ◌++◌, codes, length, position, slice_get, unwrap_or}
 use Rattle.std.specs.Fmt.{decimal}
 use Rattle.std.specs.List.{flat_map, list_any}

@@ -53,40 +53,54 @@ fn place_at(places: &[usize], index: usize) -> Option<usize>
     places.get(index).copied()
 }
 
+/// What was searched: the states that orders lead to from a region, and what is to be seen of each.
+#[derive(Drop)]
+pub(crate) struct Searched<'a, S: Store + Drop, V: Seen<S>> {
+    pub region: &'a Region<S>,
+    pub orders: &'a Orders<S>,
+    pub found: &'a Found<Orders<S>>,
+    pub seen: &'a V,
+}
+
 /// Adds the outcome of the state at one of the places at rest, where none has its text.
 ///
 /// An error comes only where memory was refused.
 fn add_outcome<S: Store + Drop, V: Seen<S>>(
-    region: &Region<S>,
-    orders: &Orders<S>,
-    found: &Found<Orders<S>>,
-    seen: &V,
+    searched: &Searched<S, V>,
     work: &mut Region<S>,
     places: &[usize],
     index: usize,
     outcomes: &mut Vec<Outcome>,
 ) -> Result<(), AllocError>
-    requires found { Finds (Moves orders.now.keys.items) (begun region.now) found.now.states.entries }
+    requires found { Finds (Moves searched.now.orders.now.keys.items) (begun searched.now.region.now)
+        searched.now.found.now.states.entries }
     requires sorted { AreSorted places.now }
-    requires so_far { AreOfFirst (V.shows seen.now) orders.now.keys.items (begun region.now) found.now.states.entries
-        places.now index outcomes.old.items }
-    ensures { OnOk result (AreOfFirst (V.shows seen.now) orders.now.keys.items (begun region.now)
-        found.now.states.entries places.now (index + 1) outcomes.new.items) }
+    requires so_far { AreOfFirst (V.shows searched.now.seen.now) searched.now.orders.now.keys.items
+        (begun searched.now.region.now) searched.now.found.now.states.entries places.now index outcomes.old.items }
+    ensures { OnOk result (AreOfFirst (V.shows searched.now.seen.now) searched.now.orders.now.keys.items
+        (begun searched.now.region.now) searched.now.found.now.states.entries places.now (index + 1) outcomes.new.items) }
 {
-    seen.shows_decide();
+    let orders = searched.orders;
+    searched.seen.shows_decide();
     texts_decide();
     let Some(place) = place_at(places, index) else {
         return Ok(());
     };
-    let Some((state, _origin)) = found.states.get_index(place) else {
+    let Some((state, _origin)) = searched.found.states.get_index(place) else {
         return Ok(());
     };
     state.region.restore(work)?;
-    let text = rest_text(orders.alloc, work, state, orders.keys.as_slice(), seen)?;
+    let text = rest_text(
+        orders.alloc,
+        work,
+        state,
+        orders.keys.as_slice(),
+        searched.seen,
+    )?;
     if has_text(outcomes.as_slice(), &text) {
         return Ok(());
     }
-    let steps = steps_to(region, orders, found, work, place)?;
+    let steps = steps_to(searched.region, orders, searched.found, work, place)?;
     outcomes.push(Outcome { text, steps })?;
     Ok(())
 }
@@ -95,36 +109,26 @@ fn add_outcome<S: Store + Drop, V: Seen<S>>(
 ///
 /// An error comes only where memory was refused.
 pub(crate) fn outcomes_of<S: Store + Drop, V: Seen<S>>(
-    region: &Region<S>,
-    orders: &Orders<S>,
-    found: &Found<Orders<S>>,
-    seen: &V,
+    searched: &Searched<S, V>,
     work: &mut Region<S>,
     cut: Option<usize>,
 ) -> Result<Vec<Outcome>, AllocError>
-    requires finds { Finds (Moves orders.now.keys.items) (begun region.now) found.now.states.entries }
-    requires reaches { Reaches orders.now.keys.items (begun region.now) found.now.states.entries cut }
-    ensures { IfOk result (λ outcomes.
-        AreOutcomes (V.shows seen.now) orders.now.keys.items (begun region.now) cut outcomes.items) }
+    requires finds { Finds (Moves searched.now.orders.now.keys.items) (begun searched.now.region.now)
+        searched.now.found.now.states.entries }
+    requires reaches { Reaches searched.now.orders.now.keys.items (begun searched.now.region.now)
+        searched.now.found.now.states.entries cut }
+    ensures { IfOk result (λ outcomes. AreOutcomes (V.shows searched.now.seen.now)
+        searched.now.orders.now.keys.items (begun searched.now.region.now) cut outcomes.items) }
 {
-    seen.shows_decide();
+    searched.seen.shows_decide();
     texts_decide();
     one_list_is_sooner();
     one_list_leads_first::<Orders<S>>();
-    let resting = found.resting(orders, work, cut)?;
+    let resting = searched.found.resting(searched.orders, work, cut)?;
     let places = resting.as_slice();
-    let mut outcomes = Vec::new(orders.alloc);
+    let mut outcomes = Vec::new(searched.orders.alloc);
     for index in 0..places.len() {
-        add_outcome(
-            region,
-            orders,
-            found,
-            seen,
-            work,
-            places,
-            index,
-            &mut outcomes,
-        )?;
+        add_outcome(searched, work, places, index, &mut outcomes)?;
     }
     Ok(outcomes)
 }

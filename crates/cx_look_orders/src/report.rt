@@ -7,7 +7,7 @@ ghost use Rattle.std.specs.Option.{option_copied};
 ghost use Rattle.cx_orders.specs.Moves.{Moves, begun};
 ghost use Rattle.cx_search.specs.Finds.{Finds, IsWhole};
 
-use crate::outcomes::{Outcome, outcomes_of};
+use crate::outcomes::{Outcome, Searched, outcomes_of};
 use crate::rest::push_lines;
 use crate::script::script_lines;
 use crate::seen::Seen;
@@ -173,29 +173,30 @@ struct Whole {
 ///
 /// An error comes only where memory was refused.
 fn whole_of<S: Store + Drop, V: Seen<S>>(
-    region: &Region<S>,
-    orders: &Orders<S>,
-    found: &Found<Orders<S>>,
-    seen: &V,
+    searched: &Searched<S, V>,
     work: &mut Region<S>,
 ) -> Result<Whole, AllocError>
-    requires finds { Finds (Moves orders.now.keys.items) (begun region.now) found.now.states.entries }
-    requires whole { IsWhole (Moves orders.now.keys.items) (begun region.now) found.now.states.entries
-        found.now.links.items }
-    ensures many { IfOk result (λ whole. whole.states ≡ length found.now.states.entries) }
-    ensures count { IfOk result (λ whole. HasStates orders.now.keys.items (begun region.now) whole.states) }
-    ensures outcomes { IfOk result (λ whole.
-        AreOutcomes (V.shows seen.now) orders.now.keys.items (begun region.now) None whole.outcomes.items) }
-    ensures looping { IfOk result (λ whole. MayLoop orders.now.keys.items (begun region.now) whole.looping) }
-    ensures stuck { IfOk result (λ whole. MatchBool whole.is_stuck (IsStuck orders.now.keys.items (begun region.now))
-        (AllCanRest orders.now.keys.items (begun region.now))) }
+    requires finds { Finds (Moves searched.now.orders.now.keys.items) (begun searched.now.region.now)
+        searched.now.found.now.states.entries }
+    requires whole { IsWhole (Moves searched.now.orders.now.keys.items) (begun searched.now.region.now)
+        searched.now.found.now.states.entries searched.now.found.now.links.items }
+    ensures many { IfOk result (λ whole. whole.states ≡ length searched.now.found.now.states.entries) }
+    ensures count { IfOk result (λ whole.
+        HasStates searched.now.orders.now.keys.items (begun searched.now.region.now) whole.states) }
+    ensures outcomes { IfOk result (λ whole. AreOutcomes (V.shows searched.now.seen.now)
+        searched.now.orders.now.keys.items (begun searched.now.region.now) None whole.outcomes.items) }
+    ensures looping { IfOk result (λ whole.
+        MayLoop searched.now.orders.now.keys.items (begun searched.now.region.now) whole.looping) }
+    ensures stuck { IfOk result (λ whole. MatchBool whole.is_stuck
+        (IsStuck searched.now.orders.now.keys.items (begun searched.now.region.now))
+        (AllCanRest searched.now.orders.now.keys.items (begun searched.now.region.now))) }
 {
     one_list_is_sooner();
-    let outcomes = outcomes_of(region, orders, found, seen, work, None)?;
-    let looping = loop_of(region, orders, found, work)?;
-    let is_stuck = is_stuck(region, orders, found)?;
+    let outcomes = outcomes_of(searched, work, None)?;
+    let looping = loop_of(searched.region, searched.orders, searched.found, work)?;
+    let is_stuck = is_stuck(searched.region, searched.orders, searched.found)?;
     Ok(Whole {
-        states: found.states.len(),
+        states: searched.found.states.len(),
         outcomes,
         looping,
         is_stuck,
@@ -264,11 +265,16 @@ pub fn orders_text<S: Store + Drop, V: Seen<S>>(
     let start = RegionSnapshot::take(orders.alloc, region, None)?;
     let mut work = start.region_in(orders.alloc, region.shared().store.emptied())?;
     let end = orders.search(start, most, &mut work)?;
-    let found = &end.found;
+    let searched = Searched {
+        region,
+        orders,
+        found: &end.found,
+        seen,
+    };
     let Some(moves) = end.cut else {
-        let whole = whole_of(region, orders, found, seen, &mut work)?;
+        let whole = whole_of(&searched, &mut work)?;
         return whole_report(region, orders, edf, &whole);
     };
-    let outcomes = outcomes_of(region, orders, found, seen, &mut work, Some(moves))?;
+    let outcomes = outcomes_of(&searched, &mut work, Some(moves))?;
     cut_report(region, orders, edf, most, outcomes.as_slice())
 }

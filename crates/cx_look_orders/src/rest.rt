@@ -109,7 +109,7 @@ fn has_key(keys: &[KeyLine], name: Name4) -> bool
 }
 
 /// Adds the lines of another report.
-pub(crate) fn push_lines(report: &mut Report, more: &Report) -> Result<(), AllocError>
+pub fn push_lines(report: &mut Report, more: &Report) -> Result<(), AllocError>
     ensures { OnOk result (report.new ≡ report.old ++ more.now) }
 {
     let lines = more.lines();

@@ -6,7 +6,7 @@ use Rattle.cx_edf.specs.State.{EdfState}
 use Rattle.cx_script_actions.specs.Effects.{Performs, Replies}
 use Rattle.cx_script_actions.specs.declared.actions.Action.{Action}
 use Rattle.cx_script_actions.specs.declared.actions.Action.TheVariants as edf_action
-use Rattle.cx_script.specs.Transcript.{Runs}
+use Rattle.cx_script.specs.Transcript.{PerformsAll}
 use Rattle.cx_look_script.specs.Looking.{Acts, NotedPerforms, RunsTurn, TakesOneMore}
 use Rattle.cx_look_script.specs.Runs.{StopsWith, run_over}
 use Rattle.cx_look_script.specs.State.{LookState}
@@ -16,8 +16,8 @@ use Rattle.cx_look_script.specs.declared.action.LookAction.{LookAction}
 use Rattle.cx_look_script.specs.declared.action.LookAction.TheVariants as action
 use Rattle.cx_look_script.specs.declared.action.Stop.{Stop}
 
-runs_one : (old : LookState) (a : Action) (text : List ℕ) (new : LookState) → NotedPerforms old a text new → Runs NotedPerforms old (a ∷ []) text new
-unfolding Runs
+runs_one : (old : LookState) (a : Action) (text : List ℕ) (new : LookState) → NotedPerforms old a text new → PerformsAll NotedPerforms old (a ∷ []) text new
+unfolding PerformsAll
 runs_one old a text new p = (new, text, [], p, (refl, refl), sym (append-nil text))
 
 -- what `cicsedf` does and writes of an action
@@ -36,7 +36,7 @@ record Did (old : LookState) (a : LookAction) (own watched : List ℕ) (new : Lo
   part : Part
   is : IsPart old a part
   done : LookState
-  runs : Runs NotedPerforms old part.plain part.written done
+  runs : PerformsAll NotedPerforms old part.plain part.written done
   kept : new ≡ kept_after old a part.plain done
   whole : own ≡ part.written ++ part.looked
   shown : part.watched ≡ watched
@@ -58,7 +58,7 @@ did_action old a done text watched new is kept p =
 -- an action that does none
 did_nothing : (old : LookState) (a : LookAction) (text watched : List ℕ) (new : LookState) → IsPart old a (let part : Part = record { plain = []; written = []; looked = text; watched = watched } in part)
     → new ≡ kept_after old a [] old → Did old a text watched new
-unfolding Runs
+unfolding PerformsAll
 did_nothing old a text watched new is kept =
     record {
       part = record { plain = []; written = []; looked = text; watched = watched };
@@ -75,14 +75,14 @@ record Turned (old : LookState) (name : List ℕ) (s : Stop) (own watched : List
   part : Part
   is : IsTurnOfRun old name s part
   done : LookState
-  runs : Runs NotedPerforms old part.plain part.written done
+  runs : PerformsAll NotedPerforms old part.plain part.written done
   kept : new ≡ after_turns part.plain done
   whole : own ≡ part.written ++ part.looked
   shown : part.watched ≡ watched
 
-turned : (old : LookState) (name : List ℕ) (s : Stop) (text watched : List ℕ) (new : LookState) (line : Option (List ℕ)) → StopsWith s old.edf name line
+turned : (old : LookState) (name : List ℕ) (s : Stop) (text watched : List ℕ) (new : LookState) (line : Option (List ℕ)) → StopsWith s old.sources old.edf name line
     → MatchOption line (NotedPerforms old (turn_action name) text new) (λ l. (text ≡ l) × (new ≡ run_over old)) → Turned old name s text watched new
-unfolding Runs
+unfolding PerformsAll
 turned old name s text watched new None stops p =
     record {
       part = record { plain = turn_action name ∷ []; written = text; looked = []; watched = watched };
@@ -156,10 +156,10 @@ did old (action.Orders block) text watched new p = did_nothing old (action.Order
 did old (action.BadLook number s) text watched new p = did_nothing old (action.BadLook number s) text watched new (refl, p.0) p.1
 
 append_plain : (old : LookState) (xs : List Action) (s : List ℕ) (mid : LookState) (ys : List Action) (t : List ℕ) (new : LookState)
-    → Runs NotedPerforms old xs s mid → Runs Performs mid.edf ys t new.edf → Runs Performs old.edf (xs ++ ys) (s ++ t) new.edf
-unfolding Runs
+    → PerformsAll NotedPerforms old xs s mid → PerformsAll Performs mid.edf ys t new.edf → PerformsAll Performs old.edf (xs ++ ys) (s ++ t) new.edf
+unfolding PerformsAll
 append_plain old [] s mid ys t new p q =
-    subst (λ (m : LookState). Runs Performs m.edf ys (s ++ t) new.edf) p.1 (subst (λ l. Runs Performs mid.edf ys (l ++ t) new.edf) (sym p.0) q)
+    subst (λ (m : LookState). PerformsAll Performs m.edf ys (s ++ t) new.edf) p.1 (subst (λ l. PerformsAll Performs mid.edf ys (l ++ t) new.edf) (sym p.0) q)
 append_plain old (x ∷ xs) s mid ys t new p q =
     (p.0.edf, p.1, p.2 ++ t, performs old x p.1 p.0 p.3, append_plain p.0 xs p.2 mid ys t new p.4 q, ap (λ l. l ++ t) p.5 ∙ append_assoc p.1 p.2 t)
 
@@ -192,12 +192,12 @@ in_front old a own first between actions rest text new d is r e =
       parts = d.part ∷ r.parts;
       each = (d.done, between, d.is, d.runs, d.kept, d.shown, r.each);
       runs = append_plain old d.part.plain d.part.written d.done plain written new d.runs
-          (subst (λ (s : EdfState). Runs Performs s plain written new.edf) same r.runs);
+          (subst (λ (s : EdfState). PerformsAll Performs s plain written new.edf) same r.runs);
       whole = e ∙ ap (λ l. l ++ rest) (is ∙ shown) ∙ ap (λ l. text_of d.part ++ l) r.whole;
     }
 
 pub looks_change_nothing : LooksChangeNothing
-unfolding Runs ArePartsOf
+unfolding PerformsAll ArePartsOf
 looks_change_nothing old [] text new p = record { parts = []; each = p.1; runs = (refl, ap (λ (s : LookState). s.edf) p.1); whole = p.0 }
 looks_change_nothing old (a ∷ actions) text new p =
     in_front old a p.3.own p.1 p.0 actions p.2 text new (did old a p.3.own (watched_text old (cause_of a) p.0) p.0 p.3.acts) p.3.is (looks_change_nothing p.0 actions p.2 new p.4) p.5

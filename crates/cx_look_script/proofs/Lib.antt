@@ -9,3 +9,5 @@ mod OrdersLemmas
 mod PlainLemmas
 mod SameLemmas
 mod SpotLemmas
+mod SpellingLemmas
+mod AskLemmas

@@ -34,6 +34,7 @@ same_lines tasks resources ahead (look.AreasOf name) state one other p q = p ∙
 same_lines tasks resources ahead (look.Task name) state one other p q = p ∙ sym q
 same_lines tasks resources ahead (look.Abend name) state one other p q = p ∙ sym q
 same_lines tasks resources ahead (look.AbendStorage name) state one other p q = p ∙ sym q
+same_lines tasks resources ahead (look.AbendFields name) state one other p q = p ∙ sym q
 same_lines tasks resources ahead (look.Faults source) state one other p q = p ∙ sym q
 same_lines tasks resources ahead (look.Symbol program name) state one other p q = p ∙ sym q
 same_lines tasks resources ahead (look.Symbols program) state one other p q = p ∙ sym q

@@ -8,15 +8,21 @@ use Rattle.cx_script_io.specs.Unbroken.{IsUnbroken}
 use Rattle.cx_script_io.specs.declared.input.Ending.TheVariants.{AtEnd}
 use Rattle.cx_look.specs.declared.look.Look.{Look}
 use Rattle.cx_look.specs.declared.orders.OrdersBlock.{OrdersBlock}
-use Rattle.cx_look.specs.declared.orders.OrdersKey.{OrdersKey}
 use Rattle.cx_look.specs.declared.orders.Sight.{Sight}
 use Rattle.cx_look.specs.declared.orders.Sight.TheVariants as sight
 use Rattle.cx_look_orders.specs.Report.{OrdersText}
 use Rattle.cx_look_words.specs.Words.{Lines, marked}
 use Rattle.cx_orders.specs.declared.states.KeyLine.{KeyLine}
 use Rattle.cx_look_script.specs.Looking.{AreLookLines, ShowsOrders, at_region}
-use Rattle.cx_look_script.specs.Orders.{AreSeen, IsSeen, SeenThen, asked_key, names_with_edf, sights_of}
+use Rattle.cx_look_script.specs.Orders.{AreSeen, IsSeen, SeenThen, names_with_edf, sights_of}
 use Rattle.cx_look_script.specs.State.{LookState}
+use Rattle.cx_orders.specs.Laws.{MovesDecide}
+use Rattle.cx_orders.specs.Moves.{Moves}
+use Rattle.cx_search.specs.Facts.Loops.{bounded_never_loops}
+use Rattle.cx_search.specs.Laws.{SoonerOrders}
+use Rattle.cx_region_laws.specs.Laws.Regions.{KeysKeepToTheirTerminal, TurnsKeepToTheirTask}
+use Rattle.cx_look_orders.specs.Facts.Decides.{reports_decide}
+use Rattle.cx_look_script.specs.Laws.Orders.{OrdersAreReportedOnce}
 
 -- ---- the lines of a text
 pub line_pushed : (report all : Lines) (text line rest : List ℕ) → text ≡ line ++ 10 ∷ rest → IsUnbroken line → report ++ lines_met AtEnd text ≡ all
@@ -27,12 +33,6 @@ line_pushed report all text line rest e u h =
 
 pub last_pushed : (report all : Lines) (text : List ℕ) → IsUnbroken text → report ++ lines_met AtEnd text ≡ all → report ++ last_met AtEnd text ≡ all
 last_pushed report all text u h = ap (λ l. report ++ l) (sym (none_met AtEnd text u)) ∙ h
-
--- ---- keys
-pub key_more : (all : List KeyLine) (made : KeyLine) (key : OrdersKey) (old rest : List OrdersKey) → asked_key made ≡ key → old ≡ key ∷ rest
-    → map asked_key (all ++ made ∷ []) ++ rest ≡ map asked_key all ++ old
-key_more [] made key old rest asked e = ap (λ (k : OrdersKey). k ∷ rest) asked ∙ sym e
-key_more (k ∷ all) made key old rest asked e = ap (λ (ks : List OrdersKey). asked_key k ∷ ks) (key_more all made key old rest asked e)
 
 -- ---- what is to be seen
 module _ (Says : Look → Lines → Type 0) (region : RegionState) where
@@ -76,10 +76,19 @@ module _ (state : LookState) (block : OrdersBlock) where
 
   pub orders_shown : (sights : List Sight) (keys : List KeyLine) (region : RegionState) (edf : List (List ℕ)) (lines : Lines) (text : List ℕ)
       → OrdersText (λ (r : RegionState). AreSeen (λ (l : Look). AreLookLines l (at_region state r)) r sights) keys region edf block.most lines
-      → map asked_key keys ≡ block.keys → sights ≡ sights_of block.sights region → region ≡ state.edf.region → edf ≡ names_with_edf state.edf
+      → keys ≡ block.keys → sights ≡ sights_of block.sights region → region ≡ state.edf.region → edf ≡ names_with_edf state.edf
       → text ≡ marked lines → ShowsOrders block state text
   orders_shown sights keys region edf lines text is asked shown same with_edf written =
-      let by_sights = subst (λ (s : List Sight). OrdersText (Shows s) keys region edf block.most lines) shown is in
-      let by_region = subst (λ (r : RegionState). OrdersText (Shows (sights_of block.sights r)) keys r edf block.most lines) same by_sights in
-      let by_names = subst (λ (n : List (List ℕ)). OrdersText (Shows (sights_of block.sights state.edf.region)) keys state.edf.region n block.most lines) with_edf by_region in
-      record { keys = keys; asked = asked; lines = lines; are = by_names; is = written }
+      let by_keys = subst (λ (ks : List KeyLine). OrdersText (Shows sights) ks region edf block.most lines) asked is in
+      let by_sights = subst (λ (s : List Sight). OrdersText (Shows s) block.keys region edf block.most lines) shown by_keys in
+      let by_region = subst (λ (r : RegionState). OrdersText (Shows (sights_of block.sights r)) block.keys r edf block.most lines) same by_sights in
+      let by_names = subst (λ (n : List (List ℕ)). OrdersText (Shows (sights_of block.sights state.edf.region)) block.keys state.edf.region n block.most lines) with_edf by_region in
+      record { lines = lines; are = by_names; is = written }
+
+pub orders_once : MovesDecide → TurnsKeepToTheirTask → KeysKeepToTheirTerminal → SoonerOrders → OrdersAreReportedOnce
+orders_once decide turned keyed sooner block state one other named p q =
+    p.is
+    ∙ ap marked
+    (reports_decide (Shows state block (sights_of block.sights state.edf.region)) decide turned keyed sooner block.keys (bounded_never_loops (Moves block.keys))
+    state.edf.region (names_with_edf state.edf) block.most p.lines q.lines named p.are q.are)
+    ∙ sym q.is

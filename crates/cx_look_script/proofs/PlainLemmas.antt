@@ -6,7 +6,7 @@ use Rattle.std.specs.Result.{result_map_both}
 use Rattle.std.specs.Str.{bytes_eq}
 use Rattle.cx_ebcdic.specs.Names.{padded_name}
 use Rattle.cx_region.specs.declared.replies.Event.TheVariants as event
-use Rattle.cx_script_actions.specs.Actions.{line_asked_for, display_line, does, is_blank_or_comment, key_with_text, line_of, source_line, switch_of, edf_switch, wanted_of}
+use Rattle.cx_script_actions.specs.Actions.{line_asked_for, display_line, event_line, is_blank_or_comment, key_with_text, line_of, source_line, switch_of, edf_switch, wanted_of}
 use Rattle.cx_script_actions.specs.Alterations.{change_of}
 use Rattle.cx_script_actions.specs.Language.{edf_language}
 use Rattle.cx_script_actions.specs.Words.{after_first_blank, hex_bytes, number_of, two_words, word}
@@ -61,15 +61,15 @@ unfolding line_asked_for
 asked_plain verb text =
     either (bytes_eq verb (codes "IMAGE")) _ _ (paired line.Image (padded_name 8) (number_of 1 9) text (λ name length. tt))
     (either (bytes_eq verb (codes "SOURCE")) _ _ (chained (λ name. source_line name (after_first_blank text)) (padded_name 8 (word text)) (λ name. source_plain name (after_first_blank text)))
-    (either (bytes_eq verb (codes "TRANSACTION")) _ _ (paired (λ t p. does (event.Transaction t p)) (padded_name 4) (padded_name 8) text (λ t p. tt))
-    (either (bytes_eq verb (codes "TERMINAL")) _ _ (mapped (λ name. does (event.Terminal name)) (padded_name 4 text) (λ name. tt))
-    (either (bytes_eq verb (codes "CLOCK")) _ _ (paired (λ t d. does (event.Clock t d)) (number_of 6 6) (number_of 5 5) text (λ t d. tt))
-    (either (bytes_eq verb (codes "KEY")) _ _ (paired (λ n key. does (event.Key n key.0 key.1)) (padded_name 4) key_with_text text (λ n key. tt))
-    (either (bytes_eq verb (codes "TURN")) _ _ (mapped (λ name. does (event.Turn name)) (padded_name 4 text) (λ name. tt))
+    (either (bytes_eq verb (codes "TRANSACTION")) _ _ (paired (λ t p. event_line (event.Transaction t p)) (padded_name 4) (padded_name 8) text (λ t p. tt))
+    (either (bytes_eq verb (codes "TERMINAL")) _ _ (mapped (λ name. event_line (event.Terminal name)) (padded_name 4 text) (λ name. tt))
+    (either (bytes_eq verb (codes "CLOCK")) _ _ (paired (λ t d. event_line (event.Clock t d)) (number_of 6 6) (number_of 5 5) text (λ t d. tt))
+    (either (bytes_eq verb (codes "KEY")) _ _ (paired (λ n key. event_line (event.Key n key.0 key.1)) (padded_name 4) key_with_text text (λ n key. tt))
+    (either (bytes_eq verb (codes "TURN")) _ _ (mapped (λ name. event_line (event.Turn name)) (padded_name 4 text) (λ name. tt))
     (either (bytes_eq verb (codes "EDF")) _ _ (paired edf_switch (padded_name 4) switch_of text (λ name on. tt))
     (either (bytes_eq verb (codes "DISPLAY")) _ _ (chained (λ name. display_line name (after_first_blank text)) (padded_name 4 (word text)) (λ name. display_plain name (after_first_blank text)))
     (either (bytes_eq verb (codes "SCREEN")) _ _ (mapped (λ name. line.Action (action.Screen name)) (padded_name 4 text) (λ name. tt))
-    (either (bytes_eq verb (codes "ALTER")) _ _ (paired (λ name change. does (event.Alter name change)) (padded_name 4) change_of text (λ name change. tt)) tt))))))))))
+    (either (bytes_eq verb (codes "ALTER")) _ _ (paired (λ name change. event_line (event.Alter name change)) (padded_name 4) change_of text (λ name change. tt)) tt))))))))))
 
 line_plain : (text : List ℕ) → IfSome (line_of text) IsPlainLine
 unfolding line_of

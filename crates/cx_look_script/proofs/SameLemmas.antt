@@ -26,7 +26,7 @@ use Rattle.cx_asm_build.specs.declared.program.Prepared.{Prepared}
 use Rattle.cx_edf.specs.State.{EdfState}
 use Rattle.cx_script.specs.Script.{Script, Step, actions_of, first_place, stepped, step_from, led_to, script_from, script_in}
 use Rattle.cx_script.specs.declared.run.Place.{Place}
-use Rattle.cx_script.specs.Transcript.{Runs}
+use Rattle.cx_script.specs.Transcript.{PerformsAll}
 use Rattle.cx_look_script.specs.Laws.Scripts.{ActionsStay, ArePlain, HasNoBadLine, IsSame, ScriptsStay, plain_action}
 use Rattle.cx_look_script.specs.Laws.Watches.{is_watch}
 use Rattle.cx_look_script.specs.Looking.{Acts, LookPerforms}
@@ -255,7 +255,7 @@ no_watch (action.Look l) b e = refl
 no_watch (action.Orders block) b e = refl
 
 pub actions_stay : ActionsStay
-unfolding Runs
+unfolding PerformsAll
 actions_stay old [] [] text new e none p = (p.0, ap (λ (s : LookState). s.edf) p.1)
 actions_stay old [] (b ∷ plain) text new e none p = cc
 actions_stay old (a ∷ actions) [] text new e none p = cc

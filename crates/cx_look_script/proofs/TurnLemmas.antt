@@ -3,7 +3,7 @@ use Rattle.std.proofs.Common.{◌≡◌, ℕ, zero, suc, ◌-◌, ◌<◌, Bool,
 use Rattle.std.specs.Prelude.{MatchOption}
 use Rattle.cx_edf.specs.declared.answers.Answer.{Answer}
 use Rattle.cx_look_watch.specs.declared.watching.Cause.TheVariants as cause
-use Rattle.cx_script.specs.Transcript.{Runs}
+use Rattle.cx_script.specs.Transcript.{PerformsAll}
 use Rattle.cx_look_script.specs.Looking.{Acts, LookPerforms, NotedPerforms}
 use Rattle.cx_look_script.specs.Laws.Looks.{turn_action}
 use Rattle.cx_look_script.specs.Laws.Turns.{RunsOn, RunsTakeTurns}
@@ -33,8 +33,8 @@ written_none : (old new : LookState) (name own text : List ℕ) → text ≡ own
 written_none old new name own text is none same = alone old new (cause.Turn name) own text is (ap (λ (s : LookState). s.edf) same) ∙ none
 
 -- where the last turn isn't to be followed by one more, none of them does anything
-nothing_more : (old : LookState) (name : List ℕ) (s : Stop) (n : ℕ) (text : List ℕ) (new : LookState) → Runs LookPerforms old (turns_left name s n) text new → old.goes_on ≡ false → (text ≡ []) × (new ≡ old)
-unfolding Runs turns_left Acts
+nothing_more : (old : LookState) (name : List ℕ) (s : Stop) (n : ℕ) (text : List ℕ) (new : LookState) → PerformsAll LookPerforms old (turns_left name s n) text new → old.goes_on ≡ false → (text ≡ []) × (new ≡ old)
+unfolding PerformsAll turns_left Acts
 nothing_more old name s zero text new p e =
     let first = by_other old.goes_on _ _ p.3.acts e in
     let none = written_none old p.0 name p.3.own p.1 p.3.is first.0 first.1 in
@@ -48,17 +48,17 @@ nothing_more old name s (suc n) text new p e =
 
 -- a turn, and what comes after it
 after_turn : (between : LookState) (name : List ℕ) (s : Stop) (n : ℕ) (given : Answer) (rest : List ℕ) (new : LookState) (on : Bool) → on ≡ between.goes_on → on ≡ goes_on between.edf (turn_of name) given
-    → Runs LookPerforms between (turns_left name s n) rest new → (between.goes_on ≡ true → RunsOn between name s n rest new) → MatchBool (goes_on between.edf (turn_of name) given) (RunsOn between name s n rest new) ((rest ≡ []) × (new ≡ between))
+    → PerformsAll LookPerforms between (turns_left name s n) rest new → (between.goes_on ≡ true → RunsOn between name s n rest new) → MatchBool (goes_on between.edf (turn_of name) given) (RunsOn between name s n rest new) ((rest ≡ []) × (new ≡ between))
 after_turn between name s n given rest new true e f p law =
     subst (λ b. MatchBool b (RunsOn between name s n rest new) ((rest ≡ []) × (new ≡ between))) f (law (sym e))
 after_turn between name s n given rest new false e f p law =
     subst (λ b. MatchBool b (RunsOn between name s n rest new) ((rest ≡ []) × (new ≡ between))) f (nothing_more between name s n rest new p (sym e))
 
 -- a turn or the line in its place, and what comes after it
-turn_first : (old between : LookState) (name : List ℕ) (s : Stop) (n : ℕ) (own first rest text : List ℕ) (new : LookState) (line : Option (List ℕ)) → StopsWith s old.edf name line
+turn_first : (old between : LookState) (name : List ℕ) (s : Stop) (n : ℕ) (own first rest text : List ℕ) (new : LookState) (line : Option (List ℕ)) → StopsWith s old.sources old.edf name line
     → MatchOption line (NotedPerforms old (turn_action name) own between) (λ l. (own ≡ l) × (between ≡ run_over old))
     → first ≡ own ++ watched_text old (cause.Turn name) between
-    → Runs LookPerforms between (turns_left name s n) rest new → (between.goes_on ≡ true → RunsOn between name s n rest new) → text ≡ first ++ rest → RunsOn old name s (suc n) text new
+    → PerformsAll LookPerforms between (turns_left name s n) rest new → (between.goes_on ≡ true → RunsOn between name s n rest new) → text ≡ first ++ rest → RunsOn old name s (suc n) text new
 unfolding NotedPerforms RunsOn
 turn_first old between name s n own first rest text new None stops p is more law e =
     let watched : List ℕ = watched_text old (cause.Turn name) between in
@@ -70,8 +70,8 @@ turn_first old between name s n own first rest text new (Some l) stops p is more
     let line = alone old between (cause.Turn name) own first is (ap (λ (s : LookState). s.edf) p.1) ∙ p.0 in
     (Some l, stops, (e ∙ ap (λ r. first ++ r) left.0 ∙ append-nil first ∙ line, left.1 ∙ p.1))
 
-goes : (old : LookState) (name : List ℕ) (s : Stop) (n : ℕ) (text : List ℕ) (new : LookState) → Runs LookPerforms old (turns_left name s n) text new → old.goes_on ≡ true → RunsOn old name s n text new
-unfolding Runs turns_left Acts RunsOn
+goes : (old : LookState) (name : List ℕ) (s : Stop) (n : ℕ) (text : List ℕ) (new : LookState) → PerformsAll LookPerforms old (turns_left name s n) text new → old.goes_on ≡ true → RunsOn old name s n text new
+unfolding PerformsAll turns_left Acts RunsOn
 goes old name s zero text new p e =
     let last = by_bool old.goes_on _ _ p.3.acts e in
     let line = alone old p.0 (cause.Turn name) p.3.own p.1 p.3.is (ap (λ (s : LookState). s.edf) last.1) ∙ last.0 in
@@ -81,8 +81,8 @@ goes old name s (suc n) text new p e =
     turn_first old p.0 name s n p.3.own p.1 p.2 text new turn.line turn.stops turn.does p.3.is p.4 (goes p.0 name s n p.2 new p.4) p.5
 
 pub runs_take_turns : RunsTakeTurns
-unfolding Runs Acts
+unfolding PerformsAll Acts
 runs_take_turns old name s n text new p =
     let same : suc n - 1 ≡ n = omega arith in
-    let rest : Runs LookPerforms p.0 (turns_left name s n) p.2 new = subst (λ (k : ℕ). Runs LookPerforms p.0 (turns_left name s k) p.2 new) same p.4 in
+    let rest : PerformsAll LookPerforms p.0 (turns_left name s n) p.2 new = subst (λ (k : ℕ). PerformsAll LookPerforms p.0 (turns_left name s k) p.2 new) same p.4 in
     turn_first old p.0 name s n p.3.own p.1 p.2 text new p.3.acts.line p.3.acts.stops p.3.acts.does p.3.is rest (goes p.0 name s n p.2 new rest) p.5

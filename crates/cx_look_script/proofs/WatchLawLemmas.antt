@@ -68,6 +68,7 @@ same_lines (look.AreasOf name) state lines ranges p = p
 same_lines (look.Task name) state lines ranges p = p
 same_lines (look.Abend name) state lines ranges p = p
 same_lines (look.AbendStorage name) state lines ranges p = p
+same_lines (look.AbendFields name) state lines ranges p = p
 same_lines (look.Faults source) state lines ranges p = p
 same_lines (look.Symbol program name) state lines ranges p = p
 same_lines (look.Symbols program) state lines ranges p = p

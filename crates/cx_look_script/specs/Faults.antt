@@ -1,14 +1,14 @@
 -- FAULTS: the faulty lines of a source in a script (own).
-use Rattle.std.specs.Prelude.{ℕ, ◌+◌, ◌-◌, ◌==◌, nat_lt, Bool, if◌then◌else◌, is_some, List, [], ◌∷◌, ◌++◌, codes, drop, length, map, slice_get, take, unwrap_or}
+use Rattle.std.specs.Prelude.{ℕ, ◌+◌, ◌-◌, ◌==◌, if◌then◌else◌, is_some, List, [], ◌∷◌, ◌++◌, codes, drop, length, map, slice_get, take, unwrap_or}
 use Rattle.std.specs.Fmt.{decimal}
-use Rattle.std.specs.List.{filter, flat_map}
+use Rattle.std.specs.List.{flat_map}
 use Rattle.std.specs.Str.{byte}
 use Rattle.cx_base_text.specs.Texts.{shown_name}
 use Rattle.cx_ebcdic.specs.Characters.{code_of}
 use Rattle.cx_asm_build.specs.Kinds.{kind_name}
 use Rattle.cx_look.specs.declared.look.SourceLines.{SourceLines}
 use Rattle.cx_look_words.specs.Words.{Lines, look_line}
-use Rattle.cx_look_faults.specs.Faults.{faults_of}
+use Rattle.cx_look_faults.specs.Kept.{kept_faults}
 use Rattle.cx_look_faults.specs.Marks.{marks_of}
 use Rattle.cx_look_faults.specs.Notes.{notes_of}
 use Rattle.cx_look_faults.specs.declared.faults.FaultyLine.{FaultyLine}
@@ -53,14 +53,8 @@ fault_lines source (fault ∷ faults) = flat_map (fault_line source) (marks_of s
 abbrev pub note_line : SourceLines → Note → Lines
 note_line source note = look_line (place_word source note.spot ∷ codes "NOTE" ∷ map shown_byte note.text ∷ [])
 
--- of a source's lines the first 10,001 are kept, and so only their faults are known
-abbrev pub is_kept : FaultyLine → Bool
-is_kept fault = nat_lt fault.line 10002
-
-abbrev pub kept_faults : SourceLines → List FaultyLine
-kept_faults source = filter is_kept (faults_of source.lines)
-
 -- What is written for the lines of a source: the faulty lines, and then the notes.
 unfoldable pub faults_text : SourceLines → Lines
 faults_text source =
-    fault_lines source (kept_faults source) ++ flat_map (note_line source) (notes_of source.lines (kept_faults source))
+    let faults = kept_faults source.lines in
+    fault_lines source faults ++ flat_map (note_line source) (notes_of source.lines faults)

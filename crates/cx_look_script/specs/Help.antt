@@ -8,7 +8,7 @@ use Rattle.cx_look_words.specs.Words.{look_line, Lines}
 
 -- the line of a word: its form, in which brackets are round what may be left out, and what it does
 abbrev pub form_of : Subject → List ℕ
-form_of subject.Run = codes "RUN term [n] [BEFORE ABEND]  turns of the terminal, at most n of them"
+form_of subject.Run = codes "RUN term [n] [stop]  at most n turns of the terminal; stop: BEFORE ABEND, TO program line"
 form_of subject.Watch = codes "WATCH aaaaaa n       each change of one of n bytes; also WATCH term name, WATCH OFF"
 form_of subject.Queues = codes "QUEUES               the temporary storage queues"
 form_of subject.Queue = codes "QUEUE name [k]       a queue with its items, or its item k as a whole"
@@ -24,7 +24,7 @@ form_of subject.Fields = codes "FIELDS term [k]      all fields of that level"
 form_of subject.Areas = codes "AREAS [term]         all areas of storage, or those of the terminal's task"
 form_of subject.Storage = codes "STORAGE aaaaaa n     n bytes of storage from an address on"
 form_of subject.Where = codes "WHERE aaaaaa         what is at an address, and whose it is"
-form_of subject.Abend = codes "ABEND term [STORAGE] the terminal's last abend, or its working storage then"
+form_of subject.Abend = codes "ABEND term           the terminal's last abend; also ABEND term STORAGE, ABEND term FIELDS"
 form_of subject.Symbol = codes "SYMBOL program name  a symbol of the program's source"
 form_of subject.Symbols = codes "SYMBOLS program      all symbols of the program's source"
 form_of subject.Xref = codes "XREF program         which lines use its symbols, literals and base registers"

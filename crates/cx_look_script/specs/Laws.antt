@@ -2,6 +2,7 @@
 pub mod Looks
 pub mod Marks
 pub mod Notes
+pub mod Orders
 pub mod Scripts
 pub mod Turns
 pub mod Watches

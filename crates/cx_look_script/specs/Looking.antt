@@ -26,7 +26,7 @@ use Rattle.cx_look_where.specs.Wheres.{where_text}
 use Rattle.cx_look_levels.specs.Tasks.{task_text}
 use Rattle.cx_look_levels.specs.FieldTexts.{field_text, fields_text}
 use Rattle.cx_look_tasks.specs.Tasks.{ResourcesText, TasksText}
-use Rattle.cx_look_abend.specs.Texts.{abend_storage_text, abend_text}
+use Rattle.cx_look_abend.specs.Texts.{abend_fields_text, abend_storage_text, abend_text}
 use Rattle.cx_look_script.specs.State.{LookState}
 use Rattle.cx_look_script.specs.Sources.{level_lines, with_source}
 use Rattle.cx_look_script.specs.Runs.{AppliesAtLooks, StopsWith, run_over, still_running, turn_of}
@@ -56,6 +56,7 @@ AreLookLines (look.Where at) state lines = lines ≡ where_text state.sources st
 AreLookLines (look.Abend name) state lines =
     lines ≡ abend_text state.sources state.edf.region.programs state.abends name
 AreLookLines (look.AbendStorage name) state lines = lines ≡ abend_storage_text state.abends name
+AreLookLines (look.AbendFields name) state lines = lines ≡ abend_fields_text state.sources state.abends name
 AreLookLines (look.Faults source) state lines = lines ≡ faults_text source
 AreLookLines (look.Symbol program name) state lines =
     lines ≡ symbol_text (program_of state.edf.region program) (source_lines state.sources program) name
@@ -107,7 +108,7 @@ TakesTurn old name text new = NotedPerforms old (edf_action.Event (turn_of name)
 -- a turn of RUN, or the line with which it ends in front of the turn
 pub record RunsTurn (old : LookState) (name : List ℕ) (s : Stop) (text : List ℕ) (new : LookState) : Type 0 where
   pub line : Option (List ℕ)
-  pub stops : StopsWith s old.edf name line
+  pub stops : StopsWith s old.sources old.edf name line
   pub does : MatchOption line (TakesTurn old name text new) (λ l. (text ≡ l) × (new ≡ run_over old))
 
 -- one more turn, or where none is left the line that says so

@@ -8,12 +8,10 @@ use Rattle.cx_script_io.specs.Lines.{lines_met}
 use Rattle.cx_script_io.specs.declared.input.Ending.TheVariants.{AtEnd}
 use Rattle.cx_look.specs.declared.look.Look.{Look}
 use Rattle.cx_look.specs.declared.orders.OrdersBlock.{OrdersBlock}
-use Rattle.cx_look.specs.declared.orders.OrdersKey.{OrdersKey}
 use Rattle.cx_look.specs.declared.orders.Sight.{Sight}
 use Rattle.cx_look.specs.declared.orders.Sight.TheVariants as sight
 use Rattle.cx_look_orders.specs.Report.{OrdersText}
 use Rattle.cx_look_words.specs.Words.{Lines, marked}
-use Rattle.cx_orders.specs.declared.states.KeyLine.{KeyLine}
 
 -- ---- what is to be seen of a region, where `Says` is what looks at it have to say
 -- a screen, line by line as SCREEN writes it; or what a look has to say
@@ -43,15 +41,11 @@ sights_of sights region = if length sights == 0 then map (λ t. sight.Screen t.0
 abbrev pub names_with_edf : EdfState → List (List ℕ)
 names_with_edf state = filter (λ name. is_some (session_at state name)) (keys_of state.region.terminals)
 
-abbrev pub asked_key : KeyLine → OrdersKey
-asked_key key = record { name = key.name; aid = key.aid; bytes = key.bytes; line = key.line }
-
 -- What is written for a block of ORDERS, where `Says` is what looks at a region have to say.
-pub record IsOrdersText (Says : RegionState → Look → Lines → Type 0) (block : OrdersBlock) (state : EdfState) (text : List ℕ)
-    : Type 0 where
-  pub keys : List KeyLine
-  pub asked : map asked_key keys ≡ block.keys
+pub record IsOrdersText (Says : RegionState → Look → Lines → Type 0) (block : OrdersBlock) (state : EdfState)
+    (text : List ℕ) : Type 0 where
   pub lines : Lines
   pub are : let sights = sights_of block.sights state.region in
-      OrdersText (λ region. AreSeen (Says region) region sights) keys state.region (names_with_edf state) block.most lines
+      OrdersText (λ region. AreSeen (Says region) region sights) block.keys state.region (names_with_edf state)
+      block.most lines
   pub is : text ≡ marked lines

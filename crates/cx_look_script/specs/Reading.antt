@@ -19,6 +19,7 @@ use Rattle.cx_look.specs.Looks.{count_of, look_of, subject_of}
 use Rattle.cx_look.specs.declared.look.Look.TheVariants as look
 use Rattle.cx_look.specs.declared.look.Subject.{Subject}
 use Rattle.cx_look.specs.declared.look.Subject.TheVariants as subject
+use Rattle.cx_look_ahead.specs.declared.arrivals.SourceLine.{SourceLine}
 use Rattle.cx_look_script.specs.Runs.{look_actions_of}
 use Rattle.cx_look_script.specs.declared.action.LookAction.{LookAction}
 use Rattle.cx_look_script.specs.declared.action.LookAction.TheVariants as action
@@ -27,10 +28,21 @@ use Rattle.cx_look_script.specs.declared.action.Stop.TheVariants as stop
 use Rattle.cx_look_script.specs.declared.action.WatchLine.{WatchLine}
 use Rattle.cx_look_script.specs.declared.action.WatchLine.TheVariants as watch
 
--- what ends a RUN in front of a turn, by the words after its number
+-- ---- what ends a RUN in front of a turn, by the words after its number
+-- a line of a program's source: the program's name and the line's number
+abbrev pub source_line_of : List ℕ → Option SourceLine
+source_line_of text =
+    two_words (λ program line. let it : SourceLine = record { program = program; line = line } in it) (padded_name 8)
+    (count_of 99999) text
+
+abbrev pub stop_at_line : List ℕ → Option Stop
+stop_at_line text =
+    if bytes_eq (word text) (codes "TO")
+    then option_map (λ line. stop.BeforeLine line) (option_and_then source_line_of (after_first_blank text)) else None
+
 abbrev pub stop_of : Option (List ℕ) → Option Stop
 stop_of None = Some stop.Never
-stop_of (Some text) = if bytes_eq text (codes "BEFORE ABEND") then Some stop.BeforeAbend else None
+stop_of (Some text) = if bytes_eq text (codes "BEFORE ABEND") then Some stop.BeforeAbend else stop_at_line text
 
 abbrev pub run_with : List ℕ → ℕ → Option (List ℕ) → Option LookAction
 run_with name n rest = option_map (λ s. action.Run name n s) (stop_of rest)
@@ -109,7 +121,8 @@ block_with (heading.Orders most) lines text = orders_with lines text
 abbrev pub block_asks : ℕ → Heading → List (List ℕ) → Option LookAction
 block_asks first (heading.Faults name) lines =
     Some (action.Look (look.Faults (record { first = first; name = name; lines = lines })))
-block_asks first (heading.Orders most) lines = if nat_le 1 most then Some (action.Orders (orders_block most lines)) else None
+block_asks first (heading.Orders most) lines =
+    if nat_le 1 most then Some (action.Orders (orders_block most lines)) else None
 
 abbrev pub is_bad_look : LookAction → Bool
 is_bad_look (action.BadLook number s) = true

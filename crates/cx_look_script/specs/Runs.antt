@@ -1,6 +1,7 @@
 -- RUN: turns of a terminal, one after another (own).
-use Rattle.std.specs.Prelude.{◌≡◌, ℕ, zero, suc, ◌-◌, Bool, true, false, ◌&&◌, not, MatchBool, Option, None, List, [], ◌∷◌, codes}
+use Rattle.std.specs.Prelude.{◌≡◌, ℕ, zero, suc, ◌-◌, Bool, true, false, ◌&&◌, not, MatchBool, if◌then◌else◌, Option, Some, None, List, [], ◌∷◌, ◌++◌, codes}
 use Rattle.std.specs.Option.{option_map}
+use Rattle.cx_base_text.specs.Digits.{digits}
 use Rattle.cx_base_text.specs.Texts.{shown_name, shown_text}
 use Rattle.cx_region_state.specs.declared.replies.TurnReply.{TurnReply}
 use Rattle.cx_region_state.specs.declared.replies.TurnReply.TheVariants as turn
@@ -14,6 +15,9 @@ use Rattle.cx_edf.specs.declared.answers.EdfEvent.{EdfEvent}
 use Rattle.cx_edf.specs.declared.answers.EdfEvent.TheVariants as edf_event
 use Rattle.cx_edf.specs.State.{EdfState, holds, stopped_at}
 use Rattle.cx_look_words.specs.Words.{look_line, marked}
+use Rattle.cx_look_symbols.specs.Sources.{Sources}
+use Rattle.cx_look_ahead.specs.Arrivals.{ComesTo, has_statement}
+use Rattle.cx_look_ahead.specs.declared.arrivals.SourceLine.{SourceLine}
 use Rattle.cx_look_abend.specs.Abends.{abend_code_in}
 use Rattle.cx_look_abend.specs.Noting.{AppliesWithAbends}
 use Rattle.cx_look_script.specs.State.{LookState}
@@ -79,10 +83,36 @@ pub record StopsBeforeAbend (state : EdfState) (name : List ℕ) (line : Option 
   pub ahead : IsAbendAhead state name code
   pub is : line ≡ option_map (stopped_before name) code
 
+-- whether the region's next turn of a terminal would do something of a line of a source; under EDF, which may hold it
+unfoldable pub IsLineAhead : Sources → EdfState → List ℕ → SourceLine → Bool → Type 0
+IsLineAhead sources state name to comes =
+    MatchBool (holds state name) (comes ≡ false) (ComesTo sources.places state.region name to comes)
+
+-- the line of a RUN that this line of a source is ahead of, and of one that is to go to a line without a statement
+abbrev pub place_words : SourceLine → List (List ℕ)
+place_words to = shown_name to.program ∷ codes "LINE" ∷ digits 10 5 to.line ∷ []
+
+abbrev pub stopped_before_line : List ℕ → SourceLine → List ℕ
+stopped_before_line name to =
+    marked (look_line (codes "RUN" ∷ shown_name name ∷ codes "STOPPED" ∷ codes "BEFORE" ∷ place_words to))
+
+abbrev pub no_line : List ℕ → SourceLine → List ℕ
+no_line name to =
+    marked (look_line (codes "RUN" ∷ shown_name name ∷ codes "TO" ∷ place_words to ++ codes "NONE" ∷ []))
+
+pub record StopsBeforeLine (sources : Sources) (state : EdfState) (name : List ℕ) (to : SourceLine)
+    (line : Option (List ℕ)) : Type 0 where
+  pub comes : Bool
+  pub ahead : IsLineAhead sources state name to comes
+  pub is : line ≡ (if comes then Some (stopped_before_line name to) else None)
+
 -- the line with which a RUN ends in front of the terminal's next turn; None where it does the turn
-unfoldable pub StopsWith : Stop → EdfState → List ℕ → Option (List ℕ) → Type 0
-StopsWith stop.Never state name line = line ≡ None
-StopsWith stop.BeforeAbend state name line = StopsBeforeAbend state name line
+unfoldable pub StopsWith : Stop → Sources → EdfState → List ℕ → Option (List ℕ) → Type 0
+StopsWith stop.Never sources state name line = line ≡ None
+StopsWith stop.BeforeAbend sources state name line = StopsBeforeAbend state name line
+StopsWith (stop.BeforeLine to) sources state name line =
+    MatchBool (has_statement sources.places to) (StopsBeforeLine sources state name to line)
+    (line ≡ Some (no_line name to))
 
 -- ---- its actions
 -- What RUN asks after its first turn, where at most n turns are left: each turn is an action of its own, and so is the

@@ -2,10 +2,10 @@
 ghost use Rattle.std.specs.Prelude.{◌≡◌, ◌≤◌, IfOk, IfSome, OnErr, is_some, length, map, true};
 ghost use Rattle.std.specs.Char.{to_ascii_uppercase};
 ghost use Rattle.std.specs.Option.{option_copied, option_map_or};
-ghost use Rattle.cx_script_actions.specs.Allowed.{IsAllowed, IsAllowedLine};
+ghost use Rattle.cx_script_actions.specs.Allowed.{IsAllowedAction, IsAllowedLine};
 ghost use Rattle.cx_look.specs.Looks.{count_of};
 ghost use Rattle.cx_look_script.specs.Allowed.{IsAllowedLook};
-ghost use Rattle.cx_look_script.specs.Reading.{asked_by, faults_line, look_language, look_line_of, line_of_subject, orders_line, own_line, run_of, run_with, stop_of, as_look_line, turns_of, watch_of, watched_field, watched_range};
+ghost use Rattle.cx_look_script.specs.Reading.{asked_by, faults_line, look_language, look_line_of, line_of_subject, orders_line, own_line, run_of, run_with, source_line_of, stop_at_line, stop_of, as_look_line, turns_of, watch_of, watched_field, watched_range};
 ghost use Rattle.cx_look_script.specs.Runs.{look_actions_of};
 
 use cx_base_lists::List;
@@ -14,6 +14,7 @@ use cx_look::{
     Look, OrdersBlock, SourceLines, Subject, look_of, orders_block, orders_with, states_of,
     subject_of,
 };
+use cx_look_ahead::SourceLine;
 use cx_script_actions::{
     Action, Heading, Line, ScriptAction, hex_address, line_of, name4, name8, number, split_word,
 };
@@ -27,6 +28,9 @@ const TURNS: u16 = 1_000;
 /// The most turns that RUN does.
 const MOST_TURNS: u32 = 4_096;
 
+/// The highest number of a line of a source to which RUN goes.
+const LAST_LINE: u32 = 99_999;
+
 /// The most bytes of a range that is watched.
 const MOST_BYTES: u32 = 256;
 
@@ -37,6 +41,8 @@ pub enum Stop {
     Never,
     /// The turn would be answered as an abend, or as one that an exit takes.
     BeforeAbend,
+    /// The turn would do something of a line of a program's source: run an instruction of a statement there, or perform its command.
+    BeforeLine(SourceLine),
 }
 
 /// What WATCH asks.
@@ -87,6 +93,29 @@ fn count_of(word: &[u8], most: u32) -> Option<u32>
     Some(n)
 }
 
+/// A line of a program's source, by its name and the line's number.
+fn source_line_of(text: &[u8]) -> Option<SourceLine>
+    ensures { result ≡ source_line_of text.now }
+{
+    let (word, rest) = split_word(text);
+    let program = name8(word)?;
+    let line = count_of(rest?, LAST_LINE)?;
+    Some(SourceLine { program, line })
+}
+
+/// What ends a RUN that goes to a line, by its last words.
+fn stop_at_line(text: &[u8]) -> Option<Stop>
+    ensures { result ≡ stop_at_line text.now }
+{
+    let (first, rest) = split_word(text);
+    if first == b"TO".as_slice() {
+        let line = source_line_of(rest?)?;
+        Some(Stop::BeforeLine(line))
+    } else {
+        None
+    }
+}
+
 /// What ends a RUN in front of a turn, by the words after its number.
 fn stop_of(rest: Option<&[u8]>) -> Option<Stop>
     ensures { result ≡ stop_of (option_copied rest.entry) }
@@ -94,7 +123,7 @@ fn stop_of(rest: Option<&[u8]>) -> Option<Stop>
     match rest {
         None => Some(Stop::Never),
         Some(words) if words == b"BEFORE ABEND".as_slice() => Some(Stop::BeforeAbend),
-        Some(_) => None,
+        Some(words) => stop_at_line(words),
     }
 }
 
@@ -248,7 +277,7 @@ fn own_line(number: usize, text: &[u8]) -> Option<Line<LookAction>>
 
 /// A line of `cicsedf`'s scripts as one of these.
 fn scripted(line: Line<Action>) -> Line<LookAction>
-    requires { IsAllowedLine IsAllowed line }
+    requires { IsAllowedLine IsAllowedAction line }
     ensures value { result ≡ as_look_line line }
     ensures allowed { IsAllowedLine IsAllowedLook result }
 {

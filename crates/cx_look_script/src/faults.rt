@@ -1,8 +1,8 @@
 //! FAULTS: the faulty lines of a source in a script.
 ghost use Rattle.std.specs.Prelude.{◌≡◌, ◌+◌, ◌++◌, IfOk, OnOk, map};
-ghost use Rattle.std.specs.List.{filter, flat_map};
-ghost use Rattle.cx_look_faults.specs.Faults.{faults_of};
-ghost use Rattle.cx_look_script.specs.Faults.{fault_line, fault_lines, fault_word, faults_text, is_kept, note_line, place_word, shown_byte, text_at, with_marks};
+ghost use Rattle.std.specs.List.{flat_map};
+ghost use Rattle.cx_look_faults.specs.Kept.{kept_faults};
+ghost use Rattle.cx_look_script.specs.Faults.{fault_line, fault_lines, fault_word, faults_text, note_line, place_word, shown_byte, text_at, with_marks};
 
 use cx_base_text::shown_name;
 use cx_ebcdic::to_ebcdic;
@@ -135,7 +135,7 @@ fn fault_lines(
 
 /// The faulty lines of a source, of whose lines the first 10,001 are kept.
 fn kept_faults(alloc: Global, source: &SourceLines) -> Result<Vec<FaultyLine>, AllocError>
-    ensures { IfOk result (λ faults. faults.items ≡ filter is_kept (faults_of source.now.lines)) }
+    ensures { IfOk result (λ faults. faults.items ≡ kept_faults source.now.lines) }
 {
     let mut faults = faults_of(alloc, source.lines.as_slice())?;
     faults.retain(|fault| fault.line < 10_002);

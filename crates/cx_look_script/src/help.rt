@@ -39,7 +39,8 @@ fn form_of(subject: Subject) -> &'static [u8]
     ensures { result.now ≡ form_of subject }
 {
     match subject {
-        Subject::Run => b"RUN term [n] [BEFORE ABEND]  turns of the terminal, at most n of them",
+        Subject::Run =>
+            b"RUN term [n] [stop]  at most n turns of the terminal; stop: BEFORE ABEND, TO program line",
         Subject::Watch =>
             b"WATCH aaaaaa n       each change of one of n bytes; also WATCH term name, WATCH OFF",
         Subject::Queues => b"QUEUES               the temporary storage queues",
@@ -60,7 +61,7 @@ fn form_of(subject: Subject) -> &'static [u8]
         Subject::Storage => b"STORAGE aaaaaa n     n bytes of storage from an address on",
         Subject::Where => b"WHERE aaaaaa         what is at an address, and whose it is",
         Subject::Abend =>
-            b"ABEND term [STORAGE] the terminal's last abend, or its working storage then",
+            b"ABEND term           the terminal's last abend; also ABEND term STORAGE, ABEND term FIELDS",
         Subject::Symbol => b"SYMBOL program name  a symbol of the program's source",
         Subject::Symbols => b"SYMBOLS program      all symbols of the program's source",
         Subject::Xref =>

@@ -2,9 +2,10 @@
 
 ghost use Rattle.cx_look_script.specs.Laws.Looks.{LooksAreMarked, LooksAreReportedOnce, LooksChangeNothing, OrdersAreMarked};
 ghost use Rattle.cx_look_script.specs.Laws.Marks.{FaultsAreMarked};
-ghost use Rattle.cx_look_script.specs.Laws.Notes.{NotesRefuseNothing};
+ghost use Rattle.cx_look_script.specs.Laws.Notes.{NotesRefuseNothing, RefusalsAreWritten};
+ghost use Rattle.cx_look_script.specs.Laws.Orders.{OrdersAreReportedOnce, ScriptsAskForEvents};
 ghost use Rattle.cx_look_script.specs.Laws.Scripts.{ActionsStay, ScriptsStay};
-ghost use Rattle.cx_look_script.specs.Laws.Turns.{RunsEndBeforeAbends, RunsTakeTurns, StopsDecide};
+ghost use Rattle.cx_look_script.specs.Laws.Turns.{RunsEndBeforeAbends, RunsEndBeforeLines, RunsTakeTurns, StopsDecide};
 ghost use Rattle.cx_look_script.specs.Laws.Watches.{WatchesChangeNothing, WatchesStay};
 
 /// A look changes nothing. Each run has for each of its actions a part, in which an action of `cicsedf` stands for itself, RUN for as
@@ -29,6 +30,26 @@ pub fn looks_are_reported_once()
     cx_look_ahead::laws::the_next_turn_is_shown();
 }
 
+/// Where no two terminals share a name, as in every sound region, what is written for a block of ORDERS is a function of the state.
+pub fn orders_are_reported_once()
+    ensures { OrdersAreReportedOnce }
+{
+    cx_orders::laws::moves_decide();
+    cx_region_laws::laws::a_turn_keeps_to_its_task();
+    cx_region_laws::laws::a_key_keeps_to_its_terminal();
+    cx_search::laws::one_list_is_sooner();
+}
+
+/// The lines that ORDERS writes of steps, read as lines of a script, ask for EDF OFF of each terminal that has it on, and then for the
+/// events that the steps are, one after another: a line `RUN` with a number for as many turns, and a key's line for that key. So
+/// it is where a text spells each terminal's name, and the keys are those of lines.
+pub fn scripts_ask_for_events()
+    ensures { ScriptsAskForEvents }
+{
+    cx_ebcdic::laws::shown_as_itself();
+    cx_look_orders::laws::scripts_ask_for_steps();
+}
+
 /// The actions of a RUN are turns of its terminal, one after another: up to one that isn't to be followed by one more or in front of
 /// which RUN ends, or until there are as many as it may do; in these two cases its last line says so.
 pub fn runs_take_turns()
@@ -42,6 +63,16 @@ pub fn runs_end_before_abends()
     ensures decides { StopsDecide }
 {
     cx_region_laws::laws::calls_decide();
+    cx_look_ahead::laws::turns_do_some();
+}
+
+/// A RUN TO a line of a program's source ends in front of a turn exactly where that turn, when it is done, does something of the line: one
+/// of the instructions that it runs is there, or it performs the command that is due there. So none of the turns that the RUN does is such
+/// a one. It does no turn where the line has no statement.
+pub fn runs_end_before_lines()
+    ensures { RunsEndBeforeLines }
+{
+    cx_look_ahead::laws::turns_do_some();
 }
 
 /// Whatever is watched, an action that is no WATCH does the same and has the same text of its own: WATCH changes nothing of the
@@ -68,5 +99,13 @@ pub fn faults_are_marked()
 pub fn notes_refuse_nothing()
     ensures { NotesRefuseNothing }
 {
-    cx_look_faults::laws::what_a_source_is_refused_for_is_among_them();
+    cx_look_faults::laws::what_a_source_is_refused_for_is_kept();
+}
+
+/// Of a source that is refused it writes a line for each faulty line, among them the one that the source is refused for: so it writes
+/// that none is faulty exactly of a source that is accepted.
+pub fn refusals_are_written()
+    ensures { RefusalsAreWritten }
+{
+    cx_look_faults::laws::what_a_source_is_refused_for_is_kept();
 }

@@ -9,7 +9,7 @@ use crate::help::help_text;
 use crate::performer::Looking;
 use cx_ebcdic::Name4;
 use cx_look::Look;
-use cx_look_abend::{abend_storage_text, abend_text};
+use cx_look_abend::{abend_fields_text, abend_storage_text, abend_text};
 use cx_look_ahead::ahead_text;
 use cx_look_command::command_text;
 use cx_look_levels::{field_text, fields_text, program_at, task_text};
@@ -35,7 +35,7 @@ pub(crate) fn level_lines<'a, S: Store + Drop>(
     ensures { result.now ≡ level_lines (at_region looking.now region.now) term k }
 {
     match program_at(region, term, k) {
-        Some(program) => looking.sources.lines_of(program),
+        Some(program) => looking.sources.source_lines(program),
         None => &[],
     }
 }
@@ -83,16 +83,19 @@ pub(crate) fn look_lines<S: Store + Drop>(
         Look::Where(address) => where_text(alloc, &looking.sources, region, address),
         Look::Abend(name) => abend_lines(alloc, looking, region, name),
         Look::AbendStorage(name) => abend_storage_text(alloc, &looking.abends, name),
+        Look::AbendFields(name) => {
+            abend_fields_text(alloc, &looking.sources, &looking.abends, name)
+        }
         Look::Faults(ref source) => faults_text(alloc, source),
         Look::Symbol(program, name) => {
-            let lines = looking.sources.lines_of(program);
+            let lines = looking.sources.source_lines(program);
             symbol_text(alloc, region, program, lines, name)
         }
         Look::Symbols(program) => {
-            let lines = looking.sources.lines_of(program);
+            let lines = looking.sources.source_lines(program);
             symbols_text(alloc, region, program, lines)
         }
-        Look::Xref(program) => xref_text(alloc, program, looking.sources.lines_of(program)),
+        Look::Xref(program) => xref_text(alloc, program, looking.sources.source_lines(program)),
         Look::Terminals => terminals_text(alloc, region, &looking.state),
         Look::Help(word) => help_text(alloc, word),
         Look::Field(term, name, k) => {

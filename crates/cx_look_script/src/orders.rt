@@ -1,24 +1,22 @@
 //! ORDERS: every order of a region's turns and of keys that are to come.
 ghost use Rattle.std.specs.Prelude.{◌≡◌, ◌≤◌, ◌∷◌, ◌++◌, [], IfOk, OnOk, map};
 ghost use Rattle.std.specs.List.{AllByRecursion};
-ghost use Rattle.cx_look.specs.Orders.{IsFew};
 ghost use Rattle.cx_look.specs.declared.orders.Sight.TheVariants as sight;
 ghost use Rattle.cx_look_script.specs.Looking.{AreLookLines, ShowsOrders, at_region};
-ghost use Rattle.cx_look_script.specs.Orders.{AreSeen, IsSeen, asked_key, names_with_edf, sights_of};
+ghost use Rattle.cx_look_script.specs.Orders.{AreSeen, IsSeen, names_with_edf, sights_of};
+ghost use Rattle.cx_orders.specs.Moves.{IsFew};
 ghost use Rattle.cx_script_actions.specs.Effects.{screen_text};
 ghost use Rattle.cx_script_io.specs.Lines.{last_met, lines_met};
 ghost use Rattle.cx_script_io.specs.declared.input.Ending.TheVariants.{AtEnd};
 
 use crate::looks::look_lines;
 use crate::performer::Looking;
-use cx_base_lists::List;
-use cx_code::Bytes;
 use cx_ebcdic::Name4;
 use cx_edf::Debugged;
-use cx_look::{OrdersBlock, OrdersKey, Sight};
-use cx_look_orders::{Seen, orders_text};
+use cx_look::{OrdersBlock, Sight};
+use cx_look_orders::{Seen, orders_text, push_lines};
 use cx_look_words::Report;
-use cx_orders::{KeyLine, Orders};
+use cx_orders::Orders;
 use cx_region::Region;
 use cx_script_actions::screen_text;
 use cx_script_io::{Ending, last_line, split_line, strip_carriage_return};
@@ -70,17 +68,6 @@ fn screen_lines<S: Store + Drop>(
     Ok(report)
 }
 
-/// Adds the lines of another report.
-fn push_report(report: &mut Report, more: &Report) -> Result<(), AllocError>
-    ensures { OnOk result (report.new ≡ report.old ++ more.now) }
-{
-    let lines = more.lines();
-    for line in lines {
-        push_line(report, line.as_slice())?;
-    }
-    Ok(())
-}
-
 /// One thing to be seen of a region, in place of the one that is looked at.
 #[tactic(auto, unfolding(crate::specs::Orders::IsSeen))]
 fn sight_lines<S: Store + Drop>(
@@ -113,7 +100,7 @@ fn sights_lines<S: Store + Drop>(
     let mut rest = sights;
     while let Some((sight, later)) = rest.split_first() {
         let shown = sight_lines(alloc, looking, region, sight)?;
-        push_report(&mut report, &shown)?;
+        push_lines(&mut report, &shown)?;
         rest = later;
     }
     Ok(report)
@@ -137,46 +124,6 @@ impl<'a, S: Store + Drop> Seen<S> for Sights<'a, S> {
         cx_look_tasks::laws::texts_decide();
         cx_look_ahead::laws::the_next_turn_is_shown();
     }
-}
-
-/// A key that is to come.
-fn key_line(alloc: Global, key: &OrdersKey) -> Result<KeyLine, AllocError>
-    requires { IsFew key.now }
-    ensures { IfOk result (λ made. asked_key made ≡ key.now) }
-{
-    let bytes = key.bytes.as_slice().to_vec(alloc)?;
-    let line = List::from_slice(alloc, key.line.as_slice())?;
-    Ok(KeyLine {
-        name: key.name,
-        aid: key.aid,
-        bytes: Bytes::from_vec(bytes),
-        line,
-    })
-}
-
-/// The keys that are to come.
-#[tactic(auto, using(crate::proofs::OrdersLemmas::key_more))]
-fn key_lines(alloc: Global, keys: &[OrdersKey]) -> Result<Vec<KeyLine>, AllocError>
-    requires { AllByRecursion IsFew keys.now }
-    ensures { IfOk result (λ all. map asked_key all.items ≡ keys.now) }
-{
-    let mut all = Vec::new(alloc);
-    let mut rest = keys;
-    while let Some((key, later)) = rest.split_first() {
-        let line = key_line(alloc, key)?;
-        all.push(line)?;
-        rest = later;
-    }
-    Ok(all)
-}
-
-/// What a block says that is to come.
-fn asked_keys(alloc: Global, keys: Vec<OrdersKey>) -> Result<Vec<KeyLine>, AllocError>
-    requires { AllByRecursion IsFew keys.items }
-    ensures { IfOk result (λ all. map asked_key all.items ≡ keys.items) }
-{
-    let all = key_lines(alloc, keys.as_slice())?;
-    Ok(all)
 }
 
 /// The terminals that have EDF on, in the order of their definition.
@@ -235,7 +182,7 @@ pub(crate) fn orders_written<S: Store + Drop>(
 {
     let OrdersBlock { most, keys, sights } = block;
     let region = looking.state.region();
-    let orders = Orders::new(alloc, asked_keys(alloc, keys.into_vec())?);
+    let orders = Orders::new(alloc, keys.into_vec());
     let sights = sights_of(alloc, sights.into_vec(), region)?;
     let edf = names_with_edf(alloc, &looking.state)?;
     let seen = Sights {

@@ -1,7 +1,7 @@
 //! What a script with looks is performed on.
 ghost use Rattle.std.specs.Prelude.{◌≡◌, [], false, IfOk, MatchBool};
 ghost use Rattle.cx_edf.specs.Runs.{IsAllowedEdf};
-ghost use Rattle.cx_script_actions.specs.Allowed.{IsAllowed};
+ghost use Rattle.cx_script_actions.specs.Allowed.{IsAllowedAction};
 ghost use Rattle.cx_script_actions.specs.declared.actions.Action.TheVariants as edf_action;
 ghost use Rattle.cx_look_script.specs.declared.action.WatchLine.TheVariants as watch;
 ghost use Rattle.cx_look_script.specs.Looking.{Acts, LookPerforms, NotedPerforms, RunsTurn, SourcePerforms, TakesOneMore, TakesTurn};
@@ -124,7 +124,7 @@ impl<S: Store + Drop> Looking<S> {
     fn run_turn(&mut self, alloc: Global, name: Name4, stop: Stop) -> Result<Vec<u8>, AllocError>
         ensures { IfOk result (λ text. RunsTurn self.old name stop text.items self.new) }
     {
-        match stop_line(alloc, &self.state, name, stop)? {
+        match stop_line(alloc, &self.sources, &self.state, name, stop)? {
             Some(line) => {
                 self.end_run();
                 Ok(line)
@@ -158,7 +158,7 @@ impl<S: Store + Drop> Looking<S> {
     /// Does what a script of `cicsedf` asks too.
     #[tactic(auto, unfolding(crate::specs::Looking::NotedPerforms))]
     fn do_action(&mut self, alloc: Global, action: Action) -> Result<Vec<u8>, AllocError>
-        requires { IsAllowed action }
+        requires { IsAllowedAction action }
         ensures { IfOk result (λ text. NotedPerforms self.old action text.items self.new) }
     {
         if let Action::Event(event) = &action {
@@ -176,7 +176,7 @@ impl<S: Store + Drop> Looking<S> {
         lines: List<Text>,
         action: Action,
     ) -> Result<Vec<u8>, AllocError>
-        requires { IsAllowed action }
+        requires { IsAllowedAction action }
         ensures { IfOk result (λ text. SourcePerforms self.old name lines action text.items self.new) }
     {
         let was_there = has_program(self.state.region(), name);

@@ -1,14 +1,17 @@
 //! RUN: turns of a terminal, one after another.
-ghost use Rattle.std.specs.Prelude.{◌≡◌, [], IfOk};
+ghost use Rattle.std.specs.Prelude.{◌≡◌, [], IfOk, MatchBool, Some};
 ghost use Rattle.std.specs.Option.{option_map};
 ghost use Rattle.cx_edf.specs.State.{holds};
 ghost use Rattle.cx_look_abend.specs.Abends.{abend_code_in};
-ghost use Rattle.cx_look_script.specs.Runs.{IsAbendAhead, IsNextAbend, StopsBeforeAbend, StopsWith, goes_on, is_midway, still_running, stopped_before};
+ghost use Rattle.cx_look_ahead.specs.Arrivals.{has_statement};
+ghost use Rattle.cx_look_script.specs.Runs.{IsAbendAhead, IsLineAhead, IsNextAbend, StopsBeforeAbend, StopsBeforeLine, StopsWith, goes_on, is_midway, no_line, still_running, stopped_before, stopped_before_line};
 
 use crate::action::Stop;
-use cx_base_text::{shown, shown_name};
+use cx_base_text::{decimal, shown, shown_name};
 use cx_ebcdic::Name4;
 use cx_edf::{Answer, Debugged, EdfEvent};
+use cx_look_ahead::{SourceLine, comes_to, has_statement};
+use cx_look_symbols::Sources;
 use cx_look_words::Report;
 use cx_region::{Event, Region, Reply, TurnReply};
 use cx_region_snapshot::turn_apart;
@@ -128,18 +131,100 @@ fn stop_before_abend<S: Store + Drop>(
     }
 }
 
+/// Whether the terminal's next turn would do something of a line of a source, under EDF, which may hold the turn.
+#[tactic(auto, unfolding(crate::specs::Runs::IsLineAhead))]
+fn is_line_ahead<S: Store + Drop>(
+    alloc: Global,
+    sources: &Sources,
+    state: &Debugged<S>,
+    name: Name4,
+    to: SourceLine,
+) -> Result<bool, AllocError>
+    ensures { IfOk result (λ comes. IsLineAhead sources.now state.now name to comes) }
+{
+    if !is_held(state, name) {
+        return comes_to(alloc, sources, state.region(), name, to);
+    }
+    Ok(false)
+}
+
+/// The line of a RUN that a line of a source is ahead of.
+fn stopped_before_line(alloc: Global, name: Name4, to: SourceLine) -> Result<Vec<u8>, AllocError>
+    ensures { IfOk result (λ text. text.items ≡ stopped_before_line name to) }
+{
+    let mut report = Report::new(alloc);
+    let name = shown_name(alloc, name)?;
+    let program = shown_name(alloc, to.program)?;
+    let line = decimal::<5>(to.line);
+    report.line(&[
+        b"RUN", &name, b"STOPPED", b"BEFORE", &program, b"LINE", &line,
+    ])?;
+    report.marked()
+}
+
+/// The line of a RUN that is to go to a line without a statement.
+fn no_line(alloc: Global, name: Name4, to: SourceLine) -> Result<Vec<u8>, AllocError>
+    ensures { IfOk result (λ text. text.items ≡ no_line name to) }
+{
+    let mut report = Report::new(alloc);
+    let name = shown_name(alloc, name)?;
+    let program = shown_name(alloc, to.program)?;
+    let line = decimal::<5>(to.line);
+    report.line(&[b"RUN", &name, b"TO", &program, b"LINE", &line, b"NONE"])?;
+    report.marked()
+}
+
+/// The line with which a RUN ends in front of a line of a source; None where the terminal's next turn does nothing of it.
+fn stop_before_line<S: Store + Drop>(
+    alloc: Global,
+    sources: &Sources,
+    state: &Debugged<S>,
+    name: Name4,
+    to: SourceLine,
+) -> Result<Option<Vec<u8>>, AllocError>
+    ensures { IfOk result (λ line. StopsBeforeLine sources.now state.now name to (option_map (λ text. text.items) line)) }
+{
+    if is_line_ahead(alloc, sources, state, name, to)? {
+        Ok(Some(stopped_before_line(alloc, name, to)?))
+    } else {
+        Ok(None)
+    }
+}
+
+/// The same, or the line that says that no statement is there.
+fn stop_at_line<S: Store + Drop>(
+    alloc: Global,
+    sources: &Sources,
+    state: &Debugged<S>,
+    name: Name4,
+    to: SourceLine,
+) -> Result<Option<Vec<u8>>, AllocError>
+    ensures { IfOk result (λ line.
+        MatchBool (has_statement sources.now.places to)
+        (StopsBeforeLine sources.now state.now name to (option_map (λ text. text.items) line))
+        (option_map (λ text. text.items) line ≡ Some (no_line name to))) }
+{
+    if !has_statement(sources, to) {
+        return Ok(Some(no_line(alloc, name, to)?));
+    }
+    stop_before_line(alloc, sources, state, name, to)
+}
+
 /// The line with which a RUN ends in front of the terminal's next turn; None where it does the turn.
 #[tactic(auto, unfolding(crate::specs::Runs::StopsWith))]
 pub(crate) fn stop_line<S: Store + Drop>(
     alloc: Global,
+    sources: &Sources,
     state: &Debugged<S>,
     name: Name4,
     stop: Stop,
 ) -> Result<Option<Vec<u8>>, AllocError>
-    ensures { IfOk result (λ line. StopsWith stop state.now name (option_map (λ text. text.items) line)) }
+    ensures { IfOk result (λ line.
+        StopsWith stop sources.now state.now name (option_map (λ text. text.items) line)) }
 {
     match stop {
         Stop::Never => Ok(None),
         Stop::BeforeAbend => stop_before_abend(alloc, state, name),
+        Stop::BeforeLine(to) => stop_at_line(alloc, sources, state, name, to),
     }
 }

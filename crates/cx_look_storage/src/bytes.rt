@@ -12,7 +12,7 @@ use cx_base_text::{hexadecimal, in_columns};
 use cx_edf_display::{character_group, hex_group};
 use cx_look_words::Report;
 use cx_region::Region;
-use cx_storage::{Area, Store, along};
+use cx_storage::{Area, Store, address_after};
 use std::alloc::{AllocError, Global};
 
 /// The bytes of a row.
@@ -52,7 +52,7 @@ fn rows_text<S: Store + Drop>(
 {
     let rows = ((u64::from(n) + 15) / 16) as u32;
     for k in 0..rows {
-        row_line(report, region, along(address, ROW * k), n - ROW * k)?;
+        row_line(report, region, address_after(address, ROW * k), n - ROW * k)?;
     }
     Ok(())
 }

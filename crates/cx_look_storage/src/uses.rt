@@ -10,7 +10,7 @@ use cx_load::Loaded;
 use cx_look_words::{Report, terminal_at};
 use cx_program::LevelStack;
 use cx_region::{Region, Task, Terminal};
-use cx_storage::{Area, Kind, Store, along};
+use cx_storage::{Area, Kind, Store, address_after};
 use indexmap::IndexMap;
 use std::alloc::{AllocError, Global};
 
@@ -36,7 +36,7 @@ fn offset_of(address: u32, area: Area) -> u32
 pub(crate) fn is_met(address: u32, n: u32, area: Area) -> bool
     ensures { result ≡ is_met address n area }
 {
-    let distance = along(area.start, 0x100_0000_u32.saturating_sub(address));
+    let distance = address_after(area.start, 0x100_0000_u32.saturating_sub(address));
     covers(area, address) || distance < n
 }
 

@@ -23,7 +23,7 @@ const AIDS: [&str; 16] = [
     "DFHPF6", "DFHPF7", "DFHPF8", "DFHPF9", "DFHPF10", "DFHPF11", "DFHPF12",
 ];
 
-/// A symbol of a source.
+/// What a name of a source is: its value, and where it is defined.
 #[derive(Clone, Copy, Debug, PartialEq, Eq)]
 pub struct Symbol {
     /// Its value.

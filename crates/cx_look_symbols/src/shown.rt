@@ -8,7 +8,7 @@ use crate::places::Spot;
 use crate::sources::Sources;
 use cx_base_lists::List;
 use cx_ebcdic::to_ebcdic;
-use cx_source::{Text, skip_blanks, trimmed};
+use cx_source::{Text, skip_blanks, trim_blanks};
 use std::alloc::{AllocError, Global};
 
 /// The last column of a statement's entries; the next one marks that it goes on.
@@ -48,7 +48,7 @@ fn push_statement(text: &mut Vec<u8>, line: &[u8]) -> Result<(), AllocError>
     ensures { OnOk result (text.new.items ≡ text.old.items ++ statement_text line.now) }
 {
     let columns = first_columns(line, LAST_COLUMN);
-    push_shown(text, trimmed(skip_blanks(columns)))
+    push_shown(text, trim_blanks(skip_blanks(columns)))
 }
 
 /// A source's line of a number, counted from 1; an empty one where there is none.
@@ -90,7 +90,7 @@ pub fn statement_at(
     let Some(line) = line_in(sources.places(), spot.program, spot.offset) else {
         return Ok(None);
     };
-    let word = numbered_line(alloc, sources.lines_of(spot.program), line)?;
+    let word = numbered_line(alloc, sources.source_lines(spot.program), line)?;
     Ok(Some(word))
 }
 

@@ -55,7 +55,7 @@ impl Sources {
     }
 
     /// The lines of a program's source; none of a program that no source defined. It takes no memory.
-    pub fn lines_of(&self, name: Name8) -> &[Text]
+    pub fn source_lines(&self, name: Name8) -> &[Text]
         ensures { result.now ≡ source_lines self.now name }
     {
         match self.lines.get(&name) {

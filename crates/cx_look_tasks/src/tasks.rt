@@ -59,7 +59,7 @@ fn resource_word(alloc: Global, name: &Option<ResourceName>) -> Result<Vec<u8>, 
 }
 
 /// Who holds a resource.
-fn hold_of<S: Store + Drop>(region: &Region<S>, name: &Option<ResourceName>) -> Option<Hold>
+fn owner_of<S: Store + Drop>(region: &Region<S>, name: &Option<ResourceName>) -> Option<Hold>
     ensures { result ≡ owner_of region.now name.now }
 {
     let name = name.as_ref()?;
@@ -74,7 +74,7 @@ fn owner_word<S: Store + Drop>(
 ) -> Result<Vec<u8>, AllocError>
     ensures { IfOk result (λ word. word.items ≡ owner_word region.now name.now) }
 {
-    match hold_of(region, name) {
+    match owner_of(region, name) {
         Some(hold) => owner_name(alloc, region, hold.owner),
         None => ABSENT.to_vec(alloc),
     }

@@ -11,7 +11,7 @@ use crate::nearest::{Near, nearest};
 use cx_asm_operands::Bases;
 use cx_asm_pass1::{Places, place_all};
 use cx_ebcdic::Name8;
-use cx_look_levels::{Field, Standing, bases_in, field_by, is_field};
+use cx_look_levels::{Field, SourcePoint, Standing, bases_in, field_by, is_field};
 use cx_look_symbols::{Names, Symbol, is_control, names_of_places, translated_in};
 use cx_source::{Source, Text};
 use std::alloc::{AllocError, Global};
@@ -37,24 +37,6 @@ fn near_in(address: u32, name: Name8, field: Field) -> Option<Near>
     }
 }
 
-/// How far a byte is from the first of a symbol's, where it is a field that has the byte.
-fn near_field(
-    address: u32,
-    regs: &[u32; 16],
-    bases: &Bases,
-    control: Option<Name8>,
-    name: Name8,
-    symbol: &Symbol,
-) -> Option<Near>
-    ensures { result ≡ near_field address regs.now bases.now control (name, symbol.now) }
-{
-    if !is_field(control, &symbol.value) {
-        return None;
-    }
-    let field = field_by(regs, bases, symbol.value)?;
-    near_in(address, name, field)
-}
-
 /// Adds a name, if there is one.
 fn push_near(nears: &mut Vec<Near>, near: Option<Near>) -> Result<(), AllocError>
     ensures { OnOk result (nears.new.items ≡ nears.old.items ++ cons_option near []) }
@@ -66,58 +48,77 @@ fn push_near(nears: &mut Vec<Near>, near: Option<Near>) -> Result<(), AllocError
     Ok(())
 }
 
-/// The fields that have a byte.
-#[tactic(auto, using(crate::proofs::AddLemmas::added_before))]
-fn nears_among(
-    alloc: Global,
+/// An address whose byte is sought among the fields that bases reach.
+#[derive(Drop)]
+struct SoughtByte<'a> {
     address: u32,
-    regs: &[u32; 16],
-    bases: &Bases,
-    names: &Names,
-) -> Result<Vec<Near>, AllocError>
-    ensures { let near = near_field address regs.now bases.now names.now.control in
-        IfOk result (λ nears. nears.items ≡ filter_map near names.now.symbols.entries) }
-{
-    let mut nears = Vec::new(alloc);
-    for (name, symbol) in names.symbols.iter() {
-        let near = near_field(address, regs, bases, names.control, *name, symbol);
-        push_near(&mut nears, near)?;
+    regs: &'a [u32; 16],
+    bases: &'a Bases,
+}
+
+impl SoughtByte<'_> {
+    /// How far the byte is from the first of a symbol's, where that is a field that has the byte.
+    fn near_field(&self, control: Option<Name8>, name: Name8, symbol: &Symbol) -> Option<Near>
+        ensures { let near = near_field self.now.address self.now.regs.now self.now.bases.now in
+            result ≡ near control (name, symbol.now) }
+    {
+        if !is_field(control, &symbol.value) {
+            return None;
+        }
+        let field = field_by(self.regs, self.bases, symbol.value)?;
+        near_in(self.address, name, field)
     }
-    Ok(nears)
+
+    /// The fields that have the byte.
+    #[tactic(auto, using(crate::proofs::AddLemmas::added_before))]
+    fn nears_among(&self, alloc: Global, names: &Names) -> Result<Vec<Near>, AllocError>
+        ensures { let near = near_field self.now.address self.now.regs.now self.now.bases.now names.now.control in
+            IfOk result (λ nears. nears.items ≡ filter_map near names.now.symbols.entries) }
+    {
+        let mut nears = Vec::new(alloc);
+        for (name, symbol) in names.symbols.iter() {
+            let near = self.near_field(names.control, *name, symbol);
+            push_near(&mut nears, near)?;
+        }
+        Ok(nears)
+    }
 }
 
 /// The fields of a source that is placed which have a byte.
 fn nears_placed(
     alloc: Global,
     address: u32,
-    regs: &[u32; 16],
-    offset: u32,
+    at: SourcePoint<'_>,
     source: &Source,
     places: &Places<'_>,
 ) -> Result<Vec<Near>, AllocError>
     requires fault { (final_state source.now).fault ≡ None }
     requires placed { IsPlaced (final_state source.now) places.now }
-    ensures { IfOk result (λ nears. nears.items ≡ nears_in address regs.now offset source.now) }
+    ensures { IfOk result (λ nears. nears.items ≡ nears_in address at.entry.regs.now at.entry.offset source.now) }
 {
-    let Some(bases) = bases_in(alloc, source, places, offset)? else {
+    let Some(bases) = bases_in(alloc, source, places, at.offset)? else {
         return Ok(Vec::new(alloc));
     };
     let names = names_of_places(alloc, source, places)?;
-    nears_among(alloc, address, regs, &bases, &names)
+    let sought = SoughtByte {
+        address,
+        regs: at.regs,
+        bases: &bases,
+    };
+    sought.nears_among(alloc, &names)
 }
 
 /// The fields of a source that have a byte.
 fn nears_in(
     alloc: Global,
     address: u32,
-    regs: &[u32; 16],
-    offset: u32,
+    at: SourcePoint<'_>,
     source: &Source,
 ) -> Result<Vec<Near>, AllocError>
-    ensures { IfOk result (λ nears. nears.items ≡ nears_in address regs.now offset source.now) }
+    ensures { IfOk result (λ nears. nears.items ≡ nears_in address at.entry.regs.now at.entry.offset source.now) }
 {
     match place_all(alloc, source)? {
-        Ok(places) => nears_placed(alloc, address, regs, offset, source, &places),
+        Ok(places) => nears_placed(alloc, address, at, source, &places),
         Err(_) => Ok(Vec::new(alloc)),
     }
 }
@@ -137,7 +138,11 @@ pub(crate) fn nearest_field(
     let Some(source) = translated_in(alloc, lines)? else {
         return Ok(None);
     };
-    let nears = nears_in(alloc, address, &standing.regs, offset, &source)?;
+    let at = SourcePoint {
+        regs: &standing.regs,
+        offset,
+    };
+    let nears = nears_in(alloc, address, at, &source)?;
     Ok(nearest(nears.as_slice()))
 }
 

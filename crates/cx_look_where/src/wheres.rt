@@ -46,7 +46,7 @@ fn spot_line(report: &mut Report, sources: &Sources, spot: &Option<Spot>) -> Res
     let Some(spot) = spot else {
         return Ok(());
     };
-    let lines = sources.lines_of(spot.program);
+    let lines = sources.source_lines(spot.program);
     let near = nearest_label(report.alloc(), spot.offset, lines)?;
     label_line(report, near)
 }
@@ -64,93 +64,90 @@ fn field_line(report: &mut Report, term: Name4, k: u8, near: Option<Near>) -> Re
     report.line(&[b"FIELD", &term, b"LEVEL", &k, &word])
 }
 
-/// Adds the line of the field that a level has at an address.
-fn standing_line(
-    report: &mut Report,
-    sources: &Sources,
+/// An address whose fields are sought, with the programs and sources of the levels that may have them.
+#[derive(Drop)]
+struct SoughtAddress<'a> {
     address: u32,
-    term: Name4,
-    k: u8,
-    standing: &Standing,
-) -> Result<(), AllocError>
-    ensures { OnOk result (report.new ≡ report.old ++ standing_line sources.now address term k standing.now) }
-{
-    let lines = sources.lines_of(standing.program);
-    let near = nearest_field(report.alloc(), address, lines, standing)?;
-    field_line(report, term, k, near)
+    programs: &'a IndexMap<Name8, Loaded>,
+    sources: &'a Sources,
 }
 
-/// Adds the line of the field that the level of a number has at an address, if there is such a level.
-fn level_line(
-    report: &mut Report,
-    programs: &IndexMap<Name8, Loaded>,
-    sources: &Sources,
-    address: u32,
-    term: Name4,
-    task: &Task,
-    k: u8,
-) -> Result<(), AllocError>
-    ensures { let line = level_line programs.now.entries sources.now address term task.now k in
-        OnOk result (report.new ≡ report.old ++ line) }
-{
-    let Some(standing) = standing_of(programs, task, Some(k)) else {
-        return Ok(());
-    };
-    standing_line(report, sources, address, term, k, &standing)
-}
-
-/// Adds the lines of the fields that a task's levels have at an address.
-fn task_lines(
-    report: &mut Report,
-    programs: &IndexMap<Name8, Loaded>,
-    sources: &Sources,
-    address: u32,
-    term: Name4,
-    task: &Task,
-) -> Result<(), AllocError>
-    ensures { let lines = task_lines programs.now.entries sources.now address term task.now in
-        OnOk result (report.new ≡ report.old ++ lines) }
-{
-    let levels = task.levels.len();
-    for k in 0..levels {
-        level_line(report, programs, sources, address, term, task, k as u8 + 1)?;
+impl SoughtAddress<'_> {
+    /// Adds the line of the field that a level has there.
+    fn standing_line(
+        &self,
+        report: &mut Report,
+        term: Name4,
+        k: u8,
+        standing: &Standing,
+    ) -> Result<(), AllocError>
+        ensures { let line = standing_line self.now.sources.now self.now.address term k standing.now in
+            OnOk result (report.new ≡ report.old ++ line) }
+    {
+        let lines = self.sources.source_lines(standing.program);
+        let near = nearest_field(report.alloc(), self.address, lines, standing)?;
+        field_line(report, term, k, near)
     }
-    Ok(())
-}
 
-/// Adds the lines of the fields that a terminal's task has at an address.
-fn terminal_lines(
-    report: &mut Report,
-    programs: &IndexMap<Name8, Loaded>,
-    sources: &Sources,
-    address: u32,
-    term: Name4,
-    terminal: &Terminal,
-) -> Result<(), AllocError>
-    ensures { let lines = terminal_lines programs.now.entries sources.now address (term, terminal.now) in
-        OnOk result (report.new ≡ report.old ++ lines) }
-{
-    match terminal.task() {
-        Some(task) => task_lines(report, programs, sources, address, term, task),
-        None => Ok(()),
+    /// Adds the line of the field that the level of a number has there, if there is such a level.
+    fn level_line(
+        &self,
+        report: &mut Report,
+        term: Name4,
+        task: &Task,
+        k: u8,
+    ) -> Result<(), AllocError>
+        ensures { let line = level_line self.now.programs.now.entries self.now.sources.now self.now.address in
+            OnOk result (report.new ≡ report.old ++ line term task.now k) }
+    {
+        let Some(standing) = standing_of(self.programs, task, Some(k)) else {
+            return Ok(());
+        };
+        self.standing_line(report, term, k, &standing)
     }
-}
 
-/// Adds the lines of the fields that the tasks of all terminals have at an address.
-fn all_lines(
-    report: &mut Report,
-    programs: &IndexMap<Name8, Loaded>,
-    sources: &Sources,
-    address: u32,
-    terminals: &IndexMap<Name4, Terminal>,
-) -> Result<(), AllocError>
-    ensures { let line = terminal_lines programs.now.entries sources.now address in
-        OnOk result (report.new ≡ report.old ++ flat_map line terminals.now.entries) }
-{
-    for (term, terminal) in terminals.iter() {
-        terminal_lines(report, programs, sources, address, *term, terminal)?;
+    /// Adds the lines of the fields that a task's levels have there.
+    fn task_lines(&self, report: &mut Report, term: Name4, task: &Task) -> Result<(), AllocError>
+        ensures { let lines = task_lines self.now.programs.now.entries self.now.sources.now self.now.address in
+            OnOk result (report.new ≡ report.old ++ lines term task.now) }
+    {
+        let levels = task.levels.len();
+        for k in 0..levels {
+            self.level_line(report, term, task, k as u8 + 1)?;
+        }
+        Ok(())
     }
-    Ok(())
+
+    /// Adds the lines of the fields that a terminal's task has there.
+    fn terminal_lines(
+        &self,
+        report: &mut Report,
+        term: Name4,
+        terminal: &Terminal,
+    ) -> Result<(), AllocError>
+        ensures { let lines = terminal_lines self.now.programs.now.entries self.now.sources.now self.now.address in
+            OnOk result (report.new ≡ report.old ++ lines (term, terminal.now)) }
+    {
+        match terminal.task() {
+            Some(task) => self.task_lines(report, term, task),
+            None => Ok(()),
+        }
+    }
+
+    /// Adds the lines of the fields that the tasks of all terminals have there.
+    fn all_lines(
+        &self,
+        report: &mut Report,
+        terminals: &IndexMap<Name4, Terminal>,
+    ) -> Result<(), AllocError>
+        ensures { let line = terminal_lines self.now.programs.now.entries self.now.sources.now self.now.address in
+            OnOk result (report.new ≡ report.old ++ flat_map line terminals.now.entries) }
+    {
+        for (term, terminal) in terminals.iter() {
+            self.terminal_lines(report, *term, terminal)?;
+        }
+        Ok(())
+    }
 }
 
 /// An address and where it is, with the statement that has its byte.
@@ -194,6 +191,11 @@ pub fn where_text<S: Store + Drop>(
     let programs = &region.shared().programs;
     place_lines(&mut report, sources, &place_of(programs, address))?;
     met_lines(&mut report, region, address, 1)?;
-    all_lines(&mut report, programs, sources, address, region.terminals())?;
+    let sought = SoughtAddress {
+        address,
+        programs,
+        sources,
+    };
+    sought.all_lines(&mut report, region.terminals())?;
     Ok(report)
 }

@@ -4,15 +4,15 @@ ghost use Rattle.std.specs.List.{list_all};
 ghost use Rattle.cx_base_text.specs.Digits.{hex_digits};
 ghost use Rattle.cx_look_words.specs.Words.{has_character, in_apostrophes, in_hexadecimal, is_plain, written_bytes, written_name};
 
-use cx_base_text::{hexadecimal, shown, trimmed};
-use cx_ebcdic::{display, to_ebcdic};
+use cx_base_text::{hexadecimal, shown, trim};
+use cx_ebcdic::{shown_as, to_ebcdic};
 use std::alloc::{AllocError, Global};
 
 /// Whether a byte is the code of a character.
 fn has_character(byte: u8) -> bool
     ensures { result ≡ has_character byte }
 {
-    match to_ebcdic(display(byte)) {
+    match to_ebcdic(shown_as(byte)) {
         Some(code) => code == byte,
         None => false,
     }
@@ -22,7 +22,7 @@ fn has_character(byte: u8) -> bool
 fn is_plain(byte: u8) -> bool
     ensures { result ≡ is_plain byte }
 {
-    has_character(byte) && display(byte) != '\''
+    has_character(byte) && shown_as(byte) != '\''
 }
 
 /// Whether each byte is written between apostrophes as itself.
@@ -93,5 +93,5 @@ pub fn written_name(alloc: Global, name: &[u8]) -> Result<Vec<u8>, AllocError>
         return in_hexadecimal(alloc, name);
     }
     let text = shown(alloc, name)?;
-    in_apostrophes(alloc, trimmed(text.as_slice()))
+    in_apostrophes(alloc, trim(text.as_slice()))
 }

@@ -1,6 +1,6 @@
 -- The symbols that a source hasn't defined one by one: those of DFHREGS, of COPY DFHAID, and of the EXEC interface
 -- block (own).
-use Rattle.std.specs.Prelude.{ℕ, Bool, true, false, ◌||◌, ◌==◌, if◌then◌else◌, Option, List, [], ◌∷◌, codes, option_and_then}
+use Rattle.std.specs.Prelude.{ℕ, Bool, true, false, ◌||◌, ◌==◌, if◌then◌else◌, Option, List, [], ◌∷◌, codes}
 use Rattle.std.specs.List.{flat_map, list_any}
 use Rattle.std.specs.Option.{option_map_or}
 use Rattle.cx_source.specs.declared.source.Item.{Item}

@@ -150,61 +150,63 @@ fn literal_word(alloc: Global, text: &[u8]) -> Result<Vec<u8>, AllocError>
     Ok(word)
 }
 
-/// Adds the line of a literal in the pool of a number.
-fn literal_line(
-    report: &mut Report,
-    section: &[u8],
-    used: &IndexMap<PoolText<'_>, BTreeSet<usize>>,
-    pool: usize,
-    text: &[u8],
-    literal: Literal,
-) -> Result<(), AllocError>
-    ensures { let line = literal_line section.now (lines_of_literal used.now.entries) pool (text.now, literal) in
-        OnOk result (report.new ≡ report.old ++ line) }
-{
-    let alloc = report.alloc();
-    let lines = lines_for(alloc, used, &PoolText { pool, text })?;
-    let used = used_word(alloc, &[], lines.as_slice())?;
-    let bytes = bytes_word(alloc, literal_bytes(section, text, literal))?;
-    let word = literal_word(alloc, text)?;
-    let offset = hexadecimal::<6>((literal.offset % 0x100_0000) as u32);
-    report.line(&[b"XREF", b"LITERAL", &offset, &word, &bytes, &used])
+/// What the literals of the pool of a number are written by: the control section's text, and the lines that use each literal.
+#[derive(Drop)]
+struct PoolLiterals<'a, 't> {
+    section: &'a [u8],
+    used: &'a IndexMap<PoolText<'t>, BTreeSet<usize>>,
+    number: usize,
 }
 
-/// Adds the line of a literal of the pool of a number, if the pool has that many.
-fn literal_at(
-    report: &mut Report,
-    section: &[u8],
-    used: &IndexMap<PoolText<'_>, BTreeSet<usize>>,
-    number: usize,
-    pool: &Pool<'_>,
-    index: usize,
-) -> Result<(), AllocError>
-    ensures { let line = literal_line section.now (lines_of_literal used.now.entries) number in
-        OnOk result (report.new ≡ report.old ++ option_map_or line (slice_get pool.now index) []) }
-{
-    let Some((text, literal)) = pool.literal(index) else {
-        return Ok(());
-    };
-    literal_line(report, section, used, number, text, literal)
-}
-
-/// Adds the lines of the literals of the pool of a number.
-#[tactic(auto, using(crate::proofs::PoolLemmas::one_more))]
-fn pool_lines(
-    report: &mut Report,
-    section: &[u8],
-    used: &IndexMap<PoolText<'_>, BTreeSet<usize>>,
-    number: usize,
-    pool: &Pool<'_>,
-) -> Result<(), AllocError>
-    ensures { let line = literal_line section.now (lines_of_literal used.now.entries) number in
-        OnOk result (report.new ≡ report.old ++ flat_map line pool.now) }
-{
-    for index in 0..pool.len() {
-        literal_at(report, section, used, number, pool, index)?;
+impl<'a, 't> PoolLiterals<'a, 't> {
+    /// Adds the line of a literal.
+    fn literal_line(
+        &self,
+        report: &mut Report,
+        text: &[u8],
+        literal: Literal,
+    ) -> Result<(), AllocError>
+        ensures { let line = literal_line self.now.section.now (lines_of_literal self.now.used.now.entries)
+            self.now.number in OnOk result (report.new ≡ report.old ++ line (text.now, literal)) }
+    {
+        let alloc = report.alloc();
+        let pool = self.number;
+        let lines = lines_for(alloc, self.used, &PoolText { pool, text })?;
+        let used = used_word(alloc, &[], lines.as_slice())?;
+        let bytes = bytes_word(alloc, literal_bytes(self.section, text, literal))?;
+        let word = literal_word(alloc, text)?;
+        let offset = hexadecimal::<6>((literal.offset % 0x100_0000) as u32);
+        report.line(&[b"XREF", b"LITERAL", &offset, &word, &bytes, &used])
     }
-    Ok(())
+
+    /// Adds the line of the literal at an index, if the pool has that many.
+    fn literal_at(
+        &self,
+        report: &mut Report,
+        pool: &Pool<'_>,
+        index: usize,
+    ) -> Result<(), AllocError>
+        ensures { let line = literal_line self.now.section.now (lines_of_literal self.now.used.now.entries)
+            self.now.number in
+            OnOk result (report.new ≡ report.old ++ option_map_or line (slice_get pool.now index) []) }
+    {
+        let Some((text, literal)) = pool.literal(index) else {
+            return Ok(());
+        };
+        self.literal_line(report, text, literal)
+    }
+
+    /// Adds the lines of the pool's literals.
+    #[tactic(auto, using(crate::proofs::PoolLemmas::one_more))]
+    fn pool_lines(&self, report: &mut Report, pool: &Pool<'_>) -> Result<(), AllocError>
+        ensures { let line = literal_line self.now.section.now (lines_of_literal self.now.used.now.entries)
+            self.now.number in OnOk result (report.new ≡ report.old ++ flat_map line pool.now) }
+    {
+        for index in 0..pool.len() {
+            self.literal_at(report, pool, index)?;
+        }
+        Ok(())
+    }
 }
 
 /// Adds the lines of the literals of pools.
@@ -218,7 +220,12 @@ fn literals_by(
         OnOk result (report.new ≡ report.old ++ more) }
 {
     for (number, pool) in pools.iter().enumerate() {
-        pool_lines(report, section, used, number, pool)?;
+        let literals = PoolLiterals {
+            section,
+            used,
+            number,
+        };
+        literals.pool_lines(report, pool)?;
     }
     Ok(())
 }

@@ -16,47 +16,48 @@ use indexmap::IndexMap;
 use std::alloc::AllocError;
 use std::collections::{BTreeMap, BTreeSet};
 
-/// Adds the line of a symbol; none of one that is given and unused.
-fn name_line(
-    report: &mut Report,
-    stored: &IndexMap<Name8, BTreeSet<usize>>,
-    used: &IndexMap<Name8, BTreeSet<usize>>,
-    given: &[usize],
-    name: Name8,
-    symbol: &Symbol,
-) -> Result<(), AllocError>
-    ensures { let stores = lines_of_name stored.now.entries in
-        let line = name_line stores (lines_of_name used.now.entries) given.now (name, symbol.now) in
-        OnOk result (report.new ≡ report.old ++ line) }
-{
-    let alloc = report.alloc();
-    let lines = lines_for(alloc, used, &name)?;
-    if is_given(given, symbol) && lines.is_empty() {
-        return Ok(());
-    }
-    let storing = lines_for(alloc, stored, &name)?;
-    let used = used_word(alloc, storing.as_slice(), lines.as_slice())?;
-    let name = written_name(alloc, &name.bytes())?;
-    let line = decimal(alloc, symbol.line)?;
-    report.line(&[b"XREF", &name, b"LINE", &line, &used])
+/// The lines that store into each name, those that use it, and those that define what is given.
+#[derive(Drop)]
+struct NameLines<'a> {
+    stored: &'a IndexMap<Name8, BTreeSet<usize>>,
+    used: &'a IndexMap<Name8, BTreeSet<usize>>,
+    given: &'a [usize],
 }
 
-/// Adds the lines of symbols.
-fn name_lines(
-    report: &mut Report,
-    stored: &IndexMap<Name8, BTreeSet<usize>>,
-    used: &IndexMap<Name8, BTreeSet<usize>>,
-    given: &[usize],
-    symbols: &BTreeMap<Name8, Symbol>,
-) -> Result<(), AllocError>
-    ensures { let stores = lines_of_name stored.now.entries in
-        let line = name_line stores (lines_of_name used.now.entries) given.now in
-        OnOk result (report.new ≡ report.old ++ flat_map line symbols.now.entries) }
-{
-    for (name, symbol) in symbols.iter() {
-        name_line(report, stored, used, given, *name, symbol)?;
+impl NameLines<'_> {
+    /// Adds the line of a symbol; none of one that is given and unused.
+    fn name_line(&self, report: &mut Report, name: Name8, symbol: &Symbol) -> Result<(), AllocError>
+        ensures { let line = name_line (lines_of_name self.now.stored.now.entries)
+            (lines_of_name self.now.used.now.entries) self.now.given.now in
+            OnOk result (report.new ≡ report.old ++ line (name, symbol.now)) }
+    {
+        let alloc = report.alloc();
+        let lines = lines_for(alloc, self.used, &name)?;
+        if is_given(self.given, symbol) && lines.is_empty() {
+            return Ok(());
+        }
+        let storing = lines_for(alloc, self.stored, &name)?;
+        let used = used_word(alloc, storing.as_slice(), lines.as_slice())?;
+        let name = written_name(alloc, &name.bytes())?;
+        let line = decimal(alloc, symbol.line)?;
+        report.line(&[b"XREF", &name, b"LINE", &line, &used])
     }
-    Ok(())
+
+    /// Adds the lines of symbols.
+    fn name_lines(
+        &self,
+        report: &mut Report,
+        symbols: &BTreeMap<Name8, Symbol>,
+    ) -> Result<(), AllocError>
+        ensures { let line = name_line (lines_of_name self.now.stored.now.entries)
+            (lines_of_name self.now.used.now.entries) self.now.given.now in
+            OnOk result (report.new ≡ report.old ++ flat_map line symbols.now.entries) }
+    {
+        for (name, symbol) in symbols.iter() {
+            self.name_line(report, *name, symbol)?;
+        }
+        Ok(())
+    }
 }
 
 /// Adds the lines of symbols, which these references use, and store into, and of which those that these lines define are given.
@@ -72,5 +73,10 @@ pub(crate) fn symbol_lines(
 {
     let stored = lines_by_name(report.alloc(), stores)?;
     let used = lines_by_name(report.alloc(), references)?;
-    name_lines(report, &stored, &used, given, symbols)
+    let lines = NameLines {
+        stored: &stored,
+        used: &used,
+        given,
+    };
+    lines.name_lines(report, symbols)
 }

@@ -182,45 +182,42 @@ fn first_operand(alloc: Global, statement: &Statement<'_>) -> Result<Vec<u8>, Al
     }
 }
 
-/// Adds the line of a base register that a USING names, by the statements after it.
-fn using_line(
-    report: &mut Report,
-    places: &Places<'_>,
+/// A USING, with the statements after it, and the last line of the source.
+#[derive(Drop)]
+struct Using<'a, 'p, 's> {
+    places: &'a Places<'p>,
     last: usize,
-    statement: &Statement<'_>,
-    after: &[Statement<'_>],
-    register: usize,
-) -> Result<(), AllocError>
-    ensures { let line = using_line (whole_by places.now) last statement.now after.now register in
-        OnOk result (report.new ≡ report.old ++ line) }
-{
-    let alloc = report.alloc();
-    let end = use_end(alloc, places, last, register, after)?;
-    let place = first_operand(alloc, statement)?;
-    let register = decimal(alloc, register)?;
-    let from = decimal(alloc, statement.line())?;
-    let to = decimal(alloc, end)?;
-    report.line(&[
-        b"XREF", b"USING", &register, b"FROM", &from, b"TO", &to, &place,
-    ])
+    statement: &'a Statement<'s>,
+    after: &'a [Statement<'s>],
 }
 
-/// Adds the lines of base registers that a USING names, by the statements after it.
-fn register_lines(
-    report: &mut Report,
-    places: &Places<'_>,
-    last: usize,
-    statement: &Statement<'_>,
-    after: &[Statement<'_>],
-    registers: &[usize],
-) -> Result<(), AllocError>
-    ensures { let line = using_line (whole_by places.now) last statement.now after.now in
-        OnOk result (report.new ≡ report.old ++ flat_map line registers.now) }
-{
-    for register in registers {
-        using_line(report, places, last, statement, after, *register)?;
+impl<'a, 'p, 's> Using<'a, 'p, 's> {
+    /// Adds the line of a base register that it names.
+    fn line_of(&self, report: &mut Report, register: usize) -> Result<(), AllocError>
+        ensures { let line = using_line (whole_by self.now.places.now) self.now.last self.now.statement.now
+            self.now.after.now in OnOk result (report.new ≡ report.old ++ line register) }
+    {
+        let alloc = report.alloc();
+        let end = use_end(alloc, self.places, self.last, register, self.after)?;
+        let place = first_operand(alloc, self.statement)?;
+        let register = decimal(alloc, register)?;
+        let from = decimal(alloc, self.statement.line())?;
+        let to = decimal(alloc, end)?;
+        report.line(&[
+            b"XREF", b"USING", &register, b"FROM", &from, b"TO", &to, &place,
+        ])
     }
-    Ok(())
+
+    /// Adds the lines of base registers that it names.
+    fn lines_of(&self, report: &mut Report, registers: &[usize]) -> Result<(), AllocError>
+        ensures { let line = using_line (whole_by self.now.places.now) self.now.last self.now.statement.now
+            self.now.after.now in OnOk result (report.new ≡ report.old ++ flat_map line registers.now) }
+    {
+        for register in registers {
+            self.line_of(report, *register)?;
+        }
+        Ok(())
+    }
 }
 
 /// Adds the lines of the base registers of a source, by its statements: the register, the line of the USING that names it, the last line
@@ -239,7 +236,13 @@ pub fn using_lines(
     for (i, statement) in statements.iter().enumerate() {
         let (_, after) = statements.split_at(i + 1);
         let registers = base_registers(report.alloc(), places, statement)?;
-        register_lines(report, places, last, statement, after, registers.as_slice())?;
+        let using = Using {
+            places,
+            last,
+            statement,
+            after,
+        };
+        using.lines_of(report, registers.as_slice())?;
     }
     Ok(())
 }

@@ -5,13 +5,13 @@ use Rattle.cx_region.specs.Events.{Applies, Run}
 use Rattle.cx_region.specs.State.{TerminalState}
 use Rattle.cx_region.specs.declared.replies.Event.TheVariants as event
 use Rattle.cx_region.specs.declared.replies.Reply.TheVariants as reply
-use Rattle.cx_orders.specs.Laws.{IsRun, OrdersAreRuns}
+use Rattle.cx_orders.specs.Laws.{IsOrderRun, OrdersAreRuns}
 use Rattle.cx_orders.specs.Moves.{KeyMoves, TurnMoves}
 use Rattle.cx_orders.specs.declared.states.KeyLine.{KeyLine}
 use Rattle.cx_orders.specs.declared.states.OrdersState.{OrdersState}
 
 run_on : (keys : List KeyLine) (from between to : OrdersState) (number many : ℕ) (name : List ℕ) (terminal : TerminalState) (came : ℕ)
-    → TurnMoves from number name between ⊎ KeyMoves keys from number name terminal came between → IsRun between many to → IsRun from (suc many) to
+    → TurnMoves from number name between ⊎ KeyMoves keys from number name terminal came between → IsOrderRun between many to → IsOrderRun from (suc many) to
 unfolding Run Applies
 run_on keys from between to number many name terminal came (inl t) rest = record {
   events = event.Turn name ∷ rest.events;

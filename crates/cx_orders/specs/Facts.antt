@@ -1,2 +1,3 @@
--- Lemmas for the crates above: when two states are the same.
+-- Lemmas for the crates above: when two states are the same, and what holds of keys.
 pub mod Same
+pub mod Keys

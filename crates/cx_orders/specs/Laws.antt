@@ -19,7 +19,7 @@ IsOrder (event.Key name aid bytes) = Unit {0}
 IsOrder _ = ⊥
 
 -- as many turns and keys, one after another, lead the region from a state to a state
-pub record IsRun (from : OrdersState) (many : ℕ) (to : OrdersState) : Type 0 where
+pub record IsOrderRun (from : OrdersState) (many : ℕ) (to : OrdersState) : Type 0 where
   pub events : List Event
   pub replies : List Reply
   pub as_many : length events ≡ many
@@ -29,7 +29,7 @@ pub record IsRun (from : OrdersState) (many : ℕ) (to : OrdersState) : Type 0 w
 -- where a list of moves leads, a run of turns and keys does
 abbrev pub OrdersAreRuns : Type 0
 OrdersAreRuns = (keys : List KeyLine) (from to : OrdersState) (moves : List ℕ) → Leads (Moves keys) from moves to
-    → IsRun from (length moves) to
+    → IsOrderRun from (length moves) to
 
 -- where no two terminals have one name, a move leads to one state
 abbrev pub MovesDecide : Type 0

@@ -1,5 +1,5 @@
 -- A move of a region with keys that are to come: a turn of a terminal, or the next of its keys (this product's own).
-use Rattle.std.specs.Prelude.{◌≡◌, ◌⊎◌, ℕ, ◌+◌, Bool, true, false, List, [], filter, length, replicate, Some, slice_get, slice_set}
+use Rattle.std.specs.Prelude.{◌≡◌, ◌⊎◌, ℕ, ◌+◌, ◌≤◌, Bool, true, false, List, [], filter, length, replicate, Some, slice_get, slice_set}
 use Rattle.cx_ebcdic.specs.Names.{is_name}
 use Rattle.cx_region.specs.Attach.{TakesKey, input_from}
 use Rattle.cx_region.specs.State.{RegionState, TerminalState}
@@ -36,10 +36,14 @@ is_ready NoTask = true
 is_ready (Waiting wait.Input) = true
 is_ready _ = false
 
-pub record IsReady (from : OrdersState) (terminal : TerminalState) : Type 0 where
+pub record IsReadyTerminal (from : OrdersState) (terminal : TerminalState) : Type 0 where
   pub activity : Activity
   pub is : IsActivity from.region terminal activity
   pub ready : is_ready activity ≡ true
+
+-- a key has at most 1,920 bytes
+abbrev pub IsFew : KeyLine → Type 0
+IsFew key = length key.bytes ≤ 1920
 
 -- the keys of a terminal, in the order in which they come
 abbrev pub keys_of : List KeyLine → List ℕ → List KeyLine
@@ -56,7 +60,7 @@ pub record KeyComes (from : OrdersState) (number : ℕ) (name : List ℕ) (came 
 -- the next of the terminal's keys, of which so many came
 pub record KeyMoves (keys : List KeyLine) (from : OrdersState) (number : ℕ) (name : List ℕ)
     (terminal : TerminalState) (came : ℕ) (to : OrdersState) : Type 0 where
-  pub ready : IsReady from terminal
+  pub ready : IsReadyTerminal from terminal
   pub key : KeyLine
   pub next : slice_get (keys_of keys name) came ≡ Some key
   pub comes : KeyComes from number name came key to

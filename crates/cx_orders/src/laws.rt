@@ -10,7 +10,7 @@ pub fn orders_are_runs()
     ensures { OrdersAreRuns }
 {}
 
-/// A move leads to one state.
+/// A move leads from a state to one state at most.
 pub fn moves_decide()
     ensures { MovesDecide }
 {

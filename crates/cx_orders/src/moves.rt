@@ -1,10 +1,12 @@
 //! Moves of a region with keys that are to come, as a space of states.
 
 ghost use Rattle.std.specs.Prelude.{◌≡◌, ◌<◌, IfOk, IfNone, IfSome, None, if◌then◌else◌, slice_get, slice_set, true, length};
+ghost use Rattle.std.specs.List.{AllByRecursion};
 ghost use Rattle.std.specs.Option.{option_copied};
+ghost use Rattle.cx_orders.specs.Facts.Keys.{AreFew-prop};
 ghost use Rattle.cx_orders.specs.Parts.{IsAsked, is_acting};
 ghost use Rattle.cx_orders.specs.Incidents.{with_incident};
-ghost use Rattle.cx_orders.specs.Moves.{KeyComes, Moves, TurnMoves, is_ready, keys_of};
+ghost use Rattle.cx_orders.specs.Moves.{IsFew, KeyComes, Moves, TurnMoves, is_ready, keys_of};
 ghost use Rattle.cx_orders.specs.declared.states.OrdersState.{OrdersState as TheState};
 
 use crate::incidents::{incident_of_key, incident_of_turn, with_incident};
@@ -22,12 +24,14 @@ use cx_storage::Store;
 use std::alloc::{AllocError, Global};
 use std::marker::PhantomData;
 
-/// The orders of a region's turns and of these keys, each terminal's in the order in which they stand here.
+/// The orders of a region's turns and of these keys, each of at most 1,920 bytes, each terminal's in the order in which they stand
+/// here.
 #[derive(Drop)]
 pub struct Orders<S: Store + Drop> {
     pub alloc: Global,
     pub keys: Vec<KeyLine>,
     pub stores: PhantomData<S>,
+    ghost few: { AllByRecursion IsFew keys.items } by { AreFew-prop keys.items },
 }
 
 /// A terminal, its number in the order of their definition, how many of its keys came, and what it is doing.

@@ -1,8 +1,9 @@
 //! All states that orders lead to.
 
 ghost use Rattle.std.specs.Prelude.{◌≡◌, ◌≤◌, IfOk, MatchOption, length};
+ghost use Rattle.std.specs.List.{AllByRecursion};
 ghost use Rattle.cx_search.specs.Finds.{Finds, FindsNearest, IsWhole};
-ghost use Rattle.cx_orders.specs.Moves.{Moves, begun};
+ghost use Rattle.cx_orders.specs.Moves.{IsFew, Moves, begun};
 
 use crate::moves::Orders;
 use crate::states::{KeyLine, OrdersState};
@@ -36,6 +37,7 @@ pub fn begin(
 impl<S: Store + Drop> Orders<S> {
     /// The orders of turns and of these keys, those of each terminal in the order in which they stand here.
     pub fn new(alloc: Global, keys: Vec<KeyLine>) -> Orders<S>
+        requires { AllByRecursion IsFew keys.items }
         ensures { result.keys ≡ keys }
     {
         Orders {

@@ -1,6 +1,6 @@
 //! The states that orders lead to.
 
-ghost use Rattle.std.specs.Prelude.{◌≡◌, ◌↔◌, ◌≤◌, IsTrue, length};
+ghost use Rattle.std.specs.Prelude.{◌≡◌, ◌↔◌, IsTrue};
 
 use cx_base_copies::{Same, are_same_items};
 use cx_base_lists::List;
@@ -17,10 +17,9 @@ pub struct KeyLine {
     pub aid: Aid,
     pub bytes: Bytes,
     pub line: List<u8>,
-    pub ghost few: { length bytes ≤ 1920 },
 }
 
-/// What is kept of a terminal's way.
+/// What no later state of the region shows, and what therefore is kept of the turns and keys that led to a state.
 #[derive(Clone, Copy, Debug)]
 pub enum Incident {
     /// A task of it ended by an abend of that code.

@@ -18,11 +18,11 @@ use Rattle.cx_region.specs.declared.replies.KeyReply.TheVariants as key
 use Rattle.cx_region.specs.State.{RegionState, TerminalState, shared_of}
 use Rattle.cx_ebcdic.specs.Names.{is_name}
 use Rattle.cx_region.specs.Tables.{program_of, terminal_of, transaction_of, with_terminal}
-use Rattle.cx_region.specs.Attach.{ArePlaced, AttachesTask, Attaches, Gives, HasNoPlaces, TakesKey, OnlyAnswers, Starts, commarea_kept, eib_at_attach, with_areas_filled, next_number, transaction_named, with_task, with_task_areas}
+use Rattle.cx_region.specs.Attach.{ArePlaced, AttachesTask, Attaches, Gives, HasNoPlaces, TakesKey, OnlyAnswers, StartsTask, commarea_kept, eib_at_attach, with_areas_filled, next_number, transaction_named, with_task, with_task_areas}
 use Rattle.cx_region.specs.declared.asking.Places.{Places}
 use Rattle.cx_region.specs.Parts.Asking.{KeyTakesMemory, asked, asked_at, input_asked, level_of, start_asked, start_of, task_of_start}
 use Rattle.cx_region.specs.declared.attach.StartFault.{StartFault}
-use Rattle.cx_region.specs.Parts.Placing.{AreFaultsOf, HasNoPlacesFor, IsReady}
+use Rattle.cx_region.specs.Parts.Placing.{AreFaultsOf, HasNoPlacesFor, IsReadyTask}
 use Rattle.cx_region.specs.Sound.{IsSound}
 use Rattle.cx_region.specs.Facts.SoundAttach.{Giving, Starting, of_found, of_none, of_some, sound_attached, sound_given}
 
@@ -66,7 +66,7 @@ keyed_answer r name input due is = by_terminal (terminal_of r name) is
 pub keyed_given : (r new : RegionState) (name : List ℕ) (input : Input) (giving : Giving r name) → new ≡ with_terminal r name (record giving.terminal { input = Some input }) → TakesKey r name input key.Given new
 unfolding TakesKey
 keyed_given r new name input giving is =
-    of_some _ (λ t. MatchOption t.task (Starts r name t input (transaction_named t.following input.bytes) key.Given new) (λ task. Gives r name t input key.Given new)) (terminal_of r name) giving.terminal giving.there
+    of_some _ (λ t. MatchOption t.task (StartsTask r name t input (transaction_named t.following input.bytes) key.Given new) (λ task. Gives r name t input key.Given new)) (terminal_of r name) giving.terminal giving.there
     (of_some _ (λ task. Gives r name giving.terminal input key.Given new) giving.terminal.task giving.task giving.live
     (of_none _ (λ held. OnlyAnswers key.AlreadyHeldInput r key.Given new) giving.terminal.input giving.none (refl, is)))
 
@@ -79,9 +79,9 @@ pub keyed_start : (r new : RegionState) (name : List ℕ) (input : Input) (start
     → Attaches r name starting.terminal input start.tran start.program start.loaded reply new → TakesKey r name input reply new
 unfolding TakesKey
 keyed_start r new name input start starting reply h =
-    of_some _ (λ t. MatchOption t.task (Starts r name t input (transaction_named t.following input.bytes) reply new) (λ task. Gives r name t input reply new)) (terminal_of r name) starting.terminal starting.there
+    of_some _ (λ t. MatchOption t.task (StartsTask r name t input (transaction_named t.following input.bytes) reply new) (λ task. Gives r name t input reply new)) (terminal_of r name) starting.terminal starting.there
     (of_none _ (λ task. Gives r name starting.terminal input reply new) starting.terminal.task starting.idle
-    (subst (λ (tran : List ℕ). Starts r name starting.terminal input tran reply new) starting.tran
+    (subst (λ (tran : List ℕ). StartsTask r name starting.terminal input tran reply new) starting.tran
     (of_some _ (λ program. MatchOption (program_of r program) (OnlyAnswers key.NoSuchTransaction r reply new) (λ loaded. Attaches r name starting.terminal input start.tran program loaded reply new))
     (transaction_of r start.tran) start.program starting.defined
     (of_some _ (λ loaded. Attaches r name starting.terminal input start.tran start.program loaded reply new) (program_of r start.program) start.loaded starting.program h))))
@@ -158,7 +158,7 @@ record AttachedParts (r : RegionState) (name bytes : List ℕ) (start : Start) (
   pub terminals : ts ≡ set_value (is_name name) r.terminals (with_task terminal input (task_of_start start (next_number r.counter) places))
 
 parts_of : (r : RegionState) (name bytes : List ℕ) (start : Start) (starting : Starting r name bytes start) (input held : Input) (fields : List Content) (places : Places) (level : NewLevel) (task : TaskState) (number : ℕ) (mid after : Storage) (ts : List (List ℕ × TerminalState))
-    → IsReady r.storage start number input places level task held mid → number ≡ next_number r.counter
+    → IsReadyTask r.storage start number input places level task held mid → number ≡ next_number r.counter
     → MatchOption (lookup (is_name name) r.terminals) ⊤ (λ terminal. after ≡ with_areas_filled mid places fields (commarea_kept terminal.following) level)
     → MatchOption (lookup (is_name name) r.terminals) ⊤ (λ terminal. ts ≡ set_value (is_name name) r.terminals (with_task terminal held task))
     → AttachedParts r name bytes start starting.terminal input fields places level after ts
@@ -172,7 +172,7 @@ parts_of r name bytes start starting input held fields places level task number 
     }
 
 pub sound_attach : (r : RegionState) (name bytes : List ℕ) (start : Start) (starting : Starting r name bytes start) (input held : Input) (fields : List Content) (places : Places) (level : NewLevel) (task : TaskState) (number : ℕ) (mid after : SharedState) (ts : List (List ℕ × TerminalState))
-    → IsSound r → IsSoundStorage after.storage → IsReady r.storage start number input places level task held mid.storage → number ≡ next_number r.counter
+    → IsSound r → IsSoundStorage after.storage → IsReadyTask r.storage start number input places level task held mid.storage → number ≡ next_number r.counter
     → mid ≡ record (shared_of r) { storage = mid.storage } → after ≡ record mid { storage = after.storage }
     → MatchOption (lookup (is_name name) r.terminals) ⊤ (λ terminal. after.storage ≡ with_areas_filled mid.storage places fields (commarea_kept terminal.following) level)
     → MatchOption (lookup (is_name name) r.terminals) ⊤ (λ terminal. ts ≡ set_value (is_name name) r.terminals (with_task terminal held task))
@@ -187,7 +187,7 @@ fields_begun r start tran terminal number code =
     fields_at_attach (record { time = r.time; date = r.date; tran = tran; number = number; terminal = terminal; calen = start.calen; aid = code })
 
 pub keyed_attach : (r : RegionState) (name : List ℕ) (start : Start) (input held : Input) (starting : Starting r name input.bytes start) (tran terminal : List ℕ) (code : ℕ) (places : Places) (level : NewLevel) (task : TaskState) (number : ℕ) (mid after : SharedState) (ts : List (List ℕ × TerminalState))
-    → IsReady r.storage start number input places level task held mid.storage → number ≡ next_number r.counter → tran ≡ start.tran → terminal ≡ name → code ≡ (key_of input.aid).code
+    → IsReadyTask r.storage start number input places level task held mid.storage → number ≡ next_number r.counter → tran ≡ start.tran → terminal ≡ name → code ≡ (key_of input.aid).code
     → mid ≡ record (shared_of r) { storage = mid.storage } → after ≡ record mid { storage = after.storage }
     → MatchOption (lookup (is_name name) r.terminals) ⊤ (λ t. after.storage ≡ with_areas_filled mid.storage places (fields_begun r start tran terminal number code) (commarea_kept t.following) level)
     → MatchOption (lookup (is_name name) r.terminals) ⊤ (λ t. ts ≡ set_value (is_name name) r.terminals (with_task t held task))

@@ -168,8 +168,8 @@ abbrev pub OnlyAnswers : KeyReply → RegionState → KeyReply → RegionState �
 OnlyAnswers due old reply new = (reply ≡ due) × (new ≡ old)
 
 -- of a terminal without a task: its transaction's program is started, where both are defined
-abbrev pub Starts : RegionState → List ℕ → TerminalState → Input → List ℕ → KeyReply → RegionState → Type 0
-Starts old name terminal input tran reply new =
+abbrev pub StartsTask : RegionState → List ℕ → TerminalState → Input → List ℕ → KeyReply → RegionState → Type 0
+StartsTask old name terminal input tran reply new =
     MatchOption (transaction_of old tran) (OnlyAnswers key.NoSuchTransaction old reply new) (λ program.
     MatchOption (program_of old program) (OnlyAnswers key.NoSuchTransaction old reply new) (λ loaded.
     Attaches old name terminal input tran program loaded reply new))
@@ -186,5 +186,5 @@ unfoldable pub TakesKey : RegionState → List ℕ → Input → KeyReply → Re
 TakesKey old name input reply new =
     MatchOption (terminal_of old name) (OnlyAnswers key.NoSuchTerminal old reply new) (λ terminal.
     MatchOption terminal.task
-    (Starts old name terminal input (transaction_named terminal.following input.bytes) reply new)
+    (StartsTask old name terminal input (transaction_named terminal.following input.bytes) reply new)
     (λ task. Gives old name terminal input reply new))

@@ -22,16 +22,17 @@ unfoldable pub program_fault : RegionState → List ℕ → Option DefineFault
 program_fault region name = entry_fault (is_some (program_of region name)) (length region.programs) 64 None
 
 -- loading it: it is put in storage and is defined; or storage has no place for it, and all is as before
-abbrev pub Loads : RegionState → List ℕ → Image → Result Loaded DefineFault → RegionState → Type 0
-Loads old name image (Ok loaded) new = IsLoaded old.storage image loaded new.storage
+abbrev pub LoadsProgram : RegionState → List ℕ → Image → Result Loaded DefineFault → RegionState → Type 0
+LoadsProgram old name image (Ok loaded) new = IsLoaded old.storage image loaded new.storage
     × (new ≡ record old { programs = insert_entry is_name old.programs name loaded; storage = new.storage })
-Loads old name image (Err NoRoom) new = IsProgramPlace old.storage (length image.text) None × (new ≡ old)
-Loads old name image (Err _) new = ⊥
+LoadsProgram old name image (Err NoRoom) new = IsProgramPlace old.storage (length image.text) None × (new ≡ old)
+LoadsProgram old name image (Err _) new = ⊥
 
 -- a program is refused by its name or the limit, and all is as before; else it is loaded
 unfoldable pub DefinesProgram : RegionState → List ℕ → Image → Result Loaded DefineFault → RegionState → Type 0
 DefinesProgram old name image result new =
-    MatchOption (program_fault old name) (Loads old name image result new) (λ fault. (result ≡ Err fault) × (new ≡ old))
+    MatchOption (program_fault old name) (LoadsProgram old name image result new)
+    (λ fault. (result ≡ Err fault) × (new ≡ old))
 
 -- ---- transactions
 unfoldable pub transaction_fault : RegionState → List ℕ → List ℕ → Option DefineFault

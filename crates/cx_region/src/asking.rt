@@ -3,7 +3,7 @@ use crate::replies::KeyReply;
 use cx_ebcdic::{Name4, Name8};
 use cx_load::Loaded;
 
-/// A task to be attached.
+/// What is known of a task before it has areas, a number and levels.
 #[derive(Clone, Copy, Debug, PartialEq, Eq)]
 pub struct Start {
     /// The position of its terminal, counted from 1.
@@ -29,7 +29,7 @@ pub enum Asked {
     Attach(Start),
 }
 
-/// Where the areas of a task are.
+/// The addresses at which the areas of a task that is attached are put.
 #[derive(Drop)]
 pub struct Places {
     /// The address of the EIB.

@@ -13,7 +13,7 @@ ghost use Rattle.cx_region_state.specs.State.{TaskState};
 ghost use Rattle.cx_region.specs.Tables.{program_of, terminal_of, transaction_of};
 ghost use Rattle.cx_region.specs.Attach.{ArePlaced, IsCopyPlace, TakesKey, commarea_kept, eib_at_attach, with_areas_filled, first_word, fresh_task, input_from, next_number, sends_data, transaction_named, with_copy, with_task, with_task_areas};
 ghost use Rattle.cx_region.specs.Parts.Asking.{KeyTakesMemory, asked, asked_at, input_asked, level_of, start_asked, start_of, task_of_start};
-ghost use Rattle.cx_region.specs.Parts.Placing.{AreFaultsOf, ArePlacesBelow, HasNoPlacesFor, IsCopyFault, IsPlaceFault, IsReady, IsSlotFree, MayBeFaultsOf, input_of};
+ghost use Rattle.cx_region.specs.Parts.Placing.{AreFaultsOf, ArePlacesBelow, HasNoPlacesFor, IsCopyFault, IsPlaceFault, IsReadyTask, IsSlotFree, MayBeFaultsOf, input_of};
 ghost use Rattle.cx_region.specs.Events.{MayTakeMemory};
 ghost use Rattle.cx_region.specs.declared.replies.Event.TheVariants as event;
 ghost use Rattle.cx_region.specs.Sound.{IsSound};
@@ -58,7 +58,7 @@ fn first_word(bytes: &[u8]) -> Name4
     ensures { result ≡ first_word bytes.now }
 {
     let end = first_blank(bytes).unwrap_or(bytes.len()).min(4);
-    Name4::from_bytes(padded(&bytes[..end]))
+    Name4::from_bytes(pad(&bytes[..end]))
 }
 
 /// The place of the first blank.
@@ -70,7 +70,7 @@ fn first_blank(bytes: &[u8]) -> Option<usize>
 }
 
 /// Bytes filled with blanks on the right.
-fn padded(word: &[u8]) -> [u8; 4]
+fn pad(word: &[u8]) -> [u8; 4]
     requires { length word.now ≤ 4 }
     ensures { result ≡ pad 4 word.now }
 {
@@ -312,7 +312,7 @@ fn try_prepare<S: Store>(
     requires few { length bytes.now ≤ 1920 }
     ensures ready { let before = S.storage store.old in let after = S.storage store.new in
         let input = input_of aid bytes.now in
-        IfOk result (λ it. IsReady before start.now number input it.places it.level it.task it.input after) }
+        IfOk result (λ it. IsReadyTask before start.now number input it.places it.level it.task it.input after) }
     ensures fault { IfErr result (MayBeFaultsOf (S.storage store.old) start.now) }
     ensures err { OnErr result (S.storage store.new ≡ S.storage store.old) }
 {
@@ -437,7 +437,7 @@ fn prepare_in<S: Store>(
     requires few { length bytes.now ≤ 1920 }
     ensures ready { let before = S.storage store.old in let after = S.storage store.new in
         let input = input_of aid bytes.now in
-        IfOk result (λ it. IsReady before start.now number input it.places it.level it.task it.input after) }
+        IfOk result (λ it. IsReadyTask before start.now number input it.places it.level it.task it.input after) }
     ensures fault { IfErr result (AreFaultsOf (S.storage store.old) start.now) }
     ensures err { OnErr result (S.storage store.new ≡ S.storage store.old) }
 {
@@ -463,7 +463,7 @@ fn prepare<S: Store + Drop>(
     requires few { length bytes.now ≤ 1920 }
     ensures ready { let before = shared.old.storage in let after = shared.new.storage in
         let input = input_of aid bytes.now in
-        IfOk result (λ it. IsReady before start.now number input it.places it.level it.task it.input after) }
+        IfOk result (λ it. IsReadyTask before start.now number input it.places it.level it.task it.input after) }
     ensures rest { shared.new ≡ record shared.old { storage = shared.new.storage } }
     ensures fault { IfErr result (AreFaultsOf shared.old.storage start.now) }
     ensures err { OnErr result (shared.new.storage ≡ shared.old.storage) }

@@ -10,7 +10,7 @@ use cx_storage::Store;
 use indexmap::IndexMap;
 use std::marker::Model;
 
-/// All that a region keeps.
+/// All that a region keeps, apart from it: what is put in place of what a region has.
 #[derive(Drop)]
 pub struct RegionParts<S: Store + Drop> {
     /// What tasks share.

@@ -8,7 +8,7 @@ use indexmap::IndexMap;
 use std::alloc::Global;
 use std::marker::Model;
 
-/// A terminal.
+/// A terminal with its task, where it has one: its position, its screen, the input held for its task, and what its next key attaches.
 #[derive(Drop)]
 pub struct Terminal {
     pub(crate) terminal_entry: TerminalEntry,
@@ -44,7 +44,7 @@ impl Terminal {
     }
 }
 
-/// A region.
+/// A region: programs, queues, resources and storage that tasks share; transactions and terminals; the clock, and the last task's number.
 #[derive(Drop)]
 pub struct Region<S: Store + Drop> {
     pub(crate) alloc: Global,

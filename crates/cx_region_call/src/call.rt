@@ -10,7 +10,7 @@ ghost use Rattle.cx_region_call.specs.Call.{argument_count, block_of, call_of, c
 use arrayvec::ArrayVec;
 use byteorder::{BigEndian, ByteOrder};
 use cx_base_commands::{Command, CommonOption, ListedCondition, OptionName, has_bit};
-use cx_storage::{Store, address_in, along, word_at};
+use cx_storage::{Store, address_after, address_in, word_at};
 use std::marker::Model;
 
 /// The most conditions that HANDLE or IGNORE CONDITION lists.
@@ -114,7 +114,7 @@ impl Call {
     }
 
     /// Whether NOHANDLE is there.
-    pub fn is_nohandle(&self) -> bool
+    pub fn has_nohandle(&self) -> bool
         ensures { result ≡ has_nohandle self.now.second }
     {
         has_bit(self.second, CommonOption::Nohandle.bit())
@@ -245,7 +245,7 @@ fn read_conditions<S: Store>(
     }
     let mut bytes = [0; 2 * CONDITIONS];
     let listed = &mut bytes[..2 * block.first as usize];
-    if !store.read(along(block.place, 4), listed) {
+    if !store.read(address_after(block.place, 4), listed) {
         return Err(CallFault::Xarg);
     }
     let conditions = listed_in(listed);
@@ -327,7 +327,7 @@ fn read_words<S: Store>(store: &S, list: u32, count: usize) -> Option<ArrayVec<u
             return None;
         };
         words.push(word);
-        at = along(at, 4);
+        at = address_after(at, 4);
     }
     Some(words)
 }

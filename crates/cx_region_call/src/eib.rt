@@ -3,7 +3,7 @@ ghost use Rattle.std.specs.Prelude.{◌≡◌, ◌<◌, ◌≤◌, ◌+◌, ◌%
 ghost use Rattle.cx_region_call.specs.Eib.{content, digit, fields_at_attach, packed_decimal, with_calen, with_field, with_fields};
 
 use cx_base_commands::EibField;
-use cx_storage::{Store, along};
+use cx_storage::{Store, address_after};
 
 /// What is in a task's EIB at attach.
 #[derive(Clone, Copy, Debug, PartialEq, Eq)]
@@ -34,7 +34,7 @@ fn digit(n: u32, power: u32) -> u8
 
 /// A number of at most seven digits, packed with the sign C.
 #[tactic(auto, unfolding(crate::specs::Eib::packed_decimal))]
-fn packed(n: u32) -> [u8; 4]
+fn packed_decimal(n: u32) -> [u8; 4]
     ensures { result ≡ packed_decimal n }
 {
     [
@@ -52,7 +52,7 @@ pub(crate) fn put<S: Store>(store: &mut S, eib: u32, field: EibField, bytes: &[u
     requires few { length bytes.now ≤ 8 }
     ensures { S.storage store.new ≡ with_field (S.storage store.old) eib (content field bytes.now) }
 {
-    store.write(along(eib, field.offset()), bytes);
+    store.write(address_after(eib, field.offset()), bytes);
 }
 
 /// Fills the EIB at an address (below 2^24) for a task that begins: EIBTIME, EIBDATE, EIBTRNID, EIBTASKN, EIBTRMID, EIBCALEN and
@@ -61,10 +61,10 @@ pub fn begin<S: Store>(store: &mut S, eib: u32, begun: &InitialEib)
     requires { eib < 2 ^ 24 }
     ensures { S.storage store.new ≡ with_fields (S.storage store.old) eib (fields_at_attach begun.now) }
 {
-    put(store, eib, EibField::Time, &packed(begun.time));
-    put(store, eib, EibField::Date, &packed(begun.date));
+    put(store, eib, EibField::Time, &packed_decimal(begun.time));
+    put(store, eib, EibField::Date, &packed_decimal(begun.date));
     put(store, eib, EibField::Trnid, &begun.tran);
-    put(store, eib, EibField::Taskn, &packed(begun.number));
+    put(store, eib, EibField::Taskn, &packed_decimal(begun.number));
     put(store, eib, EibField::Trmid, &begun.terminal);
     put(store, eib, EibField::Calen, &begun.calen.to_be_bytes());
     put(store, eib, EibField::Aid, &[begun.aid]);

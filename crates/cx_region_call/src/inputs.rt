@@ -54,7 +54,7 @@ pub fn is_length_negative<S: Store>(store: &S, call: &Call) -> bool
 
 /// How many bytes LENGTH says, at most 32,767: none where its halfword is negative, or where it isn't there.
 #[tactic(auto, unfolding(crate::specs::Inputs::length_option))]
-pub fn measured<S: Store>(store: &S, call: &Call) -> u16
+pub fn length_option<S: Store>(store: &S, call: &Call) -> u16
     ensures value { result ≡ length_option (S.storage store.now) call.now }
     ensures bound { result < 2 ^ 15 }
 {
@@ -67,13 +67,13 @@ pub fn measured<S: Store>(store: &S, call: &Call) -> u16
 /// The bytes that LENGTH measures at an option's argument: no byte where LENGTH is negative. None where the
 /// option isn't there. They need not be in storage.
 #[tactic(auto, unfolding(crate::specs::Inputs::piece_of))]
-pub fn measured_piece<S: Store>(store: &S, call: &Call, name: OptionName) -> Option<StorageSpan>
+pub fn piece_of<S: Store>(store: &S, call: &Call, name: OptionName) -> Option<StorageSpan>
     ensures value { result ≡ piece_of (S.storage store.now) call.now name }
     ensures address { IfSome result (λ piece. piece.place < 2 ^ 24) }
     ensures bound { IfSome result (λ piece. piece.len < 2 ^ 15) }
 {
     let place = call.place(name)?;
-    let len = measured(store, call);
+    let len = length_option(store, call);
     Some(StorageSpan { place, len })
 }
 

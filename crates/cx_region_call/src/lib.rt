@@ -13,8 +13,8 @@ mod outputs;
 pub use answer::{Answer, put_answer, resource};
 pub use call::{Call, CallFault, read_call};
 pub use inputs::{
-    StorageSpan, are_inputs_there, halfword, is_length_negative, measured, measured_piece, name4,
-    name8, read_argument, signed_halfword,
+    StorageSpan, are_inputs_there, halfword, is_length_negative, length_option, name4, name8,
+    piece_of, read_argument, signed_halfword,
 };
 pub use listed::{Listed, ListedConditions};
 pub use outputs::{Output, OutputValue, Outputs, can_put, put_outputs};

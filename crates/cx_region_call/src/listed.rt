@@ -108,7 +108,7 @@ fn push_entry(
 
 /// Each condition with its label: those with a label take the addresses in turn.
 #[tactic(auto, using(crate::proofs::ListedLemmas::next_entry, crate::proofs::ListedLemmas::labelled_end))]
-fn labelled(conditions: &[ListedCondition], places: &[u32]) -> ListedConditions
+fn conditions_with_labels(conditions: &[ListedCondition], places: &[u32]) -> ListedConditions
     requires { length conditions.now ≤ 16 }
     ensures { result ≡ conditions_with_labels conditions.now places.now }
 {
@@ -129,6 +129,6 @@ impl Call {
     pub fn listed(&self) -> ListedConditions
         ensures { result ≡ listed_of self.now }
     {
-        labelled(self.conditions(), self.places())
+        conditions_with_labels(self.conditions(), self.places())
     }
 }

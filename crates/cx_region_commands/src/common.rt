@@ -6,7 +6,7 @@ ghost use Rattle.cx_region_commands.specs.Common.{AreSoundPrograms, commarea_of,
 use cx_base_commands::{Condition, OptionName};
 use cx_ebcdic::Name8;
 use cx_load::Loaded;
-use cx_region_call::{Call, Outputs, StorageSpan, measured_piece, name8};
+use cx_region_call::{Call, Outputs, StorageSpan, name8, piece_of};
 use cx_region_state::{FIRST_OF_TASKS, LAST_OF_TASKS, NewLevel, TaskChange, Verdict};
 use cx_storage::Store;
 use indexmap::IndexMap;
@@ -33,7 +33,7 @@ pub(crate) fn name_at<S: Store>(store: &S, call: &Call, option: OptionName) -> N
 pub(crate) fn piece_at<S: Store>(store: &S, call: &Call, option: OptionName) -> StorageSpan
     ensures { result ≡ piece_at (S.storage store.now) call.now option }
 {
-    measured_piece(store, call, option).unwrap_or(StorageSpan { place: 0, len: 0 })
+    piece_of(store, call, option).unwrap_or(StorageSpan { place: 0, len: 0 })
 }
 
 /// A condition alone: no output, no change.
@@ -109,7 +109,7 @@ pub(crate) fn commarea_of<S: Store>(store: &S, call: &Call) -> Option<StorageSpa
     ensures value { result ≡ commarea_of (S.storage store.now) call.now }
     ensures some { IfSome result (λ piece. 0 < piece.len) }
 {
-    let piece = measured_piece(store, call, OptionName::Commarea)?;
+    let piece = piece_of(store, call, OptionName::Commarea)?;
     if piece.len == 0 {
         return None;
     }

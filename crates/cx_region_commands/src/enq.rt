@@ -5,7 +5,7 @@ ghost use Rattle.cx_region_commands.specs.Enq.{enq_row, is_wrong_length, resourc
 use crate::common::{condition_alone, does};
 use crate::services::fault_or_verdict;
 use cx_base_commands::{Condition, OptionName};
-use cx_region_call::{Call, measured, read_argument};
+use cx_region_call::{Call, length_option, read_argument};
 use cx_region_state::{Made, TaskChange, Verdict};
 use cx_service::{Enqueues, ResourceName};
 use cx_storage::Store;
@@ -17,7 +17,7 @@ const MOST_NAME: usize = 255;
 pub fn is_wrong_length<S: Store>(store: &S, call: &Call) -> bool
     ensures { result ≡ is_wrong_length (S.storage store.now) call.now }
 {
-    let len = usize::from(measured(store, call));
+    let len = usize::from(length_option(store, call));
     call.has(OptionName::Length) && (len == 0 || len > MOST_NAME)
 }
 
@@ -31,7 +31,7 @@ pub fn resource_named<S: Store>(store: &S, call: &Call) -> Option<ResourceName>
     if !call.has(OptionName::Length) {
         return call.place(OptionName::Resource).map(ResourceName::Address);
     }
-    let len = measured(store, call) as usize;
+    let len = length_option(store, call) as usize;
     let mut buffer = [0; MOST_NAME];
     let bytes = &mut buffer[..len];
     if !read_argument(store, call, OptionName::Resource, bytes) {

@@ -21,7 +21,7 @@ fn asked_len<S: Store>(store: &S, call: &Call) -> u16
 
 /// INITIMG's byte, or zero without it.
 #[tactic(auto, unfolding(crate::specs::Getmain::fill_byte))]
-fn filling<S: Store>(store: &S, call: &Call) -> u8
+fn fill_byte<S: Store>(store: &S, call: &Call) -> u8
     ensures { result ≡ fill_byte (S.storage store.now) call.now }
 {
     let mut byte = [0];
@@ -58,5 +58,5 @@ pub(crate) fn judge_getmain<S: Store>(store: &S, call: &Call) -> Verdict
         return condition_alone(Condition::Lengerr);
     }
     let place = task_place(store, u32::from(len));
-    gets(len, filling(store, call), place)
+    gets(len, fill_byte(store, call), place)
 }

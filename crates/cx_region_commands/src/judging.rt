@@ -21,7 +21,7 @@ use crate::suspend::judge_suspend;
 use crate::writeq_ts::judge_writeq_ts;
 use crate::xctl::judge_xctl;
 use cx_base_commands::Command;
-use cx_region_call::{Call, measured};
+use cx_region_call::{Call, length_option};
 use cx_region_state::{Shared, Task, TerminalEntry, Verdict};
 use cx_storage::Store;
 
@@ -44,7 +44,7 @@ pub fn judge<S: Store + Drop>(
         Command::IgnoreCondition => judge_ignore(call),
         Command::PushHandle => judge_push(&level.handles),
         Command::PopHandle => judge_pop(&level.handles),
-        Command::Receive => judge_receive(&terminal_entry.input, measured(store, call)),
+        Command::Receive => judge_receive(&terminal_entry.input, length_option(store, call)),
         Command::WriteqTs => judge_writeq_ts(store, &shared.queues, call),
         Command::ReadqTs => judge_readq_ts(store, &shared.queues, call),
         Command::DeleteqTs => judge_deleteq_ts(store, &shared.queues, call),

@@ -8,12 +8,12 @@ use crate::common::{condition_alone, name_at, task_place};
 use crate::services::fault_or_verdict;
 use cx_base_commands::{Condition, OptionName};
 use cx_ebcdic::Name8;
-use cx_region_call::{Call, OutputValue, Outputs, halfword, is_length_negative, measured};
+use cx_region_call::{Call, OutputValue, Outputs, halfword, is_length_negative, length_option};
 use cx_region_state::{Ended, Fill, Got, TaskChange, Verdict};
 use cx_service::{Queues, ServiceFault};
 use cx_storage::Store;
 
-/// What is read.
+/// The item that a READQ TS reads, without its bytes.
 #[derive(Clone, Copy, Debug, PartialEq, Eq)]
 pub struct Reading {
     /// The queue, and the item's number, counted from 1.
@@ -49,7 +49,7 @@ fn reads<S: Store>(store: &S, call: &Call, reading: Reading) -> Verdict
     ensures { Reads (S.storage store.now) call.now reading result }
 {
     if !call.has(OptionName::Set) {
-        return reads_into(measured(store, call), reading);
+        return reads_into(length_option(store, call), reading);
     }
     let Some(place) = task_place(store, u32::from(reading.len)) else {
         return condition_alone(Condition::Nostg);

@@ -29,7 +29,7 @@ use Rattle.cx_region_state.specs.Facts.Areas.{area_put}
 use Rattle.cx_region_state.specs.State.{Input, TaskState}
 use Rattle.cx_region.specs.declared.asking.Places.{Places}
 use Rattle.cx_region.specs.declared.replies.KeyReply.TheVariants as key
-use Rattle.cx_region.specs.Attach.{ArePlaced, AttachesTask, Attaches, Gives, IsCopyPlace, OnlyAnswers, Starts, TakesKey, commarea_kept, eib_at_attach, first_level, fresh_task, next_number, transaction_named, with_areas_filled, with_copy, with_eib_area, with_kept_area, with_task, with_task_areas}
+use Rattle.cx_region.specs.Attach.{ArePlaced, AttachesTask, Attaches, Gives, IsCopyPlace, OnlyAnswers, StartsTask, TakesKey, commarea_kept, eib_at_attach, first_level, fresh_task, next_number, transaction_named, with_areas_filled, with_copy, with_eib_area, with_kept_area, with_task, with_task_areas}
 use Rattle.cx_region.specs.Sound.{IsSound}
 use Rattle.cx_region.specs.State.{RegionState, TerminalState}
 use Rattle.cx_region.specs.Tables.{program_of, task_of, terminal_of, transaction_of, with_terminal}
@@ -60,12 +60,12 @@ attached old new name input terminal takes there = by_task terminal.task (by_ter
 
     by_terminal : (o : Option TerminalState) → o ≡ Some terminal
         → MatchOption o (OnlyAnswers key.NoSuchTerminal old key.Attached new) (λ terminal.
-        MatchOption terminal.task (Starts old name terminal input (transaction_named terminal.following input.bytes) key.Attached new) (λ task. Gives old name terminal input key.Attached new))
-        → MatchOption terminal.task (Starts old name terminal input tran key.Attached new) (λ task. Gives old name terminal input key.Attached new)
+        MatchOption terminal.task (StartsTask old name terminal input (transaction_named terminal.following input.bytes) key.Attached new) (λ task. Gives old name terminal input key.Attached new))
+        → MatchOption terminal.task (StartsTask old name terminal input tran key.Attached new) (λ task. Gives old name terminal input key.Attached new)
     by_terminal None e it = cc
     by_terminal (Some found) e it =
         let same : found ≡ terminal = same_Some found terminal e in
-        subst (λ (t : TerminalState). MatchOption t.task (Starts old name t input (transaction_named t.following input.bytes) key.Attached new) (λ task. Gives old name t input key.Attached new)) same it
+        subst (λ (t : TerminalState). MatchOption t.task (StartsTask old name t input (transaction_named t.following input.bytes) key.Attached new) (λ task. Gives old name t input key.Attached new)) same it
 
     by_program : (program : List ℕ) (o : Option Loaded) → program_of old program ≡ o
         → MatchOption o (OnlyAnswers key.NoSuchTransaction old key.Attached new) (λ loaded. Attaches old name terminal input tran program loaded key.Attached new) → IsAttached old name terminal input new
@@ -86,7 +86,7 @@ attached old new name input terminal takes there = by_task terminal.task (by_ter
         go None it = let never : key.Attached ≡ key.Given = it.0 in cc
         go (Some held) it = let never : key.Attached ≡ key.AlreadyHeldInput = it.0 in cc
 
-    by_task : (o : Option TaskState) → MatchOption o (Starts old name terminal input tran key.Attached new) (λ task. Gives old name terminal input key.Attached new) → IsAttached old name terminal input new
+    by_task : (o : Option TaskState) → MatchOption o (StartsTask old name terminal input tran key.Attached new) (λ task. Gives old name terminal input key.Attached new) → IsAttached old name terminal input new
     by_task None it = by_transaction (transaction_of old tran) it
     by_task (Some task) it = by_input it
 

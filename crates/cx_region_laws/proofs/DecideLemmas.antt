@@ -25,16 +25,16 @@ use Rattle.cx_region_state.specs.declared.replies.TurnReply.TheVariants as turn
 use Rattle.cx_region.specs.State.{RegionState, TerminalState}
 use Rattle.cx_region_state.specs.State.{Input, TaskContext, TaskState}
 use Rattle.cx_region.specs.Tables.{fresh_terminal, program_of, terminal_of, transaction_of, with_terminal}
-use Rattle.cx_region.specs.Defining.{DefinesProgram, DefinesTerminal, DefinesTransaction, Loads, program_fault, terminal_fault, transaction_fault}
+use Rattle.cx_region.specs.Defining.{DefinesProgram, DefinesTerminal, DefinesTransaction, LoadsProgram, program_fault, terminal_fault, transaction_fault}
 use Rattle.cx_base_commands.specs.Eib.{eib_len}
-use Rattle.cx_region.specs.Attach.{ArePlaced, AttachesTask, Attaches, Gives, HasNoPlaces, IsCopyPlace, TakesKey, OnlyAnswers, Starts, with_task_attached, commarea_kept, input_from, transaction_named, with_eib_area, with_kept_area}
+use Rattle.cx_region.specs.Attach.{ArePlaced, AttachesTask, Attaches, Gives, HasNoPlaces, IsCopyPlace, TakesKey, OnlyAnswers, StartsTask, with_task_attached, commarea_kept, input_from, transaction_named, with_eib_area, with_kept_area}
 use Rattle.cx_region.specs.declared.asking.Places.{Places}
 use Rattle.cx_region_state.specs.Areas.{IsTaskPlace, first_of_tasks, last_of_tasks, system_owner}
 use Rattle.cx_region_task.specs.Laws.HalfTurns.{HalfTurnsDecide}
 use Rattle.cx_region.specs.Turn.{TaskTakesTurn, TakesTurn, put_back, context_of, task_after}
 use Rattle.cx_region.specs.Events.{Applies, Run}
 use Rattle.cx_region_laws.specs.Facts.Alterations.{alter_reply, alterations_decide}
-use Rattle.cx_region_laws.specs.Laws.Regions.{EventsDecide, RunsDecide}
+use Rattle.cx_region_laws.specs.Laws.Regions.{EventsDecide, RegionRunsDecide}
 
 -- what loading and the runs of a machine are known for
 abbrev pub LoadingDecides : Type 0
@@ -49,7 +49,7 @@ same_answers r s x a b y h k = (h.0 ∙ sym k.0, h.1 ∙ sym k.1)
 abbrev Alike : {A : Type 0} → A → A → RegionState → RegionState → Type 0
 Alike r s a b = (r ≡ s) × (a ≡ b)
 
-refused_load : (old : RegionState) (name : List ℕ) (image : Image) (fault : DefineFault) (new : RegionState) → Loads old name image (Err fault) new
+refused_load : (old : RegionState) (name : List ℕ) (image : Image) (fault : DefineFault) (new : RegionState) → LoadsProgram old name image (Err fault) new
     → (fault ≡ NoRoom) × IsProgramPlace old.storage (length image.text) None × (new ≡ old)
 refused_load old name image NoRoom new h = (refl, h.0, h.1)
 refused_load old name image _ new h = absurd h
@@ -59,7 +59,7 @@ no_place_too storage len at place none =
     none-some at (place_decides storage first_of_programs last_of_programs len None (Some at) none place)
 
 loads_decide : LoadingDecides → (old : RegionState) (name : List ℕ) (image : Image) (r s : Result Loaded DefineFault) (a b : RegionState)
-    → Loads old name image r a → Loads old name image s b → Alike r s a b
+    → LoadsProgram old name image r a → LoadsProgram old name image s b → Alike r s a b
 loads_decide loading old name image (Ok one) (Ok other) a b h k =
     let same = loading old.storage a.storage b.storage image one other h.0 k.0 in (
       ap Ok same.0,
@@ -81,8 +81,8 @@ unfolding DefinesProgram
 program_decides loading old name image r s a b h k = by_fault (program_fault old name) h k
   where
     by_fault : (o : Option DefineFault)
-        → MatchOption o (Loads old name image r a) (λ fault. (r ≡ Err fault) × (a ≡ old))
-        → MatchOption o (Loads old name image s b) (λ fault. (s ≡ Err fault) × (b ≡ old)) → Alike r s a b
+        → MatchOption o (LoadsProgram old name image r a) (λ fault. (r ≡ Err fault) × (a ≡ old))
+        → MatchOption o (LoadsProgram old name image s b) (λ fault. (s ≡ Err fault) × (b ≡ old)) → Alike r s a b
     by_fault None one two = loads_decide loading old name image r s a b one two
     by_fault (Some fault) one two = same_answers r s (Err fault) a b old one two
 
@@ -189,8 +189,8 @@ key_decides old name input r s a b h k = at_terminal (terminal_of old name) h k
     at_task t tran (Some task) one two = at_input t t.input one two
 
     at_terminal : (o : Option TerminalState)
-        → MatchOption o (OnlyAnswers key.NoSuchTerminal old r a) (λ t. MatchOption t.task (Starts old name t input (transaction_named t.following input.bytes) r a) (λ task. Gives old name t input r a))
-        → MatchOption o (OnlyAnswers key.NoSuchTerminal old s b) (λ t. MatchOption t.task (Starts old name t input (transaction_named t.following input.bytes) s b) (λ task. Gives old name t input s b)) → Alike r s a b
+        → MatchOption o (OnlyAnswers key.NoSuchTerminal old r a) (λ t. MatchOption t.task (StartsTask old name t input (transaction_named t.following input.bytes) r a) (λ task. Gives old name t input r a))
+        → MatchOption o (OnlyAnswers key.NoSuchTerminal old s b) (λ t. MatchOption t.task (StartsTask old name t input (transaction_named t.following input.bytes) s b) (λ task. Gives old name t input s b)) → Alike r s a b
     at_terminal None one two = same_answers r s key.NoSuchTerminal a b old one two
     at_terminal (Some t) one two = at_task t (transaction_named t.following input.bytes) t.task one two
 
@@ -299,7 +299,7 @@ events_decide loading runs old (event.Alter name change) r s a b h k =
     (replies_same (λ x. reply.Alter x) r s one.0 two.0 one.1 two.1 same.0, same.1)
 
 -- ---- runs
-pub runs_decide : EventsDecide → RunsDecide
+pub runs_decide : EventsDecide → RegionRunsDecide
 unfolding Run
 runs_decide events old [] [] [] a b h k = (refl, h ∙ sym k)
 runs_decide events old [] [] (s ∷ ss) a b h k = absurd k

@@ -26,8 +26,8 @@ use Rattle.cx_region.specs.Facts.SoundTurned.{task_of_terminal}
 use Rattle.cx_region.specs.State.{RegionState, TerminalState}
 use Rattle.cx_ebcdic.specs.Names.{is_name}
 use Rattle.cx_region.specs.Tables.{fresh_terminal, program_of, terminal_of, transaction_of, with_terminal}
-use Rattle.cx_region.specs.Defining.{DefinesProgram, DefinesTerminal, DefinesTransaction, Loads, program_fault, terminal_fault, transaction_fault}
-use Rattle.cx_region.specs.Attach.{Attaches, Gives, TakesKey, OnlyAnswers, Starts, with_task_attached, transaction_named}
+use Rattle.cx_region.specs.Defining.{DefinesProgram, DefinesTerminal, DefinesTransaction, LoadsProgram, program_fault, terminal_fault, transaction_fault}
+use Rattle.cx_region.specs.Attach.{Attaches, Gives, TakesKey, OnlyAnswers, StartsTask, with_task_attached, transaction_named}
 use Rattle.cx_region.specs.declared.asking.Places.{Places}
 use Rattle.cx_region.specs.Turn.{TaskTakesTurn, TakesTurn, put_back, context_of, task_after}
 use Rattle.cx_region_laws.specs.Laws.Regions.{KeyKeeps, KeysKeepToTheirTerminal, RefusedProgramsLeaveTheRegion, RefusedTerminalsLeaveTheRegion, RefusedTransactionsLeaveTheRegion, StillKeysLeaveTheRegion, StillTurnsLeaveTheRegion, TurnKeeps, TurnKeepsOthers, TurnsKeepOthers, TurnsKeepToTheirTask, changes_nothing, counter_after}
@@ -290,11 +290,11 @@ by_way P old name input reply new each h = at_terminal (terminal_of old name) h
     at_input terminal (Some held) h = each.nowhere key.AlreadyHeldInput reply new refl h
 
     at_task : (terminal : TerminalState) (o : Option TaskState)
-        → MatchOption o (Starts old name terminal input (transaction_named terminal.following input.bytes) reply new) (λ task. Gives old name terminal input reply new) → P reply new
+        → MatchOption o (StartsTask old name terminal input (transaction_named terminal.following input.bytes) reply new) (λ task. Gives old name terminal input reply new) → P reply new
     at_task terminal None h = at_tran terminal (transaction_named terminal.following input.bytes) (transaction_of old (transaction_named terminal.following input.bytes)) h
     at_task terminal (Some task) h = at_input terminal terminal.input h
 
-    at_terminal : (o : Option TerminalState) → MatchOption o (OnlyAnswers key.NoSuchTerminal old reply new) (λ terminal. MatchOption terminal.task (Starts old name terminal input (transaction_named terminal.following input.bytes) reply new) (λ task. Gives old name terminal input reply new)) → P reply new
+    at_terminal : (o : Option TerminalState) → MatchOption o (OnlyAnswers key.NoSuchTerminal old reply new) (λ terminal. MatchOption terminal.task (StartsTask old name terminal input (transaction_named terminal.following input.bytes) reply new) (λ task. Gives old name terminal input reply new)) → P reply new
     at_terminal None h = each.nowhere key.NoSuchTerminal reply new refl h
     at_terminal (Some terminal) h = at_task terminal terminal.task h
 
@@ -325,7 +325,7 @@ still_keys_leave old name input reply new h apart other =
     }) h apart other
 
 -- ---- definitions
-refused_load_leaves : (old : RegionState) (name : List ℕ) (image : Image) (fault : DefineFault) (new : RegionState) → Loads old name image (Err fault) new → new ≡ old
+refused_load_leaves : (old : RegionState) (name : List ℕ) (image : Image) (fault : DefineFault) (new : RegionState) → LoadsProgram old name image (Err fault) new → new ≡ old
 refused_load_leaves old name image NoRoom new h = h.1
 refused_load_leaves old name image _ new h = absurd h
 
@@ -333,7 +333,7 @@ pub refused_programs_leave : RefusedProgramsLeaveTheRegion
 unfolding DefinesProgram
 refused_programs_leave old name image fault new h = by_fault (program_fault old name) h
   where
-    by_fault : (o : Option DefineFault) → MatchOption o (Loads old name image (Err fault) new) (λ first. (◌≡◌ {A = Result Loaded DefineFault} (Err fault) (Err first)) × (new ≡ old)) → new ≡ old
+    by_fault : (o : Option DefineFault) → MatchOption o (LoadsProgram old name image (Err fault) new) (λ first. (◌≡◌ {A = Result Loaded DefineFault} (Err fault) (Err first)) × (new ≡ old)) → new ≡ old
     by_fault None loads = refused_load_leaves old name image fault new loads
     by_fault (Some first) refused = refused.1
 

@@ -52,8 +52,8 @@ use Rattle.cx_service.specs.Queues.{Queues, read_fault}
 use Rattle.cx_service.specs.Screen.{screen_before_text, with_lines}
 use Rattle.cx_service.specs.declared.faults.ServiceFault.{ServiceFault}
 use Rattle.cx_region.specs.Alter.{Alters, alter_refusal, altered_region}
-use Rattle.cx_region.specs.Attach.{Gives, OnlyAnswers, Starts, TakesKey, input_from, transaction_named}
-use Rattle.cx_region.specs.Defining.{DefinesProgram, DefinesTerminal, DefinesTransaction, Loads, program_fault, terminal_fault, transaction_fault}
+use Rattle.cx_region.specs.Attach.{Gives, OnlyAnswers, StartsTask, TakesKey, input_from, transaction_named}
+use Rattle.cx_region.specs.Defining.{DefinesProgram, DefinesTerminal, DefinesTransaction, LoadsProgram, program_fault, terminal_fault, transaction_fault}
 use Rattle.cx_region.specs.Events.{Applies, Run}
 use Rattle.cx_region.specs.State.{RegionState, TerminalState}
 use Rattle.cx_region.specs.Tables.{fresh_terminal, program_of, terminal_of, transaction_of}
@@ -243,7 +243,7 @@ optional_key A F (Some y) none some = some y
 only_answers : (due : KeyReply) (old : RegionState) → Answered (OnlyAnswers due old)
 only_answers due old = (due, old, (refl, refl))
 
-starts : (old : RegionState) (name : List ℕ) (terminal : TerminalState) (input : Input) (tran : List ℕ) → Answered (Starts old name terminal input tran)
+starts : (old : RegionState) (name : List ℕ) (terminal : TerminalState) (input : Input) (tran : List ℕ) → Answered (StartsTask old name terminal input tran)
 starts old name terminal input tran =
     optional_key _ _ (transaction_of old tran) (only_answers key.NoSuchTransaction old)
     (λ program. optional_key _ _ (program_of old program) (only_answers key.NoSuchTransaction old) (λ loaded. attaches_somehow old name terminal input tran program loaded))
@@ -293,10 +293,10 @@ by_fault : {A : Type 0} (P : Result A DefineFault → RegionState → Type 0) (o
 by_fault P None old defined = defined
 by_fault P (Some fault) old defined = (Err fault, old, (refl, refl))
 
-loads : ImagesAreLoaded → (old : RegionState) (name : List ℕ) (image : Image) → IsFit image → Defined (Loads old name image)
+loads : ImagesAreLoaded → (old : RegionState) (name : List ℕ) (image : Image) → IsFit image → Defined (LoadsProgram old name image)
 loads loading old name image fit = go (found_place old.storage first_of_programs last_of_programs (length image.text))
   where
-    go : (place : Option ℕ) × IsProgramPlace old.storage (length image.text) place → Defined (Loads old name image)
+    go : (place : Option ℕ) × IsProgramPlace old.storage (length image.text) place → Defined (LoadsProgram old name image)
     go (None, none) = (Err NoRoom, old, (none, refl))
     go (Some at, place) =
         let done = loading old.storage image at fit place in
@@ -305,7 +305,7 @@ loads loading old name image fit = go (found_place old.storage first_of_programs
 pub events_have_outcomes : ImagesAreLoaded → HalfTurnsHaveEnds → EventsHaveOutcomes
 unfolding Applies DefinesProgram DefinesTransaction DefinesTerminal
 events_have_outcomes loading law old (event.Program name image) fit =
-    let end = by_fault (Loads old name image) (program_fault old name) old (loads loading old name image fit) in
+    let end = by_fault (LoadsProgram old name image) (program_fault old name) old (loads loading old name image fit) in
     record { reply = reply.Program end.0; new = end.1; applies = end.2 }
 events_have_outcomes loading law old (event.Transaction tran program) fit =
     let end = by_fault (λ result new. (result ≡ Ok tt) × (new ≡ record old { transactions = insert_entry is_name old.transactions tran program })) (transaction_fault old tran program) old (Ok tt, _, (refl, refl)) in

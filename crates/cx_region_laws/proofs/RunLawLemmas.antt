@@ -2,9 +2,9 @@
 use Rattle.std.proofs.Common.{suc, [], ◌∷◌, refl, ap, subst}
 use Rattle.cx_region.specs.State.{RegionState}
 use Rattle.cx_region.specs.Events.{Run}
-use Rattle.cx_region_laws.specs.Laws.Regions.{AreAsMany, RunsJoin, RunsPart}
+use Rattle.cx_region_laws.specs.Laws.Regions.{AreAsMany, RegionRunsJoin, RunsPart}
 
-pub runs_join : RunsJoin
+pub runs_join : RegionRunsJoin
 unfolding Run
 runs_join old between new [] more [] others first second = subst (λ (r : RegionState). Run r more others new) first second
 runs_join old between new [] more (r ∷ rs) others first second = absurd first

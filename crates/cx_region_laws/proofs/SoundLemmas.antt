@@ -23,8 +23,8 @@ use Rattle.cx_region.specs.declared.asking.Start.{Start}
 use Rattle.cx_region.specs.State.{RegionState, TerminalState}
 use Rattle.cx_ebcdic.specs.Names.{is_name}
 use Rattle.cx_region.specs.Tables.{fresh_terminal, program_of, terminal_of, transaction_of, with_terminal}
-use Rattle.cx_region.specs.Defining.{DefinesProgram, DefinesTerminal, DefinesTransaction, Loads, program_fault, terminal_fault, transaction_fault}
-use Rattle.cx_region.specs.Attach.{Attaches, Gives, TakesKey, OnlyAnswers, Starts, with_task_attached, commarea_kept, eib_at_attach, input_from, next_number, transaction_named, with_task}
+use Rattle.cx_region.specs.Defining.{DefinesProgram, DefinesTerminal, DefinesTransaction, LoadsProgram, program_fault, terminal_fault, transaction_fault}
+use Rattle.cx_region.specs.Attach.{Attaches, Gives, TakesKey, OnlyAnswers, StartsTask, with_task_attached, commarea_kept, eib_at_attach, input_from, next_number, transaction_named, with_task}
 use Rattle.cx_region.specs.Alter.{Alters, alter_refusal, altered_region}
 use Rattle.cx_region.specs.Sound.{IsSound}
 use Rattle.cx_region.specs.Parts.Asking.{level_of, task_of_start}
@@ -41,7 +41,7 @@ program_kept : (old new : RegionState) (name : List ℕ) (image : Image) (result
 unfolding DefinesProgram
 program_kept old new name image result ok fit parts h = by_fault (program_fault old name) refl h
   where
-    loads : (answer : Result Loaded DefineFault) → program_fault old name ≡ None → Loads old name image answer new → IsSound new
+    loads : (answer : Result Loaded DefineFault) → program_fault old name ≡ None → LoadsProgram old name image answer new → IsSound new
     loads (Ok loaded) free h =
         subst IsSound (sym h.1)
         (sound_program old name image loaded new.storage (insert_entry is_name old.programs name loaded) ok parts.storage (facts_of_fit image fit).nonempty
@@ -49,7 +49,7 @@ program_kept old new name image result ok fit parts h = by_fault (program_fault 
     loads (Err NoRoom) free h = subst IsSound (sym h.1) ok
     loads (Err _) free h = absurd h
 
-    by_fault : (o : Option DefineFault) → program_fault old name ≡ o → MatchOption o (Loads old name image result new) (λ fault. (result ≡ Err fault) × (new ≡ old)) → IsSound new
+    by_fault : (o : Option DefineFault) → program_fault old name ≡ o → MatchOption o (LoadsProgram old name image result new) (λ fault. (result ≡ Err fault) × (new ≡ old)) → IsSound new
     by_fault None free h = loads result free h
     by_fault (Some fault) is h = subst IsSound (sym h.1) ok
 
@@ -150,11 +150,11 @@ key_kept old new name input reply ok parts h = at_terminal (terminal_of old name
     at_input t task (Some held) is there live h = only key.AlreadyHeldInput h
 
     at_task : (t : TerminalState) (o : Option TaskState) → t.task ≡ o → terminal_of old name ≡ Some t
-        → MatchOption o (Starts old name t input (transaction_named t.following input.bytes) reply new) (λ task. Gives old name t input reply new) → IsSound new
+        → MatchOption o (StartsTask old name t input (transaction_named t.following input.bytes) reply new) (λ task. Gives old name t input reply new) → IsSound new
     at_task t None idle there h = at_tran t (transaction_of old (transaction_named t.following input.bytes)) refl there idle h
     at_task t (Some task) live there h = at_input t task t.input refl there live h
 
-    at_terminal : (o : Option TerminalState) → terminal_of old name ≡ o → MatchOption o (OnlyAnswers key.NoSuchTerminal old reply new) (λ t. MatchOption t.task (Starts old name t input (transaction_named t.following input.bytes) reply new) (λ task. Gives old name t input reply new)) → IsSound new
+    at_terminal : (o : Option TerminalState) → terminal_of old name ≡ o → MatchOption o (OnlyAnswers key.NoSuchTerminal old reply new) (λ t. MatchOption t.task (StartsTask old name t input (transaction_named t.following input.bytes) reply new) (λ task. Gives old name t input reply new)) → IsSound new
     at_terminal None there h = only key.NoSuchTerminal h
     at_terminal (Some t) there h = at_task t t.task refl there h
 

@@ -8,7 +8,7 @@ ghost use Rattle.cx_region_laws.specs.Laws.Memory.{RefusedEventsAreNone, Stopped
 ghost use Rattle.cx_region_laws.specs.Laws.Outcomes.{AdvancesHaveOutcomes, EventListsAreRuns, EventsHaveOutcomes, HalfTurnsHaveEnds, StepsHaveOutcomes};
 ghost use Rattle.cx_region_laws.specs.Laws.Pointers.{OutputsStay, ProgramsGoOn};
 ghost use Rattle.cx_region_laws.specs.Laws.Reports.{CalenIsTheLevels, CommandsReport, ExitsFindReports};
-ghost use Rattle.cx_region_laws.specs.Laws.Regions.{ProgramsDecide, TransactionsDecide, TerminalsDecide, TurnsDecide, AreAsMany, EventsDecide, KeysDecide, KeysKeepToTheirTerminal, RefusedProgramsLeaveTheRegion, RefusedTerminalsLeaveTheRegion, RefusedTransactionsLeaveTheRegion, RunsDecide, RunsJoin, RunsPart, StillKeysLeaveTheRegion, StillTurnsLeaveTheRegion, TurnsKeepOthers, TurnsKeepToTheirTask};
+ghost use Rattle.cx_region_laws.specs.Laws.Regions.{ProgramsDecide, TransactionsDecide, TerminalsDecide, TurnsDecide, AreAsMany, EventsDecide, KeysDecide, KeysKeepToTheirTerminal, RefusedProgramsLeaveTheRegion, RefusedTerminalsLeaveTheRegion, RefusedTransactionsLeaveTheRegion, RegionRunsDecide, RegionRunsJoin, RunsPart, StillKeysLeaveTheRegion, StillTurnsLeaveTheRegion, TurnsKeepOthers, TurnsKeepToTheirTask};
 ghost use Rattle.cx_region_laws.specs.Laws.Sound.{SoundIsKept};
 ghost use Rattle.cx_region_laws.specs.Laws.TaskMemory.{OnlyTheseTakeMemory};
 
@@ -131,7 +131,7 @@ pub fn calls_decide()
 
 /// A region and a list of events decide their replies and the region after them.
 pub fn runs_decide()
-    ensures { RunsDecide }
+    ensures { RegionRunsDecide }
 {
     events_decide();
 }
@@ -206,7 +206,7 @@ pub fn refused_definitions_leave_the_region()
 /// events.
 #[tactic(auto, using(crate::proofs::RunLawLemmas::runs_join, crate::proofs::RunLawLemmas::runs_part, crate::proofs::RunLawLemmas::are_as_many))]
 pub fn runs_join()
-    ensures join { RunsJoin }
+    ensures join { RegionRunsJoin }
     ensures part { RunsPart }
     ensures count { AreAsMany }
 {}

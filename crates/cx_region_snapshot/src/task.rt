@@ -11,7 +11,7 @@ use cx_region::Task;
 use std::alloc::{AllocError, Global};
 use std::marker::Model;
 
-/// A task.
+/// All that is kept of a task, its levels in as much memory as they need.
 #[derive(Drop)]
 pub struct TaskSnapshot {
     tran: Name4,

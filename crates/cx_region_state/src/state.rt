@@ -82,7 +82,7 @@ impl Model for NextTransaction {
     ghost invariant = { λ following. length following.commarea ≤ 32767 };
 }
 
-/// A terminal without its task.
+/// What is kept of a terminal also while it has no task.
 #[derive(Drop)]
 pub struct TerminalEntry {
     /// The terminal's position, counted from 1: by it its task owns areas and resources.
@@ -125,7 +125,7 @@ impl TerminalEntry {
     }
 }
 
-/// A live task.
+/// A task from its attaching to its end.
 #[derive(Drop)]
 pub struct Task {
     /// Its transaction.

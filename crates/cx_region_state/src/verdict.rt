@@ -5,12 +5,13 @@ use cx_load::Loaded;
 use cx_region_call::{ListedConditions, Outputs, StorageSpan};
 use cx_service::ResourceName;
 
-/// The first and the last address of the range in which the areas of tasks lie.
+/// The first address of the range in which the areas of tasks lie.
 pub const FIRST_OF_TASKS: u32 = 0x20_0000;
 
+/// The last address of that range.
 pub const LAST_OF_TASKS: u32 = 0xFF_FFFF;
 
-/// A program level that begins.
+/// What a program level begins with, by LINK, XCTL or a task's attaching.
 #[derive(Clone, Copy, Debug, PartialEq, Eq)]
 pub struct NewLevel {
     /// The program, and where it is.
@@ -38,7 +39,7 @@ pub struct Next {
     pub commarea: Option<StorageSpan>,
 }
 
-/// What an area is filled with.
+/// What an area holds when the program gets it.
 #[derive(Clone, Copy, Debug, PartialEq, Eq)]
 pub enum Fill {
     /// Each byte is this one.
@@ -47,7 +48,7 @@ pub enum Fill {
     Item(Name8, usize),
 }
 
-/// An area that the program gets.
+/// An area that the program gets by GETMAIN, or by a command's SET.
 #[derive(Clone, Copy, Debug, PartialEq, Eq)]
 pub struct Got {
     /// Its place.

@@ -7,7 +7,7 @@ use Rattle.cx_storage.specs.Address.{address_after, distance}
 use Rattle.cx_storage.specs.Storage.{Storage, byte_at, span, with_byte, with_bytes, after_write}
 use Rattle.cx_storage.specs.Facts.Spans.{span_at, span_from, span_has, span_inside, span_length}
 use Rattle.cx_storage.specs.Facts.Writes.{byte_after_write, span_present_after_write, written_whole}
-use Rattle.cx_region_task.specs.Parts.Making.{AreApart}
+use Rattle.cx_region_task.specs.Parts.Making.{AreBlocksApart}
 
 -- ---- bytes after others
 with_bytes_joined : (s : Storage) (a : ℕ) (first rest : List ℕ) → a < 2 ^ 24
@@ -57,7 +57,7 @@ none_written s a = refl
 -- ---- bytes copied to others
 -- what is left to be copied is as before
 read_further : (s : Storage) (from to len n m : ℕ) (bytes : List ℕ) → from < 2 ^ 24 → to + len ≤ 2 ^ 24 → span s from len ≡ Some bytes → is_some (span s to len) ≡ true
-    → AreApart from to len → n + m ≤ len → 0 < m → span (after_write s to (take n bytes)) (address_after from n) m ≡ Some (take m (drop n bytes))
+    → AreBlocksApart from to len → n + m ≤ len → 0 < m → span (after_write s to (take n bytes)) (address_after from n) m ≡ Some (take m (drop n bytes))
 read_further s from to len n m bytes low fits is there apart few some =
     let all : length bytes ≡ len = span_length s from len bytes is in
     let front : length (take n bytes) ≡ n = length-take-le n bytes (omega (arith, all, few)) in
@@ -74,7 +74,7 @@ read_further s from to len n m bytes low fits is there apart few some =
     (span_at s from len bytes (n + k) low is (omega (arith, h, few)) ∙ ap Some (sym value)))
 
 pub copied_further : (s : Storage) (from to len n m : ℕ) (old : List ℕ) → from < 2 ^ 24 → to + len ≤ 2 ^ 24 → is_some (span s from len) ≡ true → is_some (span s to len) ≡ true
-    → AreApart from to len → n + m ≤ len → 0 < m
+    → AreBlocksApart from to len → n + m ≤ len → 0 < m
     → let bytes = unwrap_or (span s from len) [] in
     let t = after_write s to (take n bytes) in
     after_write t (to + n) (unwrap_or (span t (address_after from n) m) old) ≡ after_write s to (take (n + m) bytes)

@@ -18,7 +18,7 @@ use Rattle.cx_region_state.specs.declared.verdict.NewLevel.{NewLevel}
 use Rattle.cx_region_state.specs.Areas.{IsTaskPlace, bytes_in, first_of_tasks, last_of_tasks, system_owner, with_cap, with_copied, with_copy_area, with_filled, with_stg_area}
 use Rattle.cx_region_state.specs.Parts.Fits.{FitsCopy, FitsLevel}
 use Rattle.cx_region_task.specs.Changes.{with_replacement}
-use Rattle.cx_region_task.specs.Parts.Making.{AreApart, MatchCopy}
+use Rattle.cx_region_task.specs.Parts.Making.{AreBlocksApart, MatchCopy}
 
 -- ---- no byte where an area may be placed
 misses_absent : (s : Storage) (len b x : ℕ) → AllByRecursion (Misses len b) s → b ≤ x → x < b + len → byte_at s x ≡ None
@@ -95,7 +95,7 @@ kept_span s len a owner b n low least there = go (span s b n) refl there
         let at = span_at s b n bytes k low is h in
         kept_byte s len a owner (address_after b k) least (rw at refl) ∙ at)
 
-apart_from_fresh : (s : Storage) (from len a : ℕ) → from < 2 ^ 24 → is_some (span s from len) ≡ true → IsTaskPlace s len (Some a) → AreApart from a len
+apart_from_fresh : (s : Storage) (from len a : ℕ) → from < 2 ^ 24 → is_some (span s from len) ≡ true → IsTaskPlace s len (Some a) → AreBlocksApart from a len
 apart_from_fresh s from len a low there least = λ k h.
     let x = address_after from k in
     let ends : a + len ≤ 2 ^ 24 = fresh_ends s len a least in

@@ -11,7 +11,7 @@ use cx_program::{ConditionCode, HandleTable, Level};
 use cx_region_call::StorageSpan;
 use cx_region_state::{Copying, FIRST_OF_TASKS, LAST_OF_TASKS, NewLevel};
 use cx_storage::laws::store_is_sound;
-use cx_storage::{Kind, Owner, Store, along};
+use cx_storage::{Kind, Owner, Store, address_after};
 use std::alloc::AllocError;
 
 /// The owner of the areas that a terminal's task is given unasked.
@@ -88,7 +88,7 @@ pub fn put_cap<S: Store>(store: &mut S, level: &NewLevel)
 {
     let address = address_or_zero(level.commarea);
     store.write(
-        along(level.stg, EistgField::Eicap.offset()),
+        address_after(level.stg, EistgField::Eicap.offset()),
         &address.to_be_bytes(),
     );
 }

@@ -5,7 +5,7 @@ ghost use Rattle.cx_region_task.specs.Parts.Making.{IsCopyable};
 ghost use Rattle.cx_storage.specs.Storage.{after_write, span};
 
 use cx_region_state::Copying;
-use cx_storage::{Store, along};
+use cx_storage::{Store, address_after};
 
 /// How many bytes are written at once.
 const BLOCK: u32 = 1_024;
@@ -37,7 +37,7 @@ pub(crate) fn copy<S: Store>(store: &mut S, copying: Copying)
     while done < len {
         let n = (len - done).min(BLOCK);
         let bytes = &mut block[..n as usize];
-        store.read(along(copying.from.place, done), bytes);
+        store.read(address_after(copying.from.place, done), bytes);
         store.write(copying.to + done, bytes);
         done += n;
     }

@@ -38,7 +38,7 @@ fn choice_for(call: &Call, handles: &HandleTable, condition: Condition) -> Choic
     requires not_error { condition ≢ Condition.Error }
     ensures { result ≡ choice_for call.now handles.now.active.entries condition }
 {
-    let unhandled = call.is_nohandle() || call.resp().is_some();
+    let unhandled = call.has_nohandle() || call.resp().is_some();
     let chosen = if unhandled {
         choice_unhandled(condition)
     } else {

@@ -15,7 +15,7 @@ use cx_base_commands::{Abend, Command};
 use cx_exec::{Halt, advance};
 use cx_program::ConditionCode;
 use cx_region_state::{Shared, Task, TerminalEntry, TurnReply};
-use cx_storage::{Store, along};
+use cx_storage::{Store, address_after};
 use std::alloc::AllocError;
 
 /// The most instructions of a half-turn.
@@ -28,12 +28,12 @@ fn bytes_from<S: Store>(store: &S, next: u32) -> [Option<u8>; 6]
         (λ k. byte_at (S.storage store.now) (address_after next k)) (0 ∷ 1 ∷ 2 ∷ 3 ∷ 4 ∷ 5 ∷ []) }
 {
     [
-        store.byte(along(next, 0)),
-        store.byte(along(next, 1)),
-        store.byte(along(next, 2)),
-        store.byte(along(next, 3)),
-        store.byte(along(next, 4)),
-        store.byte(along(next, 5)),
+        store.byte(address_after(next, 0)),
+        store.byte(address_after(next, 1)),
+        store.byte(address_after(next, 2)),
+        store.byte(address_after(next, 3)),
+        store.byte(address_after(next, 4)),
+        store.byte(address_after(next, 5)),
     ]
 }
 

@@ -11,7 +11,7 @@ use Rattle.cx_edf.specs.Steps.{EdfApplies}
 use Rattle.cx_edf.specs.Runs.{EdfRun, Trace, last_state}
 use Rattle.cx_script_actions.specs.Effects.{Performs, Replies, ByFault}
 use Rattle.cx_script_actions.specs.Texts.{answer_text}
-use Rattle.cx_script.specs.Transcript.{Runs}
+use Rattle.cx_script.specs.Transcript.{PerformsAll}
 use Rattle.cx_script.specs.Laws.Events.{AreReported, IsRun, IsReportedBy, ScriptsRunTheirEvents, event_of, events_of, program_event, written_before}
 use Rattle.cx_script_actions.specs.declared.actions.Action.{Action}
 use Rattle.cx_script_actions.specs.declared.actions.Action.TheVariants as action
@@ -84,7 +84,7 @@ runs_on (Some event) a actions old between new first rest e p r =
     }
 
 pub scripts_run_their_events : ScriptsRunTheirEvents
-unfolding Runs AreReported Trace last_state
+unfolding PerformsAll AreReported Trace last_state
 scripts_run_their_events old [] text new p = record { answers = []; run = record { states = []; trace = tt; ends = sym p.1 }; texts = []; whole = p.0; reported = tt }
 scripts_run_their_events old (a ∷ actions) text new p =
     let rest = scripts_run_their_events p.0 actions p.2 new p.4 in

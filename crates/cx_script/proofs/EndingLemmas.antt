@@ -10,7 +10,7 @@ use Rattle.cx_script_io.specs.Input.{IsEnding, IsReadOf, most_bytes}
 use Rattle.cx_script_io.specs.declared.input.Ending.{Ending}
 use Rattle.cx_script_io.specs.declared.input.Ending.TheVariants.{AtEnd, Failed, PastBound}
 use Rattle.cx_script_blocks.specs.declared.faults.RunFault.TheVariants.{Read}
-use Rattle.cx_script.specs.Transcript.{Ends}
+use Rattle.cx_script.specs.Transcript.{EndsScript}
 use Rattle.cx_script.specs.Parts.Progress.{InTime}
 
 -- whether the reads say why no more was read
@@ -110,7 +110,7 @@ module _ {A S : Type 0} (language : Language A) (performs : S → A → List ℕ
   read_whole why h p = subst (IsReadOf calls why) (take_all most_bytes (given calls) (ended_within why h p)) (read_ended why h)
 
   -- a read failed after all that was given
-  pub failed_front : IsEnding calls Failed → (front : List Call) × (given calls ≡ given front) × Ends language performs start Failed (given front) (Err Read) (taken front)
+  pub failed_front : IsEnding calls Failed → (front : List Call) × (given calls ≡ given front) × EndsScript language performs start Failed (given front) (Err Read) (taken front)
   failed_front h =
       let l = last_of calls None h in
       let same : given calls ≡ given l.before = ap given l.at ∙ given_append l.before (Reading None ∷ l.after) ∙ ap (λ r. given l.before ++ r) l.rest ∙ append-nil (given l.before) in

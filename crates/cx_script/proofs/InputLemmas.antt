@@ -5,7 +5,7 @@ use Rattle.cx_edf.specs.State.{EdfState}
 use Rattle.cx_script_io.specs.Calls.{Call, given, taken}
 use Rattle.cx_script_io.specs.Input.{IsEnding, most_bytes}
 use Rattle.cx_script.specs.Script.{script_in}
-use Rattle.cx_script.specs.Transcript.{Ends, Wrote}
+use Rattle.cx_script.specs.Transcript.{EndsScript, Wrote}
 use Rattle.cx_script_actions.specs.Language.{Language, edf_language}
 use Rattle.cx_script_actions.specs.Effects.{Performs, fresh_state}
 use Rattle.cx_script.specs.Session.{IsScriptSession}
@@ -23,9 +23,9 @@ use Rattle.cx_script.proofs.WholeLemmas.{one_transcript}
 
 -- a fault of the script's own
 own : {A S : Type 0} (language : Language A) (performs : S → A → List ℕ → S → Type 0) (old : S) (ending : Ending) (bytes : List ℕ) (fault : RunFault) (written : List ℕ)
-    → was_stopped (Err fault) ≡ false → Ends language performs old ending bytes (Err fault) written
+    → was_stopped (Err fault) ≡ false → EndsScript language performs old ending bytes (Err fault) written
     → ((script_in language ending bytes).fault ≡ Some fault) × Wrote (◌≡◌ written) performs old (script_in language ending bytes).actions
-unfolding Ends
+unfolding EndsScript
 own language performs old ending bytes (BadLine n) written e s = s
 own language performs old ending bytes (BadLook n) written e s = s
 own language performs old ending bytes (Source n which) written e s = s
@@ -36,15 +36,15 @@ own language performs old ending bytes ReadBound written e s = s
 
 -- the fault of a run that was not stopped, and what it wrote
 reported : (ending : Ending) (bytes : List ℕ) (answer : Result Summary RunFault) (written : List ℕ) → was_stopped answer ≡ false
-    → Ends edf_language Performs fresh_state ending bytes answer written
+    → EndsScript edf_language Performs fresh_state ending bytes answer written
     → (result_err answer ≡ (script_in edf_language ending bytes).fault) × Wrote (◌≡◌ written) Performs fresh_state (script_in edf_language ending bytes).actions
-unfolding Ends
+unfolding EndsScript
 reported ending bytes (Ok s) written e h = (sym h.0, h.2)
 reported ending bytes (Err fault) written e h = let o = own edf_language Performs fresh_state ending bytes fault written e h in (sym o.0, o.1)
 
 same_answer : (ending : Ending) (bytes : List ℕ) (answer other : Result Summary RunFault) (written later : List ℕ) → was_stopped answer ≡ false → was_stopped other ≡ false
-    → Ends edf_language Performs fresh_state ending bytes answer written → Ends edf_language Performs fresh_state ending bytes other later → answer ≡ other
-unfolding Ends
+    → EndsScript edf_language Performs fresh_state ending bytes answer written → EndsScript edf_language Performs fresh_state ending bytes other later → answer ≡ other
+unfolding EndsScript
 same_answer ending bytes (Ok s) (Ok t) written later e f p q = ap (λ (n : ℕ). let s : Summary = record { lines = n } in let r : Result Summary RunFault = Ok s in r) (p.1 ∙ sym q.1)
 same_answer ending bytes (Ok s) (Err g) written later e f p q = let o = own edf_language Performs fresh_state ending bytes g later f q in let none = p.0 in let some = o.0 in cc
 same_answer ending bytes (Err g) (Ok s) written later e f p q = let o = own edf_language Performs fresh_state ending bytes g written e p in let none = q.0 in let some = o.0 in cc
@@ -70,7 +70,7 @@ module _ (decides : (old : EdfState) (action : Action) (text other : List ℕ) (
 
 -- by why no more was read
 fault_in : (ending : Ending) (calls : List Call) (fault : RunFault) → was_stopped (Err fault) ≡ false
-    → Ends edf_language Performs fresh_state ending (take most_bytes (given calls)) (Err fault) (taken calls) → (script_in edf_language ending (take most_bytes (given calls))).fault ≡ Some fault
+    → EndsScript edf_language Performs fresh_state ending (take most_bytes (given calls)) (Err fault) (taken calls) → (script_in edf_language ending (take most_bytes (given calls))).fault ≡ Some fault
 fault_in ending calls fault e h = (own edf_language Performs fresh_state ending (take most_bytes (given calls)) fault (taken calls) e h).0
 
 bound_by : (calls : List Call) (s : IsScriptSession calls (Err ReadBound)) (why : Ending) → IsEnding calls why → IsPastBound calls

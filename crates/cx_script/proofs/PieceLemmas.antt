@@ -10,7 +10,7 @@ use Rattle.cx_script_blocks.specs.declared.blocks.LineStep.{LineStep}
 use Rattle.std.specs.Result.{result_map_both}
 use Rattle.cx_script_io.specs.Lines.{is_too_long, last_met, lines_met}
 use Rattle.cx_script.specs.Script.{first_place, script_from, script_in, step_from, stepped, fault_at}
-use Rattle.cx_script.specs.Transcript.{Runs, Wrote, Ends, front_of}
+use Rattle.cx_script.specs.Transcript.{PerformsAll, Wrote, EndsScript, front_of}
 use Rattle.cx_script.specs.Facts.Fronts.{part_first}
 use Rattle.cx_script.specs.Parts.Progress.{TakesLine, Took, Came, Closes, Halts, SentAll, SentSome, Stopped, logs}
 use Rattle.cx_script_io.specs.Unbroken.{IsUnbroken}
@@ -219,7 +219,7 @@ module _ {A S : Type 0} (language : Language A) (performs : S → A → List ℕ
         record {
           text = d.text;
           new = mid;
-          runs = subst (λ (l : List A). Runs performs old l d.text mid) (sym done) d.runs;
+          runs = subst (λ (l : List A). PerformsAll performs old l d.text mid) (sym done) d.runs;
           written = front_flushed logs first b c waits [] d.text d.written w;
         },
       )
@@ -237,8 +237,8 @@ module _ {A S : Type 0} (language : Language A) (performs : S → A → List ℕ
   all_written old actions last w = record { text = w.text; new = w.new; runs = w.runs; written = log_is [] last w.text (sends_written logs [] last w.text w.written) }
 
   pub stopped_written : (old : S) (ending : Ending) (bytes : List ℕ) (fault : RunFault) (last : List ℕ)
-      → Halts language performs old ending 0 first_place (lines_met ending bytes) fault (device_output [] []) (device_output last []) → Ends language performs old ending bytes (Err fault) last
-  unfolding Ends Halts script_in TakesFront
+      → Halts language performs old ending 0 first_place (lines_met ending bytes) fault (device_output [] []) (device_output last []) → EndsScript language performs old ending bytes (Err fault) last
+  unfolding EndsScript Halts script_in TakesFront
   stopped_written old ending bytes Memory last h =
       let number : 0 + h.line + 1 ≡ h.line + 1 = omega arith in
       record {
@@ -260,14 +260,14 @@ module _ {A S : Type 0} (language : Language A) (performs : S → A → List ℕ
   stopped_written old ending bytes ReadBound last h = (h.0, all_written old (script_in language ending bytes).actions last h.1)
 
   ends_written : (old : S) (ending : Ending) (bytes : List ℕ) (answer : Result Summary RunFault) (last : List ℕ)
-      → Closes language performs old ending 0 first_place (lines_met ending bytes) answer (device_output [] []) (device_output last []) → Ends language performs old ending bytes answer last
-  unfolding Ends script_in
+      → Closes language performs old ending 0 first_place (lines_met ending bytes) answer (device_output [] []) (device_output last []) → EndsScript language performs old ending bytes answer last
+  unfolding EndsScript script_in
   ends_written old ending bytes (Ok s) last h = (h.0, omega (arith, h.1), all_written old (script_in language ending bytes).actions last h.2)
   ends_written old ending bytes (Err fault) last h = stopped_written old ending bytes fault last h
 
   pub ends_from : (start mid : S) (bytes part : List ℕ) (ending : Ending) (m : ℕ) (next : Place) (answer : Result Summary RunFault) (after last : List ℕ)
       → Came language performs start 0 first_place bytes (device_output [] []) mid m next part (device_output after []) → Closes language performs mid ending m next (lines_met ending part) answer (device_output after []) (device_output last [])
-      → Ends language performs start ending bytes answer last
+      → EndsScript language performs start ending bytes answer last
   ends_from start mid bytes part ending m next answer after last c h =
       let met : lines_met ending bytes ≡ c.lines ++ lines_met ending part =
       ap (lines_met ending) (sym (append-nil bytes)) ∙ c.met ending [] ∙ ap (λ (l : List ℕ). c.lines ++ lines_met ending l) (append-nil part) in

@@ -8,7 +8,7 @@ use Rattle.cx_script.specs.Facts.Fronts.{seam}
 use Rattle.cx_script_blocks.specs.declared.blocks.Block.{Block}
 use Rattle.cx_script.specs.Script.{Script, Step, end_fault, script_from, step_from, fault_at, led_to, with_actions_first}
 use Rattle.cx_script_blocks.specs.declared.faults.Summary.{Summary}
-use Rattle.cx_script.specs.Transcript.{Runs}
+use Rattle.cx_script.specs.Transcript.{PerformsAll}
 use Rattle.cx_script.specs.Parts.Progress.{Closes, DoneOf, HaltedAt, Halts, SentAll, SentSome, TakesLine, Took, actions_due, logs}
 use Rattle.cx_script_actions.specs.Language.{Language}
 use Rattle.cx_script_blocks.specs.declared.faults.RunFault.{RunFault}
@@ -51,27 +51,27 @@ more_of : {A : Type 0} (script left : Script A) (done : List A) (k : ℕ) → sc
 more_of {A} script left done k e = sym (take-append-add done left.actions k) ∙ ap (λ (s : Script A). take (length done + k) s.actions) (sym e)
 
 module _ {A S : Type 0} (language : Language A) (performs : S → A → List ℕ → S → Type 0) where
-  pub runs_one : (old : S) (action : A) (text : List ℕ) (new : S) → performs old action text new → Runs performs old (action ∷ []) text new
-  unfolding Runs
+  pub runs_one : (old : S) (action : A) (text : List ℕ) (new : S) → performs old action text new → PerformsAll performs old (action ∷ []) text new
+  unfolding PerformsAll
   runs_one old action text new p = (new, text, [], p, (refl, refl), sym (append-nil text))
 
   pub runs_append : (old : S) (xs : List A) (s : List ℕ) (mid : S) (ys : List A) (t : List ℕ) (new : S)
-      → Runs performs old xs s mid → Runs performs mid ys t new → Runs performs old (xs ++ ys) (s ++ t) new
-  unfolding Runs
-  runs_append old [] s mid ys t new p q = subst (λ m. Runs performs m ys (s ++ t) new) p.1 (subst (λ l. Runs performs mid ys (l ++ t) new) (sym p.0) q)
+      → PerformsAll performs old xs s mid → PerformsAll performs mid ys t new → PerformsAll performs old (xs ++ ys) (s ++ t) new
+  unfolding PerformsAll
+  runs_append old [] s mid ys t new p q = subst (λ m. PerformsAll performs m ys (s ++ t) new) p.1 (subst (λ l. PerformsAll performs mid ys (l ++ t) new) (sym p.0) q)
   runs_append old (x ∷ xs) s mid ys t new p q =
       (p.0, p.1, p.2 ++ t, p.3, runs_append p.0 xs p.2 mid ys t new p.4 q, ap (λ l. l ++ t) p.5 ∙ append_assoc p.1 p.2 t)
 
   -- where nothing is asked
   sent_none : (old : S) (actions : List A) (before after : DeviceOutput (List ℕ)) → actions ≡ [] → after ≡ before → SentAll performs old actions before after
-  unfolding Runs
+  unfolding PerformsAll
   sent_none old actions before after e same =
       subst (SentAll performs old actions before) (sym same)
-      (record { text = []; new = old; runs = subst (λ (l : List A). Runs performs old l [] old) (sym e) (refl, refl); written = sends_nil logs before })
+      (record { text = []; new = old; runs = subst (λ (l : List A). PerformsAll performs old l [] old) (sym e) (refl, refl); written = sends_nil logs before })
 
   -- ---- lines that are done
   pub took_none : (old : S) (n : ℕ) (block : Place) (w : DeviceOutput (List ℕ)) → Took language performs old n block [] w old n block w
-  unfolding Runs
+  unfolding PerformsAll
   took_none old n block w = record { done = []; text = []; runs = (refl, refl); written = sends_nil logs w; asks = λ ending more. refl; count = omega arith }
 
   pub took_line : (old new : S) (n : ℕ) (block next : Place) (line : List ℕ) (before after : DeviceOutput (List ℕ))
@@ -103,23 +103,23 @@ module _ {A S : Type 0} (language : Language A) (performs : S → A → List ℕ
       }
 
   -- ---- what was done before, and how the rest ended
-  sent_after : (old mid : S) (done actions : List A) (text : List ℕ) (first after last : DeviceOutput (List ℕ)) → Runs performs old done text mid → Sends logs first after text
+  sent_after : (old mid : S) (done actions : List A) (text : List ℕ) (first after last : DeviceOutput (List ℕ)) → PerformsAll performs old done text mid → Sends logs first after text
       → SentAll performs mid actions after last → SentAll performs old (done ++ actions) first last
   sent_after old mid done actions text first after last r a w =
       record { text = text ++ w.text; new = w.new; runs = runs_append old done text mid actions w.text w.new r w.runs; written = sends_trans logs first after last text w.text a w.written }
 
   all_after : (old mid : S) (script left : Script A) (done : List A) (text : List ℕ) (first after last : DeviceOutput (List ℕ)) → script ≡ with_actions_first done left
-      → Runs performs old done text mid → Sends logs first after text → SentAll performs mid left.actions after last → SentAll performs old script.actions first last
+      → PerformsAll performs old done text mid → Sends logs first after text → SentAll performs mid left.actions after last → SentAll performs old script.actions first last
   all_after old mid script left done text first after last e r a w =
       subst (λ (l : List A). SentAll performs old l first last) (sym (ap (λ (s : Script A). s.actions) e)) (sent_after old mid done left.actions text first after last r a w)
 
-  some_after : (old mid : S) (done actions : List A) (text : List ℕ) (first after last : DeviceOutput (List ℕ)) → Runs performs old done text mid → Sends logs first after text
+  some_after : (old mid : S) (done actions : List A) (text : List ℕ) (first after last : DeviceOutput (List ℕ)) → PerformsAll performs old done text mid → Sends logs first after text
       → SentSome performs mid actions after last → SentSome performs old (done ++ actions) first last
   some_after old mid done actions text first after last r a w =
       record { text = text ++ w.text; new = w.new; runs = runs_append old done text mid actions w.text w.new r w.runs; written = sends_front logs first after last text w.text a w.written }
 
   own_after : (old mid : S) (script left : Script A) (done : List A) (text : List ℕ) (fault : RunFault) (first after last : DeviceOutput (List ℕ)) → script ≡ with_actions_first done left
-      → Runs performs old done text mid → Sends logs first after text → (left.fault ≡ Some fault) × SentAll performs mid left.actions after last
+      → PerformsAll performs old done text mid → Sends logs first after text → (left.fault ≡ Some fault) × SentAll performs mid left.actions after last
       → (script.fault ≡ Some fault) × SentAll performs old script.actions first last
   own_after old mid script left done text fault first after last e r a s =
       (ap (λ (x : Script A). x.fault) e ∙ s.0, all_after old mid script left done text first after last e r a s.1)

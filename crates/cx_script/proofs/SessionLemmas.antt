@@ -20,10 +20,10 @@ use Rattle.cx_script_io.specs.Unbroken.{IsUnbroken}
 use Rattle.cx_script_io.specs.declared.input.Ending.{Ending}
 use Rattle.cx_script_io.specs.declared.input.Ending.TheVariants.{AtEnd, Failed, PastBound}
 use Rattle.cx_script_io.specs.Facts.Calls.{did_writes, folds_append, given_append, given_writes, last_append, last_writes, taken_append}
-use Rattle.cx_script.specs.Parts.Progress.{Calling, Came, Closes, Halts, InTime, Seen, Stopped}
+use Rattle.cx_script.specs.Parts.Progress.{Calling, Came, Closes, Halts, InTime, SeenSoFar, Stopped}
 use Rattle.cx_script.specs.Script.{fault_at, first_place}
 use Rattle.cx_script.specs.Session.{RanIn}
-use Rattle.cx_script.specs.Transcript.{Ends}
+use Rattle.cx_script.specs.Transcript.{EndsScript}
 use Rattle.cx_script.proofs.PieceLemmas.{came_more, came_start, came_stopped, came_trans, ends_from, finished, stopped_written}
 
 -- ---- a place in two lists, one after the other
@@ -116,19 +116,19 @@ no_ending calls bytes l some few PastBound h = omega (arith, h, few)
 module _ {A S : Type 0} (language : Language A) (performs : S → A → List ℕ → S → Type 0) where
   -- what is due before a read, at each of these calls and after them
   due_first : (start : S) (calls : List Call) (first : Option (List ℕ)) (ms : List (Option (List ℕ))) → ((why : Ending) → IsEnding calls why → ⊥)
-      → Ends language performs start Failed (given calls) (Err Read) (taken calls) → InTime language performs start calls → InTime language performs start (then_read calls first ms)
+      → EndsScript language performs start Failed (given calls) (Err Read) (taken calls) → InTime language performs start calls → InTime language performs start (then_read calls first ms)
   due_first start calls first ms unended ends t = λ before after bytes e. elim (split_append calls (Reading first ∷ map Writing ms) before after (Reading bytes) e) [
     | inl p ↦ t before p.0 bytes p.1
     | inr q ↦
         let none = only_read first ms q.0 after bytes q.2 in
         let same : calls ≡ before = sym (q.1 ∙ ap (λ l. calls ++ l) none ∙ append-nil calls) in
-        subst (λ (l : List Call). ((why : Ending) → IsEnding l why → ⊥) × Ends language performs start Failed (given l) (Err Read) (taken l)) same (unended, ends)
+        subst (λ (l : List Call). ((why : Ending) → IsEnding l why → ⊥) × EndsScript language performs start Failed (given l) (Err Read) (taken l)) same (unended, ends)
   ]
 
   -- ---- a session that ended where no more was read, and one that was stopped
   ran_ended : {D : Type 0} (start : S) (reads writes : D → Option (List ℕ) → D → Type 0) (before after : D) (calls : List Call) (why : Ending) (bytes : List ℕ) (answer : Result Summary RunFault)
       → FoldsTo (did reads writes) before calls after → InTime language performs start calls → IsEnding calls why → take most_bytes (given calls) ≡ bytes
-      → Ends language performs start why bytes answer (taken calls) → RanIn language performs start reads writes before answer after
+      → EndsScript language performs start why bytes answer (taken calls) → RanIn language performs start reads writes before answer after
   ran_ended start reads writes before after calls why bytes answer made t is cut e =
       record {
         calls = calls;
@@ -137,8 +137,8 @@ module _ {A S : Type 0} (language : Language A) (performs : S → A → List ℕ
           ends = λ ending script r.
               let so = r.ended why is in
               let same : bytes ≡ script = sym cut ∙ sym (append-nil (take most_bytes (given calls))) ∙ ap (λ l. take most_bytes (given calls) ++ l) (sym so.1) ∙ sym r.whole in
-              subst (λ (k : Ending). Ends language performs start k script answer (taken calls)) (sym so.0)
-              (subst (λ (l : List ℕ). Ends language performs start why l answer (taken calls)) same e);
+              subst (λ (k : Ending). EndsScript language performs start k script answer (taken calls)) (sym so.0)
+              (subst (λ (l : List ℕ). EndsScript language performs start why l answer (taken calls)) same e);
           in_time = t;
         };
       }
@@ -161,8 +161,8 @@ module _ {A S : Type 0} (language : Language A) (performs : S → A → List ℕ
 
   module _ {D : Type 0} (reads writes : D → Option (List ℕ) → D → Type 0) where
     -- the complete lines of what was read are done and written
-    pub due_now : (start mid : S) (before now : D) (read m : ℕ) (next : Place) (part : List ℕ) (s : Seen language performs start reads writes before now read mid m next part)
-        → IsUnbroken part → is_too_long (strip_carriage_return part) ≡ false → Ends language performs start Failed (given s.calls) (Err Read) (taken s.calls)
+    pub due_now : (start mid : S) (before now : D) (read m : ℕ) (next : Place) (part : List ℕ) (s : SeenSoFar language performs start reads writes before now read mid m next part)
+        → IsUnbroken part → is_too_long (strip_carriage_return part) ≡ false → EndsScript language performs start Failed (given s.calls) (Err Read) (taken s.calls)
     unfolding fault_at
     due_now start mid before now read m next part s u short =
         let none : last_met Failed part ≡ [] = ap (λ (b : Bool). cond b (strip_carriage_return part ∷ []) []) short in
@@ -175,10 +175,10 @@ module _ {A S : Type 0} (language : Language A) (performs : S → A → List ℕ
         folds_append (did reads writes) before now then calls (Reading bytes ∷ map Writing ms) f (mid, r, did_writes reads writes mid then ms w)
 
     pub seen_start : (start : S) (now : D) (n : ℕ) (block : Place) (part : List ℕ) → n ≡ 0 → block ≡ first_place → part ≡ []
-        → Seen language performs start reads writes now now 0 start n block part
+        → SeenSoFar language performs start reads writes now now 0 start n block part
     unfolding most_bytes
     seen_start start now n block part e b p =
-        let begun : Seen language performs start reads writes now now 0 start 0 first_place [] =
+        let begun : SeenSoFar language performs start reads writes now now 0 start 0 first_place [] =
         record {
           calls = [];
           made = refl;
@@ -187,9 +187,9 @@ module _ {A S : Type 0} (language : Language A) (performs : S → A → List ℕ
           in_time = λ before after bytes h. absurd (no_reads [] before after bytes h);
           came = came_start language performs start 0 first_place [] (device_output [] []);
         } in
-        subst (λ (k : ℕ). Seen language performs start reads writes now now 0 start k block part) (sym e)
-        (subst (λ (x : Place). Seen language performs start reads writes now now 0 start 0 x part) (sym b)
-        (subst (λ (l : List ℕ). Seen language performs start reads writes now now 0 start 0 first_place l) (sym p) begun))
+        subst (λ (k : ℕ). SeenSoFar language performs start reads writes now now 0 start k block part) (sym e)
+        (subst (λ (x : Place). SeenSoFar language performs start reads writes now now 0 start 0 x part) (sym b)
+        (subst (λ (l : List ℕ). SeenSoFar language performs start reads writes now now 0 start 0 first_place l) (sym p) begun))
 
     -- a piece more, and its lines
     came_on : (start old new : S) (seen part piece last : List ℕ) (n m : ℕ) (block next : Place) (before after : List ℕ)
@@ -201,10 +201,10 @@ module _ {A S : Type 0} (language : Language A) (performs : S → A → List ℕ
         (came_more language performs start old 0 n first_place block seen part piece (device_output [] []) (device_output before []) c) d
 
     pub seen_taken : (start old new : S) (before now mid then : D) (read took room n m : ℕ) (block next : Place) (part last piece buffer : List ℕ)
-        → Seen language performs start reads writes before now read old n block part → IsUnbroken part → is_too_long (strip_carriage_return part) ≡ false
+        → SeenSoFar language performs start reads writes before now read old n block part → IsUnbroken part → is_too_long (strip_carriage_return part) ≡ false
         → reads now (Some (take took buffer)) mid → piece ≡ take room buffer → room ≡ took → took ≤ length buffer → (took ≡ 0 → ⊥) → read + took ≤ 16777216
         → Calling writes mid then (λ x y. Came language performs old n block (part ++ piece) (device_output x []) new m next last (device_output y []))
-        → Seen language performs start reads writes before then (read + took) new m next last
+        → SeenSoFar language performs start reads writes before then (read + took) new m next last
     unfolding most_bytes
     seen_taken start old new before now mid then read took room n m block next part last piece buffer s u short r e same few some bound c =
         let bytes = take took buffer in
@@ -230,7 +230,7 @@ module _ {A S : Type 0} (language : Language A) (performs : S → A → List ℕ
     ClosesThen mid m next part ending answer x y = Closes language performs mid ending m next (lines_met ending part) answer (device_output x []) (device_output y [])
 
     pub ran_failed : (start old : S) (before now mid then : D) (read m : ℕ) (next : Place) (part : List ℕ) (answer : Result Summary RunFault)
-        → Seen language performs start reads writes before now read old m next part → IsUnbroken part → is_too_long (strip_carriage_return part) ≡ false → read ≤ 16777216
+        → SeenSoFar language performs start reads writes before now read old m next part → IsUnbroken part → is_too_long (strip_carriage_return part) ≡ false → read ≤ 16777216
         → reads now None mid → Calling writes mid then (ClosesThen old m next part Failed answer) → RanIn language performs start reads writes before answer then
     unfolding most_bytes
     ran_failed start old before now mid then read m next part answer s u short few r c =
@@ -241,11 +241,11 @@ module _ {A S : Type 0} (language : Language A) (performs : S → A → List ℕ
         (due_first start s.calls None c.calls s.unended (due_now start old before now read m next part s u short) s.in_time)
         (then_last s.calls None c.calls)
         (ap (take most_bytes) same ∙ take_all 16777216 (given s.calls) (omega (arith, s.len, few)))
-        (subst (Ends language performs start Failed (given s.calls) answer) (sym (then_taken s.calls None c.calls))
+        (subst (EndsScript language performs start Failed (given s.calls) answer) (sym (then_taken s.calls None c.calls))
         (ends_from language performs start old (given s.calls) part Failed m next answer (taken s.calls) (taken s.calls ++ taken (map Writing c.calls)) s.came (c.does (taken s.calls))))
 
     pub ran_at_end : (start old : S) (before now mid then : D) (read took m : ℕ) (buffer : List ℕ) (next : Place) (part : List ℕ) (answer : Result Summary RunFault)
-        → Seen language performs start reads writes before now read old m next part → IsUnbroken part → is_too_long (strip_carriage_return part) ≡ false → read ≤ 16777216
+        → SeenSoFar language performs start reads writes before now read old m next part → IsUnbroken part → is_too_long (strip_carriage_return part) ≡ false → read ≤ 16777216
         → took ≡ 0 → reads now (Some (take took buffer)) mid → Calling writes mid then (ClosesThen old m next part AtEnd answer) → RanIn language performs start reads writes before answer then
     unfolding most_bytes
     ran_at_end start old before now mid then read took m buffer next part answer s u short few e r c =
@@ -258,11 +258,11 @@ module _ {A S : Type 0} (language : Language A) (performs : S → A → List ℕ
         (due_first start s.calls (Some []) c.calls s.unended (due_now start old before now read m next part s u short) s.in_time)
         (then_last s.calls (Some []) c.calls)
         (ap (take most_bytes) same ∙ take_all 16777216 (given s.calls) (omega (arith, s.len, few)))
-        (subst (Ends language performs start AtEnd (given s.calls) answer) (sym (then_taken s.calls (Some []) c.calls))
+        (subst (EndsScript language performs start AtEnd (given s.calls) answer) (sym (then_taken s.calls (Some []) c.calls))
         (ends_from language performs start old (given s.calls) part AtEnd m next answer (taken s.calls) (taken s.calls ++ taken (map Writing c.calls)) s.came (c.does (taken s.calls))))
 
     pub ran_piece_stopped : (start old : S) (before now mid then : D) (read took room n : ℕ) (block : Place) (part piece buffer : List ℕ) (fault : RunFault)
-        → Seen language performs start reads writes before now read old n block part → IsUnbroken part → is_too_long (strip_carriage_return part) ≡ false
+        → SeenSoFar language performs start reads writes before now read old n block part → IsUnbroken part → is_too_long (strip_carriage_return part) ≡ false
         → reads now (Some (take took buffer)) mid → piece ≡ take room buffer → room ≤ took → took ≤ length buffer → read + room ≤ 16777216 → (room < took → read + room ≡ 16777216)
         → Calling writes mid then (λ x y. Stopped language performs old n block (part ++ piece) fault (device_output x []) (device_output y []))
         → RanIn language performs start reads writes before (Err fault) then
@@ -281,7 +281,7 @@ module _ {A S : Type 0} (language : Language A) (performs : S → A → List ℕ
         (subst (λ (l : List ℕ). Stopped language performs start 0 first_place (given s.calls ++ piece) fault (device_output [] []) (device_output l [])) (sym (then_taken s.calls (Some bytes) c.calls)) stopped)
 
     pub ran_past : (start old new : S) (before now mid then : D) (read took room n m : ℕ) (block next : Place) (part last piece buffer : List ℕ) (answer : Result Summary RunFault)
-        → Seen language performs start reads writes before now read old n block part → IsUnbroken part → is_too_long (strip_carriage_return part) ≡ false
+        → SeenSoFar language performs start reads writes before now read old n block part → IsUnbroken part → is_too_long (strip_carriage_return part) ≡ false
         → reads now (Some (take took buffer)) mid → piece ≡ take room buffer → room < took → took ≤ length buffer → read + room ≡ 16777216
         → Calling writes mid then (λ x z. (y : List ℕ) × Came language performs old n block (part ++ piece) (device_output x []) new m next last (device_output y []) × ClosesThen new m next last PastBound answer y z)
         → RanIn language performs start reads writes before answer then
@@ -300,6 +300,6 @@ module _ {A S : Type 0} (language : Language A) (performs : S → A → List ℕ
         (due_first start s.calls (Some bytes) c.calls s.unended (due_now start old before now read n block part s u short) s.in_time)
         past
         (ap (take most_bytes) all ∙ cut)
-        (subst (Ends language performs start PastBound (given s.calls ++ piece) answer) (sym (then_taken s.calls (Some bytes) c.calls))
+        (subst (EndsScript language performs start PastBound (given s.calls ++ piece) answer) (sym (then_taken s.calls (Some bytes) c.calls))
         (ends_from language performs start new (given s.calls ++ piece) last PastBound m next answer d.0 (taken s.calls ++ taken (map Writing c.calls))
         (came_on start old new (given s.calls) part piece last n m block next (taken s.calls) d.0 s.came d.1) d.2))

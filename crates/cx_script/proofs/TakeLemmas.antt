@@ -8,7 +8,7 @@ use Rattle.cx_script_actions.specs.Language.{Language}
 use Rattle.cx_script.specs.declared.run.Place.{Place}
 use Rattle.cx_script.specs.Parts.Progress.{Acted, Acting, ActsOnce, Calling, DoneOf, SentAll, SentSome, TakesLine, actions_due, logs}
 use Rattle.cx_script.specs.Script.{Step, actions_of, step_from, stepped}
-use Rattle.cx_script.specs.Transcript.{Runs}
+use Rattle.cx_script.specs.Transcript.{PerformsAll}
 use Rattle.cx_script.proofs.CallingLemmas.{calling_front, calling_none, calling_sends, calling_so, calling_takes, calling_then, log_is}
 use Rattle.cx_script.proofs.RunLemmas.{runs_append, runs_one}
 use Rattle.cx_script_blocks.specs.Blocks.{step_at}
@@ -35,7 +35,7 @@ not_led f (Err own) fault e = let same : own ≡ fault = cc in ap Err same
 
 module _ {A S : Type 0} (performs : S → A → List ℕ → S → Type 0) where
   none_done : (old : S) (before : DeviceOutput (List ℕ)) → SentAll performs old [] before before
-  unfolding Runs
+  unfolding PerformsAll
   none_done old before = record { text = []; new = old; runs = (refl, refl); written = sends_nil logs before }
 
   own : (number : ℕ) (due : Result (Step A) RunFault) (met fault : RunFault) (old : S) (before : DeviceOutput (List ℕ)) (block : Place)
@@ -100,7 +100,7 @@ module _ {A S : Type 0} (performs : S → A → List ℕ → S → Type 0) where
 
   none_written : (number : ℕ) (due : Result (Step A) RunFault) (old : S) (before after : List ℕ) (mid : List ℕ) (waits : List ℕ) → device_output mid waits ≡ device_output before [] → TakesFront logs mid after waits
       → DoneOf (λ own. SentSome performs old own (device_output before []) (device_output after [])) (actions_due due)
-  unfolding Runs
+  unfolding PerformsAll
   none_written number due old before after mid waits e w =
       record {
         own = [];
@@ -234,7 +234,7 @@ module _ {A S : Type 0} (performs : S → A → List ℕ → S → Type 0) where
     unfolding Acted
     all_acted first due old new before after g e =
         let same : actions_of language first ≡ g.done = g.asked ∙ ap (λ (o : Option A). g.done ++ actions_of language o) e ∙ append-nil g.done in
-        (g.text, subst (λ (l : List A). Runs performs old l g.text new) (sym same) g.runs, g.written)
+        (g.text, subst (λ (l : List A). PerformsAll performs old l g.text new) (sym same) g.runs, g.written)
 
   -- ---- the same, whatever was written before
   module _ {W : Type 0} (writes : W → Option (List ℕ) → W → Type 0) where
@@ -263,7 +263,7 @@ module _ {A S : Type 0} (performs : S → A → List ℕ → S → Type 0) where
 
     pub acts_first : (language : Language A) (a : W) (first : Option A) (waits : List ℕ) (old : S)
         → Calling writes a a (λ x y. Acting language performs first old (device_output x waits) first old (device_output y waits))
-    unfolding Runs
+    unfolding PerformsAll
     acts_first language a first waits old =
         calling_none writes a (λ x y. Acting language performs first old (device_output x waits) first old (device_output y waits))
         (λ x. record { done = []; asked = refl; text = []; runs = (refl, refl); written = sends_nil logs (device_output x waits) })

@@ -4,7 +4,7 @@ use Rattle.std.specs.List.{slice_split}
 use Rattle.std.specs.Str.Lines.{lines, lines_of_parts as std_lines_of_parts, strip_carriage_return}
 use Rattle.cx_script_io.specs.Lines.{lines_met, lines_of_parts}
 use Rattle.cx_script.specs.Session.{IsScriptSession}
-use Rattle.cx_script.specs.Transcript.{Runs, Ends}
+use Rattle.cx_script.specs.Transcript.{PerformsAll, EndsScript}
 use Rattle.cx_script_io.specs.Calls.{Call, given, taken}
 use Rattle.cx_script_io.specs.Input.{IsEnding, most_bytes}
 use Rattle.cx_script.proofs.EndingLemmas.{Endings, ended_within, ending_of, read_ended, read_open, read_whole}
@@ -27,7 +27,7 @@ same_lines_met bytes = same_parts (slice_split (λ b. b == 10) bytes)
 
 -- an Ok is the whole script
 whole_by : (calls : List Call) (summary : Summary) (s : IsScriptSession calls (Ok summary)) (why : Ending) → IsEnding calls why → IsEnding calls AtEnd × IsTranscribed (given calls) summary.lines (taken calls)
-unfolding Ends
+unfolding EndsScript
 whole_by calls summary s AtEnd h =
     let e = s.ends AtEnd (given calls) (read_whole edf_language Performs fresh_state calls s.in_time AtEnd h refl) in
     (h, record { within = ended_within edf_language Performs fresh_state calls s.in_time AtEnd h refl; faultless = e.0; count = e.1 ∙ ap length (same_lines_met (given calls)); transcript = e.2 })
@@ -39,7 +39,7 @@ whole_by calls summary s PastBound h =
     absurd (never_faultless edf_language PastBound (take most_bytes (given calls)) refl e.0)
 
 whole_in : (calls : List Call) (summary : Summary) (s : IsScriptSession calls (Ok summary)) → Endings calls → IsEnding calls AtEnd × IsTranscribed (given calls) summary.lines (taken calls)
-unfolding Ends
+unfolding EndsScript
 whole_in calls summary s (inl w) = whole_by calls summary s w.0 w.1
 whole_in calls summary s (inr none) =
     let e = s.ends Failed (take most_bytes (given calls)) (read_open calls none Failed) in
@@ -52,11 +52,11 @@ ok_whole calls summary s = whole_in calls summary s (ending_of calls)
 module _ {A S : Type 0} (performs : S → A → List ℕ → S → Type 0)
     (decides : (old : S) (action : A) (text other : List ℕ) (new another : S) → performs old action text new → performs old action other another → (text ≡ other) × (new ≡ another)) where
   pub one_transcript : (old : S) (actions : List A) (text other : List ℕ) (new another : S)
-      → Runs performs old actions text new → Runs performs old actions other another → (text ≡ other) × (new ≡ another)
-  unfolding Runs
+      → PerformsAll performs old actions text new → PerformsAll performs old actions other another → (text ≡ other) × (new ≡ another)
+  unfolding PerformsAll
   one_transcript old [] text other new another p q = (p.0 ∙ sym q.0, p.1 ∙ sym q.1)
   one_transcript old (action ∷ actions) text other new another p q =
       let head = decides old action p.1 q.1 p.0 q.0 p.3 q.3 in
-      let moved = subst (λ s. Runs performs s actions p.2 new) head.1 p.4 in
+      let moved = subst (λ s. PerformsAll performs s actions p.2 new) head.1 p.4 in
       let rest = one_transcript q.0 actions p.2 q.2 new another moved q.4 in
       (p.5 ∙ ap (λ l. l ++ p.2) head.0 ∙ ap (λ l. q.1 ++ l) rest.0 ∙ sym q.5, rest.1)

@@ -10,7 +10,7 @@ use Rattle.cx_script_io.specs.Calls.{Call, Reading, did, given, taken}
 use Rattle.cx_script_io.specs.Input.{IsEnding, IsReadOf}
 use Rattle.cx_script_io.specs.declared.input.Ending.{Ending}
 use Rattle.cx_script_io.specs.declared.input.Ending.TheVariants.{Failed}
-use Rattle.cx_script.specs.Transcript.{Ends}
+use Rattle.cx_script.specs.Transcript.{EndsScript}
 
 -- These calls are a run of a script of a language from some state on, over actions that do what `performs` says, with
 -- its answer.
@@ -18,12 +18,12 @@ pub record IsSession {A S : Type 0} (language : Language A) (performs : S → A 
     (calls : List Call) (answer : Result Summary RunFault) : Type 0 where
   -- whichever script the reads may be of, the run ended as that script says, and the writes took what is written of it
   pub ends : (ending : Ending) (bytes : List ℕ) → IsReadOf calls ending bytes
-      → Ends language performs start ending bytes answer (taken calls)
+      → EndsScript language performs start ending bytes answer (taken calls)
   -- before each read there was no reason to read no more, and the lines complete until then were done and their texts
   -- written
   pub in_time : (before after : List Call) (bytes : Option (List ℕ)) → calls ≡ before ++ Reading bytes ∷ after
       → ((why : Ending) → IsEnding before why → ⊥)
-      × Ends language performs start Failed (given before) (Err Read) (taken before)
+      × EndsScript language performs start Failed (given before) (Err Read) (taken before)
 
 -- A run took devices from one state to another: what their calls did, one after another, is such a session.
 pub record RanIn {A S D : Type 0} (language : Language A) (performs : S → A → List ℕ → S → Type 0) (start : S)

@@ -11,18 +11,18 @@ use Rattle.cx_script_blocks.specs.declared.faults.Summary.{Summary}
 
 -- Actions one after another on some state, and the transcript: what each writes, in order. `performs` is one action:
 -- the state before, the action, what is written for it, and the state after.
-unfoldable pub Runs : {S A : Type 0} → (S → A → List ℕ → S → Type 0) → S → List A → List ℕ → S → Type 0
-Runs performs old [] text new = (text ≡ []) × (new ≡ old)
-Runs {S} performs old (action ∷ actions) text new =
+unfoldable pub PerformsAll : {S A : Type 0} → (S → A → List ℕ → S → Type 0) → S → List A → List ℕ → S → Type 0
+PerformsAll performs old [] text new = (text ≡ []) × (new ≡ old)
+PerformsAll {S} performs old (action ∷ actions) text new =
     (between : S) × (first : List ℕ) × (rest : List ℕ)
-    × performs old action first between × Runs performs between actions rest new × (text ≡ first ++ rest)
+    × performs old action first between × PerformsAll performs between actions rest new × (text ≡ first ++ rest)
 
 -- these actions were done, and of their transcript that was written which `Writes` says
 pub record Wrote {A S : Type 0} (Writes : List ℕ → Type 0) (performs : S → A → List ℕ → S → Type 0)
     (old : S) (actions : List A) : Type 0 where
   pub text : List ℕ
   pub new : S
-  pub runs : Runs performs old actions text new
+  pub runs : PerformsAll performs old actions text new
   pub written : Writes text
 
 -- these bytes are a front of a text
@@ -52,16 +52,16 @@ pub record StoppedAt {A S : Type 0} (language : Language A) (performs : S → A 
 -- Without
 -- memory it stopped at an action of a line; after a failed write some of its actions are done, and a front of their
 -- transcript is written; any other fault is the script's own, and everything in front of it is done and written.
-unfoldable pub Ends : {A S : Type 0} → Language A → (S → A → List ℕ → S → Type 0) → S → Ending → List ℕ
+unfoldable pub EndsScript : {A S : Type 0} → Language A → (S → A → List ℕ → S → Type 0) → S → Ending → List ℕ
     → Result Summary RunFault → List ℕ → Type 0
-Ends language performs old ending bytes (Ok summary) written =
+EndsScript language performs old ending bytes (Ok summary) written =
     let script = script_in language ending bytes in
     (script.fault ≡ None) × (summary.lines ≡ length (lines_met ending bytes))
     × Wrote (◌≡◌ written) performs old script.actions
-Ends language performs old ending bytes (Err Memory) written =
+EndsScript language performs old ending bytes (Err Memory) written =
     StoppedAt language performs old (lines_met ending bytes) written
-Ends language performs old ending bytes (Err Write) written =
+EndsScript language performs old ending bytes (Err Write) written =
     (n : ℕ) × Wrote (IsFront written) performs old (take n (script_in language ending bytes).actions)
-Ends language performs old ending bytes (Err fault) written =
+EndsScript language performs old ending bytes (Err fault) written =
     let script = script_in language ending bytes in
     (script.fault ≡ Some fault) × Wrote (◌≡◌ written) performs old script.actions

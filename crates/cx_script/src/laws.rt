@@ -7,7 +7,7 @@ ghost use Rattle.cx_asm_execution.specs.Laws.Entry.{ReachesEntry};
 ghost use Rattle.cx_asm_execution.specs.Arrival.{CommandsArrive};
 ghost use Rattle.cx_edf.specs.State.{EdfState};
 ghost use Rattle.cx_script_actions.specs.Effects.{Performs};
-ghost use Rattle.cx_script.specs.Transcript.{Runs};
+ghost use Rattle.cx_script.specs.Transcript.{PerformsAll};
 ghost use Rattle.cx_script.specs.Laws.WholeScripts.{OkIsTheWholeScript};
 ghost use Rattle.cx_script.specs.Laws.Fronts.{FrontsAreScripts};
 ghost use Rattle.cx_script.specs.Laws.BadLines.{BadLinesAreBad};
@@ -89,7 +89,7 @@ pub fn an_action_has_one_outcome()
 /// The transcript of actions on a region under EDF is one, and so is the state after them.
 pub fn a_transcript_is_one()
     ensures { (old : EdfState) (actions : List Action) (text other : List ℕ) (new another : EdfState)
-        → Runs Performs old actions text new → Runs Performs old actions other another
+        → PerformsAll Performs old actions text new → PerformsAll Performs old actions other another
         → (text ≡ other) × (new ≡ another) }
 {
     an_action_has_one_outcome();

@@ -32,8 +32,8 @@ key_with_text text =
     option_and_then (λ aid. option_map (λ pressed. (aid, pressed)) bytes) (aid_of (word text))
 
 -- a line that gives an event of the region
-abbrev pub does : Event → Line Action
-does e = line.Action (action.Event (edf.Plain e))
+abbrev pub event_line : Event → Line Action
+event_line e = line.Action (action.Event (edf.Plain e))
 
 -- ON or OFF of a terminal's EDF
 abbrev pub switch_of : List ℕ → Option Bool
@@ -68,17 +68,18 @@ line_asked_for verb text =
     else if is (codes "SOURCE")
     then option_and_then (λ name. source_line name (after_first_blank text)) (padded_name 8 (word text))
     else if is (codes "TRANSACTION")
-    then two_words (λ t p. does (event.Transaction t p)) (padded_name 4) (padded_name 8) text
-    else if is (codes "TERMINAL") then option_map (λ name. does (event.Terminal name)) (padded_name 4 text)
-    else if is (codes "CLOCK") then two_words (λ t d. does (event.Clock t d)) (number_of 6 6) (number_of 5 5) text
-    else if is (codes "KEY") then two_words (λ n key. does (event.Key n key.0 key.1)) (padded_name 4) key_with_text text
-    else if is (codes "TURN") then option_map (λ name. does (event.Turn name)) (padded_name 4 text)
+    then two_words (λ t p. event_line (event.Transaction t p)) (padded_name 4) (padded_name 8) text
+    else if is (codes "TERMINAL") then option_map (λ name. event_line (event.Terminal name)) (padded_name 4 text)
+    else if is (codes "CLOCK") then two_words (λ t d. event_line (event.Clock t d)) (number_of 6 6) (number_of 5 5) text
+    else if is (codes "KEY")
+    then two_words (λ n key. event_line (event.Key n key.0 key.1)) (padded_name 4) key_with_text text
+    else if is (codes "TURN") then option_map (λ name. event_line (event.Turn name)) (padded_name 4 text)
     else if is (codes "EDF") then two_words edf_switch (padded_name 4) switch_of text
     else if is (codes "DISPLAY")
     then option_and_then (λ name. display_line name (after_first_blank text)) (padded_name 4 (word text))
     else if is (codes "SCREEN") then option_map (λ name. line.Action (action.Screen name)) (padded_name 4 text)
     else if is (codes "ALTER")
-    then two_words (λ name change. does (event.Alter name change)) (padded_name 4) change_of text
+    then two_words (λ name change. event_line (event.Alter name change)) (padded_name 4) change_of text
     else None
 
 -- an empty line, or one that begins with an asterisk

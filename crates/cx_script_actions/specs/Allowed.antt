@@ -6,9 +6,9 @@ use Rattle.cx_script_actions.specs.declared.actions.Line.{Line}
 use Rattle.cx_script_actions.specs.declared.actions.Line.TheVariants as line
 
 -- an event as the region takes it
-abbrev pub IsAllowed : Action → Type 0
-IsAllowed (action.Event event) = IsAllowedEdf event
-IsAllowed _ = Unit {0}
+abbrev pub IsAllowedAction : Action → Type 0
+IsAllowedAction (action.Event event) = IsAllowedEdf event
+IsAllowedAction _ = Unit {0}
 
 -- a line whose action may be asked
 abbrev pub IsAllowedLine : {A : Type 0} → (A → Type 0) → Line A → Type 0

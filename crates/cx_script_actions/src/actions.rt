@@ -5,8 +5,8 @@ ghost use Rattle.std.specs.List.{find};
 ghost use Rattle.std.specs.Option.{option_copied};
 ghost use Rattle.cx_ebcdic.specs.Aids.{key_of};
 ghost use Rattle.std.specs.Str.{bytes_eq};
-ghost use Rattle.cx_script_actions.specs.Allowed.{IsAllowed, IsAllowedLine};
-ghost use Rattle.cx_script_actions.specs.Actions.{aid_of, line_asked_for, does, is_blank_or_comment, key_with_text, line_of, switch_of, wanted_of};
+ghost use Rattle.cx_script_actions.specs.Allowed.{IsAllowedAction, IsAllowedLine};
+ghost use Rattle.cx_script_actions.specs.Actions.{aid_of, line_asked_for, event_line, is_blank_or_comment, key_with_text, line_of, switch_of, wanted_of};
 
 use crate::alterations::change_of;
 use crate::words::{codes_of_key, name4, name8, number, split_word};
@@ -85,7 +85,7 @@ fn aid_of(name: &[u8]) -> Option<Aid>
 
 /// The line that asks an event of the region.
 fn event_line(event: Event) -> Line<Action>
-    ensures { result ≡ does event }
+    ensures { result ≡ event_line event }
 {
     Line::Action(Action::Event(EdfEvent::Plain(event)))
 }
@@ -157,7 +157,7 @@ fn transaction_line(text: &[u8]) -> Option<Line<Action>>
 #[tactic(auto, unfolding(crate::specs::Actions::line_asked_for))]
 fn clock_line(text: &[u8]) -> Option<Line<Action>>
     ensures value { result ≡ line_asked_for (codes "CLOCK") text.now }
-    ensures allowed { IfSome result (IsAllowedLine IsAllowed) }
+    ensures allowed { IfSome result (IsAllowedLine IsAllowedAction) }
 {
     let (word, rest) = split_word(text);
     let time = number(word, 6, 6)?;
@@ -186,7 +186,7 @@ fn key_with_text(alloc: Global, text: &[u8]) -> Result<Option<(Aid, Bytes)>, All
 fn key_line(alloc: Global, text: &[u8]) -> Result<Option<Line<Action>>, AllocError>
     ensures value { IfOk result (λ line. line ≡ line_asked_for (codes "KEY") text.now) }
     ensures memory { OnErr result (is_some (line_asked_for (codes "KEY") text.now) ≡ true) }
-    ensures allowed { IfOk result (λ line. IfSome line (IsAllowedLine IsAllowed)) }
+    ensures allowed { IfOk result (λ line. IfSome line (IsAllowedLine IsAllowedAction)) }
 {
     let (word, rest) = split_word(text);
     let (Some(name), Some(rest)) = (name4(word), rest) else {
@@ -215,7 +215,7 @@ fn switch_of(word: &[u8]) -> Option<bool>
 #[tactic(auto, unfolding(crate::specs::Actions::line_asked_for))]
 fn edf_line(text: &[u8]) -> Option<Line<Action>>
     ensures value { result ≡ line_asked_for (codes "EDF") text.now }
-    ensures allowed { IfSome result (IsAllowedLine IsAllowed) }
+    ensures allowed { IfSome result (IsAllowedLine IsAllowedAction) }
 {
     let (word, rest) = split_word(text);
     let name = name4(word)?;
@@ -231,7 +231,7 @@ fn edf_line(text: &[u8]) -> Option<Line<Action>>
 #[tactic(auto, unfolding(crate::specs::Actions::line_asked_for))]
 fn display_line(text: &[u8]) -> Option<Line<Action>>
     ensures value { result ≡ line_asked_for (codes "DISPLAY") text.now }
-    ensures allowed { IfSome result (IsAllowedLine IsAllowed) }
+    ensures allowed { IfSome result (IsAllowedLine IsAllowedAction) }
 {
     let (word, rest) = split_word(text);
     let name = name4(word)?;
@@ -246,7 +246,7 @@ fn display_line(text: &[u8]) -> Option<Line<Action>>
 #[tactic(auto, unfolding(crate::specs::Actions::line_asked_for))]
 fn alter_line(text: &[u8]) -> Option<Line<Action>>
     ensures value { result ≡ line_asked_for (codes "ALTER") text.now }
-    ensures allowed { IfSome result (IsAllowedLine IsAllowed) }
+    ensures allowed { IfSome result (IsAllowedLine IsAllowedAction) }
 {
     let (word, rest) = split_word(text);
     let name = name4(word)?;
@@ -259,7 +259,7 @@ fn alter_line(text: &[u8]) -> Option<Line<Action>>
 fn asked(alloc: Global, verb: &[u8], text: &[u8]) -> Result<Option<Line<Action>>, AllocError>
     ensures value { IfOk result (λ line. line ≡ line_asked_for verb.now text.now) }
     ensures memory { OnErr result (is_some (line_asked_for verb.now text.now) ≡ true) }
-    ensures allowed { IfOk result (λ line. IfSome line (IsAllowedLine IsAllowed)) }
+    ensures allowed { IfOk result (λ line. IfSome line (IsAllowedLine IsAllowedAction)) }
 {
     if verb == b"IMAGE".as_slice() {
         Ok(image_line(text))
@@ -300,7 +300,7 @@ fn is_blank_or_comment(text: &[u8]) -> bool
 pub fn line_of(alloc: Global, text: &[u8]) -> Result<Option<Line<Action>>, AllocError>
     ensures value { IfOk result (λ line. line ≡ line_of text.now) }
     ensures memory { OnErr result (is_some (line_of text.now) ≡ true) }
-    ensures allowed { IfOk result (λ line. IfSome line (IsAllowedLine IsAllowed)) }
+    ensures allowed { IfOk result (λ line. IfSome line (IsAllowedLine IsAllowedAction)) }
 {
     if is_blank_or_comment(text) {
         return Ok(Some(Line::Blank));

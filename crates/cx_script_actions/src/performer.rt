@@ -2,7 +2,7 @@
 
 ghost use Rattle.std.specs.Prelude.{◌≡◌, ◌∷◌, [], ℕ, List as Elements, IfOk, IfSome, OnErr, is_some, true};
 ghost use Rattle.std.specs.Option.{option_map_or};
-ghost use Rattle.cx_script_actions.specs.Allowed.{IsAllowed, IsAllowedLine};
+ghost use Rattle.cx_script_actions.specs.Allowed.{IsAllowedAction, IsAllowedLine};
 ghost use Rattle.cx_script_actions.specs.Language.{Language, edf_language};
 
 use crate::actions::{Action, Heading, Line, line_of};
@@ -20,14 +20,14 @@ pub trait ScriptAction: Drop {
 
     /// The action that the end of a block gives, as one of these.
     fn of_block(action: Action) -> Self
-        requires { IsAllowed action }
+        requires { IsAllowedAction action }
         ensures value { result ≡ language.of_block action }
         ensures allowed { allowed result };
 
     /// The action that the end of a source's block gives, as one of these: by its program's name, its lines, and the action that
     /// they are made into.
     fn of_source(name: Name8, lines: Vec<List<u8>>, action: Action) -> Self
-        requires { IsAllowed action }
+        requires { IsAllowedAction action }
         ensures value { result ≡ language.of_source name lines.items action }
         ensures allowed { allowed result };
 
@@ -77,7 +77,7 @@ pub trait ScriptAction: Drop {
 impl ScriptAction for Action {
     ghost language = { edf_language };
 
-    ghost allowed = { IsAllowed };
+    ghost allowed = { IsAllowedAction };
 
     fn of_block(action: Action) -> Action {
         action

@@ -48,7 +48,7 @@ pub fn split_line(bytes: &[u8]) -> Option<(&[u8], &[u8])>
     }
 }
 
-/// The bytes in front of a place.
+/// The first `end` bytes.
 pub fn in_front(bytes: &[u8], end: usize) -> &[u8]
     requires { end ≤ length bytes.now }
     ensures { result.now ≡ take end bytes.now }

@@ -6,7 +6,7 @@ use Rattle.cx_script.specs.Language.{Language}
 use Rattle.cx_script_io.specs.declared.devices.DeviceFault.{DeviceFault}
 use Rattle.cx_script_blocks.specs.declared.faults.RunFault.TheVariants as fault
 use Rattle.cx_script_main.specs.Program.{RanFrom, unread_run}
-use Rattle.cx_script_main.specs.Start.{RunsFile, RunsOn}
+use Rattle.cx_script_main.specs.Start.{RunsFile, RunsOnDevices}
 use Rattle.cx_script_main.specs.declared.program.Run.{Run}
 
 -- a run over what was opened
@@ -14,7 +14,7 @@ runs_opened : {A S D E : Type 0} (language : Language A) (performs : S → A →
     (reads writes : D → Option (List ℕ) → D → Type 0) (opened : Result D E) (run : Run)
     → IfOk opened (λ devices. IfOk performer (λ start. RanFrom language performs start reads writes devices run))
     → IfOk opened (λ devices. OnErr performer (run.answer ≡ Err fault.Memory)) → IfOk opened (λ devices. keeps ≡ false → run.read ≡ None)
-    → IfOk opened (λ devices. RunsOn language performs performer keeps reads writes devices run)
+    → IfOk opened (λ devices. RunsOnDevices language performs performer keeps reads writes devices run)
 runs_opened language performs performer keeps reads writes (Ok devices) run h k n = record { ran = h; unmade = k; unkept = n }
 runs_opened language performs performer keeps reads writes (Err why) run h k n = tt
 
@@ -24,6 +24,6 @@ pub runs_file : {H A S D : Type 0} (opens : H → List ℕ → Result D DeviceFa
     → IfOk opened (λ devices. IfOk performer (λ start. RanFrom language performs start reads writes devices run))
     → IfOk opened (λ devices. OnErr performer (run.answer ≡ Err fault.Memory)) → IfOk opened (λ devices. keeps ≡ false → run.read ≡ None)
     → OnErr opened (run ≡ unread_run)
-    → RunsFile opens (RunsOn language performs performer keeps reads writes) old path run new
+    → RunsFile opens (RunsOnDevices language performs performer keeps reads writes) old path run new
 runs_file opens language performs performer keeps reads writes old new path opened run given h k n u =
     record { opened = opened; given = given; ran = runs_opened language performs performer keeps reads writes opened run h k n; unopened = u }

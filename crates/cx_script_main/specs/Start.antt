@@ -15,7 +15,7 @@ use Rattle.cx_script_main.specs.declared.program.Refusal.{Refusal}
 use Rattle.cx_script_main.specs.declared.program.Refusal.TheVariants.{Usage, Memory}
 
 -- A run over devices, on a performer that was to be made. What is read is kept only where that is asked.
-pub record RunsOn {A S D : Type 0} (language : Language A) (performs : S → A → List ℕ → S → Type 0)
+pub record RunsOnDevices {A S D : Type 0} (language : Language A) (performs : S → A → List ℕ → S → Type 0)
     (performer : Result S AllocError) (keeps : Bool) (reads writes : D → Option (List ℕ) → D → Type 0) (devices : D)
     (run : Run) : Type 0 where
   pub ran : IfOk performer (λ start. RanFrom language performs start reads writes devices run)
@@ -62,7 +62,7 @@ ObeysGiven runs (Ok words) old outcome new = Obeys runs (file_of words) old outc
 ObeysGiven runs (Err refusal) old outcome new = (outcome ≡ Err refusal) × (new ≡ old)
 
 -- a host is asked for its words, and what they ask is done
-pub record Does {H : Type 0} (gives_words : H → Result (List (List ℕ)) Refusal → H → Type 0)
+pub record ObeysWords {H : Type 0} (gives_words : H → Result (List (List ℕ)) Refusal → H → Type 0)
     (runs : H → Option (List ℕ) → Run → H → Type 0) (old : H)
     (outcome : Result Run Refusal) (new : H) : Type 0 where
   pub words : Result (List (List ℕ)) Refusal
@@ -82,19 +82,19 @@ line_report_of (Ok run) = option_map shown_line (faulty_line run)
 line_report_of (Err refusal) = None
 
 -- a line is reported, or none is
-abbrev pub Reports : {H : Type 0} → (H → List ℕ → H → Type 0) → H → Option (List ℕ) → H → Type 0
-Reports reports old (Some line) new = reports old line new
-Reports reports old None new = new ≡ old
+abbrev pub ReportsLine : {H : Type 0} → (H → List ℕ → H → Type 0) → H → Option (List ℕ) → H → Type 0
+ReportsLine reports old (Some line) new = reports old line new
+ReportsLine reports old None new = new ≡ old
 
 -- A program that was started: what its words ask is done, then its outcome is reported, and after that the line of the
 -- script that its fault is of; and the status is that of the outcome.
-pub record Starts {H : Type 0} (gives_words : H → Result (List (List ℕ)) Refusal → H → Type 0)
+pub record ProgramStarts {H : Type 0} (gives_words : H → Result (List (List ℕ)) Refusal → H → Type 0)
     (runs : H → Option (List ℕ) → Run → H → Type 0) (reports : H → List ℕ → H → Type 0)
     (usage : List ℕ) (old : H) (status : ℕ) (new : H) : Type 0 where
   pub outcome : Result Run Refusal
   pub between : H
-  pub does : Does gives_words runs old outcome between
+  pub does : ObeysWords gives_words runs old outcome between
   pub faulted : H
-  pub reported : Reports reports between (report_of usage outcome) faulted
-  pub shown : Reports reports faulted (line_report_of outcome) new
+  pub reported : ReportsLine reports between (report_of usage outcome) faulted
+  pub shown : ReportsLine reports faulted (line_report_of outcome) new
   pub is : status ≡ program_status outcome

@@ -1,7 +1,7 @@
 //! Devices of which what was read is kept.
 
 ghost use Rattle.std.specs.Prelude.{◌≡◌, ◌++◌, [], IfSome, None, Some, if◌then◌else◌};
-ghost use Rattle.cx_script_main.specs.Parts.Keeping.{Keeps, KeepsRead, LeavesKept};
+ghost use Rattle.cx_script_main.specs.Parts.Keeping.{KeepsBytesRead, KeepsRead, LeavesKept};
 
 use cx_base_lists::List;
 use cx_script_io::{DeviceFault, ScriptDevices, ScriptIn, ScriptOut, in_front};
@@ -51,7 +51,7 @@ fn with_more(before: List<u8>, bytes: &[u8]) -> Option<List<u8>>
 
 /// Keeps the bytes that a read gave.
 fn keep(kept: &mut Option<List<u8>>, bytes: &[u8])
-    ensures { Keeps kept.old (Some bytes.now) kept.new }
+    ensures { KeepsBytesRead kept.old (Some bytes.now) kept.new }
 {
     if let Some(before) = kept.take() {
         *kept = with_more(before, bytes);

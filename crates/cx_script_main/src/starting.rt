@@ -4,7 +4,7 @@ ghost use Rattle.std.specs.Option.{option_map};
 ghost use Rattle.std.specs.Result.{result_err};
 ghost use Rattle.std.specs.Process.{exit_status};
 ghost use Rattle.cx_script_blocks.specs.Faults.{fault_line};
-ghost use Rattle.cx_script_main.specs.Start.{Does, Reports, RunsFile, RunsInput, RunsOn, RunsScript, Starts, line_report_of, report_of};
+ghost use Rattle.cx_script_main.specs.Start.{ObeysWords, ReportsLine, RunsFile, RunsInput, RunsOnDevices, RunsScript, ProgramStarts, line_report_of, report_of};
 
 use crate::host::Host;
 use crate::program::{Refusal, Run, program_status, run_opened};
@@ -22,7 +22,7 @@ fn run_file<P: Performer + Drop, H: Host>(
     keeps: bool,
     path: &str,
 ) -> Run
-    ensures { let runs = RunsOn P.Action.language P.performs performer keeps H.File.reads H.File.writes in
+    ensures { let runs = RunsOnDevices P.Action.language P.performs performer keeps H.File.reads H.File.writes in
         RunsFile H.opens runs host.old path.now result host.new }
 {
     let opened = host.open(path);
@@ -36,7 +36,7 @@ fn run_input<P: Performer + Drop, H: Host>(
     performer: Result<P, AllocError>,
     keeps: bool,
 ) -> Run
-    ensures { let runs = RunsOn P.Action.language P.performs performer keeps H.Input.reads H.Input.writes in
+    ensures { let runs = RunsOnDevices P.Action.language P.performs performer keeps H.Input.reads H.Input.writes in
         RunsInput H.takes_input runs host.old result host.new }
 {
     let input = host.input();
@@ -51,8 +51,8 @@ fn run<P: Performer + Drop, H: Host>(
     keeps: bool,
     file: Option<&str>,
 ) -> Run
-    ensures { let runs_file = RunsOn P.Action.language P.performs performer keeps H.File.reads H.File.writes in
-        let runs_input = RunsOn P.Action.language P.performs performer keeps H.Input.reads H.Input.writes in
+    ensures { let runs_file = RunsOnDevices P.Action.language P.performs performer keeps H.File.reads H.File.writes in
+        let runs_input = RunsOnDevices P.Action.language P.performs performer keeps H.Input.reads H.Input.writes in
         let path = option_map (λ it. it.now) file.entry in
         RunsScript H.opens runs_file H.takes_input runs_input host.old path result host.new }
 {
@@ -69,10 +69,10 @@ fn outcome_of<P: Performer + Drop, H: Host>(
     performer: Result<P, AllocError>,
     keeps: bool,
 ) -> Result<Run, Refusal>
-    ensures { let runs_file = RunsOn P.Action.language P.performs performer keeps H.File.reads H.File.writes in
-        let runs_input = RunsOn P.Action.language P.performs performer keeps H.Input.reads H.Input.writes in
+    ensures { let runs_file = RunsOnDevices P.Action.language P.performs performer keeps H.File.reads H.File.writes in
+        let runs_input = RunsOnDevices P.Action.language P.performs performer keeps H.Input.reads H.Input.writes in
         let runs = RunsScript H.opens runs_file H.takes_input runs_input in
-        Does H.gives_words runs host.old result host.new }
+        ObeysWords H.gives_words runs host.old result host.new }
 {
     let words = host.words()?;
     let file = file_in(alloc, &words)?;
@@ -81,7 +81,7 @@ fn outcome_of<P: Performer + Drop, H: Host>(
 
 /// Reports the fault of a run on standard error.
 fn report_fault<H: Host>(host: &mut H, answer: Result<Summary, RunFault>)
-    ensures { Reports H.reports host.old (option_map fault_line (result_err answer)) host.new }
+    ensures { ReportsLine H.reports host.old (option_map fault_line (result_err answer)) host.new }
 {
     match answer {
         Ok(_) => {}
@@ -91,7 +91,7 @@ fn report_fault<H: Host>(host: &mut H, answer: Result<Summary, RunFault>)
 
 /// Reports a fault, or why the words are refused, on standard error.
 fn report<H: Host>(host: &mut H, usage: &str, outcome: &Result<Run, Refusal>)
-    ensures { Reports H.reports host.old (report_of usage.now outcome.now) host.new }
+    ensures { ReportsLine H.reports host.old (report_of usage.now outcome.now) host.new }
 {
     match outcome {
         Ok(run) => report_fault(host, run.answer),
@@ -102,7 +102,7 @@ fn report<H: Host>(host: &mut H, usage: &str, outcome: &Result<Run, Refusal>)
 
 /// Reports the line of the script that a fault is of, where what was read is kept.
 fn report_line<H: Host>(host: &mut H, outcome: &Result<Run, Refusal>)
-    ensures { Reports H.reports host.old (line_report_of outcome.now) host.new }
+    ensures { ReportsLine H.reports host.old (line_report_of outcome.now) host.new }
 {
     let Ok(run) = outcome else {
         return;
@@ -124,10 +124,12 @@ pub fn start<P: Performer + Drop, H: Host>(
     usage: &str,
     shows_lines: bool,
 ) -> ExitCode
-    ensures { let runs_file = RunsOn P.Action.language P.performs performer shows_lines H.File.reads H.File.writes in
-        let runs_input = RunsOn P.Action.language P.performs performer shows_lines H.Input.reads H.Input.writes in
+    ensures { let runs_file = RunsOnDevices P.Action.language P.performs performer shows_lines
+        H.File.reads H.File.writes in
+        let runs_input = RunsOnDevices P.Action.language P.performs performer shows_lines
+        H.Input.reads H.Input.writes in
         let runs = RunsScript H.opens runs_file H.takes_input runs_input in
-        Starts H.gives_words runs H.reports usage.now host.old (exit_status result) host.new }
+        ProgramStarts H.gives_words runs H.reports usage.now host.old (exit_status result) host.new }
 {
     let outcome = outcome_of(host, alloc, performer, shows_lines);
     report(host, usage, &outcome);

@@ -1,6 +1,6 @@
+mod FirstLemmas
 mod ForeverLemmas
 mod ListLemmas
-mod LoopLemmas
 mod MarkLemmas
 mod NextLemmas
 mod OrderLemmas

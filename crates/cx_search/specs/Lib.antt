@@ -5,4 +5,5 @@ pub mod Finds
 pub mod Forever
 pub mod Rest
 pub mod Laws
+pub mod Facts
 pub mod Marks

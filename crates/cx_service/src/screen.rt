@@ -84,13 +84,13 @@ fn show_lines(rows: &mut [[u8; COLUMNS]; ROWS], text: &[u8])
             None => return,
         };
         let (line, after) = first_line(current);
-        rows[i] = filled_line(line);
+        rows[i] = full_line(line);
         left = after;
     }
 }
 
 /// A line filled with blanks.
-fn filled_line(line: &[u8]) -> [u8; COLUMNS]
+fn full_line(line: &[u8]) -> [u8; COLUMNS]
     requires { length line.now ≤ COLUMNS }
     ensures { result ≡ full_line line.now }
 {

@@ -6,7 +6,7 @@ ghost use Rattle.cx_source.specs.Faults.{goes_on, line_faults, source_or_faults}
 ghost use Rattle.cx_source.specs.Mended.{is_cut_off, source_read, text_kept, texts_read};
 
 use crate::faults::fault_of;
-use crate::lines::{columns, text_of, trimmed};
+use crate::lines::{columns, text_of, trim_blanks};
 use crate::source::{Items, Source, SourceFault, Text};
 use crate::statements::{is_continued, is_last, items_of};
 use cx_base_lists::List;
@@ -53,7 +53,7 @@ fn text_kept(cut_off: bool, text: &[u8]) -> &[u8]
     ensures { result.now ≡ text_kept cut_off text.now }
 {
     if cut_off {
-        return trimmed(columns(text, WRITTEN.0, WRITTEN.1));
+        return trim_blanks(columns(text, WRITTEN.0, WRITTEN.1));
     }
     text
 }

@@ -15,7 +15,7 @@ const MARK: usize = 72;
 const NAME_MAX: usize = 8;
 
 /// A text without the blanks at its end.
-pub fn trimmed(text: &[u8]) -> &[u8]
+pub fn trim_blanks(text: &[u8]) -> &[u8]
     ensures { result.now ≡ trim_blanks text.now }
 {
     let mut len = text.len();
@@ -79,7 +79,7 @@ pub(crate) fn columns(text: &[u8], first: usize, last: usize) -> &[u8]
 pub fn text_of(line: &[u8]) -> &[u8]
     ensures { result.now ≡ text_of line.now }
 {
-    trimmed(columns(line, 1, MARK))
+    trim_blanks(columns(line, 1, MARK))
 }
 
 /// Whether the continuation column isn't blank.

@@ -13,7 +13,7 @@ pub type Text = List<u8>;
 /// A list of lines.
 pub type Items = List<Item>;
 
-/// A statement.
+/// A statement in its three fields; what continues it is joined, and remarks are left out.
 #[derive(Debug, Drop)]
 pub struct Stmt {
     /// The name, empty where there is none.
@@ -39,7 +39,7 @@ impl Stmt {
     }
 }
 
-/// A line of a source.
+/// A line of a source, with the statement that begins on it.
 #[derive(Debug, Drop)]
 pub struct Item {
     /// The line's number, from 1.
@@ -69,7 +69,7 @@ impl Item {
     }
 }
 
-/// A source.
+/// A source that was read without a fault.
 #[derive(Debug, Drop)]
 pub struct Source {
     /// The lines up to END's, in order.

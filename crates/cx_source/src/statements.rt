@@ -4,7 +4,7 @@ ghost use Rattle.std.specs.Prelude.{◌≡◌, ◌++◌, ◌||◌, if◌then◌e
 ghost use Rattle.cx_source.specs.Lines.{is_comment, is_marked};
 ghost use Rattle.cx_source.specs.Statements.{is_continued, is_last, items_from, operand_in, statement_of, written_on};
 
-use crate::lines::{columns, entries_of, is_comment, is_end, is_marked, skip_blanks, trimmed};
+use crate::lines::{columns, entries_of, is_comment, is_end, is_marked, skip_blanks, trim_blanks};
 use crate::marks::{Delimiter, first_mark};
 use crate::source::{Item, Stmt, Text};
 use cx_base_lists::List;
@@ -59,7 +59,7 @@ fn written(
 fn operand_in<'a>(operation: &[u8], written: &'a [u8]) -> &'a [u8]
     ensures { result.now ≡ operand_in operation.now written.now }
 {
-    let text = trimmed(skip_blanks(written));
+    let text = trim_blanks(skip_blanks(written));
     if operation == b"EXEC".as_slice() {
         return text;
     }

@@ -13,7 +13,7 @@ pub fn address_in(word: u32) -> u32
 }
 
 /// The address `k` bytes after `a`; after X'FFFFFF' comes 0.
-pub fn along(a: u32, k: u32) -> u32
+pub fn address_after(a: u32, k: u32) -> u32
     ensures value { result ≡ address_after a k }
     ensures short { result < 2 ^ 24 }
 {
@@ -25,5 +25,5 @@ pub fn next_address(a: u32) -> u32
     ensures value { result ≡ address_after a 1 }
     ensures short { result < 2 ^ 24 }
 {
-    along(a, 1)
+    address_after(a, 1)
 }

@@ -2,7 +2,7 @@
 
 ghost use Rattle.cx_storage.specs.Laws.Areas.{AreasApart, PresentInAreas, SameStorage, FreshArea, AreasFreed, AreaIsPresent, NextArea};
 ghost use Rattle.cx_storage.specs.Laws.Spans.{SpanIsBytes, TogetherIsPresent, AreaIsTogether};
-ghost use Rattle.cx_storage.specs.Laws.Writes.{ByteAfterSet, ByteAfterWrite, NothingWritten, SpanAfterWrite, SpanAside, WriteKeepsAreas, SetKeepsAreas, OthersStay};
+ghost use Rattle.cx_storage.specs.Laws.Writes.{ByteAfterSet, ByteAfterWrite, NothingWritten, SpanAfterWrite, SpanAside, WriteKeepsAreas, SetKeepsAreas, WritesKeepOthers};
 ghost use Rattle.cx_storage.specs.Laws.Places.{PlaceIsFree, PlaceDecides};
 ghost use Rattle.cx_storage.specs.Laws.Sound.{SoundKept};
 ghost use Rattle.cx_storage.specs.Laws.Words.{WordAfterWrite};
@@ -21,7 +21,7 @@ pub fn store_is_aligned<S: Store>(_store: &S)
     ensures { AreAligned (S.storage _store.now) }
 {}
 
-/// No two areas meet.
+/// In sound storage no two areas have an address in common.
 pub fn areas_apart()
     ensures { AreasApart }
 {}
@@ -31,7 +31,7 @@ pub fn present_in_areas()
     ensures { PresentInAreas }
 {}
 
-/// Areas and bytes decide storage.
+/// Sound storages with the same areas and the same byte at each address are the same.
 pub fn same_storage()
     ensures { SameStorage }
 {}
@@ -57,7 +57,7 @@ pub fn together_is_present()
     ensures area { AreaIsTogether }
 {}
 
-/// What one byte written leaves.
+/// A byte written is at its address where there was one before, and every other byte is as it was.
 pub fn byte_after_set()
     ensures { ByteAfterSet }
 {}
@@ -68,7 +68,7 @@ pub fn byte_after_write()
     ensures nothing { NothingWritten }
 {}
 
-/// What a span reads after a write.
+/// After a write its own span reads what was written; a span that meets none of its addresses reads as before.
 pub fn span_after_write()
     ensures same { SpanAfterWrite }
     ensures aside { SpanAside }
@@ -79,37 +79,37 @@ pub fn write_keeps_areas()
     ensures { WriteKeepsAreas }
 {}
 
-/// Nor does one byte written.
+/// One byte written changes no area and no presence.
 pub fn set_keeps_areas()
     ensures { SetKeepsAreas }
 {}
 
 /// A write into some areas leaves the bytes of all others.
 pub fn others_stay()
-    ensures { OthersStay }
+    ensures { WritesKeepOthers }
 {}
 
-/// What an area put in leaves.
+/// An area that is put in at a place has zeros; all other bytes and areas are as before.
 pub fn fresh_area()
     ensures { FreshArea }
 {}
 
-/// What areas freed leave.
+/// Of areas that are freed no byte is left; all others are as before.
 pub fn areas_freed()
     ensures { AreasFreed }
 {}
 
-/// What a place is.
+/// An area can be placed exactly at a multiple of 16 at which all of it lies in the range and no byte of it is present.
 pub fn place_is_free()
     ensures { PlaceIsFree }
 {}
 
-/// There is one least place at most.
+/// Of a range and a length there is at most one least place.
 pub fn place_decides()
     ensures { PlaceDecides }
 {}
 
-/// Every change keeps storage sound.
+/// Sound storage stays sound by each change: bytes written, an area put in at a least place, areas freed.
 pub fn sound_kept()
     ensures { SoundKept }
 {}

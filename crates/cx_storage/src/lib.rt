@@ -10,7 +10,7 @@ pub mod laws;
 mod stores;
 mod word;
 
-pub use address::{address_in, along, next_address};
+pub use address::{address_after, address_in, next_address};
 pub use areas::{Area, Kind, Owner};
 pub use flat::FlatStore;
 pub use stores::Store;

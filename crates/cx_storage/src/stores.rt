@@ -120,6 +120,16 @@ pub trait Store {
         true
     }
 
+    /// The `n` bytes (at most 65,536) from `a` (below 2^24) on, where they are at hand. It may be None with all bytes present:
+    /// then `slice` or `read` has them.
+    fn slice_fast(&self, a: u32, n: usize) -> Option<&[u8]>
+        requires address { a < 2 ^ 24 }
+        requires size { n ≤ 65536 }
+        ensures bytes { IfSome result (λ part. span (storage self.now) a n ≡ Some part.now) }
+    {
+        self.slice(a, n)
+    }
+
     /// Writes the bytes (at most 65,536) from `a` (below 2^24) on, where all of them are at hand. False, and no
     /// change, elsewhere, even with all addresses in areas: then `write` writes them.
     fn write_fast(&mut self, a: u32, bytes: &[u8]) -> bool

@@ -113,6 +113,11 @@ impl<S: Store + Drop> Store for KeepingStore<S> {
     }
 
     #[inline(always)]
+    fn slice_fast(&self, a: u32, n: usize) -> Option<&[u8]> {
+        self.store.slice_fast(a, n)
+    }
+
+    #[inline(always)]
     fn fetch(&mut self, a: u32) -> Option<[u8; 8]> {
         let slot = slot_of(a);
         if self.slots[slot] == a {

@@ -5,7 +5,7 @@ use Rattle.std.proofs.lemmas.Option.{slice_get_read}
 use Rattle.std.proofs.lemmas.List.{length-replicate}
 use Rattle.std.proofs.lemmas.Bool.{cases_Bool, cases_eq, eq-eqb, ne_eqb, le-ltb, lt-ltb, le-leb, lt-leb, cases_lt}
 use Rattle.cx_storage_pages.specs.declared.page.Page.{Page}
-use Rattle.cx_storage_pages.specs.Parts.Change.{is_within, Changes, Writes, Fills, zero_to, Holds}
+use Rattle.cx_storage_pages.specs.Parts.Change.{is_within, Changes, Writes, Fills, zero_to, HoldsBytes}
 use Rattle.cx_storage_pages.specs.Parts.Frame.{HasAll, Skips}
 use Rattle.cx_storage_pages.specs.Parts.Page.{is_made}
 use Rattle.cx_storage_pages.specs.Pages.{page_byte, byte_in_pages}
@@ -249,7 +249,7 @@ has_all_whole ps a n p fits h e all = λ x low high.
     rw (there_at ps (a / 4096) p x (at_index ps (a / 4096) p h e) page) here
 
 pub part_there : (ps : List Page) (a n : ℕ) (p : Page) (bytes : List ℕ) → a % 4096 + n ≤ 4096 → a / 4096 < length ps → p ≡ get_or ps (a / 4096) p
-    → Holds (page_byte p) (a % 4096) n bytes → Holds (byte_in_pages ps) a n bytes
+    → HoldsBytes (page_byte p) (a % 4096) n bytes → HoldsBytes (byte_in_pages ps) a n bytes
 part_there ps a n p bytes fits h e each = λ x low high.
     let page : x / 4096 ≡ a / 4096 = omega arith in
     let place : x % 4096 - a % 4096 ≡ x - a = omega arith in

@@ -13,7 +13,7 @@ use Rattle.cx_storage.specs.Facts.Areas.{together_present}
 use Rattle.cx_storage.specs.Facts.Writes.{written_whole, areas_after_write, byte_after_write, present_after_write}
 use Rattle.cx_storage.specs.declared.areas.Area.{Area}
 use Rattle.cx_storage_pages.specs.declared.page.Page.{Page}
-use Rattle.cx_storage_pages.specs.Parts.Change.{Writes, Holds}
+use Rattle.cx_storage_pages.specs.Parts.Change.{Writes, HoldsBytes}
 use Rattle.cx_storage_pages.specs.Parts.Frame.{HasAll}
 use Rattle.cx_storage_pages.specs.Pages.{byte_in_pages, storage_of}
 use Rattle.cx_storage_pages.specs.Parts.Shown.{IsShown}
@@ -31,7 +31,7 @@ span_all areas pages a n shown la fits e = λ x low high.
 
 -- a span lent
 pub part_span : (areas : List Area) (pages : List Page) (a n : ℕ) (bytes : List ℕ) → IsShown areas pages → a < 2 ^ 24 → a % 4096 + n ≤ 4096 → length bytes ≡ n
-    → Holds (byte_in_pages pages) a n bytes → span (storage_of areas pages) a n ≡ Some bytes
+    → HoldsBytes (byte_in_pages pages) a n bytes → span (storage_of areas pages) a n ≡ Some bytes
 part_span areas pages a n bytes shown la fits len each = span_from (storage_of areas pages) a n bytes la len (λ k h.
     let next : address_after a k ≡ a + k = omega arith in
     let back : a + k - a ≡ k = omega arith in

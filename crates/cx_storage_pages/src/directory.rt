@@ -1,7 +1,7 @@
 //! The directory: the pages, by their addresses divided by 4,096.
 
 ghost use Rattle.std.specs.Prelude.{◌≡◌, ◌≢◌, ℕ, ◌+◌, ◌-◌, ◌*◌, ◌/◌, ◌%◌, ◌<◌, ◌≤◌, ◌^◌, ◌==◌, ◌&&◌, ◌⊎◌, true, false, length, replicate, Some, None, is_some, nat_le, nat_lt, slice_get, if◌then◌else◌, IsSome, IfSome, OnSome, OnOk};
-ghost use Rattle.cx_storage_pages.specs.Parts.Change.{Sets, Marks, Writes, Fills, zero_to, Holds};
+ghost use Rattle.cx_storage_pages.specs.Parts.Change.{Sets, Marks, Writes, Fills, zero_to, HoldsBytes};
 ghost use Rattle.cx_storage_pages.specs.Parts.Frame.{HasAll, Skips};
 ghost use Rattle.cx_storage_pages.specs.Parts.Directory.{has_page};
 ghost use Rattle.cx_storage_pages.specs.Pages.{byte_in_pages};
@@ -98,7 +98,7 @@ pub(crate) fn make_in(
 /// The `n` bytes from `a` on, where all of them are in one page and present.
 #[inline(always)]
 pub(crate) fn part_in(pages: &Vec<Page>, a: u32, n: usize) -> Option<&[u8]>
-    ensures there { IfSome result (λ part. Holds (byte_in_pages pages.now.items) a n part.now) }
+    ensures there { IfSome result (λ part. HoldsBytes (byte_in_pages pages.now.items) a n part.now) }
     ensures len { IfSome result (λ part. length part.now ≡ n) }
     ensures together { OnSome result (a % 4096 + n ≤ 4096) }
     ensures gap { 0 < n → a % 4096 + n ≤ 4096 → HasAll (byte_in_pages pages.now.items) a (a + n)
@@ -107,6 +107,21 @@ pub(crate) fn part_in(pages: &Vec<Page>, a: u32, n: usize) -> Option<&[u8]>
     let i = a as usize / 4096;
     if i < pages.len() {
         pages[i].part(a as usize % 4096, n)
+    } else {
+        None
+    }
+}
+
+/// The `n` bytes from `a` on, where they are few, in one page, and present.
+#[inline(always)]
+pub(crate) fn part_fast_in(pages: &Vec<Page>, a: u32, n: usize) -> Option<&[u8]>
+    ensures there { IfSome result (λ part. HoldsBytes (byte_in_pages pages.now.items) a n part.now) }
+    ensures len { IfSome result (λ part. length part.now ≡ n) }
+    ensures together { OnSome result (a % 4096 + n ≤ 4096) }
+{
+    let i = a as usize / 4096;
+    if i < pages.len() {
+        pages[i].part_fast(a as usize % 4096, n)
     } else {
         None
     }

@@ -4,7 +4,7 @@
 ghost use Rattle.std.specs.Prelude.{◌≡◌, ℕ, ◌+◌, ◌-◌, ◌*◌, ◌/◌, ◌%◌, ◌<◌, ◌≤◌, ◌==◌, ◌&&◌, ◌⊎◌, true, false, length, replicate, Some, None, is_some, nat_le, nat_lt, slice_get, slice_index, slice_range, min, max, if◌then◌else◌, MatchOption, IsSome, IfSome, OnSome};
 ghost use Rattle.cx_storage_pages.specs.Facts.Reach.{Reaches-prop};
 ghost use Rattle.cx_storage_pages.specs.Facts.Runs.{AllFree-prop, RunsAre-prop};
-ghost use Rattle.cx_storage_pages.specs.Parts.Change.{is_within, Changes, Recounts, Sets, Writes, Fills, zero_to, Holds};
+ghost use Rattle.cx_storage_pages.specs.Parts.Change.{is_within, Changes, Recounts, Sets, Writes, Fills, zero_to, HoldsBytes};
 ghost use Rattle.cx_storage_pages.specs.Parts.Reach.{Reaches, is_row};
 ghost use Rattle.cx_storage_pages.specs.Parts.Runs.{AllFree, IsRuns, RunsAre};
 
@@ -248,6 +248,17 @@ impl Frame {
         self.has_each(from, to)
     }
 
+    /// Whether there are `n` bytes from the place `from` on, all of them present, where they are few and a row has this granule
+    /// and the next one, which are both on the page then.
+    #[inline(always)]
+    fn holds_few(&self, from: usize, n: usize) -> bool
+        requires { from < 4096 }
+        ensures fits { result ≡ true → from + n ≤ 4096 }
+        ensures all { result ≡ true → HasAll (frame_byte self.now) from (from + n) }
+    {
+        n <= 16 && self.counts[from / 16] >= 32
+    }
+
     /// Whether there are `n` bytes from the place `from` on, all of them present.
     #[inline(always)]
     fn holds(&self, from: usize, n: usize) -> bool
@@ -256,9 +267,7 @@ impl Frame {
         ensures all { result ≡ true → HasAll (frame_byte self.now) from (from + n) }
         ensures gap { from + n ≤ 4096 → HasAll (frame_byte self.now) from (from + n) → result ≡ true }
     {
-        let first = from / 16;
-        // Mostly they are few, and a row has this granule and the next one, which are both on the page then.
-        if n <= 16 && self.counts[first] >= 32 {
+        if self.holds_few(from, n) {
             return true;
         }
         if n > 4096 - from {
@@ -271,12 +280,27 @@ impl Frame {
     #[inline(always)]
     pub(crate) fn part(&self, from: usize, n: usize) -> Option<&[u8]>
         requires { from < 4096 }
-        ensures there { IfSome result (λ part. Holds (frame_byte self.now) from n part.now) }
+        ensures there { IfSome result (λ part. HoldsBytes (frame_byte self.now) from n part.now) }
         ensures len { IfSome result (λ part. length part.now ≡ n) }
         ensures fits { OnSome result (from + n ≤ 4096) }
         ensures gap { from + n ≤ 4096 → HasAll (frame_byte self.now) from (from + n) → IsSome result }
     {
         if self.holds(from, n) {
+            Some(&self.bytes[from..from + n])
+        } else {
+            None
+        }
+    }
+
+    /// The `n` bytes from the place `from` on, where they are few and present.
+    #[inline(always)]
+    pub(crate) fn part_fast(&self, from: usize, n: usize) -> Option<&[u8]>
+        requires { from < 4096 }
+        ensures there { IfSome result (λ part. HoldsBytes (frame_byte self.now) from n part.now) }
+        ensures len { IfSome result (λ part. length part.now ≡ n) }
+        ensures fits { OnSome result (from + n ≤ 4096) }
+    {
+        if self.holds_few(from, n) {
             Some(&self.bytes[from..from + n])
         } else {
             None

@@ -1,7 +1,7 @@
 //! Pages: each has its frame from the first area on that touches it.
 
 ghost use Rattle.std.specs.Prelude.{◌≡◌, ℕ, ◌+◌, ◌-◌, ◌/◌, ◌%◌, ◌<◌, ◌≤◌, ◌*◌, ◌==◌, ◌&&◌, ◌⊎◌, true, false, length, replicate, Some, None, is_some, nat_le, nat_lt, slice_get, if◌then◌else◌, IsSome, IfSome, OnSome, OnOk, OnErr};
-ghost use Rattle.cx_storage_pages.specs.Parts.Change.{Sets, Marks, Writes, Holds};
+ghost use Rattle.cx_storage_pages.specs.Parts.Change.{Sets, Marks, Writes, HoldsBytes};
 ghost use Rattle.cx_storage_pages.specs.Parts.Frame.{HasAll, Skips};
 ghost use Rattle.cx_storage_pages.specs.Parts.Page.{is_made};
 ghost use Rattle.cx_storage_pages.specs.Pages.{page_byte};
@@ -97,13 +97,28 @@ impl Page {
     #[inline(always)]
     pub(crate) fn part(&self, from: usize, n: usize) -> Option<&[u8]>
         requires { from < 4096 }
-        ensures there { IfSome result (λ part. Holds (page_byte self.now) from n part.now) }
+        ensures there { IfSome result (λ part. HoldsBytes (page_byte self.now) from n part.now) }
         ensures len { IfSome result (λ part. length part.now ≡ n) }
         ensures fits { OnSome result (from + n ≤ 4096) }
         ensures gap { 0 < n → from + n ≤ 4096 → HasAll (page_byte self.now) from (from + n) → IsSome result }
     {
         match &self.frame {
             Some(frame) => frame.part(from, n),
+            None => None,
+        }
+    }
+
+    /// The `n` bytes from the place `from` on, where they are few and present.
+    #[tactic(auto, unfolding(crate::specs::Pages::page_byte))]
+    #[inline(always)]
+    pub(crate) fn part_fast(&self, from: usize, n: usize) -> Option<&[u8]>
+        requires { from < 4096 }
+        ensures there { IfSome result (λ part. HoldsBytes (page_byte self.now) from n part.now) }
+        ensures len { IfSome result (λ part. length part.now ≡ n) }
+        ensures fits { OnSome result (from + n ≤ 4096) }
+    {
+        match &self.frame {
+            Some(frame) => frame.part_fast(from, n),
             None => None,
         }
     }

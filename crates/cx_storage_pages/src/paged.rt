@@ -8,7 +8,7 @@ ghost use Rattle.cx_storage_pages.specs.Pages.{storage_of};
 use crate::page::Page;
 use crate::store::{
     byte_of, fill_at_hand_of, free_area_of, free_slot_of, get_of, has_span_of, place_of, read_of,
-    set_of, slice_of, write_at_hand_of, write_of,
+    set_of, slice_fast_of, slice_of, write_at_hand_of, write_of,
 };
 use crate::table::{area_of, next_of};
 use cx_storage::{Area, Owner, Store};
@@ -58,6 +58,11 @@ impl Store for PagedStore {
     #[inline(always)]
     fn slice(&self, a: u32, n: usize) -> Option<&[u8]> {
         slice_of(&self.areas, &self.pages, a, n)
+    }
+
+    #[inline(always)]
+    fn slice_fast(&self, a: u32, n: usize) -> Option<&[u8]> {
+        slice_fast_of(&self.areas, &self.pages, a, n)
     }
 
     fn has_span(&self, a: u32, n: usize) -> bool {

@@ -7,13 +7,13 @@ ghost use Rattle.cx_storage_pages.specs.Parts.Directory.{has_page};
 ghost use Rattle.cx_storage_pages.specs.Parts.Shown.{stored, IsShown};
 
 use crate::directory::{
-    byte_in, clear_in, fill_in, free_in, has_in, make_in, part_in, set_in, sum_in, tail_in,
-    used_in, write_in, zero_in,
+    byte_in, clear_in, fill_in, free_in, has_in, make_in, part_fast_in, part_in, set_in, sum_in,
+    tail_in, used_in, write_in, zero_in,
 };
 use crate::page::Page;
 use crate::table::spot_of;
 use cx_storage::laws::place_is_free;
-use cx_storage::{Area, Owner, along, next_address};
+use cx_storage::{Area, Owner, address_after, next_address};
 use std::alloc::{AllocError, Global};
 
 /// The byte at an address, where an area has it.
@@ -167,6 +167,21 @@ pub(crate) fn slice_of<'a>(
     part_in(pages, a, n)
 }
 
+/// The bytes of a span, where one page has all of it and they are few.
+#[inline(always)]
+pub(crate) fn slice_fast_of<'a>(
+    areas: &Vec<Area>,
+    pages: &'a Vec<Page>,
+    a: u32,
+    n: usize,
+) -> Option<&'a [u8]>
+    requires shown { IsShown areas.now.items pages.now.items }
+    requires address { a < 2 ^ 24 }
+    ensures bytes { IfSome result (λ part. span (stored areas.now pages.now) a n ≡ Some part.now) }
+{
+    part_fast_in(pages, a, n)
+}
+
 /// Whether each byte of a span is in an area.
 #[inline(never)]
 pub(crate) fn has_span_of(areas: &Vec<Area>, pages: &Vec<Page>, a: u32, n: usize) -> bool
@@ -181,7 +196,7 @@ pub(crate) fn has_span_of(areas: &Vec<Area>, pages: &Vec<Page>, a: u32, n: usize
         if !has_in(pages, at as usize, at as usize + step) {
             return false;
         }
-        at = along(at, step as u32);
+        at = address_after(at, step as u32);
         left -= step;
     }
     true
@@ -202,7 +217,7 @@ fn read_each(areas: &Vec<Area>, pages: &Vec<Page>, a: u32, buffer: &mut [u8]) ->
     }
     for k in 0..buffer.len() {
         // Each of the bytes is there by now.
-        buffer[k] = byte_of(areas, pages, along(a, k as u32)).unwrap_or(0);
+        buffer[k] = byte_of(areas, pages, address_after(a, k as u32)).unwrap_or(0);
     }
     true
 }

@@ -25,7 +25,7 @@ ghost use Rattle.cx_translate.specs.Call.{
 };
 
 use crate::due_arguments::condition_called;
-use crate::names::{bare, is_quoted};
+use crate::names::{bare_argument, is_quoted};
 use crate::refusals::{first_byte, second_byte};
 use crate::words::{Argument, Word};
 use cx_base_commands::{ArgumentKind, Command, CommandOption, CommonOption};
@@ -63,7 +63,7 @@ fn name_operand(alloc: Global, literal: &[u8], text: &[u8]) -> Result<Text, Allo
         return Text::from_slice(alloc, text);
     }
     let mut operand = Vec::from_slice(alloc, literal)?;
-    operand.extend_from_slice(bare(text))?;
+    operand.extend_from_slice(bare_argument(text))?;
     Ok(Text::from_vec(operand))
 }
 

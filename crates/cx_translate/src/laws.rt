@@ -32,7 +32,7 @@ pub fn accepted_bytes_are_legal()
         → is_legal command (first_byte command words) (second_byte words) ≡ true }
 {}
 
-/// So are the conditions that it lists.
+/// The conditions that an accepted HANDLE CONDITION or IGNORE CONDITION lists are legal for it.
 #[tactic(auto, using(crate::proofs::ListedLemmas::accepted_list))]
 pub fn accepted_conditions_are_legal()
     ensures { (line : ℕ) (command : Command) (cics named words : List Word) → lists_conditions command ≡ true

@@ -14,17 +14,17 @@ ghost use Rattle.cx_translate.specs.Names.{
   is_value,
 };
 
-use cx_source::{skip_blanks, trimmed};
+use cx_source::{skip_blanks, trim_blanks};
 
 /// An apostrophe.
 const APOSTROPHE: u8 = b'\'';
 
 /// An argument without the blanks round it.
 #[tactic(auto, unfolding(crate::specs::Names::bare_argument))]
-pub(crate) fn bare(text: &[u8]) -> &[u8]
+pub(crate) fn bare_argument(text: &[u8]) -> &[u8]
     ensures { result.now ≡ bare_argument text.now }
 {
-    trimmed(skip_blanks(text))
+    trim_blanks(skip_blanks(text))
 }
 
 /// Whether a text begins with an apostrophe.
@@ -42,7 +42,7 @@ fn begins_with_apostrophe(text: &[u8]) -> bool
 pub(crate) fn is_quoted(text: &[u8]) -> bool
     ensures { result ≡ is_quoted text.now }
 {
-    begins_with_apostrophe(bare(text))
+    begins_with_apostrophe(bare_argument(text))
 }
 
 /// Whether the text after an opening apostrophe ends with its last character, and not before.
@@ -116,7 +116,7 @@ pub(crate) fn is_name_or_place(text: &[u8], most: u8) -> bool
     ensures { result ≡ is_name_or_place most text.now }
 {
     if is_quoted(text) {
-        is_name_text(bare(text), most)
+        is_name_text(bare_argument(text), most)
     } else {
         has_written(text)
     }

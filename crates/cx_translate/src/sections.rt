@@ -193,7 +193,7 @@ pub(crate) fn lines(alloc: Global, line: usize, made: &[Stmt]) -> Result<Vec<Ite
 }
 
 /// How many of the next lines continue a statement that is or isn't continued.
-fn continuing(items: &[Item], mut continues: bool) -> usize
+fn continuation_count(items: &[Item], mut continues: bool) -> usize
     ensures value { result ≡ continuation_count continues items.now }
     ensures bound { result ≤ length items.now }
 {
@@ -208,14 +208,14 @@ fn continuing(items: &[Item], mut continues: bool) -> usize
 
 /// The place after the statement that begins at a place, and after the lines that continue it.
 #[tactic(auto, unfolding(crate::specs::Sections::place_after))]
-fn after(items: &[Item], place: usize) -> usize
+fn place_after(items: &[Item], place: usize) -> usize
     requires { place < length items.now }
     ensures value { result ≡ place_after items.now place }
     ensures bound { result ≤ length items.now }
 {
     let continues = is_continued(false, items[place].text.as_slice());
     let (_, rest) = items.split_at(place + 1);
-    place + 1 + continuing(rest, continues)
+    place + 1 + continuation_count(rest, continues)
 }
 
 /// Puts lines in at a place.
@@ -254,7 +254,7 @@ fn put_after(
     ensures { OnOk result (items.new.items ≡ put_after made.now place items.old.items) }
 {
     let made = lines(alloc, items[place].line, made)?;
-    let place = after(items.as_slice(), place);
+    let place = place_after(items.as_slice(), place);
     put(items, place, made)
 }
 

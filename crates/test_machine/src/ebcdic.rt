@@ -1,11 +1,11 @@
 //! Characters, names and keys against the reference card GX20-1850 and GA27-2739.
-use cx_ebcdic::{Aid, Name, Name4, Name8, TextFault, display, encode_line, to_ebcdic};
+use cx_ebcdic::{Aid, Name, Name4, Name8, TextFault, encode_line, shown_as, to_ebcdic};
 use std::alloc::Global;
 use std::test::Fail;
 
 /// Whether a character has this code, and the code shows it.
 fn has_code(character: char, code: u8) -> bool {
-    to_ebcdic(character) == Some(code) && display(code) == character
+    to_ebcdic(character) == Some(code) && shown_as(code) == character
 }
 
 #[test]
@@ -22,7 +22,7 @@ fn characters_have_their_codes(rt: HostRuntime) {
         assert!(rt; has_code(character, code), "{character}");
     }
     assert!(rt; to_ebcdic('{').is_none());
-    assert!(rt; display(0x00) == '.' && display(0xCA) == '.');
+    assert!(rt; shown_as(0x00) == '.' && shown_as(0xCA) == '.');
 }
 
 /// Whether a text is encoded so.

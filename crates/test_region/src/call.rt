@@ -75,7 +75,7 @@ fn return_without_options(rt: HostRuntime) -> Result<(), Fail> {
     let call = read(&store, 0x01_0018)?;
     assert!(rt; is_call(&call, Command::Return, 0, &[], None));
     assert!(rt; option(&call, OptionName::Transid) == (false, None));
-    assert!(rt; !call.is_nohandle());
+    assert!(rt; !call.has_nohandle());
     assert!(rt; lists(&call, &[]));
     Ok(())
 }
@@ -92,7 +92,7 @@ fn options_have_places_in_their_order(rt: HostRuntime) -> Result<(), Fail> {
     let places = [0x01_0030, 0x20_0000, 0x20_0008, 0x20_0010];
     let resp = Some(0x20_0010);
     assert!(rt; is_call(&call, Command::Link, 0xE0, &places, resp));
-    assert!(rt; call.is_nohandle());
+    assert!(rt; call.has_nohandle());
     assert!(rt; option(&call, OptionName::Program) == (true, Some(0x01_0030)));
     assert!(rt; option(&call, OptionName::Commarea) == (true, Some(0x20_0000)));
     assert!(rt; option(&call, OptionName::Length) == (true, Some(0x20_0008)));

@@ -1,4 +1,4 @@
-//! Tests of a program's levels and handles, of the services, and of sources, over their libraries' public calls.
+//! Tests of a program's levels and handles and of the services, over their libraries' public calls.
 #![tactic(auto)]
 
 #[cfg(test)]
@@ -7,5 +7,3 @@ mod program;
 mod replicas;
 #[cfg(test)]
 mod service;
-#[cfg(test)]
-mod source;

@@ -1,10 +1,12 @@
-//! Tests of the translator, over its public calls.
+//! Tests of sources and of the translator, over their libraries' public calls.
 #![tactic(auto)]
 
 #[cfg(test)]
 mod faults;
 #[cfg(test)]
 mod lists;
+#[cfg(test)]
+mod source;
 #[cfg(test)]
 mod sources;
 #[cfg(test)]

@@ -1,6 +1,6 @@
 //! Answers as a transcript has them. Printing them takes no memory.
 
-use cx_base_text::{shown_bytes, trimmed};
+use cx_base_text::{shown_bytes, trim};
 use cx_ebcdic::{Name4, Name8};
 use cx_edf::{Answer, EdfEvent};
 use cx_load::Loaded;
@@ -9,7 +9,7 @@ use std::io;
 
 /// Shown bytes as text, without the blanks at their end.
 pub fn as_text(shown: &[u8]) -> &str {
-    std::str::from_utf8(trimmed(shown)).unwrap_or("?")
+    std::str::from_utf8(trim(shown)).unwrap_or("?")
 }
 
 /// Prints a word and a terminal's or a transaction's name.

@@ -1,7 +1,7 @@
 //! Calls that take memory, each given once more where it is answered Memory.
 
 ghost use Rattle.std.specs.Prelude.{◌≡◌, [], IfOk, IfSome};
-ghost use Rattle.cx_script_actions.specs.Allowed.{IsAllowed, IsAllowedLine};
+ghost use Rattle.cx_script_actions.specs.Allowed.{IsAllowedAction, IsAllowedLine};
 ghost use Rattle.cx_edf.specs.Runs.{IsAllowedEdf};
 
 use cx_edf::{Answer, Debugged, EdfEvent};
@@ -37,7 +37,7 @@ pub fn begun_over_areas(alloc: Global) -> Result<Debugged<FlatStore>, AllocError
 
 /// What a line asks, as a region may be asked it.
 pub fn allowed_line(alloc: Global, line: &[u8]) -> Result<Option<Line<Action>>, AllocError>
-    ensures { IfOk result (λ line. IfSome line (IsAllowedLine IsAllowed)) }
+    ensures { IfOk result (λ line. IfSome line (IsAllowedLine IsAllowedAction)) }
 {
     match line_of(alloc, line) {
         Ok(line) => Ok(line),

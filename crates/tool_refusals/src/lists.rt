@@ -1,6 +1,6 @@
 //! Lists of events, line by line.
 
-ghost use Rattle.cx_script_actions.specs.Allowed.{IsAllowed, IsAllowedLine};
+ghost use Rattle.cx_script_actions.specs.Allowed.{IsAllowedAction, IsAllowedLine};
 ghost use Rattle.cx_edf.specs.Runs.{IsAllowedEdf};
 
 use crate::answers::{print_answer, print_refused};
@@ -84,7 +84,7 @@ impl<S: Store + Drop> List<S> {
 
     /// Does what a line asks that begins no block.
     fn action(&mut self, rt: &HostRuntime, action: Action) -> io::Result<()>
-        requires { IsAllowed action }
+        requires { IsAllowedAction action }
     {
         match action {
             Action::Event(event) => self.event(rt, &event),
@@ -111,7 +111,7 @@ impl<S: Store + Drop> List<S> {
 
     /// Does what a line asks, and the block after it where it begins one.
     fn line(&mut self, rt: &HostRuntime, line: Line<Action>, block: &[u8]) -> io::Result<()>
-        requires { IsAllowedLine IsAllowed line }
+        requires { IsAllowedLine IsAllowedAction line }
     {
         match line {
             Line::Blank | Line::Lines(_) => Ok(()),

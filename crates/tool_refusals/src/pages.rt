@@ -1,7 +1,7 @@
 //! Screens and displays as a transcript has them, and tasks. Printing them takes no memory.
 
 use crate::answers::as_text;
-use cx_base_text::{Page, shown_bytes, trimmed};
+use cx_base_text::{Page, shown_bytes, trim};
 use cx_ebcdic::Name4;
 use cx_edf::{Debugged, Display, PageName};
 use cx_region::TaskInfo;
@@ -17,7 +17,7 @@ const EIB_LEN: usize = 88;
 
 /// Prints a line of a page with its number, unless it is blank.
 fn print_line(rt: &HostRuntime, number: u32, line: &[u8]) -> io::Result<()> {
-    if trimmed(line).is_empty() {
+    if trim(line).is_empty() {
         return Ok(());
     }
     println!(rt; "{number:02}|{}", as_text(line))

@@ -152,7 +152,7 @@ fn are_places(
 fn is_command(case: &Case, call: &Call) -> bool {
     call.command().name() == case.command.as_str()
         && call.first() == case.first
-        && call.is_nohandle() == case.statement.as_str().contains("NOHANDLE")
+        && call.has_nohandle() == case.statement.as_str().contains("NOHANDLE")
         && call.resp().is_some() == case.statement.as_str().contains("RESP(")
         && call.conditions() == case.listed.as_slice()
 }

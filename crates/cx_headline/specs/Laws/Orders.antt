@@ -1,9 +1,12 @@
 -- What any order of turns and keys can do is what ORDERS writes of it.
-use Rattle.std.specs.Prelude.{◌≡◌, ◌↔◌, ℕ, List, Option, Some, None, IsSome, IsTrue, length, slice_get, Bool}
+use Rattle.std.specs.Prelude.{◌≡◌, ◌↔◌, ℕ, List, ◌++◌, Option, Some, None, IsSome, IsTrue, length, map, slice_get, Bool}
+use Rattle.std.specs.List.{AllByRecursion}
+use Rattle.std.specs.Map.{keys_of as names_of}
 use Rattle.cx_search.specs.Forever.{AtRest, IsLong}
 use Rattle.cx_search.specs.Rest.{IsNear}
 use Rattle.cx_region.specs.State.{RegionState}
 use Rattle.cx_edf.specs.Steps.{DisplayMaker}
+use Rattle.cx_edf.specs.declared.answers.EdfEvent.TheVariants as event
 use Rattle.cx_edf.specs.Laws.Edf.{AreAnsweredOff}
 use Rattle.cx_orders.specs.Moves.{Moves, begun}
 use Rattle.cx_orders.specs.declared.states.KeyLine.{KeyLine}
@@ -13,11 +16,13 @@ use Rattle.cx_look_orders.specs.Laws.{AskFor, IsRunOf}
 use Rattle.cx_look_orders.specs.Outcomes.{EndsWith, HasText, IsStuck, NoLater}
 use Rattle.cx_look_orders.specs.Report.{CutText, WholeText}
 use Rattle.cx_look_orders.specs.Rest.{RestText}
-use Rattle.cx_look_orders.specs.Script.{steps_lines}
+use Rattle.cx_look_orders.specs.Script.{script_lines, steps_lines}
 use Rattle.cx_look_orders.specs.Steps.{AreSteps, moves_of}
 use Rattle.cx_look_orders.specs.declared.outcomes.Outcome.{Outcome}
 use Rattle.cx_look_orders.specs.declared.steps.Step.{Step}
+use Rattle.cx_look.specs.Orders.{orders_block}
 use Rattle.cx_look.specs.declared.orders.OrdersBlock.{OrdersBlock}
+use Rattle.cx_look_script.specs.Laws.Orders.{AskForEvents, IsSpelled}
 use Rattle.cx_look_script.specs.Looking.{AreLookLines, ShowsOrders, at_region}
 use Rattle.cx_look_script.specs.Orders.{AreSeen, names_with_edf, sights_of}
 use Rattle.cx_look_script.specs.State.{LookState}
@@ -69,4 +74,13 @@ Seen block state region =
 -- so it is of whatever `cicslook` writes for a block of ORDERS
 abbrev pub OrdersAreTrue : Type 0
 OrdersAreTrue = (block : OrdersBlock) (state : LookState) (text : List ℕ) (is : ShowsOrders block state text)
-    → AreTrue (Seen block state) is.keys state.edf.region (names_with_edf state.edf) block.most is.lines
+    → AreTrue (Seen block state) block.keys state.edf.region (names_with_edf state.edf) block.most is.lines
+
+-- The lines that are written of steps are read as lines of a script, and ask for EDF OFF where EDF is on, and then for
+-- the very events that the steps are: where a text spells each terminal's name, of the keys of a block's lines.
+abbrev pub LinesAskForSteps : Type 0
+LinesAskForSteps = (most : ℕ) (lines : List (List ℕ)) (state : LookState) (steps : List Step) (to : OrdersState)
+    → AllByRecursion IsSpelled (names_of state.edf.region.terminals)
+    → (run : IsRunOf (orders_block most lines).keys (begun state.edf.region) steps to)
+    → AskForEvents (script_lines state.edf.region (orders_block most lines).keys (names_with_edf state.edf) steps)
+    (map event.Off (names_with_edf state.edf) ++ map event.Plain run.events)

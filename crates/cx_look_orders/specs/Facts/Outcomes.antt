@@ -1,5 +1,5 @@
 -- Steps lead as their moves do; and no two outcomes have one text.
-use Rattle.std.proofs.Common.{◌≡◌, ℕ, List, [], ◌∷◌, Option, Some, None, ◌⊎◌, inl, inr, sym, subst}
+use Rattle.std.proofs.Common.{List, None, Option, Some, [], arith, inl, inr, length, refl, subst, sym, ℕ, ◌+◌, ◌∷◌, ◌≡◌, ◌≤◌, ◌⊎◌}
 use Rattle.std.specs.Prelude.{MatchOption, slice_get}
 use Rattle.std.proofs.lemmas.Bool.{cases_order}
 use Rattle.cx_search.specs.Laws.{SoonerOrders}
@@ -15,6 +15,7 @@ use Rattle.cx_look_orders.specs.Rest.{RestText}
 use Rattle.cx_look_orders.specs.Steps.{AreSteps, IsStep, moves_of}
 use Rattle.cx_look_orders.specs.declared.outcomes.Outcome.{Outcome}
 use Rattle.cx_look_orders.specs.declared.steps.Step.{Step}
+use Rattle.cx_search.specs.Rest.{IsNear}
 
 -- ---- steps
 module _ (keys : List KeyLine) where
@@ -44,6 +45,16 @@ module _ (keys : List KeyLine) where
     rest = steps_lead are.between to steps are.rest;
   }
 
+-- a list of steps is as long as that of its moves
+pub many_moves : (steps : List Step) → length (moves_of steps) ≡ length steps
+many_moves [] = refl
+many_moves (step ∷ steps) = omega (arith, many_moves steps)
+
+-- ---- at most so many moves
+pub near_less : (cut : Option ℕ) (m n : ℕ) → m ≤ n → IsNear cut n → IsNear cut m
+near_less None m n l near = tt
+near_less (Some most) m n l near = omega (arith, l, near)
+
 -- of two lists neither is later
 pub both_soonest : SoonerOrders → (ms ns : List ℕ) → NoLater ms ns → NoLater ns ms → ms ≡ ns
 both_soonest sooner ms ns (inl e) later = e
@@ -62,15 +73,19 @@ module _ (Shows : RegionState → Lines → Type 0) (keys : List KeyLine) (start
   }
 
 -- they have one list of moves
-pub same_moves : SoonerOrders → (Shows : RegionState → Lines → Type 0) (keys : List KeyLine) (start : OrdersState) (cut : Option ℕ) (one other : Outcome)
-    → IsOutcome Shows keys start cut one → IsOutcome Shows keys start cut other → one.text ≡ other.text → moves_of one.steps ≡ moves_of other.steps
+pub same_moves : SoonerOrders
+    → (Shows : RegionState → Lines → Type 0) (keys : List KeyLine) (start : OrdersState) (cut : Option ℕ)
+    (one other : Outcome)
+    → IsOutcome Shows keys start cut one → IsOutcome Shows keys start cut other → one.text ≡ other.text
+    → moves_of one.steps ≡ moves_of other.steps
 same_moves sooner Shows keys start cut one other is too e =
     both_soonest sooner (moves_of one.steps) (moves_of other.steps)
     (is.soonest (moves_of other.steps) (ends_with Shows keys start cut other one.text too (sym e)))
     (too.soonest (moves_of one.steps) (ends_with Shows keys start cut one other.text is e))
 
 -- and stand at one place
-pub texts_stand_once : SoonerOrders → (Shows : RegionState → Lines → Type 0) (keys : List KeyLine) → TextsStandOnce Shows keys
+pub texts_stand_once : SoonerOrders → (Shows : RegionState → Lines → Type 0) (keys : List KeyLine)
+    → TextsStandOnce Shows keys
 texts_stand_once sooner Shows keys start cut outcomes are j k one other at there e =
     let moves = same_moves sooner Shows keys start cut one other (are.each j one at) (are.each k other there) e in
     elim (cases_order j k) [

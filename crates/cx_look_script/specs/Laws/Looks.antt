@@ -4,7 +4,7 @@ use Rattle.std.specs.List.{flat_map}
 use Rattle.cx_script_actions.specs.Effects.{Performs}
 use Rattle.cx_script_actions.specs.declared.actions.Action.{Action}
 use Rattle.cx_script_actions.specs.declared.actions.Action.TheVariants as edf_action
-use Rattle.cx_script.specs.Transcript.{Runs}
+use Rattle.cx_script.specs.Transcript.{PerformsAll}
 use Rattle.cx_look_words.specs.Marked.{IsOfLooks}
 use Rattle.cx_look.specs.declared.look.Look.{Look}
 use Rattle.cx_look.specs.declared.orders.OrdersBlock.{OrdersBlock}
@@ -34,7 +34,7 @@ turn_action name = edf_action.Event (turn_of name)
 -- a turn of RUN, or the line with which it ends in front of the turn
 pub record IsTurnOfRun (there : LookState) (name : List ℕ) (s : Stop) (part : Part) : Type 0 where
   pub line : Option (List ℕ)
-  pub stops : StopsWith s there.edf name line
+  pub stops : StopsWith s there.sources there.edf name line
   pub is : MatchOption line ((part.plain ≡ turn_action name ∷ []) × (part.looked ≡ []))
       (λ l. (part.plain ≡ []) × (part.looked ≡ l))
 
@@ -73,7 +73,7 @@ kept_after old _ plain new = new
 unfoldable pub ArePartsOf : LookState → List LookAction → List Part → LookState → Type 0
 ArePartsOf old [] [] new = new ≡ old
 ArePartsOf old (a ∷ actions) (part ∷ parts) new =
-    (done between : LookState) × IsPart old a part × Runs NotedPerforms old part.plain part.written done
+    (done between : LookState) × IsPart old a part × PerformsAll NotedPerforms old part.plain part.written done
     × (between ≡ kept_after old a part.plain done) × (part.watched ≡ watched_text old (cause_of a) between)
     × ArePartsOf between actions parts new
 ArePartsOf old _ _ new = ⊥
@@ -93,12 +93,12 @@ text_of part = part.written ++ part.looked ++ part.watched
 pub record ChangesNothing (old : LookState) (actions : List LookAction) (text : List ℕ) (new : LookState) : Type 0 where
   pub parts : List Part
   pub each : ArePartsOf old actions parts new
-  pub runs : Runs Performs old.edf (flat_map plain_of parts) (flat_map written_of parts) new.edf
+  pub runs : PerformsAll Performs old.edf (flat_map plain_of parts) (flat_map written_of parts) new.edf
   pub whole : text ≡ flat_map text_of parts
 
 abbrev pub LooksChangeNothing : Type 0
 LooksChangeNothing = (old : LookState) (actions : List LookAction) (text : List ℕ) (new : LookState)
-    → Runs LookPerforms old actions text new → ChangesNothing old actions text new
+    → PerformsAll LookPerforms old actions text new → ChangesNothing old actions text new
 
 -- what is written for a look is lines of looks
 abbrev pub LooksAreMarked : Type 0

@@ -6,7 +6,7 @@ use Rattle.cx_script_actions.specs.declared.actions.Action.{Action}
 use Rattle.cx_script_blocks.specs.declared.faults.RunFault.TheVariants.{BadLine}
 use Rattle.cx_script_io.specs.declared.input.Ending.{Ending}
 use Rattle.cx_script.specs.Script.{Script, script_in}
-use Rattle.cx_script.specs.Transcript.{Runs}
+use Rattle.cx_script.specs.Transcript.{PerformsAll}
 use Rattle.cx_look_script.specs.Looking.{LookPerforms}
 use Rattle.cx_look_script.specs.Reading.{look_language}
 use Rattle.cx_look_script.specs.State.{LookState}
@@ -39,5 +39,5 @@ ScriptsStay = (ending : Ending) (bytes : List ℕ) → HasNoBadLine (script_in e
 -- and where nothing is watched its actions write the same, from the same state to the same state
 abbrev pub ActionsStay : Type 0
 ActionsStay = (old : LookState) (actions : List LookAction) (plain : List Action) (text : List ℕ) (new : LookState)
-    → ArePlain actions plain → old.watched ≡ [] → Runs LookPerforms old actions text new
-    → Runs Performs old.edf plain text new.edf
+    → ArePlain actions plain → old.watched ≡ [] → PerformsAll LookPerforms old actions text new
+    → PerformsAll Performs old.edf plain text new.edf

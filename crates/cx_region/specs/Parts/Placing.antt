@@ -51,7 +51,8 @@ abbrev pub input_of : Aid → List ℕ → Input
 input_of aid bytes = record { aid = aid; bytes = bytes }
 
 -- a task that is ready to be attached: its areas are made, and it, its level and its input are there
-pub record IsReady (storage : Storage) (start : Start) (number : ℕ) (input : Input) (places : Places) (level : NewLevel)
+pub record IsReadyTask (storage : Storage) (start : Start) (number : ℕ) (input : Input) (places : Places)
+    (level : NewLevel)
     (task : TaskState) (held : Input) (after : Storage) : Type 0 where
   pub placed : ArePlaced storage (system_owner start.slot) start.calen start.loaded.stg_len places
   pub made : after ≡ with_task_areas storage (system_owner start.slot) start.calen start.loaded.stg_len places

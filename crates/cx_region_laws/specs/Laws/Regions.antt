@@ -56,8 +56,8 @@ TurnsDecide = (old : RegionState) (name : List ℕ) (reply other : TurnReply) (n
     → TakesTurn old name reply new → TakesTurn old name other later → (reply ≡ other) × (new ≡ later)
 
 -- two outcomes of one run are equal
-abbrev pub RunsDecide : Type 0
-RunsDecide = (old : RegionState) (events : List Event) (replies others : List Reply) (new later : RegionState)
+abbrev pub RegionRunsDecide : Type 0
+RegionRunsDecide = (old : RegionState) (events : List Event) (replies others : List Reply) (new later : RegionState)
     → Run old events replies new → Run old events others later → (replies ≡ others) × (new ≡ later)
 
 -- ---- what stays
@@ -152,8 +152,8 @@ RefusedTerminalsLeaveTheRegion = (old : RegionState) (name : List ℕ) (fault : 
 
 -- ---- runs
 -- a run, and a run from where it ends, are one run of all their events
-abbrev pub RunsJoin : Type 0
-RunsJoin = (old between new : RegionState) (events more : List Event) (replies others : List Reply)
+abbrev pub RegionRunsJoin : Type 0
+RegionRunsJoin = (old between new : RegionState) (events more : List Event) (replies others : List Reply)
     → Run old events replies between → Run between more others new → Run old (events ++ more) (replies ++ others) new
 
 -- a run of events and more is a run of the events with as many replies, and one of the others from where it ends

@@ -36,8 +36,8 @@ without_copy None storage = storage
 without_copy (Some copying) storage = with_areas_kept (starts_elsewhere copying.to) storage
 
 -- of len bytes from one address on, and as many from another on, none of the first is one of the second
-abbrev pub AreApart : ℕ → ℕ → ℕ → Type 0
-AreApart from to len = (k : ℕ) → k < len → len ≤ distance to (address_after from k)
+abbrev pub AreBlocksApart : ℕ → ℕ → ℕ → Type 0
+AreBlocksApart from to len = (k : ℕ) → k < len → len ≤ distance to (address_after from k)
 
 -- the bytes of a copy are in storage, and so are those that they replace, which lie beside them
 pub record IsCopyable (copying : Copying) (storage : Storage) : Type 0 where
@@ -45,7 +45,7 @@ pub record IsCopyable (copying : Copying) (storage : Storage) : Type 0 where
   pub below : copying.to + copying.from.len ≤ 2 ^ 24
   pub source : is_some (piece_bytes storage copying.from) ≡ true
   pub there : is_some (span storage copying.to copying.from.len) ≡ true
-  pub apart : AreApart copying.from.place copying.to copying.from.len
+  pub apart : AreBlocksApart copying.from.place copying.to copying.from.len
 
 abbrev pub MatchCopy : Option Copying → Storage → Type 0
 MatchCopy None storage = ⊤

@@ -11,7 +11,7 @@ use Rattle.cx_edf.specs.declared.answers.EdfEvent.TheVariants as edf_event
 use Rattle.cx_edf.specs.State.{EdfState}
 use Rattle.cx_edf.specs.Runs.{EdfRun}
 use Rattle.cx_script_actions.specs.Texts.{answer_text}
-use Rattle.cx_script.specs.Transcript.{Runs}
+use Rattle.cx_script.specs.Transcript.{PerformsAll}
 use Rattle.cx_script_actions.specs.Effects.{Performs}
 use Rattle.cx_script_actions.specs.declared.actions.Action.{Action}
 use Rattle.cx_script_actions.specs.declared.actions.Action.TheVariants as action
@@ -61,4 +61,4 @@ pub record IsRun (old : EdfState) (actions : List Action) (written : List ℕ) (
 
 abbrev pub ScriptsRunTheirEvents : Type 0
 ScriptsRunTheirEvents = (old : EdfState) (actions : List Action) (text : List ℕ) (new : EdfState)
-    → Runs Performs old actions text new → IsRun old actions text new
+    → PerformsAll Performs old actions text new → IsRun old actions text new

@@ -13,7 +13,7 @@ use Rattle.cx_script_actions.specs.Language.{Language}
 use Rattle.cx_script_blocks.specs.declared.faults.RunFault.{RunFault}
 use Rattle.cx_script_blocks.specs.declared.faults.RunFault.TheVariants.{BadLine, Read, Write, Memory}
 use Rattle.cx_script_blocks.specs.declared.faults.Summary.{Summary}
-use Rattle.cx_script.specs.Transcript.{Ends, Runs, Wrote}
+use Rattle.cx_script.specs.Transcript.{EndsScript, PerformsAll, Wrote}
 
 -- what is written is kept as a list of bytes
 abbrev pub logs : List ℕ → Option (List ℕ) → List ℕ → Type 0
@@ -49,7 +49,7 @@ pub record RefusedAmong {A S : Type 0} (performs : S → A → List ℕ → S �
   pub asked : actions ≡ done ++ action ∷ left
   pub mid : S
   pub text : List ℕ
-  pub runs : Runs performs old done text mid
+  pub runs : PerformsAll performs old done text mid
   pub is : refused mid action new
   pub written : Sends logs before after text
 
@@ -60,14 +60,14 @@ pub record UnwrittenAmong {A S : Type 0} (performs : S → A → List ℕ → S 
   pub left : List A
   pub asked : actions ≡ done ++ left
   pub text : List ℕ
-  pub runs : Runs performs old done text new
+  pub runs : PerformsAll performs old done text new
   pub written : SentFront logs before after text
 
 -- actions and their texts, by what was answered
 unfoldable pub Acted : {A S : Type 0} → (S → A → List ℕ → S → Type 0) → (S → A → S → Type 0) → List A → S
     → DeviceOutput (List ℕ) → Result (Unit {0}) RunFault → S → DeviceOutput (List ℕ) → Type 0
 Acted performs refused actions old before (Ok done) new after =
-    (text : List ℕ) × Runs performs old actions text new × Sends logs before after text
+    (text : List ℕ) × PerformsAll performs old actions text new × Sends logs before after text
 Acted performs refused actions old before (Err Memory) new after =
     RefusedAmong performs refused actions old before new after
 Acted performs refused actions old before (Err Write) new after = UnwrittenAmong performs actions old before new after
@@ -79,7 +79,7 @@ pub record Acting {A S : Type 0} (language : Language A) (performs : S → A →
   pub done : List A
   pub asked : actions_of language first ≡ done ++ actions_of language due
   pub text : List ℕ
-  pub runs : Runs performs old done text new
+  pub runs : PerformsAll performs old done text new
   pub written : Sends logs before after text
 
 -- the transcript of these actions is written, or waits
@@ -114,7 +114,7 @@ TakesLine performs number due old before (Err Write) new after place =
     DoneOf (λ own. SentSome performs old own before after) (actions_due due)
 TakesLine performs number due old before (Err fault) new after place = (due ≡ Err fault) × (after ≡ before)
 TakesLine {A} performs number due old before (Ok done) new after place =
-    (step : Step A) × (due ≡ Ok step) × (place ≡ step.place) × (text : List ℕ) × Runs performs old step.actions text new
+    (step : Step A) × (due ≡ Ok step) × (place ≡ step.place) × (text : List ℕ) × PerformsAll performs old step.actions text new
     × Sends logs before after text
 
 -- Some lines are done, after n others and in this block: however the script goes on, what it asks is their actions, and
@@ -124,7 +124,7 @@ pub record Took {A S : Type 0} (language : Language A) (performs : S → A → L
     (after : DeviceOutput (List ℕ)) : Type 0 where
   pub done : List A
   pub text : List ℕ
-  pub runs : Runs performs old done text new
+  pub runs : PerformsAll performs old done text new
   pub written : Sends logs before after text
   pub asks : (ending : Ending) (more : List (List ℕ))
       → script_from language ending (n + 1) block (lines ++ more)
@@ -189,10 +189,10 @@ abbrev pub InTime : {A S : Type 0} → Language A → (S → A → List ℕ → 
 InTime language performs start calls =
     (before after : List Call) (bytes : Option (List ℕ)) → calls ≡ before ++ Reading bytes ∷ after
     → ((why : Ending) → IsEnding before why → ⊥)
-    × Ends language performs start Failed (given before) (Err Read) (taken before)
+    × EndsScript language performs start Failed (given before) (Err Read) (taken before)
 
 -- what a run from a script's beginning has read so far, and how far it has come in that: nothing waits
-pub record Seen {A S D : Type 0} (language : Language A) (performs : S → A → List ℕ → S → Type 0) (start : S)
+pub record SeenSoFar {A S D : Type 0} (language : Language A) (performs : S → A → List ℕ → S → Type 0) (start : S)
     (reads writes : D → Option (List ℕ) → D → Type 0) (before now : D) (read : ℕ) (new : S) (m : ℕ) (next : Place)
     (part : List ℕ) : Type 0 where
   pub calls : List Call

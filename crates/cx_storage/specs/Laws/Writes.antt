@@ -49,8 +49,8 @@ SetKeepsAreas = (s : Storage) (a v : ℕ)
     × ((b n : ℕ) → is_some (span (with_byte s a v) b n) ≡ is_some (span s b n))
 
 -- a write into areas that the test names leaves each byte of the other areas
-abbrev pub OthersStay : Type 0
-OthersStay =
+abbrev pub WritesKeepOthers : Type 0
+WritesKeepOthers =
     (s : Storage) (a : ℕ) (bytes : List ℕ) (mine : Area → Bool) (x : ℕ) → a < 2 ^ 24 → x < 2 ^ 24
     → length bytes ≤ 2 ^ 24
     → ((k : ℕ) → k < length bytes → option_map_or mine (holder s (address_after a k)) false ≡ true)

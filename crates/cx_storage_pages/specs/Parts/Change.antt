@@ -35,5 +35,5 @@ abbrev pub Marks : Bool → ℕ → ℕ → ℕ → (ℕ → Option ℕ) → (�
 Marks made first end to old new = (made ≡ true) ⊎ (to ≡ 0) → Fills first end (zero_to to) old new
 
 -- the n bytes from the place a on are those of a list
-abbrev pub Holds : (ℕ → Option ℕ) → ℕ → ℕ → List ℕ → Type 0
-Holds at a n bytes = (k : ℕ) → a ≤ k → k < a + n → at k ≡ slice_get bytes (k - a)
+abbrev pub HoldsBytes : (ℕ → Option ℕ) → ℕ → ℕ → List ℕ → Type 0
+HoldsBytes at a n bytes = (k : ℕ) → a ≤ k → k < a + n → at k ≡ slice_get bytes (k - a)

@@ -1,6 +1,3 @@
-use Rattle.cx_asm_operations.specs.declared.operations.Operation.TheVariants as operation
-use Rattle.std.proofs.Common.{refl}
-use Rattle.cx_code.specs.Table.{mnemonic_of}
 use Rattle.cx_asm_laws.proofs.ReassembledLemmas.{assembles_again}
 use Rattle.cx_asm_laws.proofs.laws.a_disassembly_is_assembled_again.Goals as goal
 
@@ -8,7 +5,7 @@ pub returns : goal.returns
 returns c =
     let apart = c.an_assembly_stands_apart.ensures in
     assembles_again
-    (record { named = λ op. (c.one_name.ensures (mnemonic_of op) (operation.Machine op)).1 refl; sizes = c.every_spelling.ensures.length })
+    (record { named = c.one_name.ensures.machine; sizes = c.every_spelling.ensures.length })
     c.what_is_resolved_is_well_formed.ensures
     (record { size = apart.size; short = apart.short; lines = apart.lines })
     c.what_was_assembled_comes_back.ensures.resolved

@@ -5,7 +5,7 @@ pub returns-clause-lines : goal.returns-clause-lines
 returns-clause-lines c = lines_are_statements
 
 pub returns-clause-instructions : goal.returns-clause-instructions
-returns-clause-instructions c = instructions_read c.one_name.ensures
+returns-clause-instructions c = instructions_read c.one_name.ensures.machine
 
 pub returns-clause-bytes : goal.returns-clause-bytes
 returns-clause-bytes c = bytes_read

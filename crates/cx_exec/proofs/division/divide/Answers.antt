@@ -11,7 +11,7 @@ returns c storage =
     let narrow : FitsSigned w64 c.signed.result = search rules in
     let first : FitsSigned w64 c.in-Some.found.0 = search rules in
     let second : FitsSigned w64 c.in-Some.found.1 = search rules in
-    divided_written _ _ _ _ _ _ _ _ _ _
+    rw (← c.updated.view_is) (divided_written _ _ _ _ _ _ _ _ _ _
     (to_z-of_z w64 c.signed_double-dividend.result wide ∙ c.signed_double-dividend.ensures ∙ ap signed_double c.pair.ensures)
     (to_z-of_z w64 c.signed.result narrow ∙ c.signed.ensures) c.in-Some.ensures.some
-    (c.word_of.ensures ∙ ap word_of (to_z-of_z w64 c.in-Some.found.1 second)) (c.word_of-2.ensures ∙ ap word_of (to_z-of_z w64 c.in-Some.found.0 first))
+    (c.word_of.ensures ∙ ap word_of (to_z-of_z w64 c.in-Some.found.1 second)) (c.word_of-2.ensures ∙ ap word_of (to_z-of_z w64 c.in-Some.found.0 first)))

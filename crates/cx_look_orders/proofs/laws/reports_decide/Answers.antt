@@ -1,7 +1,7 @@
 use Rattle.cx_look_orders.specs.Facts.Outcomes.{texts_stand_once}
 use Rattle.cx_orders.specs.Moves.{Moves}
-use Rattle.cx_look_orders.proofs.DecideLemmas as lemmas
-use Rattle.cx_look_orders.proofs.LoopLemmas.{bounded_never_loops}
+use Rattle.cx_look_orders.specs.Facts.Decides as lemmas
+use Rattle.cx_search.specs.Facts.Loops.{bounded_never_loops}
 use Rattle.cx_look_orders.proofs.laws.reports_decide.Goals as goal
 
 pub returns : goal.returns

@@ -3,7 +3,7 @@ use Rattle.std.specs.List.{filter}
 use Rattle.std.proofs.lemmas.Fn.{filter_same}
 use Rattle.cx_look_faults.specs.Faults.{faults_of}
 use Rattle.cx_look_faults.specs.declared.faults.FaultyLine.{FaultyLine}
-use Rattle.cx_look_script.specs.Faults.{is_kept}
+use Rattle.cx_look_faults.specs.Kept.{is_kept}
 use Rattle.cx_look_script.proofs.faults.kept_faults.Goals as goal
 
 same : (a b : List FaultyLine) → a ≡ b → filter is_kept a ≡ filter is_kept b

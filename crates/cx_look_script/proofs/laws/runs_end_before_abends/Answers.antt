@@ -5,4 +5,4 @@ pub returns-clause-ends : goal.returns-clause-ends
 returns-clause-ends c = end_before_abends c.calls_decide.ensures.turns
 
 pub returns-clause-decides : goal.returns-clause-decides
-returns-clause-decides c = stops_decide c.calls_decide.ensures.turns
+returns-clause-decides c = stops_decide c.calls_decide.ensures.turns c.turns_do_some.ensures.decides

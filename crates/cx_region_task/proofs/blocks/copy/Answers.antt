@@ -18,7 +18,7 @@ loop-done-preserved g c =
     copied_further s it.from.place it.to it.from.len c.loop-done.done n (take n c.loop-done.block) c.requires.from c.requires.below c.requires.source c.requires.there c.requires.apart
     (omega (arith, c.loop-done.invariant.0, few, c.from-len.ensures))
     (omega (arith, c.loop-done-test.true, few, c.from-len.ensures)) in
-    (omega (arith, c.loop-done.invariant.0, few), c.write.ensures.after ∙ rw (c.read.ensures.after, c.loop-done.invariant.1, c.along.ensures.value, size) further)
+    (omega (arith, c.loop-done.invariant.0, few), c.write.ensures.after ∙ rw (c.read.ensures.after, c.loop-done.invariant.1, c.address_after.ensures.value, size) further)
 
 pub returns : goal.returns
 returns g c =

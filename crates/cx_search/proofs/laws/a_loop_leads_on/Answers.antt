@@ -1,4 +1,4 @@
-use Rattle.cx_search.proofs.LoopLemmas.{bounded_never_loops, loop_leads_on}
+use Rattle.cx_search.specs.Facts.Loops.{bounded_never_loops, loop_leads_on}
 use Rattle.cx_search.proofs.laws.a_loop_leads_on.Goals as goal
 
 pub returns-clause-on : goal.returns-clause-on

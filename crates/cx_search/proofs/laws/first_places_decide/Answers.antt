@@ -1,5 +1,5 @@
 use Rattle.cx_search.specs.Forever.{CanRest, Loops}
-use Rattle.cx_search.proofs.LoopLemmas.{first_place_one}
+use Rattle.cx_search.proofs.FirstLemmas.{first_place_one}
 use Rattle.cx_search.proofs.laws.first_places_decide.Goals as goal
 
 pub returns : goal.returns

@@ -9,7 +9,7 @@ loop-i-init c = HasShown-none c.args.rows.now c.args.text.now
 pub loop-i-preserved : goal.loop-i-preserved
 loop-i-preserved c =
     let shown = subst (λ l. HasShown c.args.rows.now c.loop-i.rows c.args.text.now (option_map (λ left. left.now) l) c.loop-i.i) c.in-Some.is c.loop-i.invariant in
-    rw c.filled_line.ensures
+    rw c.full_line.ensures
     (HasShown-more c.args.rows.now c.loop-i.rows c.args.text.now c.in-Some.current.now c.first_line.result.0.now _ c.loop-i.i shown c.first_line.ensures.goes_on)
 
 pub returns-in-None : goal.returns-in-None

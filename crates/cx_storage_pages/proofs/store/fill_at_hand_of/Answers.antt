@@ -1,4 +1,4 @@
-use Rattle.std.proofs.Common.{◌≡◌, is_some, true, length, replicate, arith, inl, inr}
+use Rattle.std.proofs.Common.{arith, inl, inr}
 use Rattle.std.proofs.lemmas.Bool.{cases_Bool}
 use Rattle.cx_storage_pages.proofs.ChangeLemmas.{same_shows}
 use Rattle.cx_storage_pages.proofs.SpanLemmas.{span_there, fill_shows}

@@ -1,7 +1,7 @@
 use Rattle.std.proofs.Common.{arith, inl, inr, subst}
 use Rattle.cx_search.specs.Found.{IsAt}
 use Rattle.cx_search.proofs.ListLemmas.{item_at}
-use Rattle.cx_search.proofs.LoopLemmas.{first_loop}
+use Rattle.cx_search.proofs.FirstLemmas.{first_loop}
 use Rattle.cx_search.proofs.SearchLemmas.{at_within, below_next, match_false, match_true}
 use Rattle.cx_search.proofs.found.Found.first_looping.Goals as goal
 

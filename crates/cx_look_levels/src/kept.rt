@@ -1,0 +1,182 @@
+//! The fields of a working storage that was kept.
+ghost use Rattle.std.specs.Prelude.{◌≡◌, ◌≤◌, ◌++◌, IfOk, OnOk, None, drop, length};
+ghost use Rattle.std.specs.List.{flat_map};
+ghost use Rattle.cx_asm_pass1.specs.Locations.{IsPlaced, final_state};
+ghost use Rattle.cx_look_levels.specs.FieldTexts.{bytes_word};
+ghost use Rattle.cx_look_levels.specs.KeptFields.{first_bytes, kept_fields, kept_in_source, kept_line, kept_row, offset_in};
+
+use crate::field_texts::{count_of, field_words, word_of};
+use crate::fields::Field;
+use cx_asm_expressions::{Value, symbol_name};
+use cx_asm_pass1::{Places, place_all};
+use cx_ebcdic::{Name4, Name8};
+use cx_look_symbols::{Names, Symbol, is_control, names_of_places, translated_in};
+use cx_look_values::{NamedReading, Reading, reading_named, readings_of};
+use cx_look_words::Report;
+use cx_source::{Source, Text};
+use cx_storage::address_after;
+use std::alloc::{AllocError, Global};
+
+/// The offset of a symbol in the dummy section DFHEISTG, where that is in the first `count` bytes or right after them.
+fn offset_in(count: u32, value: &Value) -> Option<u32>
+    ensures { result ≡ offset_in count value.now }
+{
+    let storage = symbol_name(b"DFHEISTG");
+    if !is_control(value.section, storage) || value.number < 0 || value.number > i128::from(count) {
+        return None;
+    }
+    Some(value.number as u32)
+}
+
+/// The bytes from a place on; none where there are none.
+fn after(bytes: &[u8], place: usize) -> &[u8]
+    ensures { result.now ≡ drop place bytes.now }
+{
+    bytes.split_at(place.min(bytes.len())).1
+}
+
+/// The first bytes in hexadecimal digits and in characters, and the number that they are; hyphens where one of them isn't there.
+fn first_word(
+    alloc: Global,
+    bytes: &[u8],
+    count: usize,
+    reading: Option<Reading>,
+) -> Result<Vec<u8>, AllocError>
+    ensures { IfOk result (λ word. word.items ≡ bytes_word reading (first_bytes count bytes.now)) }
+{
+    if count > bytes.len() {
+        return b"--".to_vec(alloc);
+    }
+    word_of(alloc, bytes.split_at(count).0, reading)
+}
+
+/// Adds the line of a field by its offset in the bytes that were kept.
+fn kept_line(
+    report: &mut Report,
+    term: Name4,
+    readings: &[NamedReading],
+    at: u32,
+    bytes: &[u8],
+    name: Name8,
+    value: &Value,
+    offset: u32,
+) -> Result<(), AllocError>
+    ensures { let line = kept_line term readings.now at bytes.now name value.now offset in
+        OnOk result (report.new ≡ report.old ++ line) }
+{
+    let alloc = report.alloc();
+    let reading = reading_named(readings, name);
+    let first = after(bytes, offset as usize);
+    let word = first_word(alloc, first, count_of(value.length), reading)?;
+    let field = Field {
+        address: address_after(at, offset),
+        length: value.length,
+    };
+    field_words(report, term, name, field, &word)
+}
+
+/// Adds the line of a symbol, where it is a field of the working storage.
+fn kept_row(
+    report: &mut Report,
+    term: Name4,
+    readings: &[NamedReading],
+    at: u32,
+    bytes: &[u8],
+    name: Name8,
+    symbol: &Symbol,
+) -> Result<(), AllocError>
+    requires { length bytes.now ≤ 65520 }
+    ensures { let line = kept_row term readings.now at bytes.now (name, symbol.now) in
+        OnOk result (report.new ≡ report.old ++ line) }
+{
+    let Some(offset) = offset_in(bytes.len() as u32, &symbol.value) else {
+        return Ok(());
+    };
+    kept_line(
+        report,
+        term,
+        readings,
+        at,
+        bytes,
+        name,
+        &symbol.value,
+        offset,
+    )
+}
+
+/// Adds the lines of the symbols that are fields of the working storage.
+fn kept_rows(
+    report: &mut Report,
+    term: Name4,
+    readings: &[NamedReading],
+    at: u32,
+    bytes: &[u8],
+    names: &Names,
+) -> Result<(), AllocError>
+    requires { length bytes.now ≤ 65520 }
+    ensures { let line = kept_row term readings.now at bytes.now in
+        OnOk result (report.new ≡ report.old ++ flat_map line names.now.symbols.entries) }
+{
+    for (name, symbol) in names.symbols.iter() {
+        kept_row(report, term, readings, at, bytes, *name, symbol)?;
+    }
+    Ok(())
+}
+
+/// Adds the lines of the fields of a source that is placed.
+fn kept_placed(
+    report: &mut Report,
+    term: Name4,
+    at: u32,
+    bytes: &[u8],
+    source: &Source,
+    places: &Places<'_>,
+) -> Result<(), AllocError>
+    requires within { length bytes.now ≤ 65520 }
+    requires fault { (final_state source.now).fault ≡ None }
+    requires placed { IsPlaced (final_state source.now) places.now }
+    ensures { OnOk result (report.new ≡ report.old ++ kept_in_source term at bytes.now source.now) }
+{
+    let alloc = report.alloc();
+    let names = names_of_places(alloc, source, places)?;
+    let readings = readings_of(alloc, source)?;
+    kept_rows(report, term, readings.as_slice(), at, bytes, &names)
+}
+
+/// Adds the lines of the fields of a source.
+fn kept_in_source(
+    report: &mut Report,
+    term: Name4,
+    at: u32,
+    bytes: &[u8],
+    source: &Source,
+) -> Result<(), AllocError>
+    requires { length bytes.now ≤ 65520 }
+    ensures { OnOk result (report.new ≡ report.old ++ kept_in_source term at bytes.now source.now) }
+{
+    match place_all(report.alloc(), source)? {
+        Ok(places) => kept_placed(report, term, at, bytes, source, &places),
+        Err(_) => Ok(()),
+    }
+}
+
+/// Adds a line for each field of the working storage of a source with these lines, in the order of the source, by the bytes of that storage that
+/// were kept, the first of which was at an address: as `fields_text` has it. A field that isn't all in them has hyphens for its bytes.
+///
+/// An error comes only where memory was refused.
+#[tactic(auto, unfolding(crate::specs::KeptFields::kept_fields))]
+pub fn kept_fields(
+    report: &mut Report,
+    lines: &[Text],
+    term: Name4,
+    at: u32,
+    bytes: &[u8],
+) -> Result<(), AllocError>
+    requires { length bytes.now ≤ 65520 }
+    ensures { OnOk result (report.new ≡ report.old ++ kept_fields term lines.now at bytes.now) }
+{
+    let Some(source) = translated_in(report.alloc(), lines)? else {
+        return Ok(());
+    };
+    kept_in_source(report, term, at, bytes, &source)
+}

@@ -1,0 +1,290 @@
+-- One text is written of a region.
+use Rattle.std.proofs.Common.{◌≡◌, ℕ, zero, suc, ◌+◌, ◌<◌, ◌≤◌, List, [], ◌∷◌, ◌++◌, length, drop, Bool, true, false, true≢false, ◌||◌, get_or, Option, Some, None, ◌⊎◌, inl, inr, ap, refl, sym, subst, ◌∙◌, arith}
+use Rattle.std.specs.Prelude.{MatchBool, slice_get}
+use Rattle.std.specs.List.{IsDistinct, list_any}
+use Rattle.std.proofs.lemmas.Map.Keys.{IsDistinct-from_apart}
+use Rattle.std.proofs.lemmas.Map.Made.{length-le_from_is_member}
+use Rattle.std.specs.Map.{keys_of as names_of}
+use Rattle.std.proofs.lemmas.Bool.{cases_order}
+use Rattle.std.proofs.lemmas.Option.{none-some, same_Some, slice_get-get_or}
+use Rattle.cx_ebcdic.specs.Names.{is_name}
+use Rattle.cx_search.specs.Laws.{BoundedNeverLoop, SoonerOrders}
+use Rattle.cx_search.specs.Moves.{IsSooner}
+use Rattle.cx_region_laws.specs.Laws.Regions.{KeysKeepToTheirTerminal, TurnsKeepToTheirTask}
+use Rattle.cx_look_words.specs.Words.{Lines}
+use Rattle.cx_region.specs.State.{RegionState}
+use Rattle.cx_orders.specs.Facts.Same.{is_same, same_equivalence, same_is, same_state}
+use Rattle.cx_orders.specs.Laws.{MovesDecide}
+use Rattle.cx_orders.specs.Moves.{Moves, begun}
+use Rattle.cx_orders.specs.declared.states.KeyLine.{KeyLine}
+use Rattle.cx_orders.specs.declared.states.OrdersState.{OrdersState}
+use Rattle.cx_look_orders.specs.Laws.{ReportsDecide, TextsStandOnce}
+use Rattle.cx_look_orders.specs.Outcomes.{AllCanRest, AreOutcomes, AreReached, EndsWith, HasReached, HasStates, IsCutAt, IsOutcome, IsReached, IsStuck, MayLoop, NoLater}
+use Rattle.cx_look_orders.specs.Parts.Ways.{came_between}
+use Rattle.cx_look_orders.specs.Rest.{RestText}
+use Rattle.cx_look_orders.specs.Report.{cut_line, loop_lines, outcomes_lines, stuck_line, whole_line}
+use Rattle.cx_look_orders.specs.Steps.{AreSteps, moves_of}
+use Rattle.cx_look_orders.specs.declared.outcomes.Outcome.{Outcome}
+use Rattle.cx_look_orders.specs.declared.steps.Step.{Step}
+use Rattle.cx_look_orders.specs.Facts.Outcomes.{both_soonest, ends_with, many_moves, move_of, near_less, same_moves, steps_lead}
+use Rattle.cx_look_orders.specs.Facts.Steps.{key_of_step}
+
+-- ---- two sorted lists with the same items
+module _ {X : Type 0} (Less : X → X → Type 0) (never : (x : X) → Less x x → ⊥)
+    (onward : (x y z : X) → Less x y → Less y z → Less x z) where
+  abbrev Sorted : List X → Type 0
+  Sorted xs = (j k : ℕ) (x y : X) → j < k → slice_get xs j ≡ Some x → slice_get xs k ≡ Some y → Less x y
+
+  abbrev Within : List X → List X → Type 0
+  Within xs ys = (k : ℕ) (x : X) → slice_get xs k ≡ Some x → (j : ℕ) × (slice_get ys j ≡ Some x)
+
+  later_sorted : (x : X) (xs : List X) → Sorted (x ∷ xs) → Sorted xs
+  later_sorted x xs sorted j k y z l one other = sorted (suc j) (suc k) y z (omega (arith, l)) one other
+
+  -- the first of two sorted lists is the same
+  same_first : (x y : X) (xs ys : List X) → Sorted (x ∷ xs) → Sorted (y ∷ ys) → Within (x ∷ xs) (y ∷ ys)
+      → Within (y ∷ ys) (x ∷ xs) → x ≡ y
+  same_first x y xs ys one other there back = by (there 0 x refl) (back 0 y refl)
+    where
+      by : (j : ℕ) × (slice_get (y ∷ ys) j ≡ Some x) → (k : ℕ) × (slice_get (x ∷ xs) k ≡ Some y) → x ≡ y
+      by (zero, e) k = sym (same_Some y x e)
+      by (suc j, e) (zero, d) = same_Some x y d
+      by (suc j, e) (suc k, d) =
+          absurd (never x
+          (onward x y x (one 0 (suc k) x y (omega arith) refl d) (other 0 (suc j) y x (omega arith) refl e)))
+
+  later_within : (x y : X) (xs ys : List X) → x ≡ y → Sorted (x ∷ xs) → Within (x ∷ xs) (y ∷ ys) → Within xs ys
+  later_within x y xs ys e sorted there k z is = by (there (suc k) z is)
+    where
+      by : (j : ℕ) × (slice_get (y ∷ ys) j ≡ Some z) → (j : ℕ) × (slice_get ys j ≡ Some z)
+      by (zero, d) =
+          absurd (never x (subst (Less x) (sym (e ∙ same_Some y z d)) (sorted 0 (suc k) x z (omega arith) refl is)))
+      by (suc j, d) = (j, d)
+
+  pub same_lists : (xs ys : List X) → Sorted xs → Sorted ys → Within xs ys → Within ys xs → xs ≡ ys
+  same_lists [] [] one other there back = refl
+  same_lists [] (y ∷ ys) one other there back = absurd (none-some y (back 0 y refl).1)
+  same_lists (x ∷ xs) [] one other there back = absurd (none-some x (there 0 x refl).1)
+  same_lists (x ∷ xs) (y ∷ ys) one other there back =
+      let e = same_first x y xs ys one other there back in
+      ap (λ z. z ∷ xs) e
+      ∙ ap (λ zs. y ∷ zs)
+      (same_lists xs ys (later_sorted x xs one) (later_sorted y ys other) (later_within x y xs ys e one there)
+      (later_within y x ys xs (sym e) other back))
+
+module _ (decide : MovesDecide) (turned : TurnsKeepToTheirTask) (keyed : KeysKeepToTheirTerminal)
+    (keys : List KeyLine) where
+  -- ---- steps
+  abbrev Named : OrdersState → Type 0
+  Named state = IsDistinct is_name (names_of state.region.terminals)
+
+  move_names : (from to : OrdersState) (number : ℕ) → Moves keys from number to → Named from → Named to
+  move_names from to number m named = elim m.move [
+    | inl t ↦ subst (IsDistinct is_name) (sym (turned from.region m.name t.reply to.region t.takes).names) named
+    | inr k ↦ subst (IsDistinct is_name)
+        (sym (keyed from.region m.name _ k.comes.reply to.region k.comes.takes).names) named
+  ]
+
+  same_steps : (one other : Step) → one.number ≡ other.number → one.key ≡ other.key → one ≡ other
+  same_steps one other p q = λ i. record { number = p i; key = q i }
+
+  -- the steps of one list of moves are determined
+  pub steps_decide : (from s t : OrdersState) (ones others : List Step) → Named from → AreSteps keys from ones s
+      → AreSteps keys from others t
+      → moves_of ones ≡ moves_of others → ones ≡ others
+  unfolding AreSteps
+  steps_decide from s t [] [] named are too e = refl
+  steps_decide from s t [] (other ∷ others) named are too e =
+      absurd (none-some other.number (ap (λ ms. slice_get ms 0) e))
+  steps_decide from s t (one ∷ ones) [] named are too e =
+      absurd (none-some one.number (ap (λ ms. slice_get ms 0) (sym e)))
+  steps_decide from s t (one ∷ ones) (other ∷ others) named are too e =
+      let number : one.number ≡ other.number = same_Some one.number other.number (ap (λ ms. slice_get ms 0) e) in
+      let first = move_of keys from are.between one are.is in
+      let second = subst (λ n. Moves keys from n too.between) (sym number)
+      (move_of keys from too.between other too.is) in
+      let between = decide keys from are.between too.between one.number named first second in
+      let key = key_of_step keys from are.between one are.is
+      ∙ ap (λ (to : OrdersState). came_between from.come to.come one.number) between
+      ∙ ap (λ n. came_between from.come too.between.come n) number
+      ∙ sym (key_of_step keys from too.between other too.is) in
+      let rest = steps_decide are.between s t ones others (move_names from are.between one.number first named) are.rest
+      (subst (λ x. AreSteps keys x others t) (sym between) too.rest) (ap (λ ms. drop 1 ms) e) in
+      ap (λ z. z ∷ ones) (same_steps one other number key) ∙ ap (λ zs. other ∷ zs) rest
+
+  -- ---- outcomes
+  module _ (sooner : SoonerOrders) (start : OrdersState) (named : Named start) where
+    abbrev Less : Outcome → Outcome → Type 0
+    Less one other = IsSooner (moves_of one.steps) (moves_of other.steps)
+
+    same_outcomes : (one other : Outcome) → one.text ≡ other.text → one.steps ≡ other.steps → one ≡ other
+    same_outcomes one other p q = λ i. record { text = p i; steps = q i }
+
+    module _ (Shows : RegionState → Lines → Type 0) (cut : Option ℕ) where
+      -- outcomes of one text are one
+      same_by_text : (one other : Outcome) → IsOutcome Shows keys start cut one → IsOutcome Shows keys start cut other
+          → one.text ≡ other.text → one ≡ other
+      same_by_text one other is too e =
+          let moves = same_moves sooner Shows keys start cut one other is too e in
+          same_outcomes one other e
+          (steps_decide start is.to too.to one.steps other.steps named is.steps too.steps moves)
+
+      outcomes_within : (ones others : List Outcome) → AreOutcomes Shows keys start cut ones
+          → AreOutcomes Shows keys start cut others
+          → (k : ℕ) (one : Outcome) → slice_get ones k ≡ Some one → (j : ℕ) × (slice_get others j ≡ Some one)
+      outcomes_within ones others are too k one at =
+          let is = are.each k one at in
+          let h = too.all (moves_of one.steps) one.text (ends_with Shows keys start cut one one.text is refl)
+          (near_less cut (length (moves_of one.steps)) (length one.steps)
+          (omega (arith, many_moves one.steps)) is.near) in
+          (h.place, h.at ∙ ap Some (same_by_text h.one one (too.each h.place h.one h.at) is h.same))
+
+      pub outcomes_decide : (ones others : List Outcome) → AreOutcomes Shows keys start cut ones
+          → AreOutcomes Shows keys start cut others → ones ≡ others
+      outcomes_decide ones others are too =
+          same_lists Less (λ one l. sooner.not_self (moves_of one.steps) l)
+          (λ x y z l m. sooner.onward (moves_of x.steps) (moves_of y.steps) (moves_of z.steps) l m)
+          ones others are.ordered too.ordered (outcomes_within ones others are too)
+          (outcomes_within others ones too are)
+
+    -- ---- moves without an end
+    loops_decide : BoundedNeverLoop (Moves keys) → (one other : Option (List Step)) → MayLoop keys start one
+        → MayLoop keys start other → one ≡ other
+    loops_decide never None None p q = refl
+    loops_decide never None (Some steps) p q =
+        absurd (never start q.to (moves_of steps) p (steps_lead keys start q.to steps q.are) q.loops)
+    loops_decide never (Some steps) None p q =
+        absurd (never start p.to (moves_of steps) q (steps_lead keys start p.to steps p.are) p.loops)
+    loops_decide never (Some ones) (Some others) p q =
+        ap Some (steps_decide start p.to q.to ones others named p.are q.are
+        (both_soonest sooner (moves_of ones) (moves_of others)
+        (p.soonest (moves_of others) q.to (steps_lead keys start q.to others q.are) q.loops)
+        (q.soonest (moves_of ones) p.to (steps_lead keys start p.to ones p.are) p.loops)))
+
+    stuck_decides : (one other : Bool) → MatchBool one (IsStuck keys start) (AllCanRest keys start)
+        → MatchBool other (IsStuck keys start) (AllCanRest keys start) → one ≡ other
+    stuck_decides true true p q = refl
+    stuck_decides false false p q = refl
+    stuck_decides true false p q = absurd (p.never (q p.moves p.there p.leads))
+    stuck_decides false true p q = absurd (q.never (p q.moves q.there q.leads))
+
+-- ---- how many states there are
+or_either : (b c : Bool) → (b || c) ≡ true → (b ≡ true) ⊎ (c ≡ true)
+or_either true c is = inl refl
+or_either false c is = inr is
+
+or_first : (b c : Bool) → b ≡ true → (b || c) ≡ true
+or_first true c is = refl
+or_first false c is = absurd (true≢false (sym is))
+
+or_second : (b c : Bool) → c ≡ true → (b || c) ≡ true
+or_second true c is = refl
+or_second false c is = is
+
+any_at : (q : OrdersState) (states : List OrdersState) → list_any (same_state q) states ≡ true
+    → (k : ℕ) × (slice_get states k ≡ Some q)
+any_at q [] is = absurd (true≢false (sym is))
+any_at q (x ∷ xs) is = elim (or_either (same_state q x) (list_any (same_state q) xs) is) [
+  | inl e ↦ (0, ap Some (sym (same_is q x e)))
+  | inr r ↦ let it = any_at q xs r in (suc it.0, it.1)
+]
+
+at_any : (q : OrdersState) (states : List OrdersState) (k : ℕ) → slice_get states k ≡ Some q
+    → list_any (same_state q) states ≡ true
+at_any q [] k is = absurd (none-some q is)
+at_any q (x ∷ xs) zero is =
+    or_first (same_state q x) (list_any (same_state q) xs) (is_same q x (sym (same_Some x q is)))
+at_any q (x ∷ xs) (suc k) is = or_second (same_state q x) (list_any (same_state q) xs) (at_any q xs k is)
+
+not_true : (b : Bool) → (b ≡ true → ⊥) → b ≡ false
+not_true true never = absurd (never refl)
+not_true false never = refl
+
+module _ (keys : List KeyLine) (start : OrdersState) where
+  distinct : (cut : Option ℕ) (states : List OrdersState) → AreReached keys start cut states
+      → IsDistinct same_state states
+  distinct cut states are =
+      IsDistinct-from_apart same_state states (λ i j d l within.
+      not_true (same_state (get_or states i d) (get_or states j d)) (λ e.
+      let one = slice_get-get_or states i d (omega (arith, l, within)) in
+      let other = slice_get-get_or states j d within
+      ∙ ap Some (sym (same_is (get_or states i d) (get_or states j d) e)) in
+      let same = are.once i j (get_or states i d) one other in
+      omega (arith, l, same)))
+
+  -- states that stand in a list once are at most those of a list that has them
+  pub at_most : (near far : Option ℕ) (ones others : List OrdersState)
+      → ((state : OrdersState) → IsReached keys start near state → IsReached keys start far state)
+      → AreReached keys start near ones → HasReached keys start far others → length ones ≤ length others
+  at_most near far ones others on are has =
+      length-le_from_is_member same_equivalence ones others (distinct near ones are) (λ q is.
+      let it = any_at q ones is in
+      let there = has q (on q (are.each it.0 q it.1)) in
+      at_any q others there.place there.at)
+
+  reached_more : (near far : ℕ) → near ≤ far → (state : OrdersState) → IsReached keys start (Some near) state
+      → IsReached keys start (Some far) state
+  reached_more near far l state is =
+      record { moves = is.moves; leads = is.leads; near = let n = is.near in omega (arith, l, n) }
+
+  reached_any : (near : Option ℕ) (state : OrdersState) → IsReached keys start near state
+      → IsReached keys start None state
+  reached_any near state is = record { moves = is.moves; leads = is.leads; near = tt }
+
+  pub states_decide : (one other : ℕ) → HasStates keys start one → HasStates keys start other → one ≡ other
+  states_decide one other p q =
+      let up = at_most None None p.states q.states (λ s is. is) p.reached q.all in
+      let down = at_most None None q.states p.states (λ s is. is) q.reached p.all in
+      omega (arith, up, down, p.is, q.is)
+
+  cut_not_less : (most one other : ℕ) → IsCutAt keys start most one → IsCutAt keys start most other → one < other → ⊥
+  cut_not_less most one other p q l =
+      let many = at_most (Some (one + 1))
+      (Some other) p.more q.near (reached_more (one + 1) other (omega (arith, l))) p.reached q.all in
+      omega (arith, many, p.many, q.few)
+
+  pub cuts_decide : (most one other : ℕ) → IsCutAt keys start most one → IsCutAt keys start most other → one ≡ other
+  cuts_decide most one other p q = elim (cases_order one other) [
+    | inl e ↦ e
+    | inr (inl l) ↦ absurd (cut_not_less most one other p q l)
+    | inr (inr l) ↦ absurd (cut_not_less most other one q p l)
+  ]
+
+  pub not_both : (most states moves : ℕ) → HasStates keys start states → states ≤ most → IsCutAt keys start most moves
+      → ⊥
+  not_both most states moves p few q =
+      let many = at_most (Some (moves + 1)) None q.more p.states (reached_any (Some (moves + 1))) q.reached p.all in
+      omega (arith, many, few, q.many, p.is)
+
+-- ---- the whole
+pub reports_decide : (Shows : RegionState → Lines → Type 0) → MovesDecide → TurnsKeepToTheirTask
+    → KeysKeepToTheirTerminal → SoonerOrders
+    → (keys : List KeyLine) → BoundedNeverLoop (Moves keys) → ReportsDecide Shows keys
+reports_decide Shows decide turned keyed sooner keys never region edf most one other named (inl p) (inl q) =
+    let start = begun region in
+    p.is
+    ∙ ap (λ n. whole_line n (length p.outcomes) ++ outcomes_lines region keys edf 1 p.outcomes
+    ++ loop_lines region keys edf p.loop ++ stuck_line p.is_stuck)
+    (states_decide keys start p.states q.states p.count q.count)
+    ∙ ap (λ (os : List Outcome). whole_line q.states (length os) ++ outcomes_lines region keys edf 1 os
+    ++ loop_lines region keys edf p.loop ++ stuck_line p.is_stuck)
+    (outcomes_decide decide turned keyed keys sooner start named Shows None p.outcomes q.outcomes p.are q.are)
+    ∙ ap (λ (l : Option (List Step)). whole_line q.states (length q.outcomes)
+    ++ outcomes_lines region keys edf 1 q.outcomes ++ loop_lines region keys edf l ++ stuck_line p.is_stuck)
+    (loops_decide decide turned keyed keys sooner start named never p.loop q.loop p.may_loop q.may_loop)
+    ∙ ap (λ b. whole_line q.states (length q.outcomes) ++ outcomes_lines region keys edf 1 q.outcomes
+    ++ loop_lines region keys edf q.loop ++ stuck_line b)
+    (stuck_decides decide turned keyed keys sooner start named p.is_stuck q.is_stuck p.may_stick q.may_stick)
+    ∙ sym q.is
+reports_decide Shows decide turned keyed sooner keys never region edf most one other named (inr p) (inr q) =
+    let start = begun region in
+    let moves = cuts_decide keys start most p.moves q.moves p.cut q.cut in
+    p.is
+    ∙ ap (λ (os : List Outcome). cut_line most ++ outcomes_lines region keys edf 1 os)
+    (outcomes_decide decide turned keyed keys sooner start named Shows (Some q.moves) p.outcomes q.outcomes
+    (subst (λ m. AreOutcomes Shows keys start (Some m) p.outcomes) moves p.are) q.are)
+    ∙ sym q.is
+reports_decide Shows decide turned keyed sooner keys never region edf most one other named (inl p) (inr q) =
+    absurd (not_both keys (begun region) most p.states q.moves p.count p.few q.cut)
+reports_decide Shows decide turned keyed sooner keys never region edf most one other named (inr p) (inl q) =
+    absurd (not_both keys (begun region) most q.states p.moves q.count q.few p.cut)

@@ -1,0 +1,310 @@
+-- The lines of a script of ORDERS are read, and ask for the events that its steps are.
+use Rattle.std.proofs.Common.{◌≡◌, ℕ, zero, suc, ◌+◌, ◌≤◌, Bool, true, false, Option, Some, None, List, [], ◌∷◌, ◌++◌, codes, length, map, nat_le, arith, ap, refl, sym, subst, ◌∙◌, append-nil, append_assoc, cond, length-append}
+use Rattle.std.specs.Prelude.{drop, option_map, replicate, slice_get, unwrap_or}
+use Rattle.std.specs.Char.{is_ascii_digit, to_ascii_uppercase}
+use Rattle.std.specs.Fmt.{decimal}
+use Rattle.std.specs.List.{AllByRecursion, flat_map, list_all}
+use Rattle.std.specs.Map.{keys_of as names_of}
+use Rattle.std.specs.Option.{option_and_then, option_map_or}
+use Rattle.std.proofs.lemmas.Bool.{le-leb}
+use Rattle.std.proofs.lemmas.Grind.{flat_map-append}
+use Rattle.std.proofs.lemmas.List.{map-append}
+use Rattle.std.proofs.lemmas.Option.{none-some, same_Some}
+use Rattle.cx_base_text.specs.Texts.{shown_name}
+use Rattle.cx_ebcdic.specs.Facts.Names.{is_name-decides}
+use Rattle.cx_ebcdic.specs.Names.{is_name, is_name_character, padded_name}
+use Rattle.cx_edf.specs.declared.answers.EdfEvent.{EdfEvent}
+use Rattle.cx_edf.specs.declared.answers.EdfEvent.TheVariants as edf_event
+use Rattle.cx_region.specs.State.{RegionState, TerminalState}
+use Rattle.cx_region.specs.declared.replies.Event.{Event}
+use Rattle.cx_region.specs.declared.replies.Event.TheVariants as event
+use Rattle.cx_script_actions.specs.Actions.{event_line, edf_switch, line_asked_for, line_of, switch_of}
+use Rattle.cx_script_actions.specs.Words.{after_first_blank, word}
+use Rattle.cx_script_actions.specs.declared.actions.Action.{Action}
+use Rattle.cx_script_actions.specs.declared.actions.Action.TheVariants as edf_action
+use Rattle.cx_script_actions.specs.declared.actions.Line.{Line}
+use Rattle.cx_script_actions.specs.declared.actions.Line.TheVariants as line
+use Rattle.cx_orders.specs.Facts.Keys.{is_of_terminal, of_terminal}
+use Rattle.cx_orders.specs.Moves.{keys_of}
+use Rattle.cx_orders.specs.declared.states.KeyLine.{KeyLine}
+use Rattle.cx_look.specs.Laws.{IsAskedByItsLine}
+use Rattle.cx_look.specs.Looks.{count_of, subject_of}
+use Rattle.cx_look.specs.declared.look.Subject.TheVariants as subject
+use Rattle.cx_look_words.specs.Words.{Lines, line_of as words_line, look_line}
+use Rattle.cx_look_orders.specs.Laws.{AskFor, IsAsked, ScriptsAskForSteps, asked_lines, asked_steps, event_at, event_of}
+use Rattle.cx_look_orders.specs.Rest.{name_at}
+use Rattle.cx_look_orders.specs.Script.{key_at, off_line, script_lines, steps_lines}
+use Rattle.cx_look_orders.specs.declared.steps.Step.{Step}
+use Rattle.cx_look_script.specs.Laws.Orders.{AskForEvents, IsSpelled, ScriptsAskForEvents, asked_events}
+use Rattle.cx_look_script.specs.Reading.{line_by, line_of_subject, look_line_of, own_line, run_of, run_with, turns_of}
+use Rattle.cx_look_script.specs.Runs.{turn_of}
+use Rattle.cx_look_script.specs.declared.action.LookAction.{LookAction}
+use Rattle.cx_look_script.specs.declared.action.LookAction.TheVariants as action
+use Rattle.cx_look_script.specs.declared.action.Stop.TheVariants as stop
+use Rattle.cx_look_script.proofs.SpellingLemmas.{IsShownAs, ShownAsItself, after_alone, after_of, all_digits, all_so, counted, digit_in_word, digit_low, few_digits, is_in_word, name_in_word, name_low, name_shown, upper_all, word_alone, word_of}
+
+-- ---- RUN
+-- three words as a line
+abbrev three : List ℕ → List ℕ → List ℕ → List ℕ
+three first second third = first ++ 32 ∷ (second ++ 32 ∷ third)
+
+three_words : (first second third : List ℕ) → words_line (first ∷ second ∷ third ∷ []) ≡ three first second third
+three_words first second third = ap (λ l. first ++ 32 ∷ (second ++ 32 ∷ l)) (append-nil third)
+
+run_asks : (name text digits : List ℕ) (n : ℕ) → padded_name 4 text ≡ Some name → list_all is_in_word text ≡ true → list_all is_in_word digits ≡ true
+    → count_of 4096 digits ≡ Some n → run_of (text ++ 32 ∷ digits) ≡ Some (action.Run name n stop.Never)
+run_asks name text digits n spells one other is =
+    ap (λ w. option_and_then (λ nm. turns_of nm (after_first_blank (text ++ 32 ∷ digits))) (padded_name 4 w)) (word_of text digits one)
+    ∙ ap (λ rest. option_and_then (λ nm. turns_of nm rest) (padded_name 4 text)) (after_of text digits one)
+    ∙ ap (λ o. option_and_then (λ nm. turns_of nm (Some digits)) o) spells
+    ∙ ap (λ w. option_map_or (λ k. run_with name k (after_first_blank digits)) (count_of 4096 w) (run_with name 1000 (Some digits))) (word_alone digits other)
+    ∙ ap (λ o. option_map_or (λ k. run_with name k (after_first_blank digits)) o (run_with name 1000 (Some digits))) is
+    ∙ ap (λ rest. run_with name n rest) (after_alone digits other)
+
+-- such a line is none of a script of `cicsedf`
+run_is_own : (rest : List ℕ) → line_of (codes "RUN" ++ 32 ∷ rest) ≡ None
+unfolding line_of line_asked_for
+run_is_own rest =
+    ap (λ w. option_and_then (line_asked_for w) (after_first_blank (codes "RUN" ++ 32 ∷ rest))) (word_of (codes "RUN") rest refl)
+    ∙ ap (λ o. option_and_then (line_asked_for (codes "RUN")) o) (after_of (codes "RUN") rest refl)
+
+run_upper : (text digits : List ℕ) → list_all is_name_character text ≡ true → list_all is_ascii_digit digits ≡ true
+    → map to_ascii_uppercase (three (codes "RUN") text digits) ≡ three (codes "RUN") text digits
+run_upper text digits one other =
+    ap (λ l. codes "RUN" ++ 32 ∷ l)
+    (map-append to_ascii_uppercase text (32 ∷ digits)
+    ∙ ap (λ l. l ++ 32 ∷ map to_ascii_uppercase digits) (upper_all is_name_character name_low text one)
+    ∙ ap (λ l. text ++ 32 ∷ l) (upper_all is_ascii_digit digit_low digits other))
+
+run_short : (text digits : List ℕ) → length text ≤ 4 → length digits ≤ 5 → nat_le (length (three (codes "RUN") text digits)) 4096 ≡ true
+run_short text digits one other =
+    le-leb (length (three (codes "RUN") text digits)) 4096 (omega (arith, one, other, length-append text (32 ∷ digits)))
+
+run_subject : subject_of (codes "RUN") ≡ Some subject.Run
+unfolding subject_of
+run_subject = refl
+
+run_line : (number : ℕ) (name text digits : List ℕ) (n : ℕ) → padded_name 4 text ≡ Some name → IsShownAs text name
+    → list_all is_ascii_digit digits ≡ true → length digits ≤ 5 → count_of 4096 digits ≡ Some n
+    → own_line number (three (codes "RUN") text digits) ≡ Some (line.Action (action.Run name n stop.Never))
+unfolding own_line
+run_line number name text digits n spells it all few is =
+    let whole = three (codes "RUN") text digits in
+    let rest = text ++ 32 ∷ digits in
+    let from_subject : option_and_then (line_of_subject number whole) (subject_of (word whole)) ≡ Some (line.Action (action.Run name n stop.Never)) =
+    ap (λ w. option_and_then (line_of_subject number whole) (subject_of w)) (word_of (codes "RUN") rest refl)
+    ∙ ap (λ o. option_and_then (line_of_subject number whole) o) run_subject
+    ∙ ap (λ o. line_of_run number (option_and_then run_of o)) (after_of (codes "RUN") rest refl)
+    ∙ ap (λ o. line_of_run number o)
+    (run_asks name text digits n spells (all_so is_name_character is_in_word name_in_word text it.characters) (all_so is_ascii_digit is_in_word digit_in_word digits all) is) in
+    ap (λ read. cond (nat_le (length whole) 4096) (option_and_then (line_of_subject number read) (subject_of (word read))) None)
+    (run_upper text digits it.characters all)
+    ∙ ap (λ b. cond b (option_and_then (line_of_subject number whole) (subject_of (word whole))) None) (run_short text digits it.few few)
+    ∙ from_subject
+  where
+    line_of_run : ℕ → Option LookAction → Option (Line LookAction)
+    line_of_run number asked = Some (line.Action (unwrap_or asked (action.BadLook number subject.Run)))
+
+-- RUN of a name and a number, as it is written, is read as that
+run_read : ShownAsItself → (number : ℕ) (name : List ℕ) (n : ℕ) → IsSpelled name → 1 ≤ n → n ≤ 4096
+    → look_line_of number (words_line (codes "RUN" ∷ shown_name name ∷ decimal n ∷ [])) ≡ Some (line.Action (action.Run name n stop.Never))
+unfolding look_line_of
+run_read itself number name n spelled least most =
+    let it = name_shown itself spelled.text name spelled.spells in
+    let rest = spelled.text ++ 32 ∷ decimal n in
+    ap (λ l. line_by (line_of l) (own_line number l)) (ap (λ s. words_line (codes "RUN" ∷ s ∷ decimal n ∷ [])) it.shown ∙ three_words (codes "RUN") spelled.text (decimal n))
+    ∙ ap (λ o. line_by o (own_line number (three (codes "RUN") spelled.text (decimal n)))) (run_is_own rest)
+    ∙ run_line number name spelled.text (decimal n) n spelled.spells it (all_digits n most) (few_digits n most) (counted n least most)
+
+-- ---- EDF OFF
+off_asked : (name text : List ℕ) → padded_name 4 text ≡ Some name → list_all is_in_word text ≡ true
+    → line_of (three (codes "EDF") text (codes "OFF")) ≡ Some (line.Action (edf_action.Event (edf_event.Off name)))
+unfolding line_of line_asked_for
+off_asked name text spells all =
+    let rest = text ++ 32 ∷ codes "OFF" in
+    ap (λ w. option_and_then (line_asked_for w) (after_first_blank (codes "EDF" ++ 32 ∷ rest))) (word_of (codes "EDF") rest refl)
+    ∙ ap (λ o. option_and_then (line_asked_for (codes "EDF")) o) (after_of (codes "EDF") rest refl)
+    ∙ ap (λ w. option_and_then (λ a. option_map (edf_switch a) (option_and_then switch_of (after_first_blank rest))) (padded_name 4 w)) (word_of text (codes "OFF") all)
+    ∙ ap (λ o. option_and_then (λ a. option_map (edf_switch a) (option_and_then switch_of (after_first_blank rest))) o) spells
+    ∙ ap (λ o. option_map (edf_switch name) (option_and_then switch_of o)) (after_of text (codes "OFF") all)
+
+off_read : ShownAsItself → (number : ℕ) (name : List ℕ) → IsSpelled name
+    → look_line_of number (words_line (codes "EDF" ∷ shown_name name ∷ codes "OFF" ∷ []))
+    ≡ Some (line.Action (action.Script (edf_action.Event (edf_event.Off name))))
+unfolding look_line_of
+off_read itself number name spelled =
+    let it = name_shown itself spelled.text name spelled.spells in
+    let whole = three (codes "EDF") spelled.text (codes "OFF") in
+    ap (λ l. line_by (line_of l) (own_line number l)) (ap (λ s. words_line (codes "EDF" ∷ s ∷ codes "OFF" ∷ [])) it.shown ∙ three_words (codes "EDF") spelled.text (codes "OFF"))
+    ∙ ap (λ o. line_by o (own_line number whole))
+    (off_asked name spelled.text spelled.spells (all_so is_name_character is_in_word name_in_word spelled.text it.characters))
+
+-- ---- a key's line
+key_read : (number : ℕ) (key : KeyLine) → IsAskedByItsLine key
+    → look_line_of number key.line ≡ Some (line.Action (action.Script (edf_action.Event (edf_event.Plain (event.Key key.name key.aid key.bytes)))))
+unfolding look_line_of
+key_read number key is = ap (λ o. line_by o (own_line number key.line)) is
+
+-- ---- lines one after another
+ask_nothing : AskForEvents [] []
+ask_nothing = record { actions = []; read = λ number. refl; ask = refl }
+
+ask_one : (l : List ℕ) (a : LookAction) → ((number : ℕ) → look_line_of number l ≡ Some (line.Action a)) → AskForEvents (l ∷ []) (asked_events a)
+ask_one l a read = record { actions = a ∷ []; read = λ number. ap (λ o. o ∷ []) (read number); ask = append-nil (asked_events a) }
+
+ask_both : (ones others : Lines) (es fs : List EdfEvent) → AskForEvents ones es → AskForEvents others fs → AskForEvents (ones ++ others) (es ++ fs)
+ask_both ones others es fs p q =
+    record {
+      actions = p.actions ++ q.actions;
+      read = λ number.
+          map-append (look_line_of number) ones others ∙ ap (λ l. l ++ map (look_line_of number) others) (p.read number)
+          ∙ ap (λ l. map (λ (a : LookAction). Some (line.Action a)) p.actions ++ l) (q.read number)
+          ∙ sym (map-append (λ (a : LookAction). Some (line.Action a)) p.actions q.actions);
+      ask = flat_map-append asked_events p.actions q.actions ∙ ap (λ l. l ++ flat_map asked_events q.actions) p.ask ∙ ap (λ l. es ++ l) q.ask;
+    }
+
+-- EDF OFF of each
+offs_ask : ShownAsItself → (edf : List (List ℕ)) → AllByRecursion IsSpelled edf → AskForEvents (flat_map off_line edf) (map edf_event.Off edf)
+offs_ask itself [] all = ask_nothing
+offs_ask itself (name ∷ edf) all =
+    ask_both (off_line name) (flat_map off_line edf) (edf_event.Off name ∷ []) (map edf_event.Off edf)
+    (ask_one (words_line (codes "EDF" ∷ shown_name name ∷ codes "OFF" ∷ [])) (action.Script (edf_action.Event (edf_event.Off name))) (λ number. off_read itself number name all.0))
+    (offs_ask itself edf all.1)
+
+-- ---- steps
+abbrev step_of : ℕ → Option ℕ → Step
+step_of number key = record { number = number; key = key }
+
+-- the name of the terminal with that number, and that a text spells it
+record IsTerminal (region : RegionState) (number : ℕ) (name : List ℕ) : Type 0 where
+  shown : name_at region number ≡ shown_name name
+  spelled : IsSpelled name
+  keys : (keys : List KeyLine) (came : ℕ) → key_at region keys number came ≡ slice_get (keys_of keys name) came
+
+terminal_at : (terminals : List (List ℕ × TerminalState)) (number : ℕ) (name : List ℕ) → AllByRecursion IsSpelled (names_of terminals)
+    → slice_get (names_of terminals) number ≡ Some name
+    → (terminal : TerminalState) × ((slice_get terminals number ≡ Some (name, terminal)) × IsSpelled name)
+terminal_at [] number name all at = absurd (none-some name at)
+terminal_at (t ∷ terminals) zero name all at =
+    let same = same_Some t.0 name at in
+    (t.1, (ap (λ (n : List ℕ). Some (n, t.1)) same, subst IsSpelled same all.0))
+terminal_at (t ∷ terminals) (suc number) name all at = terminal_at terminals number name all.1 at
+
+terminal_of : (region : RegionState) (number : ℕ) (name : List ℕ) → AllByRecursion IsSpelled (names_of region.terminals)
+    → slice_get (names_of region.terminals) number ≡ Some name → IsTerminal region number name
+terminal_of region number name all at =
+    let it = terminal_at region.terminals number name all at in
+    record {
+      shown = ap (λ (o : Option (List ℕ × TerminalState)). option_map_or (λ entry. shown_name entry.0) o []) it.1.0;
+      spelled = it.1.1;
+      keys = λ keys came. ap (λ (o : Option (List ℕ × TerminalState)). option_and_then (λ entry. slice_get (keys_of keys entry.0) came) o) it.1.0;
+    }
+
+-- the event of each of so many steps, one after another
+record SplitsOff (f : Step → Option Event) (step : Step) (many : ℕ) (rest : List Step) (events : List Event) : Type 0 where
+  what : Event
+  is : f step ≡ Some what
+  others : List Event
+  left : map f rest ≡ map Some others
+  whole : events ≡ replicate many what ++ others
+
+first_event : (f : Step → Option Event) (step : Step) (steps : List Step) (events : List Event) → map f (step ∷ steps) ≡ map Some events
+    → SplitsOff f step 1 steps events
+first_event f step steps [] e = absurd (none-some (f step) (sym (ap (λ l. slice_get l 0) e)))
+first_event f step steps (what ∷ events) e =
+    record {
+      what = what;
+      is = same_Some (f step) (Some what) (ap (λ l. slice_get l 0) e);
+      others = events;
+      left = ap (λ l. drop 1 l) e;
+      whole = refl;
+    }
+
+split_off : (f : Step → Option Event) (step : Step) (many : ℕ) (rest : List Step) (events : List Event)
+    → map f (replicate (suc many) step ++ rest) ≡ map Some events → SplitsOff f step (suc many) rest events
+split_off f step zero rest events e = first_event f step rest events e
+split_off f step (suc many) rest events e =
+    let one = first_event f step (replicate (suc many) step ++ rest) events e in
+    let more = split_off f step many rest one.others one.left in
+    let same = same_Some more.what one.what (sym more.is ∙ one.is) in
+    record {
+      what = one.what;
+      is = one.is;
+      others = more.others;
+      left = more.left;
+      whole = one.whole ∙ ap (λ l. one.what ∷ l) (more.whole ∙ ap (λ w. replicate (suc many) w ++ more.others) same);
+    }
+
+plains : (many : ℕ) (e : Event) → replicate many (edf_event.Plain e) ≡ map edf_event.Plain (replicate many e)
+plains zero e = refl
+plains (suc many) e = ap (λ l. edf_event.Plain e ∷ l) (plains many e)
+
+module _ (itself : ShownAsItself) (region : RegionState) (keys : List KeyLine) (all : AllByRecursion IsSpelled (names_of region.terminals))
+    (read : AllByRecursion IsAskedByItsLine keys) where
+  abbrev names : List (List ℕ)
+  names = names_of region.terminals
+
+  -- the line of a key
+  key_asks : (number came : ℕ) (name : List ℕ) (what : Event) → IsTerminal region number name → event_at keys name (Some came) ≡ Some what
+      → AskForEvents (option_map_or (λ (key : KeyLine). key.line ∷ []) (key_at region keys number came) []) (edf_event.Plain what ∷ [])
+  key_asks number came name what it is =
+      subst (λ (o : Option KeyLine). AskForEvents (option_map_or (λ (key : KeyLine). key.line ∷ []) o []) (edf_event.Plain what ∷ [])) (sym (it.keys keys came))
+      (by (slice_get (keys_of keys name) came) refl is)
+    where
+      by : (found : Option KeyLine) → slice_get (keys_of keys name) came ≡ found
+          → option_map (λ (key : KeyLine). event.Key name key.aid key.bytes) found ≡ Some what
+          → AskForEvents (option_map_or (λ (key : KeyLine). key.line ∷ []) found []) (edf_event.Plain what ∷ [])
+      by None at is = absurd (none-some what is)
+      by (Some key) at is =
+          let own : key.name ≡ name = (is_name-decides key.name name).0 (is_of_terminal name key keys came at) in
+          let same = ap (λ n. event.Key n key.aid key.bytes) own ∙ same_Some (event.Key name key.aid key.bytes) what is in
+          subst (λ e. AskForEvents (key.line ∷ []) (edf_event.Plain e ∷ [])) same
+          (ask_one key.line (action.Script (edf_action.Event (edf_event.Plain (event.Key key.name key.aid key.bytes))))
+          (λ number. key_read number key (of_terminal IsAskedByItsLine name key keys came read at)))
+
+  -- the line of so many turns
+  turns_ask : (number many : ℕ) (name : List ℕ) → IsTerminal region number name → 1 ≤ many → many ≤ 4096
+      → AskForEvents (look_line (codes "RUN" ∷ name_at region number ∷ decimal many ∷ [])) (map edf_event.Plain (replicate many (event.Turn name)))
+  turns_ask number many name it least most =
+      subst (λ es. AskForEvents (look_line (codes "RUN" ∷ name_at region number ∷ decimal many ∷ [])) es) (plains many (event.Turn name))
+      (subst (λ s. AskForEvents (look_line (codes "RUN" ∷ s ∷ decimal many ∷ [])) (replicate many (turn_of name))) (sym it.shown)
+      (ask_one (words_line (codes "RUN" ∷ shown_name name ∷ decimal many ∷ [])) (action.Run name many stop.Never)
+      (λ at. run_read itself at name many it.spelled least most)))
+
+  -- a step so many times
+  abbrev Asked : ℕ → Option ℕ → ℕ → Event → Type 0
+  Asked number key many what = AskForEvents (asked_lines region keys (step_of number key, suc many)) (map edf_event.Plain (replicate (suc many) what))
+
+  step_asks : (number : ℕ) (key : Option ℕ) (many : ℕ) (what : Event) (name : List ℕ) → IsAsked (step_of number key, suc many) → IsTerminal region number name
+      → event_at keys name key ≡ Some what → Asked number key many what
+  step_asks number None many what name few it is =
+      subst (λ e. Asked number None many e) (same_Some (event.Turn name) what is) (turns_ask number (suc many) name it few.0 few.1)
+  step_asks number (Some came) many what name few it is =
+      let once : many ≡ 0 = omega (arith, few.1) in
+      subst (λ k. Asked number (Some came) k what) (sym once) (key_asks number came name what it is)
+
+  named_asks : (number : ℕ) (key : Option ℕ) (many : ℕ) (what : Event) (name : Option (List ℕ)) → IsAsked (step_of number key, suc many)
+      → slice_get names number ≡ name → option_and_then (λ n. event_at keys n key) name ≡ Some what → Asked number key many what
+  named_asks number key many what None few at is = absurd (none-some what is)
+  named_asks number key many what (Some name) few at is = step_asks number key many what name few (terminal_of region number name all at) is
+
+  all_ask : (asked : List (Step × ℕ)) (events : List Event) → AllByRecursion IsAsked asked
+      → map (event_of names keys) (flat_map asked_steps asked) ≡ map Some events
+      → AskForEvents (flat_map (asked_lines region keys) asked) (map edf_event.Plain events)
+  all_ask [] [] each e = ask_nothing
+  all_ask [] (what ∷ events) each e = absurd (none-some (Some what) (ap (λ l. slice_get l 0) e))
+  all_ask ((step, zero) ∷ asked) events each e = absurd (omega (arith, each.0.0))
+  all_ask ((step, suc many) ∷ asked) events each e =
+      let it = split_off (event_of names keys) step many (flat_map asked_steps asked) events e in
+      subst (λ es. AskForEvents (asked_lines region keys (step, suc many) ++ flat_map (asked_lines region keys) asked) es)
+      (sym (ap (λ es. map edf_event.Plain es) it.whole ∙ map-append edf_event.Plain (replicate (suc many) it.what) it.others))
+      (ask_both (asked_lines region keys (step, suc many)) (flat_map (asked_lines region keys) asked) (map edf_event.Plain (replicate (suc many) it.what)) (map edf_event.Plain it.others)
+      (named_asks step.number step.key many it.what (slice_get names step.number) each.0 refl it.is) (all_ask asked it.others each.1 it.left))
+
+pub scripts_ask : ShownAsItself → ScriptsAskForSteps → ScriptsAskForEvents
+unfolding script_lines
+scripts_ask itself scripts region keys edf steps events all offs read are =
+    let it = scripts region keys steps in
+    let lines = all_ask itself region keys all read it.asked events it.each (ap (λ ss. map (event_of (names_of region.terminals) keys) ss) it.done ∙ are) in
+    ask_both (flat_map off_line edf) (steps_lines region keys None steps) (map edf_event.Off edf) (map edf_event.Plain events) (offs_ask itself edf offs)
+    (subst (λ ls. AskForEvents ls (map edf_event.Plain events)) (sym it.written) lines)

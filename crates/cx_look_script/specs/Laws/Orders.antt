@@ -1,0 +1,58 @@
+-- What is written for a block of ORDERS is one text, and its scripts ask for the events that lead to its outcomes.
+use Rattle.std.specs.Prelude.{◌≡◌, ℕ, Some, List, [], ◌∷◌, ◌++◌, map, replicate}
+use Rattle.std.specs.List.{AllByRecursion, IsDistinct, flat_map}
+use Rattle.std.specs.Map.{keys_of as names_of}
+use Rattle.cx_ebcdic.specs.Names.{is_name, padded_name}
+use Rattle.cx_region.specs.State.{RegionState}
+use Rattle.cx_region.specs.declared.replies.Event.{Event}
+use Rattle.cx_edf.specs.declared.answers.EdfEvent.{EdfEvent}
+use Rattle.cx_edf.specs.declared.answers.EdfEvent.TheVariants as edf_event
+use Rattle.cx_script_actions.specs.declared.actions.Action.TheVariants as edf_action
+use Rattle.cx_script_actions.specs.declared.actions.Line.TheVariants as line
+use Rattle.cx_orders.specs.declared.states.KeyLine.{KeyLine}
+use Rattle.cx_look.specs.Laws.{IsAskedByItsLine}
+use Rattle.cx_look.specs.declared.orders.OrdersBlock.{OrdersBlock}
+use Rattle.cx_look_words.specs.Words.{Lines}
+use Rattle.cx_look_orders.specs.Laws.{event_of}
+use Rattle.cx_look_orders.specs.Script.{script_lines}
+use Rattle.cx_look_orders.specs.declared.steps.Step.{Step}
+use Rattle.cx_look_script.specs.Looking.{ShowsOrders}
+use Rattle.cx_look_script.specs.Reading.{look_line_of}
+use Rattle.cx_look_script.specs.Runs.{turn_of}
+use Rattle.cx_look_script.specs.State.{LookState}
+use Rattle.cx_look_script.specs.declared.action.LookAction.{LookAction}
+use Rattle.cx_look_script.specs.declared.action.LookAction.TheVariants as action
+use Rattle.cx_look_script.specs.declared.action.Stop.TheVariants as stop
+
+-- ---- one text
+-- where no two terminals share a name, the text for a block is a function of the state
+abbrev pub OrdersAreReportedOnce : Type 0
+OrdersAreReportedOnce = (block : OrdersBlock) (state : LookState) (one other : List ℕ)
+    → IsDistinct is_name (names_of state.edf.region.terminals)
+    → ShowsOrders block state one → ShowsOrders block state other → one ≡ other
+
+-- ---- what the lines of its scripts ask
+-- a text spells the name, as that of a line TERMINAL does
+pub record IsSpelled (name : List ℕ) : Type 0 where
+  pub text : List ℕ
+  pub spells : padded_name 4 text ≡ Some name
+
+-- the events that an action asks for: its own, or as many turns as RUN may do
+abbrev pub asked_events : LookAction → List EdfEvent
+asked_events (action.Script (edf_action.Event e)) = e ∷ []
+asked_events (action.Run name n stop.Never) = replicate n (turn_of name)
+asked_events _ = []
+
+-- lines, wherever they stand in a script, are read as actions that ask for these events, one after another
+pub record AskForEvents (lines : Lines) (events : List EdfEvent) : Type 0 where
+  pub actions : List LookAction
+  pub read : (number : ℕ) → map (look_line_of number) lines ≡ map (λ a. Some (line.Action a)) actions
+  pub ask : flat_map asked_events actions ≡ events
+
+-- so the lines that do steps ask for EDF OFF of each of these terminals, and then for the events that the steps are
+abbrev pub ScriptsAskForEvents : Type 0
+ScriptsAskForEvents = (region : RegionState) (keys : List KeyLine) (edf : List (List ℕ)) (steps : List Step)
+    (events : List Event) → AllByRecursion IsSpelled (names_of region.terminals) → AllByRecursion IsSpelled edf
+    → AllByRecursion IsAskedByItsLine keys
+    → map (event_of (names_of region.terminals) keys) steps ≡ map Some events
+    → AskForEvents (script_lines region keys edf steps) (map edf_event.Off edf ++ map edf_event.Plain events)

@@ -1,0 +1,591 @@
+//! Sources by worked rows and by each rule of lines; cutting; pieces.
+use cx_base_lists::List;
+use cx_source::{
+    Delimiter, Items, Source, SourceFault, SourceReader, Stmt, begins_with_letter, cut, first_mark,
+    is_continued, is_letter, is_name, is_name_character, outside, read_source, skip_blanks,
+    text_of, trim_blanks,
+};
+use std::alloc::{AllocError, Global};
+use std::test::Fail;
+
+/// A source of seven lines with a name on the first alone.
+const PROGRAM: &[u8] =
+    b"P        CSECT\n         USING P,15\n         MVC   8(2,13),=C'AB'\n         L     1,=F'1'\n         LH    2,=H'2'\n         A     1,=F'1'\n         END\n";
+
+/// Its statements: name, operation, operand.
+const STATEMENTS: [(&[u8], &[u8], &[u8]); 7] = [
+    (b"P", b"CSECT", b""),
+    (b"", b"USING", b"P,15"),
+    (b"", b"MVC", b"8(2,13),=C'AB'"),
+    (b"", b"L", b"1,=F'1'"),
+    (b"", b"LH", b"2,=H'2'"),
+    (b"", b"A", b"1,=F'1'"),
+    (b"", b"END", b""),
+];
+
+fn is_stmt(stmt: &Stmt, expected: (&[u8], &[u8], &[u8])) -> bool {
+    stmt.name.as_slice() == expected.0
+        && stmt.operation.as_slice() == expected.1
+        && stmt.operand.as_slice() == expected.2
+}
+
+/// Whether a source has these lines, and a statement on each.
+fn is_program(source: &Source) -> bool {
+    let items = source.items.as_slice();
+    for (i, item) in items.iter().enumerate() {
+        let (Some(stmt), Some(expected)) = (&item.stmt, STATEMENTS.get(i)) else {
+            return false;
+        };
+        if item.line != i + 1 || !is_stmt(stmt, *expected) {
+            return false;
+        }
+    }
+    items.len() == STATEMENTS.len()
+}
+
+fn read_in_pieces(alloc: Global, bytes: &[u8], size: usize) -> Result<Source, SourceFault> {
+    let mut reader = SourceReader::new(alloc);
+    let mut rest = bytes;
+    for _ in 0..bytes.len() {
+        let (piece, after) = rest.split_at(rest.len().min(size));
+        reader.feed(piece)?;
+        rest = after;
+    }
+    reader.finish()
+}
+
+/// Feeds lines, without their ends, one by one.
+fn read_by_lines(alloc: Global, lines: &[&[u8]]) -> Result<Source, SourceFault> {
+    let mut reader = SourceReader::new(alloc);
+    for line in lines {
+        reader.feed_line(line)?;
+    }
+    reader.finish()
+}
+
+/// The lines of the program, and one after its END that is no line of a source.
+const LINES: [&[u8]; 8] = [
+    b"P        CSECT",
+    b"         USING P,15",
+    b"         MVC   8(2,13),=C'AB'",
+    b"         L     1,=F'1'",
+    b"         LH    2,=H'2'",
+    b"         A     1,=F'1'",
+    b"         END",
+    b"no\tname",
+];
+
+#[test]
+fn lines_one_by_one_give_the_source(rt: HostRuntime) -> Result<(), Fail> {
+    assert!(rt; is_program(&read_by_lines(rt.alloc(), &LINES)?));
+    let mut reader = SourceReader::new(rt.alloc());
+    reader.feed(b"P    ")?;
+    reader.feed_line(b"    CSECT")?;
+    for line in LINES.as_slice().split_at(1).1 {
+        reader.feed_line(line)?;
+    }
+    assert!(rt; is_program(&reader.finish()?));
+    Ok(())
+}
+
+#[test]
+fn a_line_fed_at_once_keeps_its_carriage_return(rt: HostRuntime) -> Result<(), Fail> {
+    let mut reader = SourceReader::new(rt.alloc());
+    reader.feed_line(b"*")?;
+    let fault = SourceFault::BadCharacter(2);
+    assert!(rt; reader.feed_line(b"X\r") == Err(fault));
+    assert!(rt; reader.feed_line(b"         END") == Err(fault));
+    assert!(rt; matches!(reader.finish(), Err(kept) if kept == fault));
+    let line_feed = read_by_lines(rt.alloc(), &[b"X\n", b"         END"]);
+    assert!(rt; matches!(line_feed, Err(SourceFault::BadCharacter(1))));
+    assert!(rt;
+        matches!(
+            read_by_lines(rt.alloc(), &[b"*", b""]),
+            Err(SourceFault::NoEnd(3))
+        )
+    );
+    Ok(())
+}
+
+/// The first statement of a source.
+fn first_stmt(source: &Source) -> Option<&Stmt> {
+    for item in source.items.as_slice() {
+        if let Some(stmt) = &item.stmt {
+            return Some(stmt);
+        }
+    }
+    None
+}
+
+#[test]
+fn pieces_of_any_size_give_one_source(rt: HostRuntime) -> Result<(), Fail> {
+    assert!(rt; is_program(&read_source(rt.alloc(), PROGRAM)?));
+    for size in [1, 2, 3, 7, 1000] {
+        let source = read_in_pieces(rt.alloc(), PROGRAM, size)?;
+        assert!(rt; is_program(&source), "{size}");
+    }
+    Ok(())
+}
+
+/// A comment of `lines` lines of 80 columns, and then an END.
+fn long_source(alloc: Global, lines: usize, rest: &[u8]) -> Result<Vec<u8>, AllocError> {
+    let mut source = Vec::new(alloc);
+    for _ in 0..lines {
+        source.extend_from_slice(&[b'*'; 80])?;
+        source.push(b'\n')?;
+    }
+    source.extend_from_slice(rest)?;
+    Ok(source)
+}
+
+/// The size of a piece, and the number of lines that it gives.
+fn fed(alloc: Global, piece: &[u8]) -> Result<(usize, usize), SourceFault> {
+    let mut reader = SourceReader::new(alloc);
+    reader.feed(piece)?;
+    let source = reader.finish()?;
+    Ok((piece.len(), source.items.as_slice().len()))
+}
+
+#[test]
+fn a_piece_of_65537_bytes_is_fed(rt: HostRuntime) -> Result<(), Fail> {
+    let piece = long_source(rt.alloc(), 809, b" END    ")?;
+    assert!(rt; fed(rt.alloc(), piece.as_slice())? == (65_537, 810));
+    let source = long_source(rt.alloc(), 9_999, b" END")?;
+    assert!(rt; fed(rt.alloc(), source.as_slice())? == (809_923, 10_000));
+    Ok(())
+}
+
+/// Why bytes are no source.
+fn fault_of(alloc: Global, bytes: &[u8]) -> Option<SourceFault> {
+    read_source(alloc, bytes).err()
+}
+
+#[test]
+fn a_source_without_its_end_is_refused_after_its_last_line(rt: HostRuntime) {
+    let mut line = 1usize;
+    for (i, c) in PROGRAM.iter().enumerate() {
+        let (front, after) = PROGRAM.split_at(i);
+        if after.len() < 2 {
+            break;
+        }
+        let unfinished = usize::from(front.last().is_some_and(|last| *last != b'\n'));
+        let number = unfinished.saturating_add(line);
+        let fault = SourceFault::NoEnd(number);
+        assert!(rt; fault_of(rt.alloc(), front) == Some(fault), "{i}");
+        if *c == b'\n' {
+            line = number;
+        }
+    }
+}
+
+#[test]
+fn each_fault_has_its_line(rt: HostRuntime) {
+    for (source, fault) in [
+        ("*{\n END", SourceFault::BadCharacter(1)),
+        (" DS F\r\r\n END", SourceFault::BadCharacter(1)),
+        (" DS F\n END\r", SourceFault::BadCharacter(2)),
+        ("1A DS F\n END", SourceFault::BadName(1)),
+        ("*\nABCDEFGHI DS F\n END", SourceFault::BadName(2)),
+        ("a DS F\n END", SourceFault::BadName(1)),
+        ("", SourceFault::NoEnd(1)),
+        ("* END\n", SourceFault::NoEnd(2)),
+    ] {
+        assert!(rt;
+            fault_of(rt.alloc(), source.as_bytes()) == Some(fault),
+            "{source}"
+        );
+    }
+}
+
+/// A line of more than 80 columns.
+fn long_line(alloc: Global) -> Result<Option<SourceFault>, AllocError> {
+    let source = format!(in alloc; "*{:<80}\n END", "{")?;
+    Ok(fault_of(alloc, source.as_bytes()))
+}
+
+/// A character without a code, and bytes in columns 1 to 15, on a line that continues a statement.
+fn bad_character(alloc: Global) -> Result<Option<SourceFault>, AllocError> {
+    let source = format!(in alloc; " DS F\n{:<71}X\n    {:<11}{{\n END", " DC C'A'", "B")?;
+    Ok(fault_of(alloc, source.as_bytes()))
+}
+
+/// A byte in columns 1 to 15 of a line that continues a statement.
+fn bad_continuation(alloc: Global) -> Result<Option<SourceFault>, AllocError> {
+    let source = format!(in alloc; "{:<71}X\n{:14}B\n END", " DC C'A'", "")?;
+    Ok(fault_of(alloc, source.as_bytes()))
+}
+
+#[test]
+fn faults_of_columns_have_their_lines(rt: HostRuntime) -> Result<(), Fail> {
+    assert!(rt; long_line(rt.alloc())? == Some(SourceFault::TooLong(1)));
+    assert!(rt; bad_character(rt.alloc())? == Some(SourceFault::BadCharacter(3)));
+    assert!(rt; bad_continuation(rt.alloc())? == Some(SourceFault::BadContinuation(2)));
+    Ok(())
+}
+
+/// `count` empty lines.
+fn empty_lines(alloc: Global, count: usize) -> Result<Vec<u8>, AllocError> {
+    vec![in alloc; b'\n'; count]
+}
+
+#[test]
+fn a_source_has_at_most_ten_thousand_lines(rt: HostRuntime) -> Result<(), Fail> {
+    let without_end = Some(SourceFault::NoEnd(10_001));
+    let lines = empty_lines(rt.alloc(), 10_000)?;
+    assert!(rt; fault_of(rt.alloc(), lines.as_slice()) == without_end);
+    let too_long = Some(SourceFault::TooLong(10_001));
+    let lines = empty_lines(rt.alloc(), 10_001)?;
+    assert!(rt; fault_of(rt.alloc(), lines.as_slice()) == too_long);
+    Ok(())
+}
+
+/// Whether the first statement of a source has this name, operation and operand.
+fn begins_with(
+    alloc: Global,
+    source: &str,
+    expected: (&str, &str, &str),
+) -> Result<bool, SourceFault> {
+    let (name, operation, operand) = expected;
+    let found = read_source(alloc, source.as_bytes())?;
+    Ok(match first_stmt(&found) {
+        Some(stmt) => is_stmt(
+            stmt,
+            (name.as_bytes(), operation.as_bytes(), operand.as_bytes()),
+        ),
+        None => false,
+    })
+}
+
+#[test]
+fn each_rule_of_lines_holds(rt: HostRuntime) -> Result<(), Fail> {
+    for (source, expected) in [
+        ("* DS F\n\n  \n DS F\r\n END\r\n", ("", "DS", "F")),
+        (
+            "A1  MVC X,=C'A''B C' IT'S ONE\n END",
+            ("A1", "MVC", "X,=C'A''B C'"),
+        ),
+        ("@ LA 1,L'X+L'$ 'A\n END", ("@", "LA", "1,L'X+L'$")),
+        ("#9 DC CL'X Y'\n END\n1BAD {\n", ("#9", "DC", "CL'X Y'")),
+        (" EXEC CICS  A  \n END", ("", "EXEC", "CICS  A")),
+        ("ONLYNAME\n END", ("ONLYNAME", "", "")),
+    ] {
+        assert!(rt; begins_with(rt.alloc(), source, expected)?, "{source}");
+    }
+    Ok(())
+}
+
+/// Whether an operand of an unfinished text goes on in column 16, and columns 73 to 80 don't count.
+fn text_goes_on(alloc: Global) -> Result<bool, SourceFault> {
+    let source = format!(in alloc; "A DC {:<66}X12345678\n{:15}CD' REST\n END", "C'AB", "")?;
+    let operand = format!(in alloc; "C'AB{:62}CD'", "")?;
+    begins_with(alloc, source.as_str(), ("A", "DC", operand.as_str()))
+}
+
+/// Whether an operand goes on over two lines.
+fn line_goes_on_twice(alloc: Global) -> Result<bool, SourceFault> {
+    let source = format!(in alloc;
+        "A DC C'{:A<64}XY\n{:15}{:B<56}X\n{:15}C' D\n END",
+        "", "", "", ""
+    )?;
+    let operand = format!(in alloc; "C'{:A<64}{:B<56}C'", "", "")?;
+    begins_with(alloc, source.as_str(), ("A", "DC", operand.as_str()))
+}
+
+/// Whether a command's blanks are kept.
+fn command_goes_on(alloc: Global) -> Result<bool, SourceFault> {
+    let source = format!(in alloc; "{:<71}X\n{:15}'A B'\n END", " EXEC CICS  ABEND", "")?;
+    let operand = format!(in alloc; "CICS  ABEND{:54}'A B'", "")?;
+    begins_with(alloc, source.as_str(), ("", "EXEC", operand.as_str()))
+}
+
+#[test]
+fn operands_go_on(rt: HostRuntime) -> Result<(), Fail> {
+    assert!(rt; text_goes_on(rt.alloc())?);
+    assert!(rt; line_goes_on_twice(rt.alloc())?);
+    assert!(rt; command_goes_on(rt.alloc())?);
+    Ok(())
+}
+
+/// Whether the source ends at an END that is marked as continued.
+fn ends_at_a_mark(alloc: Global) -> Result<bool, SourceFault> {
+    let source = format!(in alloc; "{:<71}X\n{{", " END")?;
+    begins_with(alloc, source.as_str(), ("", "END", ""))
+}
+
+/// Whether an empty line continues a statement.
+fn empty_line_continues(alloc: Global) -> Result<bool, SourceFault> {
+    let source = format!(in alloc; "{:<71}X\n\n END", " DC C'A'")?;
+    begins_with(alloc, source.as_str(), ("", "DC", "C'A'"))
+}
+
+/// Whether a blank statement goes on with an operand.
+fn blank_goes_on(alloc: Global) -> Result<bool, SourceFault> {
+    let source = format!(in alloc; "{:71}X\n{:15} MVC A\n END", "", "")?;
+    begins_with(alloc, source.as_str(), ("", "", "MVC"))
+}
+
+#[test]
+fn blank_lines_continue(rt: HostRuntime) -> Result<(), Fail> {
+    assert!(rt; ends_at_a_mark(rt.alloc())?);
+    assert!(rt; empty_line_continues(rt.alloc())?);
+    assert!(rt; blank_goes_on(rt.alloc())?);
+    Ok(())
+}
+
+/// A line's number, the length of its text, and whether a statement begins on it.
+fn kept(source: &Source, place: usize) -> Option<(usize, usize, bool)> {
+    let item = source.items.as_slice().get(place)?;
+    Some((item.line, item.text.as_slice().len(), item.stmt.is_some()))
+}
+
+/// A comment, a statement on two lines, and END.
+fn source_of_four_lines(alloc: Global) -> Result<Source, SourceFault> {
+    let text = format!(in alloc;
+        "* A  \n{:<71}X12345678\n{:15}'B'\n END\n{{",
+        " DC C'A'", ""
+    )?;
+    read_source(alloc, text.as_bytes())
+}
+
+#[test]
+fn lines_keep_their_texts(rt: HostRuntime) -> Result<(), Fail> {
+    let source = source_of_four_lines(rt.alloc())?;
+    assert!(rt; kept(&source, 0) == Some((1, 3, false)));
+    assert!(rt; kept(&source, 1) == Some((2, 72, true)));
+    assert!(rt; kept(&source, 2) == Some((3, 18, false)));
+    assert!(rt; kept(&source, 3) == Some((4, 4, true)));
+    assert!(rt; kept(&source, 4).is_none());
+    Ok(())
+}
+
+fn feed(reader: &mut SourceReader, piece: &[u8]) -> Option<SourceFault> {
+    reader.feed(piece).err()
+}
+
+fn finish(reader: SourceReader) -> Option<SourceFault> {
+    reader.finish().err()
+}
+
+#[test]
+fn a_fault_stays(rt: HostRuntime) {
+    let mut reader = SourceReader::new(rt.alloc());
+    let fault = Some(SourceFault::BadName(2));
+    assert!(rt; feed(&mut reader, b" DS F\n1A DS F").is_none());
+    assert!(rt; feed(&mut reader, b"\n END\n") == fault);
+    assert!(rt; feed(&mut reader, b" END\n") == fault);
+    assert!(rt; finish(reader) == fault);
+}
+
+#[test]
+fn the_last_line_is_judged_at_the_end(rt: HostRuntime) {
+    let mut reader = SourceReader::new(rt.alloc());
+    assert!(rt; feed(&mut reader, b"1A").is_none());
+    assert!(rt; finish(reader) == Some(SourceFault::BadName(1)));
+    let mut reader = SourceReader::new(rt.alloc());
+    assert!(rt; feed(&mut reader, b" END\n1A").is_none());
+    assert!(rt; feed(&mut reader, b"\n{\n").is_none());
+    assert!(rt; finish(reader).is_none());
+}
+
+/// Whether the parts of an operand are these, each followed by a bar.
+fn is_cut(
+    alloc: Global,
+    text: &[u8],
+    mark: Delimiter,
+    expected: &[u8],
+) -> Result<bool, AllocError> {
+    let mut joined = Vec::new(alloc);
+    for part in cut(alloc, text, mark)? {
+        joined.extend_from_slice(part)?;
+        joined.push(b'|')?;
+    }
+    Ok(joined.as_slice() == expected)
+}
+
+#[test]
+fn operands_are_cut_outside_apostrophes(rt: HostRuntime) -> Result<(), Fail> {
+    let operand = b"1,D(2,B),C','".as_slice();
+    for (text, mark, expected) in [
+        (operand, Delimiter::TopComma, b"1|D(2,B)|C','|".as_slice()),
+        (
+            b"(1),2)+(3)".as_slice(),
+            Delimiter::Closing,
+            b"(1),2|+(3)|".as_slice(),
+        ),
+        (
+            b"D(X,B)'('".as_slice(),
+            Delimiter::Parenthesis,
+            b"D|X,B|'('|".as_slice(),
+        ),
+        (
+            b"A  'B C'".as_slice(),
+            Delimiter::Blank,
+            b"A||'B C'|".as_slice(),
+        ),
+        (b"".as_slice(), Delimiter::TopComma, b"|".as_slice()),
+    ] {
+        assert!(rt; is_cut(rt.alloc(), text, mark, expected)?);
+    }
+    Ok(())
+}
+
+/// Whether these are the characters outside apostrophes.
+fn lie_outside(alloc: Global, text: &[u8], expected: &[bool]) -> Result<bool, AllocError> {
+    Ok(outside(alloc, text)?.as_slice() == expected)
+}
+
+#[test]
+fn marks_are_found_outside_apostrophes(rt: HostRuntime) -> Result<(), Fail> {
+    let expected = [true, false, false, false, true, true, true, true, false];
+    assert!(rt; lie_outside(rt.alloc(), b"A'B',L'C'", &expected)?);
+    assert!(rt; first_mark(b"C'A B',X REST", Delimiter::Blank) == 8);
+    assert!(rt; first_mark(b"AB", Delimiter::TopComma) == 2);
+    Ok(())
+}
+
+/// The numbers of flags and of parts of an operand of `size` commas.
+fn cut_count(alloc: Global, size: usize) -> Result<(usize, usize), AllocError> {
+    let text = vec![in alloc; b','; size]?;
+    let flags = outside(alloc, text.as_slice())?.len();
+    Ok((
+        flags,
+        cut(alloc, text.as_slice(), Delimiter::TopComma)?.len(),
+    ))
+}
+
+#[test]
+fn a_long_operand_is_cut(rt: HostRuntime) -> Result<(), Fail> {
+    assert!(rt; cut_count(rt.alloc(), 560_000)? == (560_000, 560_001));
+    Ok(())
+}
+
+#[test]
+fn names_begin_with_a_letter(rt: HostRuntime) {
+    assert!(rt; is_letter(b'$') && !is_letter(b'7') && !is_letter(b'a'));
+    assert!(rt; is_name_character(b'7') && !is_name_character(b'.'));
+    assert!(rt; begins_with_letter(b"@.") && !begins_with_letter(b""));
+    assert!(rt; is_name(b"#2345678") && !is_name(b"#23456789"));
+}
+
+/// Whether a text without the blanks at its beginning is the one, and without those at its end the other.
+fn is_stripped(text: &[u8], after: &[u8], before: &[u8]) -> bool {
+    skip_blanks(text) == after && trim_blanks(text) == before
+}
+
+/// Whether the text of a line of 80 columns ends with column 72.
+fn ends_at_column_72() -> bool {
+    let mut line = [b'9'; 80];
+    line[71] = b'X';
+    let text = text_of(&line);
+    text.len() == 72 && text.last().copied() == Some(b'X')
+}
+
+#[test]
+fn blanks_are_left_out(rt: HostRuntime) {
+    assert!(rt; is_stripped(b"  A B ", b"A B ", b"  A B"));
+    assert!(rt; is_stripped(b"  ", b"", b""));
+    assert!(rt; ends_at_column_72());
+}
+
+/// Whether a comment, or a line, with a mark in column 72 goes on.
+fn goes_on(continues: bool, first: u8) -> bool {
+    let mut line = [b' '; 72];
+    line[0] = first;
+    line[71] = b'X';
+    is_continued(continues, &line)
+}
+
+#[test]
+fn comments_are_not_continued(rt: HostRuntime) {
+    assert!(rt; goes_on(false, b'A'));
+    assert!(rt; !goes_on(false, b'*'));
+    assert!(rt; goes_on(true, b'*'));
+    assert!(rt; !is_continued(true, b"A"));
+}
+
+/// A source with copies of another's lines.
+fn copied(alloc: Global, source: &Source) -> Result<Source, SourceFault> {
+    let mut items = Vec::new(alloc);
+    for item in source.items.as_slice() {
+        items.push(item.copied(alloc)?)?;
+    }
+    Ok(Source {
+        items: Items::from_vec(items),
+    })
+}
+
+/// Whether a copy of a source's first statement is this.
+fn is_copied(
+    alloc: Global,
+    source: &Source,
+    expected: (&[u8], &[u8], &[u8]),
+) -> Result<bool, AllocError> {
+    match first_stmt(source) {
+        Some(stmt) => Ok(is_stmt(&stmt.copied(alloc)?, expected)),
+        None => Ok(false),
+    }
+}
+
+#[test]
+fn lines_and_statements_are_copied(rt: HostRuntime) -> Result<(), Fail> {
+    let source = read_source(rt.alloc(), PROGRAM)?;
+    assert!(rt; is_program(&copied(rt.alloc(), &source)?));
+    assert!(rt; is_copied(rt.alloc(), &source, STATEMENTS[0])?);
+    let source = copied(rt.alloc(), &source_of_four_lines(rt.alloc())?)?;
+    assert!(rt; kept(&source, 0) == Some((1, 3, false)));
+    assert!(rt; kept(&source, 1) == Some((2, 72, true)));
+    assert!(rt; kept(&source, 4).is_none());
+    Ok(())
+}
+
+/// Whether a fault has this name, and is shown so.
+fn is_shown(alloc: Global, fault: SourceFault, name: &str, text: &str) -> Result<bool, AllocError> {
+    let shown = format!(in alloc; "{fault}")?;
+    Ok(fault.name() == name && shown.as_str() == text)
+}
+
+#[test]
+fn faults_have_names(rt: HostRuntime) -> Result<(), Fail> {
+    for (fault, name, text) in [
+        (
+            SourceFault::BadCharacter(1),
+            "BadCharacter",
+            "line 1: BadCharacter",
+        ),
+        (SourceFault::BadName(20), "BadName", "line 20: BadName"),
+        (
+            SourceFault::BadContinuation(3),
+            "BadContinuation",
+            "line 3: BadContinuation",
+        ),
+        (
+            SourceFault::TooLong(10_001),
+            "TooLong",
+            "line 10001: TooLong",
+        ),
+        (SourceFault::NoEnd(8), "NoEnd", "line 8: NoEnd"),
+        (SourceFault::Memory, "Memory", "Memory"),
+    ] {
+        assert!(rt; is_shown(rt.alloc(), fault, name, text)?, "{name}");
+    }
+    Ok(())
+}
+
+/// Whether a list holds these bytes and gives them back.
+fn gives_back(list: List<u8>, bytes: &[u8]) -> bool {
+    let are_seen = list.as_slice() == bytes;
+    are_seen && list.into_vec().as_slice() == bytes
+}
+
+/// Whether a list of copies, and one of a `Vec`, give back what they were made of.
+fn give_back(alloc: Global, bytes: &[u8]) -> Result<bool, AllocError> {
+    let copies = List::from_slice(alloc, bytes)?;
+    let list = List::from_vec(bytes.to_vec(alloc)?);
+    Ok(gives_back(copies, bytes) && gives_back(list, bytes))
+}
+
+#[test]
+fn lists_give_back_what_they_hold(rt: HostRuntime) -> Result<(), Fail> {
+    assert!(rt; give_back(rt.alloc(), b"AB")?);
+    Ok(())
+}
