@@ -1,6 +1,5 @@
 -- A key of a block is what its line asks.
-use Rattle.std.proofs.Common.{◌≡◌, ℕ, Bool, true, false, Option, Some, None, List, [], ◌∷◌, ◌++◌, cond, refl, sym, ap, subst, ◌∙◌}
-use Rattle.std.specs.Prelude.{if◌then◌else◌}
+use Rattle.std.proofs.Common.{◌≡◌, ℕ, Bool, true, false, Option, Some, None, List, [], ◌∷◌, ◌++◌, cond, refl, subst}
 use Rattle.std.specs.List.{AllByRecursion, flat_map}
 use Rattle.std.specs.Option.{option_and_then, option_map}
 use Rattle.std.proofs.lemmas.Option.{none-some, same_Some}
@@ -16,7 +15,6 @@ use Rattle.cx_script_actions.specs.declared.actions.Line.{Line}
 use Rattle.cx_script_actions.specs.declared.actions.Line.TheVariants as line
 use Rattle.cx_look.specs.Laws.{IsAskedByItsLine}
 use Rattle.cx_look.specs.Orders.{event_in, is_key, key_in, key_of, keys_in, orders_block, orders_line_of, sight_of}
-use Rattle.cx_look.specs.declared.orders.OrdersLine.{OrdersLine}
 use Rattle.cx_look.specs.declared.orders.OrdersLine.TheVariants as says
 use Rattle.cx_look.specs.declared.orders.Sight.{Sight}
 

@@ -1,5 +1,5 @@
 -- The DFHEISTG that is kept is decided, and of the machine whose registers are kept.
-use Rattle.std.proofs.Common.{◌≡◌, ℕ, Bool, true, false, Option, Some, None, List, refl, sym, subst, ap, ◌∙◌}
+use Rattle.std.proofs.Common.{◌≡◌, ℕ, Bool, true, false, Option, Some, None, List, sym, subst, ap, ◌∙◌}
 use Rattle.std.specs.Prelude.{MatchBool, MatchOption, option_and_then}
 use Rattle.std.specs.Option.{option_map}
 use Rattle.cx_base_commands.specs.declared.commands.Command.{Command}
@@ -10,7 +10,6 @@ use Rattle.cx_region.specs.State.{RegionState, TerminalState}
 use Rattle.cx_region.specs.Tables.{task_of, terminal_of}
 use Rattle.cx_region.specs.Turn.{TurnHasAbendRecord, context_of}
 use Rattle.cx_region_state.specs.State.{TaskContext, TaskState}
-use Rattle.cx_region_state.specs.declared.replies.TurnReply.{TurnReply}
 use Rattle.cx_region_task.specs.Decisions.{command_of}
 use Rattle.cx_region_task.specs.Performing.{decision_cause}
 use Rattle.cx_region_task.specs.Turn.{HasAbendRecord, HalfTurnWith, PerformsCommand, RunsOn, abend_record_with, halt_cause, machine_of, most_steps}

@@ -1,16 +1,13 @@
 -- The fields of a DFHEISTG that is kept are those of its storage.
-use Rattle.std.proofs.Common.{◌≡◌, ◌<◌, ◌≤◌, ◌+◌, ◌^◌, ℕ, Option, Some, None, List, length, refl, sym, ap, ◌∙◌, arith}
+use Rattle.std.proofs.Common.{◌≡◌, ◌≤◌, ◌+◌, ℕ, Option, Some, None, List, length, refl, ap, arith}
 use Rattle.std.specs.Prelude.{min}
 use Rattle.std.specs.Option.{option_map}
-use Rattle.cx_asm_expressions.specs.declared.values.Value.{Value}
-use Rattle.cx_program.specs.declared.level.Level.{Level}
 use Rattle.cx_storage.specs.Address.{address_in}
 use Rattle.cx_storage.specs.Facts.Spans.{span_length}
-use Rattle.cx_storage.specs.Storage.{Storage, span}
+use Rattle.cx_storage.specs.Storage.{span}
 use Rattle.cx_look_levels.specs.FieldTexts.{field_line, typed}
 use Rattle.cx_look_levels.specs.KeptFields.{kept_field, kept_line}
 use Rattle.cx_look_levels.specs.Laws.{KeptFieldsAreOfStorage}
-use Rattle.cx_look_values.specs.declared.readings.NamedReading.{NamedReading}
 use Rattle.cx_look_abend.specs.Dumps.{Dump, dump_in}
 use Rattle.cx_look_abend.specs.Laws.{FieldsAreOfDumps}
 

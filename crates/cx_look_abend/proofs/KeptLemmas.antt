@@ -22,7 +22,6 @@ use Rattle.cx_edf.specs.declared.answers.Answer.TheVariants as answer
 use Rattle.cx_edf.specs.declared.answers.EdfEvent.{EdfEvent}
 use Rattle.cx_edf.specs.declared.answers.EdfEvent.TheVariants as edf_event
 use Rattle.cx_look_abend.specs.Abends.{before_turn, last_of_turn, kept_task}
-use Rattle.cx_look_abend.specs.declared.abends.KeptTask.{KeptTask}
 use Rattle.cx_look_abend.specs.declared.abends.TaskBefore.{TaskBefore}
 use Rattle.cx_look_abend.proofs.DumpLemmas.{RunsAreDecided, dumps_decide}
 use Rattle.cx_look_abend.specs.Laws.{AbendsAreKept, KeepsTurn, NotedDecide}

@@ -1,24 +1,20 @@
 -- The next turn comes to a line where the turn that is done does something of it.
-use Rattle.std.proofs.Common.{ap, sym, subst, refl, arith, ◌∙◌, zero, suc, ◌-◌, ◌≤◌, ◌∷◌, [], length, drop}
+use Rattle.std.proofs.Common.{ap, sym, subst, refl, arith, ◌∙◌, zero, suc, ◌-◌, ◌≤◌, [], length, drop}
 use Rattle.std.specs.Prelude.{◌≡◌, ℕ, Bool, Option, Some, None, MatchOption, IsSomeAnd, List}
 use Rattle.circular_buffer.specs.Buffer.{keep_last}
 use Rattle.cx_exec.specs.Machine.{Machine}
 use Rattle.cx_exec.specs.declared.machine.Step.{Step}
 use Rattle.cx_exec.specs.declared.machine.Step.TheVariants.{Done, AtEntry, Interrupt}
-use Rattle.cx_load.specs.declared.program.Loaded.{Loaded}
-use Rattle.cx_region_state.specs.State.{TaskState}
 use Rattle.cx_region_state.specs.declared.replies.TurnReply.{TurnReply}
 use Rattle.cx_region_task.specs.Turn.{most_steps}
 use Rattle.cx_region.specs.State.{RegionState}
 use Rattle.cx_region.specs.Tables.{task_of}
-use Rattle.cx_region.specs.Turn.{TakesTurn}
 use Rattle.cx_look_symbols.specs.Lines.{SourcePlaces}
-use Rattle.cx_look_symbols.specs.declared.statements.StatementPlace.{StatementPlace}
 use Rattle.cx_look_steps.specs.Laws.{TracesDecide}
 use Rattle.cx_look_steps.specs.Traces.{Follows, IsTrace, Visits, visit}
 use Rattle.cx_look_steps.specs.declared.traces.Trace.{Trace}
 use Rattle.cx_look_steps.specs.declared.traces.Visit.{Visit}
-use Rattle.cx_look_ahead.specs.Arrivals.{ComesTo, are_among, does_some, is_command_among, statements_on}
+use Rattle.cx_look_ahead.specs.Arrivals.{are_among, does_some, is_command_among, statements_on}
 use Rattle.cx_look_ahead.specs.Instructions.{IsAhead, machine_ahead}
 use Rattle.cx_look_ahead.specs.Laws.{AreTraced, TurnsRunThem}
 use Rattle.cx_look_ahead.specs.Laws.Arrivals.{ArrivalsDecide, RunsSome, TurnsDoSome}

@@ -1,9 +1,8 @@
 -- The steps of a list of moves.
-use Rattle.std.proofs.Common.{◌≡◌, ℕ, ◌+◌, ◌<◌, ◌≤◌, suc, List, [], ◌∷◌, ◌++◌, length, drop, Bool, true, false, Option, Some, None, ◌⊎◌, inl, inr, ap, refl, sym, subst, ◌∙◌, arith, append_assoc, append-nil, add-one}
+use Rattle.std.proofs.Common.{◌≡◌, ℕ, ◌+◌, ◌≤◌, suc, List, [], ◌∷◌, ◌++◌, length, drop, Option, Some, None, ap, refl, sym, subst, ◌∙◌, append_assoc, append-nil, add-one}
 use Rattle.std.specs.Prelude.{slice_get}
 use Rattle.cx_search.specs.Moves.{GoesOnly, GoesTo, IsFirst, Leads}
-use Rattle.cx_region.specs.State.{TerminalState}
-use Rattle.cx_orders.specs.Moves.{KeyMoves, Moves, TurnMoves}
+use Rattle.cx_orders.specs.Moves.{Moves}
 use Rattle.cx_orders.specs.declared.states.KeyLine.{KeyLine}
 use Rattle.cx_orders.specs.declared.states.OrdersState.{OrdersState}
 use Rattle.cx_look_orders.specs.Parts.Ways.{AreFirstSteps, AreStepsOf, came_between}

@@ -1,5 +1,5 @@
 -- The lines of a script of ORDERS are read, and ask for the events that its steps are.
-use Rattle.std.proofs.Common.{◌≡◌, ℕ, zero, suc, ◌+◌, ◌≤◌, Bool, true, false, Option, Some, None, List, [], ◌∷◌, ◌++◌, codes, length, map, nat_le, arith, ap, refl, sym, subst, ◌∙◌, append-nil, append_assoc, cond, length-append}
+use Rattle.std.proofs.Common.{◌≡◌, ℕ, zero, suc, ◌+◌, ◌≤◌, true, Option, Some, None, List, [], ◌∷◌, ◌++◌, codes, length, map, nat_le, arith, ap, refl, sym, subst, ◌∙◌, append-nil, cond, length-append}
 use Rattle.std.specs.Prelude.{drop, option_map, replicate, slice_get, unwrap_or}
 use Rattle.std.specs.Char.{is_ascii_digit, to_ascii_uppercase}
 use Rattle.std.specs.Fmt.{decimal}
@@ -18,7 +18,7 @@ use Rattle.cx_edf.specs.declared.answers.EdfEvent.TheVariants as edf_event
 use Rattle.cx_region.specs.State.{RegionState, TerminalState}
 use Rattle.cx_region.specs.declared.replies.Event.{Event}
 use Rattle.cx_region.specs.declared.replies.Event.TheVariants as event
-use Rattle.cx_script_actions.specs.Actions.{event_line, edf_switch, line_asked_for, line_of, switch_of}
+use Rattle.cx_script_actions.specs.Actions.{edf_switch, line_asked_for, line_of, switch_of}
 use Rattle.cx_script_actions.specs.Words.{after_first_blank, word}
 use Rattle.cx_script_actions.specs.declared.actions.Action.{Action}
 use Rattle.cx_script_actions.specs.declared.actions.Action.TheVariants as edf_action
@@ -31,7 +31,7 @@ use Rattle.cx_look.specs.Laws.{IsAskedByItsLine}
 use Rattle.cx_look.specs.Looks.{count_of, subject_of}
 use Rattle.cx_look.specs.declared.look.Subject.TheVariants as subject
 use Rattle.cx_look_words.specs.Words.{Lines, line_of as words_line, look_line}
-use Rattle.cx_look_orders.specs.Laws.{AskFor, IsAsked, ScriptsAskForSteps, asked_lines, asked_steps, event_at, event_of}
+use Rattle.cx_look_orders.specs.Laws.{IsAsked, ScriptsAskForSteps, asked_lines, asked_steps, event_at, event_of}
 use Rattle.cx_look_orders.specs.Rest.{name_at}
 use Rattle.cx_look_orders.specs.Script.{key_at, off_line, script_lines, steps_lines}
 use Rattle.cx_look_orders.specs.declared.steps.Step.{Step}

@@ -1,11 +1,10 @@
 -- Of a source that is accepted FAULTS writes NONE, and of one that is refused what it is refused for.
-use Rattle.std.proofs.Common.{◌≡◌, ℕ, Bool, Option, Some, List, [], ◌∷◌, ◌++◌, refl, ap, subst}
+use Rattle.std.proofs.Common.{◌≡◌, ℕ, Bool, Option, List, [], ◌∷◌, ◌++◌, refl, ap, subst}
 use Rattle.std.specs.List.{flat_map}
 use Rattle.std.specs.Result.{result_err}
 use Rattle.cx_asm_build.specs.Prepared.{prepared_of}
 use Rattle.cx_asm_build.specs.declared.faults.PrepareFault.{PrepareFault}
 use Rattle.cx_asm_build.specs.declared.faults.PrepareFault.TheVariants.{At}
-use Rattle.cx_asm_build.specs.declared.faults.SourceKind.{SourceKind}
 use Rattle.cx_look.specs.declared.look.SourceLines.{SourceLines}
 use Rattle.cx_look_words.specs.Words.{Lines}
 use Rattle.cx_look_faults.specs.Kept.{kept_faults}

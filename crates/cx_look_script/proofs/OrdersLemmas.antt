@@ -1,5 +1,5 @@
 -- Lines of texts; and what is to be seen of a region: how such a list goes on, and that there is one.
-use Rattle.std.proofs.Common.{◌≡◌, ℕ, List, [], ◌∷◌, ◌++◌, arith, length, map, refl, sym, ap, subst, ◌∙◌, append-nil, append_assoc}
+use Rattle.std.proofs.Common.{◌≡◌, ℕ, List, [], ◌∷◌, ◌++◌, arith, length, refl, sym, ap, subst, ◌∙◌, append-nil, append_assoc}
 use Rattle.std.specs.Str.Lines.{strip_carriage_return}
 use Rattle.cx_region.specs.State.{RegionState}
 use Rattle.cx_script_io.specs.Facts.Lines.{line_met, none_met}
@@ -14,7 +14,7 @@ use Rattle.cx_look_orders.specs.Report.{OrdersText}
 use Rattle.cx_look_words.specs.Words.{Lines, marked}
 use Rattle.cx_orders.specs.declared.states.KeyLine.{KeyLine}
 use Rattle.cx_look_script.specs.Looking.{AreLookLines, ShowsOrders, at_region}
-use Rattle.cx_look_script.specs.Orders.{AreSeen, IsSeen, SeenThen, names_with_edf, sights_of}
+use Rattle.cx_look_script.specs.Orders.{AreSeen, IsSeen, names_with_edf, sights_of}
 use Rattle.cx_look_script.specs.State.{LookState}
 use Rattle.cx_orders.specs.Laws.{MovesDecide}
 use Rattle.cx_orders.specs.Moves.{Moves}

@@ -18,10 +18,9 @@ use Rattle.cx_orders.specs.Laws.{MovesDecide}
 use Rattle.cx_orders.specs.Moves.{Moves, begun}
 use Rattle.cx_orders.specs.declared.states.KeyLine.{KeyLine}
 use Rattle.cx_orders.specs.declared.states.OrdersState.{OrdersState}
-use Rattle.cx_look_orders.specs.Laws.{ReportsDecide, TextsStandOnce}
-use Rattle.cx_look_orders.specs.Outcomes.{AllCanRest, AreOutcomes, AreReached, EndsWith, HasReached, HasStates, IsCutAt, IsOutcome, IsReached, IsStuck, MayLoop, NoLater}
+use Rattle.cx_look_orders.specs.Laws.{ReportsDecide}
+use Rattle.cx_look_orders.specs.Outcomes.{AllCanRest, AreOutcomes, AreReached, HasReached, HasStates, IsCutAt, IsOutcome, IsReached, IsStuck, MayLoop}
 use Rattle.cx_look_orders.specs.Parts.Ways.{came_between}
-use Rattle.cx_look_orders.specs.Rest.{RestText}
 use Rattle.cx_look_orders.specs.Report.{cut_line, loop_lines, outcomes_lines, stuck_line, whole_line}
 use Rattle.cx_look_orders.specs.Steps.{AreSteps, moves_of}
 use Rattle.cx_look_orders.specs.declared.outcomes.Outcome.{Outcome}

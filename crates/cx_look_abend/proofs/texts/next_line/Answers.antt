@@ -1,4 +1,4 @@
-use Rattle.std.proofs.Common.{◌≡◌, ◌∙◌, ap}
+use Rattle.std.proofs.Common.{◌∙◌, ap}
 use Rattle.cx_look_symbols.specs.Places.{place_word}
 use Rattle.cx_look_abend.proofs.texts.next_line.Goals as goal
 
