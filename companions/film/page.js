@@ -298,7 +298,7 @@ function placesOf(film, terminal) {
   return found.concat(named.map(([, name, at, length]) => ({ name, at: parseInt(at, 16), length: Number(length) })));
 }
 
-const CHANGES = /^> CHANGES ([0-9A-F]{6}) (\d+) FROM (\S+) TO (\S+)$/;
+const CHANGES = /^> CHANGES ([0-9A-F]{6}) (\d+) FROM (\S+) TO (\S+)(?: FIELD \S+)?$/;
 
 /** What the next turn of a terminal would do now: its answer, and the bytes that it would change, with the names of the fields there. */
 function aheadCard(film, terminal) {

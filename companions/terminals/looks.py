@@ -16,6 +16,7 @@ LOOKS: dict[str, list[str]] = {
     "COMMAND term": [],
     "AHEAD term": [],
     "AHEAD term instructions": [],
+    "AHEAD term AT program line": [],
     "TASK term": [],
     "AREAS": [],
     "AREAS term": [],
@@ -40,6 +41,7 @@ OPERANDS = {
     "program": "[A-Z0-9@#$]{1,8}",
     "queue": "(?:[A-Z0-9@#$]{1,8}|[0-9A-F]{16})",
     "address": "[0-9A-F]{6}",
+    "line": "[1-9][0-9]{0,4}",
     "level": "(?:[1-9]|1[0-6])",
     "instructions": "(?:[1-9][0-9]?|1[0-9]{2}|2[0-4][0-9]|25[0-6])",  # to 256
     "word": "(?:RUN|WATCH|QUEUES?|PROGRAMS|TASKS?|RESOURCES|TERMINALS|COMMAND|AHEAD|FIELDS?|AREAS|STORAGE|WHERE|ABEND|SYMBOLS?|XREF|FAULTS|ORDERS|HELP)",

@@ -19,7 +19,7 @@ use cx_asm_expressions::{FaultKind, TermFault};
 use cx_asm_image::{Assembled, LARGEST_TEXT, working_storage};
 use cx_asm_pass1::{LineFault, Places, place_all, place_with_faults};
 use cx_asm_pass2::{PlacedItem, Statement, entry_of, placed_lines, stated};
-use cx_base_lists::List;
+use cx_base::List;
 use cx_code::{Image, Line, Offsets, Span};
 use cx_source::{Source, Text};
 use std::alloc::{AllocError, Global};
@@ -149,52 +149,37 @@ fn section_of(
     source: &Source,
     places: &Places<'_>,
     statements: &[Statement<'_>],
-    size: u32,
     standing: Standing,
 ) -> Result<Assembled, AllocError>
     requires sound { (final_state source.now).fault ≡ None }
     requires placed { IsPlaced (final_state source.now) places.now }
     requires statements { statements.now ≡ statements_of source.now }
-    requires size { size ≡ size_of source.now }
-    requires fits { size ≤ 65536 }
+    requires fits { size_of source.now ≤ 65536 }
     requires standing { standing ≡ standing_of source.now }
     ensures { IfOk result (λ section. section ≡ section_of source.now) }
 {
     made_lines_do_not_overlap();
     let Standing { lines, relocs } = standing;
     let lines = lines.into_vec();
+    let size = size_of(places) as u32;
     let entry = entry(alloc, places, statements)?;
     let stg_len = working_storage(places.stg_length);
-    Assembled::new(
-        alloc,
-        lines,
-        size,
-        Offsets::from_vec(relocs),
-        entry,
-        stg_len,
-    )
+    Assembled::new(lines, size, Offsets::from_vec(relocs), entry, stg_len)
 }
 
-/// The assembly of a source whose statements are placed and have no fault.
+/// The assembly of a source whose statements are placed, with its section.
 fn made_of(
     alloc: Global,
     source: &Source,
     places: &Places<'_>,
     placed: &[PlacedItem<'_>],
-    statements: &[Statement<'_>],
-    size: u32,
-    standing: Standing,
+    section: Assembled,
 ) -> Result<Assembly, AllocError>
-    requires sound { (final_state source.now).fault ≡ None }
     requires places { IsPlaced (final_state source.now) places.now }
     requires placed { placed.now ≡ placed_of source.now }
-    requires statements { statements.now ≡ statements_of source.now }
-    requires size { size ≡ size_of source.now }
-    requires fits { size ≤ 65536 }
-    requires standing { standing ≡ standing_of source.now }
+    requires section { section ≡ section_of source.now }
     ensures { IfOk result (λ made. made ≡ made_of source.now) }
 {
-    let section = section_of(alloc, source, places, statements, size, standing)?;
     let text = section.image().text.as_slice();
     let listing = listing_of(alloc, places, text, placed)?;
     Ok(Assembly { section, listing })
@@ -243,15 +228,8 @@ fn assemble_placed(
     if !fits {
         return Err(AsmFault::TooLarge(end_line(source, statements.as_slice())));
     }
-    Ok(made_of(
-        alloc,
-        source,
-        places,
-        placed.as_slice(),
-        statements.as_slice(),
-        size as u32,
-        found.standing,
-    )?)
+    let section = section_of(alloc, source, places, statements.as_slice(), found.standing)?;
+    Ok(made_of(alloc, source, places, placed.as_slice(), section)?)
 }
 
 /// Assembles a source (GC33-4010).

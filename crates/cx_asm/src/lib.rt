@@ -6,6 +6,7 @@ mod constants;
 mod faults;
 pub mod laws;
 mod listing;
+mod pass;
 mod section;
 mod standing;
 

@@ -1,8 +1,7 @@
 //! The listing.
 
-ghost use Rattle.std.specs.Prelude.{◌≡◌, ◌+◌, IfOk, drop, map, take, None, [], option_map};
+ghost use Rattle.std.specs.Prelude.{◌≡◌, ◌+◌, IfOk, drop, map, take, None, []};
 ghost use Rattle.cx_asm_pools.specs.Pools.{cap, literal_size};
-ghost use Rattle.cx_asm_pass1.specs.PassState.{role_in};
 ghost use Rattle.cx_asm_image.specs.Listing.{listing_line};
 ghost use Rattle.cx_asm_pass2.specs.Whole.{whole_by};
 ghost use Rattle.cx_asm.specs.Listing.{end_after, line_with, item_listing, object_length, object_of, offset_shown};
@@ -13,7 +12,7 @@ use cx_asm_image::listing_line;
 use cx_asm_pass1::{Places, Role};
 use cx_asm_pass2::{PlacedItem, Statement, StatementItem, control_name, placed_items};
 use cx_asm_pools::capped;
-use cx_source::Text;
+use cx_source::{Item, Text};
 use std::alloc::{AllocError, Global};
 
 /// The offset that a statement of a role is listed with.
@@ -105,19 +104,19 @@ fn line_with(
     alloc: Global,
     places: &Places<'_>,
     text: &[u8],
-    number: usize,
-    written: &[u8],
+    item: &Item,
     statement: Option<Statement<'_>>,
 ) -> Result<Text, AllocError>
     ensures { IfOk result
-        (λ line. line ≡ line_with (whole_by places.now) text.now number written.now statement.entry) }
+        (λ line. line ≡ line_with (whole_by places.now) text.now item.now.line item.now.text statement.entry) }
 {
+    let written = item.text.as_slice();
     let Some(statement) = statement else {
-        return listing_line(alloc, None, b"", number, written);
+        return listing_line(alloc, None, b"", item.line, written);
     };
     let at = offset_shown(statement.place().offset, statement.role());
     let object = object_of(alloc, places, text, &statement)?;
-    listing_line(alloc, at, object, number, written)
+    listing_line(alloc, at, object, item.line, written)
 }
 
 /// A line of the listing.
@@ -130,15 +129,7 @@ fn listed(
 ) -> Result<Text, AllocError>
     ensures { IfOk result (λ line. line ≡ item_listing (whole_by places.now) text.now placed.now) }
 {
-    let item = placed.item();
-    line_with(
-        alloc,
-        places,
-        text,
-        item.line,
-        item.text.as_slice(),
-        placed.statement(),
-    )
+    line_with(alloc, places, text, placed.item(), placed.statement())
 }
 
 /// The listing of lines, with the text of their section.

@@ -15,9 +15,9 @@ ghost use Rattle.cx_asm_pass2.specs.Whole.{instruction_context, pool_of, whole_b
 ghost use Rattle.cx_asm.specs.Laws.SectionLines.{IsWithin};
 ghost use Rattle.cx_asm.specs.Parts.Kept.{Fits, kept};
 ghost use Rattle.cx_asm.specs.Parts.Passing.{WithUsing};
-ghost use Rattle.cx_asm.specs.Resolving.{instruction_standing, items_standing, join_sections, last_pool, pool_standing, role_standing, standing_from, statement_standing};
+ghost use Rattle.cx_asm.specs.Resolving.{instruction_standing, items_standing, last_pool, pool_standing, role_standing, standing_from, statement_standing};
 
-use crate::constants::{push_items, push_pool};
+use crate::pass::SecondPass;
 use crate::standing::Standing;
 use cx_asm_expressions::{FaultKind, TermFault, lower};
 use cx_asm_operands::{Bases, copy_fault};
@@ -27,7 +27,7 @@ use cx_asm_pass2::{
     Statement, control_name, entry_of, instruction_of, literals_fault, pass_bases, placed_items,
     pool_of,
 };
-use cx_base_lists::List;
+use cx_base::List;
 use cx_ebcdic::Name8;
 use std::alloc::{AllocError, Global};
 
@@ -41,255 +41,223 @@ pub(crate) fn is_control(section: Option<Name8>, control: Option<Name8>) -> bool
     }
 }
 
-/// Appends the instruction of a statement, if it is kept. The lowest fault of it and of the literals that it uses first
-/// is answered, if they have one.
-#[tactic(auto, using(crate::proofs::JoinLemmas::kept_nothing))]
-fn pass_instruction(
-    alloc: Global,
-    places: &Places<'_>,
-    number: usize,
-    statement: &Statement<'_>,
-    operation: Operation,
-    bases: &Bases,
-    keeps: bool,
-    standing: &mut Standing,
-) -> Result<Option<FaultKind>, AllocError>
-    requires { let whole = whole_by places.now in
-        Fits keeps standing.old (instruction_standing whole bases.now statement.now operation) }
-    ensures standing { let whole = whole_by places.now in
-        let made = instruction_standing whole bases.now statement.now operation in
-        OnOk result (standing.new ≡ kept keeps standing.old made) }
-    ensures fault { let whole = whole_by places.now in
-        let made = instruction_or_fault operation (instruction_context whole bases.now statement.now)
-        statement.now.stmt.operand in
-        IfOk result (λ fault. fault ≡ lower (result_err made) (literals_fault whole number statement.now)) }
-{
-    let literals = literals_fault(alloc, places, number, statement)?;
-    match instruction_of(alloc, places, bases, statement, operation) {
-        Ok(inst) => {
-            standing.push_code(statement.place().offset, inst, keeps)?;
-            Ok(literals)
-        }
-        Err(TermFault::Refused(fault)) => Ok(lower(Some(fault), literals)),
-        Err(TermFault::Memory) => Err(AllocError),
-    }
-}
-
-/// Appends what a DS or DC makes, if it is kept. Its lowest fault is answered, if it has one.
-fn pass_storage(
-    alloc: Global,
-    places: &Places<'_>,
-    is_ds: bool,
-    statement: &Statement<'_>,
-    keeps: bool,
-    standing: &mut Standing,
-) -> Result<Option<FaultKind>, AllocError>
-    requires { let whole = whole_by places.now in
-        Fits keeps standing.old (items_standing whole is_ds statement.now (placed_items statement.now)) }
-    ensures standing { let whole = whole_by places.now in
-        let made = items_standing whole is_ds statement.now (placed_items statement.now) in
-        OnOk result (standing.new ≡ kept keeps standing.old made) }
-    ensures fault { IfOk result (λ fault. fault ≡ items_fault (whole_by places.now) is_ds statement.now) }
-{
-    let items = placed_items(alloc, statement)?;
-    push_items(
-        alloc,
-        places,
-        is_ds,
-        statement,
-        items.as_slice(),
-        keeps,
-        standing,
-    )
-}
-
-/// Appends the pool of an LTORG, if it is kept.
-#[tactic(auto, using(crate::proofs::JoinLemmas::kept_nothing))]
-fn push_closed_pool(
-    alloc: Global,
-    places: &Places<'_>,
-    statements: &[Statement<'_>],
-    statement: &Statement<'_>,
-    keeps: bool,
-    standing: &mut Standing,
-) -> Result<(), AllocError>
-    requires { let whole = whole_by places.now in
-        Fits keeps standing.old (pool_standing whole statements.now (pool_of whole statement.now)) }
-    ensures { let whole = whole_by places.now in
-        let made = pool_standing whole statements.now (pool_of whole statement.now) in
-        OnOk result (standing.new ≡ kept keeps standing.old made) }
-{
-    match pool_of(places, statement) {
-        Some(pool) => push_pool(alloc, places, statements, pool, keeps, standing),
-        None => Ok(()),
-    }
-}
-
-/// The fault of an END.
-fn end_fault(
-    alloc: Global,
-    places: &Places<'_>,
-    statement: &Statement<'_>,
-) -> Result<Option<FaultKind>, AllocError>
-    ensures { let whole = whole_by places.now in
-        let it = Some (operation.Directive directive.End) in
-        IfOk result (λ fault. fault ≡ operand_fault whole none_in_use 0 statement.now it) }
-{
-    match entry_of(alloc, places, statement) {
-        Ok(_) => Ok(None),
-        Err(TermFault::Refused(fault)) => Ok(Some(fault)),
-        Err(TermFault::Memory) => Err(AllocError),
-    }
-}
-
-/// Appends what a directive makes, if it is kept. Its fault is answered, if it has one, except that of USING or DROP.
-#[tactic(auto, using(crate::proofs::JoinLemmas::kept_nothing, crate::proofs::FaultLemmas::lower_nothing), unfolding(cx_asm_operands::specs::Directives::bases_in))]
-fn pass_directive(
-    alloc: Global,
-    places: &Places<'_>,
-    statements: &[Statement<'_>],
-    statement: &Statement<'_>,
-    directive: Directive,
-    keeps: bool,
-    standing: &mut Standing,
-) -> Result<Option<FaultKind>, AllocError>
-    requires { let whole = whole_by places.now in
-        let made = role_standing whole statements.now none_in_use statement.now (directive_role directive) in
-        Fits keeps standing.old made }
-    ensures standing { let whole = whole_by places.now in
-        let made = role_standing whole statements.now none_in_use statement.now (directive_role directive) in
-        OnOk result (standing.new ≡ kept keeps standing.old made) }
-    ensures fault { let whole = whole_by places.now in let it = Some (operation.Directive directive) in
-        IfOk result (λ fault. (bases : Bases) → (number : ℕ) → WithUsing whole bases number statement.now it fault) }
-{
-    match directive {
-        Directive::Dc => pass_storage(alloc, places, false, statement, keeps, standing),
-        Directive::Ds => pass_storage(alloc, places, true, statement, keeps, standing),
-        Directive::Ltorg => {
-            push_closed_pool(alloc, places, statements, statement, keeps, standing)?;
-            Ok(None)
-        }
-        Directive::Copy => Ok(copy_fault(statement.stmt().operand.as_slice())),
-        Directive::End => end_fault(alloc, places, statement),
-        _ => Ok(None),
-    }
-}
-
-/// Appends what a statement of a number, from 0, makes, if it is kept. Its fault is answered, if it has one, except
-/// that of USING or DROP.
-#[tactic(auto, using(crate::proofs::JoinLemmas::kept_nothing, crate::proofs::RoleLemmas::by_directive, crate::proofs::FaultLemmas::lower_nothing), unfolding(cx_asm_operands::specs::Directives::bases_in))]
-fn pass_operands(
-    alloc: Global,
-    places: &Places<'_>,
-    statements: &[Statement<'_>],
-    number: usize,
-    statement: &Statement<'_>,
-    bases: &Bases,
-    keeps: bool,
-    standing: &mut Standing,
-) -> Result<Option<FaultKind>, AllocError>
-    requires { let whole = whole_by places.now in
-        let made = role_standing whole statements.now bases.now statement.now (role_in statement.now.stmt) in
-        Fits keeps standing.old made }
-    ensures standing { let whole = whole_by places.now in
-        let made = role_standing whole statements.now bases.now statement.now (role_in statement.now.stmt) in
-        OnOk result (standing.new ≡ kept keeps standing.old made) }
-    ensures fault { let whole = whole_by places.now in
-        IfOk result (λ fault. WithUsing whole bases.now number statement.now (operation_of statement.now) fault) }
-{
-    match statement.operation() {
-        None => Ok(None),
-        Some(Operation::Directive(directive)) => {
-            pass_directive(
-                alloc, places, statements, statement, directive, keeps, standing,
-            )
-        }
-        Some(operation) => {
-            pass_instruction(
-                alloc, places, number, statement, operation, bases, keeps, standing,
-            )
+impl SecondPass<'_, '_, '_> {
+    /// Appends the instruction of a statement, if it is kept. Its fault is answered, if it has one, except its
+    /// literals'.
+    #[tactic(auto, using(crate::proofs::JoinLemmas::kept_nothing))]
+    fn pass_instruction(
+        &self,
+        statement: &Statement<'_>,
+        operation: Operation,
+        bases: &Bases,
+        standing: &mut Standing,
+    ) -> Result<Option<FaultKind>, AllocError>
+        requires { let whole = whole_by self.now.places.now in
+            let stands = instruction_standing whole bases.now statement.now operation in
+            Fits self.now.keeps standing.old stands }
+        ensures standing { let whole = whole_by self.now.places.now in
+            let stands = instruction_standing whole bases.now statement.now operation in
+            OnOk result (standing.new ≡ kept self.now.keeps standing.old stands) }
+        ensures fault { let context = instruction_context (whole_by self.now.places.now) bases.now statement.now in
+            let made = instruction_or_fault operation context statement.now.stmt.operand in
+            IfOk result (λ fault. fault ≡ result_err made) }
+    {
+        match instruction_of(self.alloc, self.places, bases, statement, operation) {
+            Ok(inst) => {
+                self.push_code(statement.place().offset, inst, standing)?;
+                Ok(None)
+            }
+            Err(TermFault::Refused(fault)) => Ok(Some(fault)),
+            Err(TermFault::Memory) => Err(AllocError),
         }
     }
-}
 
-/// Appends what a statement of a number, from 0, makes, if it is kept and the statement is in the control section. Its
-/// fault is answered, if it has one, except that of USING or DROP.
-#[tactic(auto, using(crate::proofs::JoinLemmas::kept_nothing), unfolding(crate::specs::Resolving::statement_standing))]
-fn pass_statement(
-    alloc: Global,
-    places: &Places<'_>,
-    statements: &[Statement<'_>],
-    number: usize,
-    statement: &Statement<'_>,
-    bases: &Bases,
-    keeps: bool,
-    standing: &mut Standing,
-) -> Result<Option<FaultKind>, AllocError>
-    requires { let whole = whole_by places.now in
-        Fits keeps standing.old (statement_standing whole statements.now bases.now statement.now) }
-    ensures standing { let whole = whole_by places.now in
-        let made = statement_standing whole statements.now bases.now statement.now in
-        OnOk result (standing.new ≡ kept keeps standing.old made) }
-    ensures fault { let whole = whole_by places.now in
-        IfOk result (λ fault. WithUsing whole bases.now number statement.now (operation_of statement.now) fault) }
-{
-    if is_control(statement.place().section, control_name(places)) {
-        return pass_operands(
-            alloc, places, statements, number, statement, bases, keeps, standing,
-        );
+    /// Appends what a DS or DC makes, if it is kept. Its lowest fault is answered, if it has one.
+    fn pass_storage(
+        &self,
+        is_ds: bool,
+        statement: &Statement<'_>,
+        standing: &mut Standing,
+    ) -> Result<Option<FaultKind>, AllocError>
+        requires { let whole = whole_by self.now.places.now in
+            let stands = items_standing whole is_ds statement.now (placed_items statement.now) in
+            Fits self.now.keeps standing.old stands }
+        ensures standing { let whole = whole_by self.now.places.now in
+            let stands = items_standing whole is_ds statement.now (placed_items statement.now) in
+            OnOk result (standing.new ≡ kept self.now.keeps standing.old stands) }
+        ensures fault { let whole = whole_by self.now.places.now in
+            IfOk result (λ fault. fault ≡ items_fault whole is_ds statement.now) }
+    {
+        let items = placed_items(self.alloc, statement)?;
+        self.push_items(is_ds, statement, items.as_slice(), standing)
     }
-    pass_operands(
-        alloc, places, statements, number, statement, bases, false, standing,
-    )
-}
 
-/// Appends the literals that no LTORG has placed, if they are kept.
-#[tactic(auto, using(crate::proofs::JoinLemmas::kept_nothing))]
-fn push_last_pool(
-    alloc: Global,
-    places: &Places<'_>,
-    statements: &[Statement<'_>],
-    keeps: bool,
-    standing: &mut Standing,
-) -> Result<(), AllocError>
-    requires { let whole = whole_by places.now in
-        Fits keeps standing.old (pool_standing whole statements.now (last_pool whole)) }
-    ensures { let whole = whole_by places.now in
-        OnOk result (standing.new ≡ kept keeps standing.old (pool_standing whole statements.now (last_pool whole))) }
-{
-    match places.pools.as_slice().last() {
-        Some(pool) => push_pool(alloc, places, statements, pool, keeps, standing),
-        None => Ok(()),
+    /// Appends the pool of an LTORG, if it is kept.
+    #[tactic(auto, using(crate::proofs::JoinLemmas::kept_nothing))]
+    fn push_closed_pool(
+        &self,
+        statement: &Statement<'_>,
+        standing: &mut Standing,
+    ) -> Result<(), AllocError>
+        requires { let whole = whole_by self.now.places.now in
+            let stands = pool_standing whole self.now.statements.now (pool_of whole statement.now) in
+            Fits self.now.keeps standing.old stands }
+        ensures { let whole = whole_by self.now.places.now in
+            let stands = pool_standing whole self.now.statements.now (pool_of whole statement.now) in
+            OnOk result (standing.new ≡ kept self.now.keeps standing.old stands) }
+    {
+        match pool_of(self.places, statement) {
+            Some(pool) => self.push_pool(pool, standing),
+            None => Ok(()),
+        }
     }
-}
 
-/// Goes past the statement of a number, from 0, and appends what it makes, if it is kept. Its lowest fault is answered,
-/// if it has one.
-#[tactic(auto, unfolding(cx_asm_pass2::specs::SecondFaults::second_fault))]
-fn pass_line(
-    alloc: Global,
-    places: &Places<'_>,
-    statements: &[Statement<'_>],
-    number: usize,
-    statement: &Statement<'_>,
-    keeps: bool,
-    bases: &mut Bases,
-    standing: &mut Standing,
-) -> Result<Option<FaultKind>, AllocError>
-    requires { let whole = whole_by places.now in
-        Fits keeps standing.old (statement_standing whole statements.now bases.old statement.now) }
-    ensures fault { let whole = whole_by places.now in
-        IfOk result (λ fault. fault ≡ second_fault whole bases.old number statement.now) }
-    ensures bases { OnOk result (bases.new ≡ bases_after (whole_by places.now) bases.old statement.now) }
-    ensures standing { let whole = whole_by places.now in
-        let made = statement_standing whole statements.now bases.old statement.now in
-        OnOk result (standing.new ≡ kept keeps standing.old made) }
-{
-    let operands = pass_statement(
-        alloc, places, statements, number, statement, bases, keeps, standing,
-    )?;
-    let using = pass_bases(alloc, places, bases, statement)?;
-    Ok(lower(operands, using))
+    /// The fault of an END.
+    fn end_fault(&self, statement: &Statement<'_>) -> Result<Option<FaultKind>, AllocError>
+        ensures { let whole = whole_by self.now.places.now in
+            let it = Some (operation.Directive directive.End) in
+            IfOk result (λ fault. fault ≡ operand_fault whole none_in_use 0 statement.now it) }
+    {
+        match entry_of(self.alloc, self.places, statement) {
+            Ok(_) => Ok(None),
+            Err(TermFault::Refused(fault)) => Ok(Some(fault)),
+            Err(TermFault::Memory) => Err(AllocError),
+        }
+    }
+
+    /// Appends what a directive makes, if it is kept. Its fault is answered, if it has one, except that of USING or
+    /// DROP.
+    #[tactic(auto, using(crate::proofs::JoinLemmas::kept_nothing, crate::proofs::FaultLemmas::lower_nothing), unfolding(cx_asm_operands::specs::Directives::bases_in))]
+    fn pass_directive(
+        &self,
+        statement: &Statement<'_>,
+        directive: Directive,
+        standing: &mut Standing,
+    ) -> Result<Option<FaultKind>, AllocError>
+        requires { let pass = self.now in let role = directive_role directive in
+            let stands = role_standing (whole_by pass.places.now) pass.statements.now none_in_use statement.now role in
+            Fits pass.keeps standing.old stands }
+        ensures standing { let pass = self.now in let role = directive_role directive in
+            let stands = role_standing (whole_by pass.places.now) pass.statements.now none_in_use statement.now role in
+            OnOk result (standing.new ≡ kept pass.keeps standing.old stands) }
+        ensures fault { let whole = whole_by self.now.places.now in let it = Some (operation.Directive directive) in
+            IfOk result
+            (λ fault. (bases : Bases) → (number : ℕ) → WithUsing whole bases number statement.now it fault) }
+    {
+        match directive {
+            Directive::Dc => self.pass_storage(false, statement, standing),
+            Directive::Ds => self.pass_storage(true, statement, standing),
+            Directive::Ltorg => {
+                self.push_closed_pool(statement, standing)?;
+                Ok(None)
+            }
+            Directive::Copy => Ok(copy_fault(statement.stmt().operand.as_slice())),
+            Directive::End => self.end_fault(statement),
+            _ => Ok(None),
+        }
+    }
+
+    /// Appends what a statement of a number, from 0, makes, if it is kept. Its fault is answered, if it has one, except
+    /// that of USING or DROP.
+    #[tactic(auto, using(crate::proofs::JoinLemmas::kept_nothing, crate::proofs::RoleLemmas::by_directive, crate::proofs::FaultLemmas::lower_nothing), unfolding(cx_asm_operands::specs::Directives::bases_in))]
+    fn pass_operands(
+        &self,
+        number: usize,
+        statement: &Statement<'_>,
+        bases: &Bases,
+        standing: &mut Standing,
+    ) -> Result<Option<FaultKind>, AllocError>
+        requires { let pass = self.now in let role = role_in statement.now.stmt in
+            let stands = role_standing (whole_by pass.places.now) pass.statements.now bases.now statement.now role in
+            Fits pass.keeps standing.old stands }
+        ensures standing { let pass = self.now in let role = role_in statement.now.stmt in
+            let stands = role_standing (whole_by pass.places.now) pass.statements.now bases.now statement.now role in
+            OnOk result (standing.new ≡ kept pass.keeps standing.old stands) }
+        ensures fault { let whole = whole_by self.now.places.now in
+            IfOk result (λ fault. WithUsing whole bases.now number statement.now (operation_of statement.now) fault) }
+    {
+        match statement.operation() {
+            None => Ok(None),
+            Some(Operation::Directive(directive)) => {
+                self.pass_directive(statement, directive, standing)
+            }
+            Some(operation) => {
+                let literals = literals_fault(self.alloc, self.places, number, statement)?;
+                let made = self.pass_instruction(statement, operation, bases, standing)?;
+                Ok(lower(made, literals))
+            }
+        }
+    }
+
+    /// Appends what a statement of a number, from 0, makes, if it is kept and the statement is in the control section.
+    /// Its fault is answered, if it has one, except that of USING or DROP.
+    #[tactic(auto, using(crate::proofs::JoinLemmas::kept_nothing), unfolding(crate::specs::Resolving::statement_standing))]
+    fn pass_statement(
+        &self,
+        number: usize,
+        statement: &Statement<'_>,
+        bases: &Bases,
+        standing: &mut Standing,
+    ) -> Result<Option<FaultKind>, AllocError>
+        requires { let pass = self.now in
+            let stands = statement_standing (whole_by pass.places.now) pass.statements.now bases.now statement.now in
+            Fits pass.keeps standing.old stands }
+        ensures standing { let pass = self.now in
+            let stands = statement_standing (whole_by pass.places.now) pass.statements.now bases.now statement.now in
+            OnOk result (standing.new ≡ kept pass.keeps standing.old stands) }
+        ensures fault { let whole = whole_by self.now.places.now in
+            IfOk result (λ fault. WithUsing whole bases.now number statement.now (operation_of statement.now) fault) }
+    {
+        if is_control(statement.place().section, control_name(self.places)) {
+            return self.pass_operands(number, statement, bases, standing);
+        }
+        let unkept = SecondPass {
+            keeps: false,
+            ..*self
+        };
+        unkept.pass_operands(number, statement, bases, standing)
+    }
+
+    /// Appends the literals that no LTORG has placed, if they are kept.
+    #[tactic(auto, using(crate::proofs::JoinLemmas::kept_nothing))]
+    fn push_last_pool(&self, standing: &mut Standing) -> Result<(), AllocError>
+        requires { let whole = whole_by self.now.places.now in
+            Fits self.now.keeps standing.old (pool_standing whole self.now.statements.now (last_pool whole)) }
+        ensures { let whole = whole_by self.now.places.now in
+            let stands = pool_standing whole self.now.statements.now (last_pool whole) in
+            OnOk result (standing.new ≡ kept self.now.keeps standing.old stands) }
+    {
+        match self.places.pools.as_slice().last() {
+            Some(pool) => self.push_pool(pool, standing),
+            None => Ok(()),
+        }
+    }
+
+    /// Goes past the statement of a number, from 0, and appends what it makes, if it is kept. Its lowest fault is
+    /// answered, if it has one.
+    #[tactic(auto, unfolding(cx_asm_pass2::specs::SecondFaults::second_fault))]
+    fn pass_line(
+        &self,
+        number: usize,
+        statement: &Statement<'_>,
+        bases: &mut Bases,
+        standing: &mut Standing,
+    ) -> Result<Option<FaultKind>, AllocError>
+        requires { let pass = self.now in
+            let stands = statement_standing (whole_by pass.places.now) pass.statements.now bases.old statement.now in
+            Fits pass.keeps standing.old stands }
+        ensures fault { let whole = whole_by self.now.places.now in
+            IfOk result (λ fault. fault ≡ second_fault whole bases.old number statement.now) }
+        ensures bases { let whole = whole_by self.now.places.now in
+            OnOk result (bases.new ≡ bases_after whole bases.old statement.now) }
+        ensures standing { let pass = self.now in
+            let stands = statement_standing (whole_by pass.places.now) pass.statements.now bases.old statement.now in
+            OnOk result (standing.new ≡ kept pass.keeps standing.old stands) }
+    {
+        let operands = self.pass_statement(number, statement, bases, standing)?;
+        let using = pass_bases(self.alloc, self.places, bases, statement)?;
+        Ok(lower(operands, using))
+    }
 }
 
 /// What the second pass over statements finds.
@@ -316,23 +284,20 @@ pub(crate) fn second_pass(
         let all = standing_from whole statements.now none_in_use statements.now in
         IfOk result (λ found. keeps ≡ true → found.standing ≡ all) }
 {
+    let pass = SecondPass {
+        alloc,
+        places,
+        statements,
+        keeps,
+    };
     let mut standing = Standing::new(alloc);
     let mut bases = Bases::new();
     let mut first = None;
     for (number, statement) in statements.iter().enumerate() {
-        let fault = pass_line(
-            alloc,
-            places,
-            statements,
-            number,
-            statement,
-            keeps,
-            &mut bases,
-            &mut standing,
-        )?;
+        let fault = pass.pass_line(number, statement, &mut bases, &mut standing)?;
         first = first_fault_after(statement.line(), fault, first);
     }
-    push_last_pool(alloc, places, statements, keeps, &mut standing)?;
+    pass.push_last_pool(&mut standing)?;
     Ok(Found { first, standing })
 }
 
@@ -344,20 +309,17 @@ pub(crate) fn second_faults(
 ) -> Result<List<LineFault>, AllocError>
     ensures { IfOk result (λ faults. faults ≡ second_faults_after (whole_by places.now) (reverse statements.now)) }
 {
+    let pass = SecondPass {
+        alloc,
+        places,
+        statements,
+        keeps: false,
+    };
     let mut unkept = Standing::new(alloc);
     let mut bases = Bases::new();
     let mut faults = LineFaults::new(alloc);
     for (number, statement) in statements.iter().enumerate() {
-        let fault = pass_line(
-            alloc,
-            places,
-            statements,
-            number,
-            statement,
-            false,
-            &mut bases,
-            &mut unkept,
-        )?;
+        let fault = pass.pass_line(number, statement, &mut bases, &mut unkept)?;
         faults.add(statement.line(), fault)?;
     }
     faults.to_list(alloc)

@@ -1,12 +1,13 @@
 //! What is in the control section, in the making.
 
-ghost use Rattle.std.specs.Prelude.{◌≡◌, ◌++◌, ◌∷◌, [], IfOk, OnOk, true};
+ghost use Rattle.std.specs.Prelude.{◌≡◌, ◌++◌, ◌∷◌, [], IfOk, OnOk};
 ghost use Rattle.std.specs.List.{repeat};
 ghost use Rattle.cx_asm.specs.Laws.SectionLines.{IsWithin, WordsApart};
 ghost use Rattle.cx_asm.specs.Parts.Kept.{Fits, kept};
-ghost use Rattle.cx_asm.specs.Resolving.{data_line, join_sections, line as resolved_line, empty_section, relocated_offsets, space_line, standing};
+ghost use Rattle.cx_asm.specs.Resolving.{data_line, join_sections, line as resolved_line, empty_section, relocated_offsets, space_line, standing as section_of};
 ghost use Rattle.cx_code.specs.declared.disassembly.What.TheVariants.{Code};
 
+use crate::pass::SecondPass;
 use cx_asm_expressions::ConstantBytes;
 use cx_asm_image::{ResolvedLines, push_words};
 use cx_code::{Bytes, Inst, Line, What};
@@ -73,66 +74,80 @@ impl Standing {
 
     /// Appends a line, which begins at or past the end of those before it.
     fn push(&mut self, line: Line) -> Result<(), AllocError>
-        requires { IsWithin 0 (join_sections self.old (standing (line ∷ []) [])) 65536 }
-        ensures { OnOk result (self.new ≡ join_sections self.old (standing (line ∷ []) [])) }
+        requires { IsWithin 0 (join_sections self.old (section_of (line ∷ []) [])) 65536 }
+        ensures { OnOk result (self.new ≡ join_sections self.old (section_of (line ∷ []) [])) }
     {
         self.lines.push(line)
     }
+}
 
+impl SecondPass<'_, '_, '_> {
     /// Appends the copies of a constant at an offset, if they are kept.
     pub(crate) fn push_data(
-        &mut self,
-        alloc: Global,
+        &self,
         at: u128,
         count: u32,
         made: &ConstantBytes,
-        keeps: bool,
+        standing: &mut Standing,
     ) -> Result<(), AllocError>
         requires { let words = relocated_offsets at count made.now.is_relocated in
-            Fits keeps self.old (standing (data_line at (repeat count made.now.bytes)) words) }
+            Fits self.now.keeps standing.old (section_of (data_line at (repeat count made.now.bytes)) words) }
         ensures { let words = relocated_offsets at count made.now.is_relocated in
-            OnOk result (self.new ≡ kept keeps self.old (standing (data_line at (repeat count made.now.bytes)) words)) }
+            let stands = section_of (data_line at (repeat count made.now.bytes)) words in
+            OnOk result (standing.new ≡ kept self.now.keeps standing.old stands) }
     {
-        if !keeps {
+        if !self.keeps {
             return Ok(());
         }
-        push_relocated(&mut self.relocs, at, count, made.is_relocated())?;
-        let bytes = copies(alloc, made.as_slice(), count)?;
+        push_relocated(&mut standing.relocs, at, count, made.is_relocated())?;
+        let bytes = copies(self.alloc, made.as_slice(), count)?;
         if bytes.is_empty() {
             return Ok(());
         }
-        self.push(Line {
+        standing.push(Line {
             at: at as u32,
             what: What::Data(Bytes::from_vec(bytes)),
         })
     }
 
     /// Appends a space at an offset, where it has bytes, if it is kept.
-    pub(crate) fn push_space(&mut self, at: u128, size: u128, keeps: bool) -> Result<(), AllocError>
-        requires { Fits keeps self.old (standing (space_line at size) []) }
-        ensures { OnOk result (self.new ≡ kept keeps self.old (standing (space_line at size) [])) }
+    pub(crate) fn push_space(
+        &self,
+        at: u128,
+        size: u128,
+        standing: &mut Standing,
+    ) -> Result<(), AllocError>
+        requires { Fits self.now.keeps standing.old (section_of (space_line at size) []) }
+        ensures { let stands = section_of (space_line at size) [] in
+            OnOk result (standing.new ≡ kept self.now.keeps standing.old stands) }
     {
-        if !keeps {
+        if !self.keeps {
             return Ok(());
         }
         if size == 0 {
             return Ok(());
         }
-        self.push(Line {
+        standing.push(Line {
             at: at as u32,
             what: What::Space(size as u32),
         })
     }
 
     /// Appends an instruction at an offset, if it is kept.
-    pub(crate) fn push_code(&mut self, at: u128, inst: Inst, keeps: bool) -> Result<(), AllocError>
-        requires { Fits keeps self.old (standing (resolved_line at (Code inst) ∷ []) []) }
-        ensures { OnOk result (self.new ≡ kept keeps self.old (standing (resolved_line at (Code inst) ∷ []) [])) }
+    pub(crate) fn push_code(
+        &self,
+        at: u128,
+        inst: Inst,
+        standing: &mut Standing,
+    ) -> Result<(), AllocError>
+        requires { Fits self.now.keeps standing.old (section_of (resolved_line at (Code inst) ∷ []) []) }
+        ensures { let stands = section_of (resolved_line at (Code inst) ∷ []) [] in
+            OnOk result (standing.new ≡ kept self.now.keeps standing.old stands) }
     {
-        if !keeps {
+        if !self.keeps {
             return Ok(());
         }
-        self.push(Line {
+        standing.push(Line {
             at: at as u32,
             what: What::Code(inst),
         })

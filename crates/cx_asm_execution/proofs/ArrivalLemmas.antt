@@ -6,7 +6,7 @@ use Rattle.cx_storage.specs.Address.{address_in, address_after, distance}
 use Rattle.cx_storage.specs.Word.{word_at}
 use Rattle.cx_exec.specs.Machine.{Machine}
 use Rattle.cx_exec.specs.Step.{entry}
-use Rattle.cx_region_call.specs.Laws.Calls.{CallIsRead, IsCallAt}
+use Rattle.cx_region_state.specs.Laws.Calls.{CallIsRead, IsCallAt}
 use Rattle.cx_asm_execution.specs.Expansion.{Statement, Argument, instructions_made, branch, words_of, block_bytes, address_reached, argument_address, call_made}
 use Rattle.cx_asm_execution.specs.Stands.{IsMachine, IsLegal, Stands, IsAddressed, IsClear, code_length, list_length}
 use Rattle.cx_asm_execution.specs.Arrives.{Arrives}

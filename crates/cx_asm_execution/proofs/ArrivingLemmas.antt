@@ -6,7 +6,7 @@ use Rattle.cx_asm_execution.specs.Arrives.{Arrives}
 use Rattle.cx_asm_execution.specs.Laws.Entry.{MadeAreCounted, ReachesEntry}
 use Rattle.cx_asm_execution.specs.Expansion.{Argument, Statement, block_bytes as statement_bytes, instructions_made as made_code, address_reached, words_of}
 use Rattle.cx_asm_execution.specs.Stands.{AreAt, IsAddressed, IsClear, Stands, code_length}
-use Rattle.cx_base_commands.specs.declared.commands.Command.{Command}
+use Rattle.cx_base.specs.declared.commands.Command.{Command}
 use Rattle.cx_exec.specs.Machine.{Machine}
 use Rattle.cx_exec.specs.Step.{entry}
 use Rattle.cx_load.specs.Fault.{IsFit}

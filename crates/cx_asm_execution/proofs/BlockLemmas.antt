@@ -8,10 +8,10 @@ use Rattle.std.proofs.lemmas.Bool.{cases_Bool}
 use Rattle.std.proofs.lemmas.Iterator.Adapters.{position_from-zero}
 use Rattle.std.proofs.lemmas.List.{append_assoc, reverse-append}
 use Rattle.cx_code.specs.Table.{ops, row_of}
-use Rattle.cx_base_commands.specs.declared.eib.EibField.{EibField}
-use Rattle.cx_base_commands.specs.declared.eib.EibField.TheVariants.{Time, Date, Trnid, Taskn, Trmid, Calen, Aid, Fn, Rcode, Rsrce, Resp}
-use Rattle.cx_base_commands.specs.declared.eib.EibPiece.{EibPiece}
-use Rattle.cx_base_commands.specs.Eib.{eib_field, eib_len, eib_pieces}
+use Rattle.cx_base.specs.declared.eib.EibField.{EibField}
+use Rattle.cx_base.specs.declared.eib.EibField.TheVariants.{Time, Date, Trnid, Taskn, Trmid, Calen, Aid, Fn, Rcode, Rsrce, Resp}
+use Rattle.cx_base.specs.declared.eib.EibPiece.{EibPiece}
+use Rattle.cx_base.specs.Eib.{eib_field, eib_len, eib_pieces}
 use Rattle.cx_ebcdic.specs.Facts.Names.{is_name-decides, is_name-laws}
 use Rattle.cx_ebcdic.specs.Characters.{code_of, table}
 use Rattle.cx_ebcdic.specs.Names.{padded_name, name_code, is_name_character}

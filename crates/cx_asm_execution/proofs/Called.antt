@@ -1,6 +1,6 @@
 -- The statements made to call a command.
 use Rattle.std.specs.Prelude.{◌≡◌, ℕ, ◌-◌, Some, List, ◌++◌, length}
-use Rattle.cx_base_commands.specs.declared.commands.Command.{Command}
+use Rattle.cx_base.specs.declared.commands.Command.{Command}
 use Rattle.cx_source.specs.declared.source.Stmt.{Stmt}
 use Rattle.cx_asm_expressions.specs.Names.{symbol_name}
 use Rattle.cx_translate.specs.declared.words.Word.{Word}

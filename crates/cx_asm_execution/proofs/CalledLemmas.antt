@@ -9,7 +9,7 @@ use Rattle.cx_code.specs.declared.table.Op.{Op}
 use Rattle.cx_code.specs.declared.table.Op.TheVariants as op
 use Rattle.cx_code.specs.declared.disassembly.Line.{Line}
 use Rattle.cx_code.specs.Spelling.{Instruction}
-use Rattle.cx_base_commands.specs.declared.commands.Command.{Command}
+use Rattle.cx_base.specs.declared.commands.Command.{Command}
 use Rattle.cx_ebcdic.specs.Facts.Names.{is_name-laws}
 use Rattle.cx_source.specs.Lines.{is_letter, is_name}
 use Rattle.cx_source.specs.Marks.{parts, within_after}
@@ -29,7 +29,7 @@ use Rattle.cx_translate.specs.declared.words.Word.{Word}
 use Rattle.cx_translate.specs.Call.{list_of, pointers_of}
 use Rattle.cx_translate.specs.Expansion.{call, label, load, made_in, made_item, stmt, stores}
 use Rattle.cx_translate.specs.Sections.{lines}
-use Rattle.cx_base_commands.specs.Commands.{row_of as row_of_command}
+use Rattle.cx_base.specs.Commands.{row_of as row_of_command}
 use Rattle.cx_asm_pass1.specs.Facts.Apart.{in_control, section_ends, statement_within}
 use Rattle.cx_asm_pass1.specs.Facts.Faults.{section_named, none_before, sound_statement}
 use Rattle.cx_asm_pass1.specs.Facts.Kept.{value_kept}

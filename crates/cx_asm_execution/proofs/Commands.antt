@@ -3,7 +3,7 @@
 use Rattle.std.specs.Prelude.{◌≡◌, ℕ, ◌+◌, ◌-◌, false, Ok, List, [], ◌∷◌, ◌++◌, codes, length, reverse}
 use Rattle.cx_asm_execution.specs.Expansion.{Argument, Statement, instructions_made, words_of}
 use Rattle.cx_code.specs.Spelling.{Instruction}
-use Rattle.cx_base_commands.specs.declared.commands.Command.{Command}
+use Rattle.cx_base.specs.declared.commands.Command.{Command}
 use Rattle.cx_source.specs.declared.source.Item.{Item}
 use Rattle.cx_source.specs.declared.source.Stmt.{Stmt}
 use Rattle.cx_translate.specs.declared.words.Word.{Word}

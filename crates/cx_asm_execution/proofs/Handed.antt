@@ -2,7 +2,7 @@
 -- address (Application Programmer's Reference Manual, SC33-0077, the expansion of a command; the block and the entry
 -- are this product's own).
 use Rattle.std.specs.Prelude.{◌≡◌, ℕ, Ok, Some, None, List, [], ◌∷◌, ◌++◌, codes, length, reverse}
-use Rattle.cx_base_commands.specs.declared.commands.Command.{Command}
+use Rattle.cx_base.specs.declared.commands.Command.{Command}
 use Rattle.cx_load.specs.Fault.{IsFit}
 use Rattle.cx_load.specs.Program.{IsLoaded}
 use Rattle.cx_load.specs.declared.program.Loaded.{Loaded}

@@ -7,17 +7,17 @@ use Rattle.std.proofs.lemmas.Nat.{or_of_8}
 use Rattle.cx_code.specs.declared.disassembly.Line.{Line}
 use Rattle.cx_code.specs.declared.disassembly.What.TheVariants.{Data}
 use Rattle.cx_code.specs.Table.{ops, row_of as op_row_of}
-use Rattle.cx_base_commands.specs.declared.commands.Command.{Command}
-use Rattle.cx_base_commands.specs.declared.conditions.Condition.{Condition}
-use Rattle.cx_base_commands.specs.declared.legal.ListedCondition.{ListedCondition}
-use Rattle.cx_base_commands.specs.declared.options.CommandOption.{CommandOption}
-use Rattle.cx_base_commands.specs.declared.options.CommonOption.TheVariants.{Nohandle, Resp}
-use Rattle.cx_base_commands.specs.Commands.{row_of}
-use Rattle.cx_base_commands.specs.Facts.Commands.{each_command}
-use Rattle.cx_base_commands.specs.Facts.Conditions.{each_condition}
-use Rattle.cx_base_commands.specs.Conditions.{entry_of}
-use Rattle.cx_base_commands.specs.Legal.{is_legal, is_legal_second, is_legal_set, lists_conditions}
-use Rattle.cx_base_commands.specs.Options.{common_of, option_name}
+use Rattle.cx_base.specs.declared.commands.Command.{Command}
+use Rattle.cx_base.specs.declared.conditions.Condition.{Condition}
+use Rattle.cx_base.specs.declared.legal.ListedCondition.{ListedCondition}
+use Rattle.cx_base.specs.declared.options.CommandOption.{CommandOption}
+use Rattle.cx_base.specs.declared.options.CommonOption.TheVariants.{Nohandle, Resp}
+use Rattle.cx_base.specs.Commands.{row_of}
+use Rattle.cx_base.specs.Facts.Commands.{each_command}
+use Rattle.cx_base.specs.Facts.Conditions.{each_condition}
+use Rattle.cx_base.specs.Conditions.{entry_of}
+use Rattle.cx_base.specs.Legal.{is_legal, is_legal_second, is_legal_set, lists_conditions}
+use Rattle.cx_base.specs.Options.{common_of, option_name}
 use Rattle.cx_asm_operations.specs.Operations.{operation_named, operations}
 use Rattle.cx_source.specs.Marks.{depth_after, is_length_attribute, within_after}
 use Rattle.cx_source.specs.declared.source.Item.{Item}

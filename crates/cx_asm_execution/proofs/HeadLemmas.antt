@@ -10,9 +10,9 @@ use Rattle.std.proofs.lemmas.List.{append_assoc, reverse-append}
 use Rattle.std.proofs.lemmas.List.Folds.{list_any-append}
 use Rattle.std.proofs.lemmas.List.Quantifiers.{position-Some}
 use Rattle.std.proofs.lemmas.Slice.Eq.{bytes_eq-Decides}
-use Rattle.cx_base_commands.specs.declared.eistg.EistgField.{EistgField}
-use Rattle.cx_base_commands.specs.declared.eistg.EistgField.TheVariants.{Eipl, Eitp, Eicap}
-use Rattle.cx_base_commands.specs.Eistg.{eistg_field, eistg_head}
+use Rattle.cx_base.specs.declared.eistg.EistgField.{EistgField}
+use Rattle.cx_base.specs.declared.eistg.EistgField.TheVariants.{Eipl, Eitp, Eicap}
+use Rattle.cx_base.specs.Eistg.{eistg_field, eistg_head}
 use Rattle.cx_ebcdic.specs.Facts.Names.{is_name-decides, is_name-laws}
 use Rattle.cx_ebcdic.specs.Characters.{code_of, table}
 use Rattle.cx_ebcdic.specs.Names.{padded_name, name_code, is_name_character}

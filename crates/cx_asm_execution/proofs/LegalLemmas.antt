@@ -3,12 +3,12 @@ use Rattle.std.specs.Prelude.{◌≤◌, IsTrue, MatchBool, count_by, if◌then�
 use Rattle.std.proofs.Common.{◌≡◌, ℕ, ◌+◌, Bool, true, false, None, List, [], ◌∷◌, length, refl, arith}
 use Rattle.cx_asm_execution.specs.Expansion.{Statement, block_bytes as statement_bytes, words_of}
 use Rattle.cx_asm_execution.specs.Stands.{IsLegal}
-use Rattle.cx_region_call.specs.Call.{has_label, has_resp}
-use Rattle.cx_base_commands.specs.Arguments.{arguments_in}
-use Rattle.cx_base_commands.specs.Commands.{row_of}
-use Rattle.cx_base_commands.specs.Legal.{is_legal, is_legal_list, lists_conditions}
-use Rattle.cx_base_commands.specs.declared.commands.Command.{Command}
-use Rattle.cx_base_commands.specs.declared.legal.ListedCondition.{ListedCondition}
+use Rattle.cx_region_state.specs.Call.{has_label, has_resp}
+use Rattle.cx_base.specs.Arguments.{arguments_in}
+use Rattle.cx_base.specs.Commands.{row_of}
+use Rattle.cx_base.specs.Legal.{is_legal, is_legal_list, lists_conditions}
+use Rattle.cx_base.specs.declared.commands.Command.{Command}
+use Rattle.cx_base.specs.declared.legal.ListedCondition.{ListedCondition}
 use Rattle.cx_source.specs.declared.source.Item.{Item}
 use Rattle.cx_translate.specs.Call.{block_bytes, list_of, listed_of}
 use Rattle.cx_translate.specs.Laws.Read.{words_read}

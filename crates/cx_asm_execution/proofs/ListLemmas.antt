@@ -5,14 +5,14 @@ use Rattle.std.specs.Option.{option_map}
 use Rattle.std.proofs.lemmas.Bool.{eq-eqb, ne_eqb, le-leb, lt-leb}
 use Rattle.std.proofs.lemmas.List.{length-map}
 use Rattle.std.proofs.lemmas.Option.{slice_get-get_or}
-use Rattle.cx_base_commands.specs.declared.legal.ListedCondition.{ListedCondition}
-use Rattle.cx_base_commands.specs.Legal.{is_legal_list, lists_conditions}
+use Rattle.cx_base.specs.declared.legal.ListedCondition.{ListedCondition}
+use Rattle.cx_base.specs.Legal.{is_legal_list, lists_conditions}
 use Rattle.cx_storage.specs.Storage.{Storage, byte_at, span}
 use Rattle.cx_storage.specs.Address.{address_in, address_after}
 use Rattle.cx_storage.specs.Word.{word_at}
 use Rattle.cx_storage.specs.Facts.Spans.{span_at, span_from}
-use Rattle.cx_region_call.specs.Call.{has_high_bit, listed_in}
-use Rattle.cx_region_call.specs.Laws.Calls.{IsCallAt, bytes_of_block}
+use Rattle.cx_region_state.specs.Call.{has_high_bit, listed_in}
+use Rattle.cx_region_state.specs.Laws.Calls.{IsCallAt, bytes_of_block}
 use Rattle.cx_exec.specs.Machine.{effective}
 use Rattle.cx_asm_execution.specs.Expansion.{Statement, words_of, block_bytes, address_reached, argument_address, call_made}
 use Rattle.cx_asm_execution.specs.Stands.{IsLegal}

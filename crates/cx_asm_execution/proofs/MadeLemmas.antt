@@ -9,7 +9,7 @@ use Rattle.cx_code.specs.Spelling.{Instruction, instruction}
 use Rattle.cx_code.specs.Table.{length_of}
 use Rattle.cx_code.specs.declared.table.Op.TheVariants as op
 use Rattle.cx_code.specs.declared.instruction.Fields.TheVariants.{Rr, Rx, Si}
-use Rattle.cx_base_commands.specs.declared.commands.Command.{Command}
+use Rattle.cx_base.specs.declared.commands.Command.{Command}
 use Rattle.cx_source.specs.Marks.{depth_after, within_after}
 use Rattle.cx_source.specs.declared.source.Item.{Item}
 use Rattle.cx_asm_expressions.specs.declared.faults.FaultKind.{FaultKind}

@@ -2,13 +2,13 @@
 use Rattle.std.proofs.Common.{◌≡◌, ℕ, Bool, true, false, cond, not, List, [], ◌∷◌, ◌++◌, Option, refl, sym, subst, ap}
 use Rattle.std.specs.List.{list_all}
 use Rattle.std.proofs.lemmas.Bool.{and_parts}
-use Rattle.cx_base_commands.specs.declared.commands.Command.{Command}
-use Rattle.cx_base_commands.specs.declared.options.CommandOption.{CommandOption}
-use Rattle.cx_base_commands.specs.declared.options.ArgumentKind.{ArgumentKind}
-use Rattle.cx_base_commands.specs.declared.options.ArgumentKind.TheVariants as kind
-use Rattle.cx_base_commands.specs.Commands.{row_of}
-use Rattle.cx_base_commands.specs.Facts.Commands.{each_command}
-use Rattle.cx_base_commands.specs.Options.{option_name}
+use Rattle.cx_base.specs.declared.commands.Command.{Command}
+use Rattle.cx_base.specs.declared.options.CommandOption.{CommandOption}
+use Rattle.cx_base.specs.declared.options.ArgumentKind.{ArgumentKind}
+use Rattle.cx_base.specs.declared.options.ArgumentKind.TheVariants as kind
+use Rattle.cx_base.specs.Commands.{row_of}
+use Rattle.cx_base.specs.Facts.Commands.{each_command}
+use Rattle.cx_base.specs.Options.{option_name}
 use Rattle.cx_translate.specs.declared.words.Word.{Word}
 use Rattle.cx_translate.specs.Call.{argument_of, pointer_by, pointers_of}
 

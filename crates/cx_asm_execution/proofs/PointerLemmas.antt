@@ -10,7 +10,7 @@ use Rattle.cx_code.specs.declared.instruction.Fields.TheVariants.{Rx}
 use Rattle.cx_code.specs.declared.table.Op.TheVariants as op
 use Rattle.cx_code.specs.Spelling.{Instruction, instruction}
 use Rattle.cx_code.specs.Table.{length_of}
-use Rattle.cx_base_commands.specs.Commands.{row_of}
+use Rattle.cx_base.specs.Commands.{row_of}
 use Rattle.cx_source.specs.declared.source.Item.{Item}
 use Rattle.cx_translate.specs.Call.{pointers_of}
 use Rattle.cx_translate.specs.Expansion.{load}
@@ -26,7 +26,7 @@ use Rattle.cx_asm_operands.specs.declared.forms.Form.TheVariants as form
 use Rattle.cx_asm_pass2.specs.Whole.{Whole, whole_of}
 use Rattle.cx_source.specs.declared.source.Source.{Source}
 use Rattle.cx_asm.specs.Assembly.{AssemblyParts, assembly_of}
-use Rattle.cx_base_commands.specs.declared.commands.Command.{Command}
+use Rattle.cx_base.specs.declared.commands.Command.{Command}
 use Rattle.cx_translate.specs.declared.words.Word.{Word}
 use Rattle.cx_asm_execution.proofs.Resolved.{AreResolved, bases_in_use}
 use Rattle.cx_asm_execution.proofs.CalledLemmas.{AreInstructions, calls_are, is_l}

@@ -3,8 +3,8 @@ use Rattle.std.specs.Prelude.{◌≡◌, ℕ, ◌+◌, Ok, List, [], ◌∷◌, 
 use Rattle.cx_asm_execution.specs.Stands.{code_length}
 use Rattle.cx_code.specs.declared.table.Op.TheVariants as op
 use Rattle.cx_code.specs.Spelling.{Instruction}
-use Rattle.cx_base_commands.specs.declared.commands.Command.{Command}
-use Rattle.cx_base_commands.specs.Commands.{row_of}
+use Rattle.cx_base.specs.declared.commands.Command.{Command}
+use Rattle.cx_base.specs.Commands.{row_of}
 use Rattle.cx_source.specs.declared.source.Item.{Item}
 use Rattle.cx_source.specs.declared.source.Source.{Source}
 use Rattle.cx_source.specs.declared.source.Stmt.{Stmt}

@@ -12,11 +12,11 @@ use Rattle.cx_code.specs.declared.instruction.Fields.TheVariants.{Rx}
 use Rattle.cx_code.specs.declared.table.Op.TheVariants as op
 use Rattle.cx_code.specs.Spelling.{Instruction, instruction}
 use Rattle.cx_code.specs.Table.{length_of, ops, row_of}
-use Rattle.cx_base_commands.specs.declared.commands.Command.{Command}
-use Rattle.cx_base_commands.specs.declared.options.CommandOption.{CommandOption}
-use Rattle.cx_base_commands.specs.declared.options.ArgumentKind.TheVariants.{Pointer}
-use Rattle.cx_base_commands.specs.Options.{common_of, option_name}
-use Rattle.cx_base_commands.specs.declared.options.CommonOption.TheVariants.{Resp}
+use Rattle.cx_base.specs.declared.commands.Command.{Command}
+use Rattle.cx_base.specs.declared.options.CommandOption.{CommandOption}
+use Rattle.cx_base.specs.declared.options.ArgumentKind.TheVariants.{Pointer}
+use Rattle.cx_base.specs.Options.{common_of, option_name}
+use Rattle.cx_base.specs.declared.options.CommonOption.TheVariants.{Resp}
 use Rattle.cx_exec.specs.declared.machine.Step.TheVariants.{Done}
 use Rattle.cx_exec.specs.Machine.{Machine, effective}
 use Rattle.cx_exec.specs.Step.{Steps, entry}

@@ -9,11 +9,11 @@ use Rattle.cx_asm_execution.specs.Expansion.{Argument, ImpliedAddress, Statement
 use Rattle.cx_asm_execution.specs.Stands.{IsApart, IsMachine, code_length, list_length}
 use Rattle.cx_code.specs.declared.disassembly.Line.{Line}
 use Rattle.cx_code.specs.Spelling.{Instruction}
-use Rattle.cx_base_commands.specs.declared.commands.Command.{Command}
-use Rattle.cx_base_commands.specs.declared.options.CommandOption.{CommandOption}
-use Rattle.cx_base_commands.specs.declared.options.ArgumentKind.TheVariants.{Pointer}
-use Rattle.cx_base_commands.specs.Commands.{row_of}
-use Rattle.cx_base_commands.specs.Options.{option_name}
+use Rattle.cx_base.specs.declared.commands.Command.{Command}
+use Rattle.cx_base.specs.declared.options.CommandOption.{CommandOption}
+use Rattle.cx_base.specs.declared.options.ArgumentKind.TheVariants.{Pointer}
+use Rattle.cx_base.specs.Commands.{row_of}
+use Rattle.cx_base.specs.Options.{option_name}
 use Rattle.cx_exec.specs.declared.machine.Step.TheVariants.{Done}
 use Rattle.cx_exec.specs.Machine.{Machine}
 use Rattle.cx_exec.specs.Step.{Steps}

@@ -5,7 +5,7 @@ use Rattle.cx_storage.specs.Address.{address_in, address_after, distance}
 use Rattle.cx_exec.specs.Machine.{Machine, reg}
 use Rattle.cx_exec.specs.Step.{entry}
 use Rattle.cx_exec.specs.Advance.{Passes}
-use Rattle.cx_region_call.specs.Call.{call_of}
+use Rattle.cx_region_state.specs.Call.{call_of}
 use Rattle.cx_asm_execution.specs.Expansion.{Statement, call_made, instructions_made, address_reached, words_of}
 use Rattle.cx_asm_execution.specs.Stands.{code_length}
 

@@ -2,16 +2,16 @@
 -- Manual, SC33-0077, the expansion of a command; the instructions are those of GA22-7000; which ones are made, the
 -- argument list and the block are this product's own).
 use Rattle.std.specs.Prelude.{ℕ, ◌+◌, ◌/◌, ◌%◌, List, [], ◌∷◌, ◌++◌, flat_map, map, slice_index}
-use Rattle.cx_base_commands.specs.declared.commands.Command.{Command}
-use Rattle.cx_base_commands.specs.declared.legal.ListedCondition.{ListedCondition}
-use Rattle.cx_base_commands.specs.Commands.{row_of}
+use Rattle.cx_base.specs.declared.commands.Command.{Command}
+use Rattle.cx_base.specs.declared.legal.ListedCondition.{ListedCondition}
+use Rattle.cx_base.specs.Commands.{row_of}
 use Rattle.cx_storage.specs.Address.{address_in}
 use Rattle.cx_code.specs.declared.table.Op.{Op}
 use Rattle.cx_code.specs.declared.table.Op.TheVariants as op
 use Rattle.cx_code.specs.declared.instruction.Fields.TheVariants.{Rr, Rx, Si}
 use Rattle.cx_code.specs.Spelling.{Instruction, instruction}
 use Rattle.cx_exec.specs.Machine.{effective}
-use Rattle.cx_region_call.specs.Call.{Call}
+use Rattle.cx_region_state.specs.Call.{Call}
 
 -- an implied address, as resolved: a base register and a displacement
 pub record ImpliedAddress : Type 0 where

@@ -2,9 +2,9 @@
 -- Programmer's Reference Manual, SC33-0077, "EXEC Interface Block"; the layouts are this product's own).
 use Rattle.std.specs.Prelude.{◌≡◌, ℕ, pos, ◌⊎◌, ◌&&◌, Ok, Option, Some, None, option_and_then, List, ◌∷◌, ◌++◌, codes, map, reverse, true}
 use Rattle.std.specs.List.{AllByRecursion, list_any}
-use Rattle.cx_base_commands.specs.Eib.{eib_field, eib_len, eib_pieces}
-use Rattle.cx_base_commands.specs.Eistg.{eistg_field, eistg_head}
-use Rattle.cx_base_commands.specs.Layout.{Field}
+use Rattle.cx_base.specs.Eib.{eib_field, eib_len, eib_pieces}
+use Rattle.cx_base.specs.Eistg.{eistg_field, eistg_head}
+use Rattle.cx_base.specs.Layout.{Field}
 use Rattle.cx_source.specs.declared.source.Item.{Item}
 use Rattle.cx_source.specs.declared.source.Source.{Source}
 use Rattle.cx_source.specs.declared.source.Stmt.{Stmt}

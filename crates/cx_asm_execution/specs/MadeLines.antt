@@ -6,7 +6,7 @@ use Rattle.cx_code.specs.declared.disassembly.Line.{Line}
 use Rattle.cx_code.specs.declared.disassembly.What.TheVariants.{Code}
 use Rattle.cx_code.specs.Spelling.{Instruction}
 use Rattle.cx_code.specs.Table.{length_of}
-use Rattle.cx_base_commands.specs.declared.commands.Command.{Command}
+use Rattle.cx_base.specs.declared.commands.Command.{Command}
 use Rattle.cx_source.specs.declared.source.Item.{Item}
 use Rattle.cx_source.specs.declared.source.Source.{Source}
 use Rattle.cx_source.specs.declared.source.Stmt.{Stmt}

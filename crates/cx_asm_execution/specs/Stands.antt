@@ -2,11 +2,11 @@
 -- own).
 use Rattle.std.specs.Prelude.{◌≡◌, ◌≢◌, ℕ, ◌+◌, ◌*◌, ◌%◌, ◌^◌, ◌<◌, ◌≤◌, List, [], ◌∷◌, length, count_by, sum_by, Some, is_some, true, MatchBool, IsTrue, if◌then◌else◌, ⊤}
 use Rattle.std.specs.List.{AllByRecursion, enumerate_from}
-use Rattle.cx_base_commands.specs.declared.eistg.EistgField.TheVariants.{Eipl}
-use Rattle.cx_base_commands.specs.Arguments.{arguments_in}
-use Rattle.cx_base_commands.specs.Commands.{row_of}
-use Rattle.cx_base_commands.specs.Eistg.{eistg_field}
-use Rattle.cx_base_commands.specs.Legal.{is_legal, is_legal_list, lists_conditions}
+use Rattle.cx_base.specs.declared.eistg.EistgField.TheVariants.{Eipl}
+use Rattle.cx_base.specs.Arguments.{arguments_in}
+use Rattle.cx_base.specs.Commands.{row_of}
+use Rattle.cx_base.specs.Eistg.{eistg_field}
+use Rattle.cx_base.specs.Legal.{is_legal, is_legal_list, lists_conditions}
 use Rattle.cx_storage.specs.Storage.{Storage, span, IsSound}
 use Rattle.cx_storage.specs.Address.{address_after, distance}
 use Rattle.cx_storage.specs.Word.{word_at}
@@ -14,7 +14,7 @@ use Rattle.cx_code.specs.Table.{length_of}
 use Rattle.cx_code.specs.Spelling.{Instruction, IsWellFormed, spelling}
 use Rattle.cx_exec.specs.Machine.{Machine}
 use Rattle.cx_exec.specs.Step.{entry}
-use Rattle.cx_region_call.specs.Call.{has_label, has_resp}
+use Rattle.cx_region_state.specs.Call.{has_label, has_resp}
 use Rattle.cx_asm_execution.specs.Expansion.{ImpliedAddress, Statement, instructions_made, words_of, block_bytes, address_reached}
 
 -- What every processor and store are: sixteen registers, an address below 2^24, and areas that don't meet.

@@ -19,7 +19,7 @@ pub fn reaches_entry()
     cx_exec::laws::runs_join();
     cx_storage::laws::sound_kept();
     cx_storage::laws::word_after_write();
-    cx_region_call::laws::call_is_read();
+    cx_region_state::laws::call_is_read();
 }
 
 /// A run with any limit that the instructions made fit in, two for each word of the list and four, ends at the entry.

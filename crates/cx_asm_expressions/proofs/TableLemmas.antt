@@ -4,7 +4,7 @@ use Rattle.std.specs.Map.{lookup}
 use Rattle.std.proofs.lemmas.Bool.{cases_Bool}
 use Rattle.indexmap.specs.IndexMap.{insert_entry}
 use Rattle.cx_ebcdic.specs.Facts.Names.{is_name-decides, is_name-laws}
-use Rattle.cx_base_lists.specs.Facts.Lookups.{lookup-insert_entry-same, lookup-insert_entry-other}
+use Rattle.cx_base.specs.Facts.Lookups.{lookup-insert_entry-same, lookup-insert_entry-other}
 use Rattle.cx_asm_expressions.specs.Names.{is_same}
 use Rattle.cx_asm_expressions.specs.Symbols.{Symbols, Defines}
 use Rattle.cx_asm_expressions.specs.declared.values.Value.{Value}

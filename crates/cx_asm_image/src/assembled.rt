@@ -35,7 +35,6 @@ impl Assembled {
     ///
     /// An error comes only where an allocation failed.
     pub fn new(
-        alloc: Global,
         resolved: Vec<Line>,
         size: u32,
         relocs: Offsets,
@@ -46,6 +45,7 @@ impl Assembled {
         requires fits { size ≤ 65536 }
         ensures { IfOk result (λ made. made ≡ assembled_parts resolved.items size relocs entry stg_len) }
     {
+        let alloc = *resolved.allocator();
         let text = text_of(alloc, resolved.as_slice(), size)?;
         let spans = spans_of(alloc, resolved.as_slice(), size)?;
         cx_code::laws::canonical_is();

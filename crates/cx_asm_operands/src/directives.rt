@@ -1,14 +1,15 @@
 //! The operands of USING, DROP, END and COPY.
 
-ghost use Rattle.std.specs.Prelude.{◌≡◌, ◌≤◌, ◌^◌, ◌++◌, [], Err, None, IfOk, IsOk, OnOk, OnErr, false, length, map, option_map, unsigned_abs};
+ghost use Rattle.std.specs.Prelude.{◌≡◌, ◌≤◌, ◌^◌, ◌++◌, [], Err, None, IfOk, IsOk, OnOk, OnErr, false, length, map, option_and_then, option_map, unsigned_abs};
 ghost use Rattle.std.specs.List.{cons_option};
-ghost use Rattle.std.specs.Option.{unwrap_or};
+ghost use Rattle.std.specs.Option.{option_map_or, unwrap_or};
 ghost use Rattle.std.specs.Result.{result_err, result_ok};
 ghost use Rattle.cx_asm_expressions.specs.Expressions.{Answers};
 ghost use Rattle.cx_asm_expressions.specs.Symbols.{find_in};
 ghost use Rattle.cx_asm_expressions.specs.Weights.{stands_in};
 ghost use Rattle.cx_asm_expressions.specs.declared.faults.FaultKind.TheVariants as FaultKind;
 ghost use Rattle.cx_asm_expressions.specs.declared.faults.TermFault.TheVariants.{Refused};
+ghost use Rattle.cx_asm_operations.specs.Operations.{operation_named};
 ghost use Rattle.cx_asm_operations.specs.declared.operations.Directive.TheVariants as directive;
 ghost use Rattle.cx_asm_operations.specs.declared.operations.Operation.TheVariants as operation;
 ghost use Rattle.cx_asm_operands.specs.Checking.{both_or_lower_fault, then_check, made_of};
@@ -23,7 +24,7 @@ use crate::context::Context;
 use cx_asm_expressions::{FaultKind, SymbolTable, TermFault, Value, lower, lower_of};
 use cx_asm_operations::{Directive, Operation};
 use cx_ebcdic::Name8;
-use cx_source::{Delimiter, cut};
+use cx_source::{Delimiter, Stmt, cut};
 use std::alloc::{AllocError, Global};
 
 /// The last offset that may be an entry.
@@ -312,16 +313,22 @@ impl Bases {
         alloc: Global,
         symbols: &SymbolTable,
         here: Option<Value>,
-        operation: Operation,
-        operand: &[u8],
+        stmt: &Stmt,
     ) -> Result<Option<FaultKind>, AllocError>
         ensures bases { let c = context (find_in symbols.now) here self.old None in
-            OnOk result (self.new ≡ unwrap_or (result_ok (bases_in operation c operand.now)) self.old) }
+            let operation = operation_named stmt.now.operation in let operand = stmt.now.operand in
+            OnOk result
+            (self.new ≡ option_map_or (λ o. unwrap_or (result_ok (bases_in o c operand)) self.old) operation self.old) }
         ensures fault { let c = context (find_in symbols.now) here self.old None in
-            IfOk result (λ fault. fault ≡ result_err (bases_in operation c operand.now)) }
-        ensures others { changes_bases operation ≡ false → IsOk result }
+            let operation = operation_named stmt.now.operation in let operand = stmt.now.operand in
+            IfOk result (λ fault. fault ≡ option_and_then (λ o. result_err (bases_in o c operand)) operation) }
+        ensures others { option_map_or changes_bases (operation_named stmt.now.operation) false ≡ false → IsOk result }
         ensures err { OnErr result (self.new ≡ self.old) }
     {
+        let Some(operation) = Operation::from_name(stmt.operation.as_slice()) else {
+            return Ok(None);
+        };
+        let operand = stmt.operand.as_slice();
         match operation {
             Operation::Directive(Directive::Using) => {
                 self.pass_using(alloc, symbols, here, operand)

@@ -9,11 +9,9 @@ mod directives;
 mod forms;
 pub mod laws;
 mod storage;
-mod values;
 
 pub use addresses::Address;
 pub use bases::{Base, Bases, Dropped, Using};
 pub use context::Context;
 pub use directives::{copy_fault, read_drop, read_entry, read_using};
 pub use forms::{literal_in, resolve};
-pub use values::item_bytes;

@@ -7,7 +7,7 @@ ghost use Rattle.cx_asm_pass1.specs.Parts.Faulty.{lowest_with};
 
 use crate::place::LineFault;
 use cx_asm_expressions::{FaultKind, lower_of};
-use cx_base_lists::List;
+use cx_base::List;
 use indexmap::IndexMap;
 use std::alloc::{AllocError, Global};
 use std::marker::Model;

@@ -4,14 +4,18 @@ ghost use Rattle.std.specs.Prelude.{◌≡◌, ◌≤◌, ◌+◌, map, IfOk, If
 ghost use Rattle.std.specs.Result.{result_ok};
 ghost use Rattle.std.specs.Option.{option_or};
 ghost use Rattle.cx_asm_expressions.specs.Digits.{bound};
+ghost use Rattle.cx_asm_expressions.specs.Expressions.{Answers};
 ghost use Rattle.cx_asm_expressions.specs.Symbols.{find_in, absolute};
 ghost use Rattle.cx_asm_pass1.specs.Given.{definitions, duplicate, value_given};
 
 use crate::faults::Heading;
-use crate::given::{AIDS, REGISTERS, define, define_rows, is_any_defined, resumes, value_given};
+use crate::given::{
+    AIDS, REGISTERS, define, define_rows, is_any_defined, limited, location_counter, place_value,
+    resumes,
+};
 use crate::layout::Extent;
 use crate::roles::Role;
-use cx_asm_expressions::{FaultKind, SymbolTable, TermFault, Value};
+use cx_asm_expressions::{FaultKind, SymbolTable, TermFault, Value, value_of};
 use std::alloc::{AllocError, Global};
 
 /// What is known of a statement.
@@ -23,6 +27,31 @@ pub(crate) struct Checked {
     pub(crate) value: Option<Value>,
     /// The lowest fault that it has, except its literals'.
     pub(crate) fault: Option<FaultKind>,
+}
+
+/// The value that a statement gives to its name, if it gives one.
+fn value_given(
+    alloc: Global,
+    heading: &Heading,
+    symbols: &SymbolTable,
+    operand: &[u8],
+    extent: &Extent,
+) -> Result<Option<Value>, TermFault>
+    ensures { let h = heading.now in
+        Answers (value_given h.role h.name (find_in symbols.now) h.section operand.now extent.now) result }
+{
+    match heading.role {
+        Role::Instruction(_) | Role::Storage { is_ds: _ } | Role::Pool | Role::Unknown => Ok(Some(
+            place_value(heading.section, extent.offset, extent.length),
+        )),
+        Role::Control | Role::Dummy => Ok(Some(place_value(heading.name, 0, 1))),
+        Role::Equate => {
+            let here = location_counter(heading.section, extent.offset, 1);
+            let value = value_of(alloc, operand, symbols, here.as_ref())?;
+            limited(value)
+        }
+        _ => Ok(None),
+    }
 }
 
 /// The value that a statement gives to its name, if it gives one, or what is wrong with it.
@@ -37,15 +66,7 @@ pub(crate) fn value_or_fault(
         IfOk result
         (λ given. given ≡ value_given h.role h.name (find_in symbols.now) h.section operand.now extent.now) }
 {
-    match value_given(
-        alloc,
-        heading.role,
-        heading.name,
-        symbols,
-        heading.section,
-        operand,
-        extent,
-    ) {
+    match value_given(alloc, heading, symbols, operand, extent) {
         Ok(value) => Ok(Ok(value)),
         Err(TermFault::Refused(fault)) => Ok(Err(fault)),
         Err(TermFault::Memory) => Err(AllocError),

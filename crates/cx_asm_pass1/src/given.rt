@@ -8,14 +8,13 @@ ghost use Rattle.cx_asm_expressions.specs.Names.{symbol_name};
 ghost use Rattle.cx_asm_expressions.specs.Weights.{stands_in};
 ghost use Rattle.cx_asm_expressions.specs.declared.values.Value.{Value as Worth};
 ghost use Rattle.cx_asm_pools.specs.Pools.{cap};
-ghost use Rattle.cx_asm_pass1.specs.Given.{aid_rows, is_any_known, value_in_range, location_counter, place_value, register_rows, resumes, row_symbols, value_given};
+ghost use Rattle.cx_asm_pass1.specs.Given.{aid_rows, is_any_known, value_in_range, location_counter, place_value, register_rows, resumes, row_symbols};
 
-use crate::layout::Extent;
 use crate::roles::Role;
-use cx_asm_expressions::{FaultKind, SymbolTable, TermFault, Value, symbol_name, value_of};
+use cx_asm_expressions::{FaultKind, SymbolTable, TermFault, Value, symbol_name};
 use cx_asm_pools::capped;
 use cx_ebcdic::Name8;
-use std::alloc::{AllocError, Global};
+use std::alloc::AllocError;
 
 /// The registers' symbols.
 pub(crate) const REGISTERS: [(&str, u8); 16] = [
@@ -77,39 +76,13 @@ pub fn location_counter(section: Option<Name8>, offset: u128, length: u128) -> O
 }
 
 /// A value of EQU in its range.
-fn limited(value: Value) -> Result<Option<Value>, TermFault>
+pub(crate) fn limited(value: Value) -> Result<Option<Value>, TermFault>
     ensures { Answers (value_in_range (Ok value)) result }
 {
     if value.number < -2_147_483_648 || value.number > 4_294_967_295 {
         return Err(TermFault::Refused(FaultKind::ValueOutOfRange));
     }
     Ok(Some(value))
-}
-
-/// The value that a statement gives to its name, if it gives one.
-pub(crate) fn value_given(
-    alloc: Global,
-    role: Role,
-    name: Option<Name8>,
-    symbols: &SymbolTable,
-    section: Option<Name8>,
-    operand: &[u8],
-    extent: &Extent,
-) -> Result<Option<Value>, TermFault>
-    ensures { Answers (value_given role name (find_in symbols.now) section operand.now extent.now) result }
-{
-    match role {
-        Role::Instruction(_) | Role::Storage { is_ds: _ } | Role::Pool | Role::Unknown => {
-            Ok(Some(place_value(section, extent.offset, extent.length)))
-        }
-        Role::Control | Role::Dummy => Ok(Some(place_value(name, 0, 1))),
-        Role::Equate => {
-            let here = location_counter(section, extent.offset, 1);
-            let value = value_of(alloc, operand, symbols, here.as_ref())?;
-            limited(value)
-        }
-        _ => Ok(None),
-    }
 }
 
 /// Whether a section is one of this name.

@@ -10,7 +10,7 @@ ghost use Rattle.cx_asm_pass1.specs.Layout.{align, fault_beyond, bytes_at, item_
 use crate::roles::Role;
 use cx_asm_expressions::{Constant, FaultKind, lower};
 use cx_asm_pools::capped;
-use cx_base_lists::List;
+use cx_base::List;
 use std::alloc::{AllocError, Global};
 
 /// No offset goes beyond this one: 2^100.

@@ -1,7 +1,7 @@
 //! Where a statement is, and the first fault.
 
 use cx_asm_expressions::FaultKind;
-use cx_base_lists::List;
+use cx_base::List;
 use cx_ebcdic::Name8;
 
 /// Where a statement is.

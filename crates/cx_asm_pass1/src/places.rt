@@ -13,7 +13,7 @@ use crate::place::{ControlSection, LineFault, Place};
 use crate::roles::Role;
 use cx_asm_expressions::{SymbolTable, symbol_name};
 use cx_asm_pools::{Pool, capped};
-use cx_base_lists::List;
+use cx_base::List;
 use cx_source::{Item, Source};
 use std::alloc::{AllocError, Global};
 

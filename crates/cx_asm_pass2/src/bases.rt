@@ -32,15 +32,10 @@ pub fn pass_bases(
         IfOk result (λ fault. fault ≡ option_and_then (λ o. result_err (bases_in o c operand)) operation) }
     ensures others { option_map_or changes_bases (operation_of statement.now) false ≡ false → IsOk result }
 {
-    let Some(operation) = statement.operation() else {
-        return Ok(None);
-    };
-    let counter = counter_of(statement);
     bases.pass(
         alloc,
         &places.symbols,
-        counter,
-        operation,
-        statement.stmt().operand.as_slice(),
+        counter_of(statement),
+        statement.stmt(),
     )
 }

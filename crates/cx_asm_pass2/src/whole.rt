@@ -1,15 +1,17 @@
 //! What is known by the whole source, and what a statement's operand is read by.
 
-ghost use Rattle.std.specs.Prelude.{◌≡◌, IfOk, [], false, option_map, unwrap_or};
+ghost use Rattle.std.specs.Prelude.{◌≡◌, Err, IfOk, [], false, option_map, unwrap_or};
 ghost use Rattle.std.specs.Option.{option_copied};
 ghost use Rattle.cx_asm_expressions.specs.Expressions.{Answers};
 ghost use Rattle.cx_asm_expressions.specs.Items.{constant_in};
+ghost use Rattle.cx_asm_expressions.specs.declared.faults.FaultKind.{FaultKind};
+ghost use Rattle.cx_asm_expressions.specs.declared.faults.TermFault.TheVariants.{Refused};
 ghost use Rattle.cx_asm_pass1.specs.Layout.{item_length};
 ghost use Rattle.cx_asm_pass2.specs.Whole.{counter_of, item_made, literal_of, literal_place, own_length, pool_of, whole_by};
 
 use crate::statements::Statement;
 use cx_asm_expressions::{Constant, ConstantBytes, TermFault, Value};
-use cx_asm_operands::{item_bytes, literal_in};
+use cx_asm_operands::literal_in;
 use cx_asm_pass1::{Places, Role, location_counter};
 use cx_asm_pools::{Pool, literal_text};
 use cx_ebcdic::Name8;
@@ -86,7 +88,12 @@ pub fn literal_of(
     Ok(literal_place(places, statement, text))
 }
 
-/// One copy of an item, where the location counter is at a place.
+/// One copy of an item of a DS (`is_ds`), or of a DC or a literal without its equals sign, where the location counter
+/// is at a place: its bytes, and whether they are a word to which the load address is added (GC33-4010, "DC -- Define
+/// Constant").
+///
+/// The faults are those of reading the item (`Constant::read`), and else the lowest of its values' (`Constant::bytes`).
+/// Memory comes only where an allocation failed.
 pub fn item_made(
     alloc: Global,
     places: &Places<'_>,
@@ -94,8 +101,12 @@ pub fn item_made(
     at: Option<Value>,
     text: &[u8],
 ) -> Result<ConstantBytes, TermFault>
-    ensures { Answers (item_made (whole_by places.now) is_ds at text.now) result }
+    ensures made { Answers (item_made (whole_by places.now) is_ds at text.now) result }
+    ensures refused { (fault : FaultKind) → constant_in is_ds text.now ≡ Err fault
+        → result ≡ Err (Refused fault) }
 {
-    let control = control_name(places);
-    item_bytes(alloc, text, is_ds, &places.symbols, at.as_ref(), control)
+    match Constant::read(text, is_ds) {
+        Ok(item) => item.bytes(alloc, &places.symbols, at.as_ref(), control_name(places)),
+        Err(fault) => Err(TermFault::Refused(fault)),
+    }
 }

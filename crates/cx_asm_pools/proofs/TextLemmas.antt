@@ -9,7 +9,7 @@ use Rattle.std.proofs.lemmas.List.{map-append}
 use Rattle.std.proofs.lemmas.Map.Keys.{IsDistinct-head, IsDistinct-tail}
 use Rattle.indexmap.specs.IndexMap.{insert_entry}
 use Rattle.cx_asm_pools.specs.Pools.{by_text}
-use Rattle.cx_base_lists.specs.Facts.Tables.{insert_entry_absent}
+use Rattle.cx_base.specs.Facts.Tables.{insert_entry_absent}
 
 pub lookup_by_text : {V : Type 0} (test : List ℕ → Bool) (es : List (Bor (List ℕ) × V)) → lookup test (by_text es) ≡ lookup (λ k. test k.now) es
 lookup_by_text test [] = refl

@@ -1,5 +1,5 @@
--- What is read at the front of bytes (GA22-7000, "Instruction Formats"). The laws of `laws` say that this is `Reads`, and, where the
--- spelling is canonical, `Spells`.
+-- What is read at the front of bytes (GA22-7000, "Instruction Formats"). The laws of `laws` say that this is `Reads`,
+-- and, where the spelling is canonical, `Spells`.
 use Rattle.std.specs.Prelude.{ℕ, ◌/◌, ◌%◌, List, length, Option, Some, None, option_and_then, slice_index, nat_lt, if◌then◌else◌}
 use Rattle.std.specs.Str.{bytes_eq}
 use Rattle.byteorder.specs.Endian.{big_from}

@@ -1,5 +1,4 @@
--- Instructions and their spelling as bytes (Principles of Operation, GA22-7000, "Instruction
--- Formats").
+-- Instructions and their spelling as bytes (Principles of Operation, GA22-7000, "Instruction Formats").
 use Rattle.std.specs.Prelude.{◌≡◌, ℕ, ◌+◌, ◌*◌, ◌/◌, ◌^◌, ◌<◌, List, [], ◌∷◌, true, sum_by, slice_index, if◌then◌else◌}
 use Rattle.std.specs.List.{AllByRecursion}
 use Rattle.byteorder.specs.Endian.{big_bytes}
@@ -26,8 +25,8 @@ pub record Field : Type 0 where
 abbrev pub field : ℕ → ℕ → Field
 field bits value = record { bits = bits; value = value }
 
--- the fields of each format from left to right, after the operation code: a register, a mask or
--- one of two lengths has 4 bits, an immediate byte or a length 8, a displacement 12
+-- the fields of each format from left to right, after the operation code: a register, a mask or one of two lengths has
+-- 4 bits, an immediate byte or a length 8, a displacement 12
 abbrev pub fields_of : Fields → List Field
 fields_of (Rr r1 r2) = field 4 r1 ∷ field 4 r2 ∷ []
 fields_of (Rx r1 x2 b2 d2) = field 4 r1 ∷ field 4 x2 ∷ field 4 b2 ∷ field 12 d2 ∷ []

@@ -1,5 +1,5 @@
--- The table of instructions (Principles of Operation, GA22-7000: the description of each instruction, and
--- its appendix of instruction lists).
+-- The table of instructions (Principles of Operation, GA22-7000: the description of each instruction, and its appendix
+-- of instruction lists).
 use Rattle.std.specs.Prelude.{ℕ, ◌/◌, List, [], ◌∷◌, Bool, true, false, codes, find, ◌==◌, Option, if◌then◌else◌}
 use Rattle.std.specs.Str.{bytes_eq}
 use Rattle.cx_code.specs.declared.table.Op.{Op}
@@ -156,8 +156,7 @@ op_at code = find (λ op. code_of op == code) ops
 unfoldable pub op_named : List ℕ → Option Op
 op_named name = find (λ op. bytes_eq (mnemonic_of op) name) ops
 
--- the shifts, which ignore the R3 field (GA22-7000, "Shift Left Single" and the other
--- shifts)
+-- the shifts, which ignore the R3 field (GA22-7000, "Shift Left Single" and the other shifts)
 unfoldable pub is_shift : Op → Bool
 is_shift Srl = true
 is_shift Sll = true
@@ -166,8 +165,8 @@ is_shift Sla = true
 is_shift Srda = true
 is_shift _ = false
 
--- the length by the first two bits of the operation code: 00 is two bytes, 01 and 10 are four,
--- 11 is six (GA22-7000, "Instruction Formats")
+-- the length by the first two bits of the operation code: 00 is two bytes, 01 and 10 are four, 11 is six (GA22-7000,
+-- "Instruction Formats")
 abbrev pub length_of_code : ℕ → ℕ
 length_of_code code = if code / 64 == 0 then 2 else (if code / 64 == 3 then 6 else 4)
 

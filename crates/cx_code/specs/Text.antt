@@ -21,8 +21,7 @@ abbrev pub third : Bool → ℕ → List ℕ
 third true r3 = []
 third false r3 = decimal r3 ++ codes ","
 
--- the operands in the assembler's order and as decimal numbers; a length is the count of bytes,
--- one more than its field
+-- the operands in the assembler's order and as decimal numbers; a length is the count of bytes, one more than its field
 unfoldable pub operands : Bool → Fields → List ℕ
 operands shift (Rr r1 r2) = decimal r1 ++ codes "," ++ decimal r2
 operands shift (Rx r1 x2 b2 d2) = decimal r1 ++ codes "," ++ index_text d2 x2 b2

@@ -2,7 +2,7 @@
 use Rattle.std.proofs.Common.{◌≡◌, ℕ, true, false, not, List, Option, Some, None, ap, subst}
 use Rattle.std.proofs.lemmas.Map.Entries.{lookup-filter-keys}
 use Rattle.cx_ebcdic.specs.Facts.Names.{is_name-decides, is_name-laws}
-use Rattle.cx_base_lists.specs.Facts.Lookups.{lookup-insert_entry-same, lookup-insert_entry-other}
+use Rattle.cx_base.specs.Facts.Lookups.{lookup-insert_entry-same, lookup-insert_entry-other}
 use Rattle.cx_ebcdic.specs.Names.{is_name}
 use Rattle.cx_edf.specs.Sessions.{SessionState, Sessions, session_in, with_session}
 

@@ -4,7 +4,7 @@ use Rattle.std.specs.Map.{set_value}
 use Rattle.std.specs.Option.{option_map_or}
 use Rattle.std.proofs.lemmas.Bool.{true≢false}
 use Rattle.cx_ebcdic.specs.declared.aids.Aid.TheVariants as aid
-use Rattle.cx_base_lists.specs.Facts.Tables.{insert_entry_present}
+use Rattle.cx_base.specs.Facts.Tables.{insert_entry_present}
 use Rattle.cx_edf_display.specs.Displays.{display_of}
 use Rattle.cx_region.specs.State.{RegionState}
 use Rattle.cx_ebcdic.specs.Names.{is_name}

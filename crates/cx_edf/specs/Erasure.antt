@@ -13,8 +13,8 @@ use Rattle.cx_edf.specs.declared.answers.Answer.TheVariants as answer
 use Rattle.cx_edf.specs.State.{EdfState, holds, stopped_at}
 use Rattle.cx_edf.specs.Steps.{Door, Keeps, Passes, door_of}
 
--- EDF's own events, which it answers itself: EDF ON and EDF OFF, a key met in Stopped, a turn met in Stopped with a live
--- task, and an alteration met in another mode of a terminal that there is
+-- EDF's own events, which it answers itself: EDF ON and EDF OFF, a key met in Stopped, a turn met in Stopped with a
+-- live task, and an alteration met in another mode of a terminal that there is
 unfoldable pub is_own : EdfState → EdfEvent → Bool
 is_own old (edf_event.Plain (event.Key name aid bytes)) = stopped_at old name
 is_own old (edf_event.Plain (event.Turn name)) = holds old name

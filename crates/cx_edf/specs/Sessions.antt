@@ -8,9 +8,9 @@ use Rattle.indexmap.specs.IndexMap.{insert_entry}
 use Rattle.circular_buffer.specs.Buffer.{keep_last}
 use Rattle.cx_ebcdic.specs.declared.aids.Aid.{Aid}
 use Rattle.cx_ebcdic.specs.declared.aids.Aid.TheVariants as aid
-use Rattle.cx_base_commands.specs.declared.abends.Abend.TheVariants.{Xedf}
-use Rattle.cx_base_commands.specs.declared.conditions.Condition.TheVariants as condition
-use Rattle.cx_base_commands.specs.Abends.{abend_code}
+use Rattle.cx_base.specs.declared.abends.Abend.TheVariants.{Xedf}
+use Rattle.cx_base.specs.declared.conditions.Condition.TheVariants as condition
+use Rattle.cx_base.specs.Abends.{abend_code}
 use Rattle.cx_edf_display.specs.declared.displays.Display.{Display}
 use Rattle.cx_edf_display.specs.declared.stops.StopPoint.{StopPoint}
 use Rattle.cx_edf_display.specs.declared.stops.StopPoint.TheVariants as kind

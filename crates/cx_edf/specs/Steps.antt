@@ -35,9 +35,8 @@ with_session_changed sessions name change =
     option_map_or (λ session. with_session sessions name (change session)) (session_in sessions name) sessions
 
 -- What EDF does with each event. It keeps EDF ON and EDF OFF, a key met in Stopped, a turn met in Stopped with a live
--- task,
--- and an alteration met in another mode, except one of an unknown terminal, which is the region's to refuse. PF12 that
--- ends a task is passed as the alteration that does so.
+-- task, and an alteration met in another mode, except one of an unknown terminal, which is the region's to refuse. PF12
+-- that ends a task is passed as the alteration that does so.
 unfoldable pub door_of : EdfState → EdfEvent → Door
 door_of old (edf_event.On name) =
     if not (is_some (terminal_of old.region name)) then Keeps (answer.Edf edf.NoSuchTerminal) old.sessions

@@ -3,9 +3,9 @@ use Rattle.std.specs.Prelude.{ℕ, Bool, true, false, ◌||◌, ◌&&◌, ◌==�
 use Rattle.std.specs.List.{find, list_all, slice_split, zip}
 use Rattle.std.specs.Option.{option_map}
 use Rattle.cx_ebcdic.specs.Characters.{shown_as}
-use Rattle.cx_base_commands.specs.Conditions.{entry_of, handled_conditions, place_of}
-use Rattle.cx_base_commands.specs.declared.conditions.Condition.{Condition}
-use Rattle.cx_base_commands.specs.declared.conditions.Condition.TheVariants as condition
+use Rattle.cx_base.specs.Conditions.{entry_of, handled_conditions, place_of}
+use Rattle.cx_base.specs.declared.conditions.Condition.{Condition}
+use Rattle.cx_base.specs.declared.conditions.Condition.TheVariants as condition
 use Rattle.cx_edf_display.specs.declared.stops.StopPoint.{StopPoint}
 use Rattle.cx_edf_display.specs.declared.stops.StopPoint.TheVariants as kind
 use Rattle.cx_edf_display.specs.declared.stops.Ending.TheVariants as ending

@@ -325,7 +325,7 @@ impl<S: Store + Drop> Debugged<S> {
     /// The screen of a terminal; None where there is no such terminal. It takes no memory.
     pub fn screen(&self, name: Name4) -> Option<&Screen>
         ensures { option_copied result
-            ≡ option_map (λ terminal. terminal.screen) (terminal_of self.now.region name) }
+            ≡ option_map (λ terminal. terminal.entry.screen) (terminal_of self.now.region name) }
     {
         self.region.screen(name)
     }
@@ -340,7 +340,7 @@ impl<S: Store + Drop> Debugged<S> {
 
     /// The byte at an address; None where no area has it, and from 2^24 on. It takes no memory.
     pub fn byte(&self, address: u32) -> Option<u8>
-        ensures { result ≡ byte_at self.now.region.storage address }
+        ensures { result ≡ byte_at self.now.region.shared.storage address }
     {
         self.region.byte(address)
     }

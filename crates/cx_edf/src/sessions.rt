@@ -7,7 +7,7 @@ ghost use Rattle.cx_edf.specs.Sessions.{after_change, after_key, after_reply, fr
 use crate::modes::{Mode, PageName, View};
 use crate::stop_words::Stops;
 use circular_buffer::HeapCircularBuffer;
-use cx_base_commands::{Abend, Condition};
+use cx_base::{Abend, Condition};
 use cx_ebcdic::{Aid, Name4};
 use cx_edf_display::{Display, Ending, StopPoint};
 use cx_region::{Change, Region, TurnReply};

@@ -3,11 +3,10 @@ ghost use Rattle.std.specs.Prelude.{◌≡◌, ◌==◌, false, true, map};
 ghost use Rattle.std.specs.List.{find, list_all, zip};
 ghost use Rattle.std.specs.Str.{bytes_eq};
 ghost use Rattle.cx_ebcdic.specs.Characters.{shown_as};
-ghost use Rattle.cx_base_commands.specs.Conditions.{entry_of};
+ghost use Rattle.cx_base.specs.Conditions.{entry_of};
 ghost use Rattle.cx_edf.specs.Stops.{is_shown_as, names, no_stops, stop_word_name, stop_word_of, stops_named, takes, with_part, with_stop};
 
-use cx_base_commands::{CONDITIONS, Condition};
-use cx_base_text::shown_byte;
+use cx_base::{CONDITIONS, Condition, shown_byte};
 use cx_edf_display::{Ending, StopPoint};
 
 /// A stop condition: what a task stops at under suppression.

@@ -2,7 +2,7 @@
 use Rattle.std.proofs.Common.{◌≡◌, ℕ, List, [], ◌∷◌, ◌++◌, Option, codes, sym}
 use Rattle.std.proofs.lemmas.List.Sums.{fold-append}
 use Rattle.cx_storage.specs.Storage.{Storage}
-use Rattle.cx_base_text.specs.Pages.{blank_page}
+use Rattle.cx_base.specs.Pages.{blank_page}
 use Rattle.cx_edf_display.specs.declared.seen.Seen.{Seen}
 use Rattle.cx_edf_display.specs.declared.stops.StopPoint.{StopPoint}
 use Rattle.cx_edf_display.specs.Texts.{with_line, with_lines}

@@ -1,20 +1,20 @@
 -- EDF's displays (own): a main page, the working storage, and the user's screen.
 use Rattle.std.specs.Prelude.{ℕ, ◌+◌, ◌-◌, ◌*◌, ◌/◌, ◌^◌, nat_le, nat_lt, if◌then◌else◌, Option, Some, None, List, [], ◌∷◌, ◌++◌, codes, fold, map, slice_index}
 use Rattle.std.specs.Option.{option_and_then, option_map, option_map_or}
-use Rattle.cx_base_commands.specs.Commands.{command_with, row_of}
-use Rattle.cx_base_commands.specs.Conditions.{entry_of}
-use Rattle.cx_base_commands.specs.Eib.{eib_field}
-use Rattle.cx_base_commands.specs.declared.eib.EibField.{EibField}
-use Rattle.cx_base_commands.specs.declared.eib.EibField.TheVariants as eib
+use Rattle.cx_base.specs.Commands.{command_with, row_of}
+use Rattle.cx_base.specs.Conditions.{entry_of}
+use Rattle.cx_base.specs.Eib.{eib_field}
+use Rattle.cx_base.specs.declared.eib.EibField.{EibField}
+use Rattle.cx_base.specs.declared.eib.EibField.TheVariants as eib
 use Rattle.cx_region.specs.State.{RegionState}
 use Rattle.cx_region_state.specs.State.{TaskState}
 use Rattle.cx_region.specs.Tables.{task_of, terminal_of}
 use Rattle.cx_storage.specs.Address.{address_in, address_after}
 use Rattle.cx_storage.specs.Storage.{Storage}
 use Rattle.cx_storage.specs.Word.{halfword_at, word_at}
-use Rattle.cx_base_text.specs.Digits.{digits}
-use Rattle.cx_base_text.specs.Pages.{blank_page}
-use Rattle.cx_base_text.specs.Texts.{shown_text}
+use Rattle.cx_base.specs.Digits.{digits}
+use Rattle.cx_base.specs.Pages.{blank_page}
+use Rattle.cx_base.specs.Texts.{shown_text}
 use Rattle.cx_edf_display.specs.declared.displays.Display.{Display}
 use Rattle.cx_edf_display.specs.declared.seen.Seen.{Seen}
 use Rattle.cx_edf_display.specs.declared.stops.Ending.TheVariants as ending
@@ -181,7 +181,7 @@ unfoldable pub display_of : RegionState → List ℕ → StopPoint → Display
 display_of region name stop =
     record {
       kind = stop;
-      main = main_page region.storage name stop (seen_at region name stop);
-      storage = storage_page region.storage (seen_at region name stop);
-      user = option_map_or (λ terminal. map shown_text terminal.screen) (terminal_of region name) blank_page;
+      main = main_page region.shared.storage name stop (seen_at region name stop);
+      storage = storage_page region.shared.storage (seen_at region name stop);
+      user = option_map_or (λ terminal. map shown_text terminal.entry.screen) (terminal_of region name) blank_page;
     }

@@ -4,8 +4,8 @@ use Rattle.std.specs.Option.{option_map_or}
 use Rattle.cx_ebcdic.specs.Characters.{shown_as}
 use Rattle.cx_storage.specs.Address.{address_after}
 use Rattle.cx_storage.specs.Storage.{Storage, byte_at}
-use Rattle.cx_base_text.specs.Digits.{digits}
-use Rattle.cx_base_text.specs.Texts.{in_columns, join}
+use Rattle.cx_base.specs.Digits.{digits}
+use Rattle.cx_base.specs.Texts.{in_columns, join}
 
 -- a page with these pieces in place of a line, counted from 1, and with each of some lines
 abbrev pub with_line : List (List ℕ) → ℕ → List (List ℕ) → List (List ℕ)

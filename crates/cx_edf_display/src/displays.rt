@@ -6,7 +6,7 @@ use crate::main_page::main_page;
 use crate::seen::Seen;
 use crate::stops::StopPoint;
 use crate::storage_page::{storage_page, user_page};
-use cx_base_text::Page;
+use cx_base::Page;
 use cx_ebcdic::Name4;
 use cx_region::Region;
 use cx_storage::Store;

@@ -4,15 +4,14 @@ ghost use Rattle.std.specs.List.{AllByRecursion};
 ghost use Rattle.std.specs.Option.{option_and_then};
 ghost use Rattle.cx_storage.specs.Address.{address_in};
 ghost use Rattle.cx_storage.specs.Word.{halfword_at, word_at};
-ghost use Rattle.cx_base_text.specs.Texts.{shown_text};
+ghost use Rattle.cx_base.specs.Texts.{shown_text};
 ghost use Rattle.cx_edf_display.specs.Texts.{with_line, with_lines};
 ghost use Rattle.cx_edf_display.specs.Displays.{argument, arguments, arguments_due, command_text, eib_line, heading, list_of, main_page, name_of_function, outcome, quarters, registers, state_line, status_of, task_heading, task_lines};
 
 use crate::rows::{character_group, hex_at, hex_group};
 use crate::seen::{Seen, halfword, word};
 use crate::stops::{Ending, StopPoint};
-use cx_base_commands::{Command, EibField};
-use cx_base_text::{Page, decimal, hexadecimal, shown_bytes};
+use cx_base::{Command, EibField, Page, decimal, hexadecimal, shown_bytes};
 use cx_ebcdic::Name4;
 use cx_region::Region;
 use cx_storage::{Store, address_after, address_in};
@@ -28,7 +27,7 @@ pub(crate) fn main_page<S: Store + Drop>(
     kind: &StopPoint,
     task: &Option<Seen>,
 ) -> Page
-    ensures { result ≡ main_page region.now.storage name kind.now task.now }
+    ensures { result ≡ main_page region.now.shared.storage name kind.now task.now }
 {
     let mut page = Page::blank();
     put_heading(&mut page, name, task);
@@ -79,7 +78,7 @@ fn put_task<S: Store + Drop>(
     kind: &StopPoint,
     task: &Option<Seen>,
 )
-    ensures { page.new ≡ with_lines page.old (task_lines region.now.storage kind.now task.now) }
+    ensures { page.new ≡ with_lines page.old (task_lines region.now.shared.storage kind.now task.now) }
 {
     let Some(task) = task else {
         return;
@@ -107,7 +106,7 @@ fn status_of(kind: &StopPoint) -> &'static [u8]
 /// The command's name on line 3: before it by the block, after it by EIBFN.
 #[tactic(auto, unfolding(crate::specs::Displays::command_text))]
 fn command_text<S: Store + Drop>(region: &Region<S>, kind: &StopPoint, task: &Seen) -> &'static [u8]
-    ensures { result.now ≡ command_text region.now.storage task.now kind.now }
+    ensures { result.now ≡ command_text region.now.shared.storage task.now kind.now }
 {
     match kind {
         StopPoint::Before => name_of_function(function_due(region, task)),
@@ -122,8 +121,8 @@ fn command_text<S: Store + Drop>(region: &Region<S>, kind: &StopPoint, task: &Se
 
 /// The function value of the block that register 1 leads to.
 fn function_due<S: Store + Drop>(region: &Region<S>, task: &Seen) -> Option<u16>
-    ensures { result ≡ option_and_then (λ w. halfword_at region.now.storage (address_in w))
-        (word_at region.now.storage (list_of task.now)) }
+    ensures { result ≡ option_and_then (λ w. halfword_at region.now.shared.storage (address_in w))
+        (word_at region.now.shared.storage (list_of task.now)) }
 {
     let first = word(region, address_in(task.regs[1]))?;
     halfword(region, address_in(first))
@@ -153,7 +152,7 @@ fn put_arguments_due<S: Store + Drop>(
     kind: &StopPoint,
     task: &Seen,
 )
-    ensures { page.new ≡ with_lines page.old (arguments_due region.now.storage task.now kind.now) }
+    ensures { page.new ≡ with_lines page.old (arguments_due region.now.shared.storage task.now kind.now) }
 {
     match kind {
         StopPoint::Before => put_arguments(page, region, address_in(task.regs[1]), &NUMBERS),
@@ -167,7 +166,7 @@ fn put_arguments_due<S: Store + Drop>(
 #[tactic(auto, unfolding(crate::specs::Displays::arguments))]
 fn put_arguments<S: Store + Drop>(page: &mut Page, region: &Region<S>, list: u32, numbers: &[u32])
     requires { AllByRecursion (λ k. k ≤ 10) numbers.now }
-    ensures { page.new ≡ with_lines page.old (arguments region.now.storage list numbers.now) }
+    ensures { page.new ≡ with_lines page.old (arguments region.now.shared.storage list numbers.now) }
 {
     let Some((k, rest)) = numbers.split_first() else {
         return;
@@ -184,7 +183,7 @@ fn put_arguments<S: Store + Drop>(page: &mut Page, region: &Region<S>, list: u32
 /// An argument's line.
 fn put_argument<S: Store + Drop>(page: &mut Page, region: &Region<S>, k: u32, address: u32)
     requires { k ≤ 10 }
-    ensures { page.new ≡ with_line page.old (k + 4) (argument region.now.storage k address) }
+    ensures { page.new ≡ with_line page.old (k + 4) (argument region.now.shared.storage k address) }
 {
     let number = decimal::<2>(k);
     let place = hexadecimal::<6>(address);
@@ -242,7 +241,7 @@ fn put_state(page: &mut Page, task: &Seen)
 
 /// Line 20.
 fn put_eib<S: Store + Drop>(page: &mut Page, region: &Region<S>, task: &Seen)
-    ensures { page.new ≡ with_line page.old 20 (eib_line region.now.storage task.now) }
+    ensures { page.new ≡ with_line page.old 20 (eib_line region.now.shared.storage task.now) }
 {
     let function = address_after(task.eib, EibField::Fn.offset());
     let length = address_after(task.eib, EibField::Calen.offset());

@@ -2,10 +2,10 @@
 ghost use Rattle.std.specs.Prelude.{◌≡◌, ◌<◌, ◌∷◌, [], codes};
 ghost use Rattle.std.specs.Option.{option_map_or};
 ghost use Rattle.cx_ebcdic.specs.Characters.{shown_as};
-ghost use Rattle.cx_base_text.specs.Digits.{digits};
+ghost use Rattle.cx_base.specs.Digits.{digits};
 ghost use Rattle.cx_edf_display.specs.Texts.{character_at, character_group, hex_at, hex_group};
 
-use cx_base_text::{hexadecimal, in_columns, shown_byte};
+use cx_base::{hexadecimal, in_columns, shown_byte};
 use cx_region::Region;
 use cx_storage::{Store, address_after};
 
@@ -37,7 +37,7 @@ pub(crate) fn hex_at<S: Store + Drop>(
     count: u32,
     k: u32,
 ) -> [u8; 2]
-    ensures { result ≡ hex_at region.now.storage address count k }
+    ensures { result ≡ hex_at region.now.shared.storage address count k }
 {
     if k >= count {
         return *b"  ";
@@ -48,7 +48,7 @@ pub(crate) fn hex_at<S: Store + Drop>(
 /// The character of a byte of a row of `count` bytes; a blank stands for one past its end.
 #[tactic(auto, unfolding(crate::specs::Texts::character_at))]
 fn character_at<S: Store + Drop>(region: &Region<S>, address: u32, count: u32, k: u32) -> [u8; 1]
-    ensures { result ≡ character_at region.now.storage address count k }
+    ensures { result ≡ character_at region.now.shared.storage address count k }
 {
     if k >= count {
         return *b" ";
@@ -61,7 +61,7 @@ fn character_at<S: Store + Drop>(region: &Region<S>, address: u32, count: u32, k
 #[tactic(auto, unfolding(crate::specs::Texts::hex_group))]
 pub fn hex_group<S: Store + Drop>(region: &Region<S>, address: u32, count: u32, k: u32) -> [u8; 8]
     requires { k < 16 }
-    ensures { result ≡ hex_group region.now.storage address count k }
+    ensures { result ≡ hex_group region.now.shared.storage address count k }
 {
     let a = hex_at(region, address, count, k);
     let b = hex_at(region, address, count, k + 1);
@@ -80,7 +80,7 @@ pub fn character_group<S: Store + Drop>(
     k: u32,
 ) -> [u8; 4]
     requires { k < 16 }
-    ensures { result ≡ character_group region.now.storage address count k }
+    ensures { result ≡ character_group region.now.shared.storage address count k }
 {
     let a = character_at(region, address, count, k);
     let b = character_at(region, address, count, k + 1);

@@ -65,7 +65,7 @@ impl Seen {
 /// The word at an address; None where a byte of it is absent.
 #[tactic(auto, unfolding(cx_storage::specs::Word::word_at, cx_storage::specs::Storage::span))]
 pub(crate) fn word<S: Store + Drop>(region: &Region<S>, address: u32) -> Option<u32>
-    ensures { result ≡ word_at region.now.storage address }
+    ensures { result ≡ word_at region.now.shared.storage address }
 {
     let second = next_address(address);
     let third = next_address(second);
@@ -80,7 +80,7 @@ pub(crate) fn word<S: Store + Drop>(region: &Region<S>, address: u32) -> Option<
 /// The halfword at an address; None where a byte of it is absent.
 #[tactic(auto, unfolding(cx_storage::specs::Word::halfword_at, cx_storage::specs::Storage::span))]
 pub(crate) fn halfword<S: Store + Drop>(region: &Region<S>, address: u32) -> Option<u16>
-    ensures { result ≡ halfword_at region.now.storage address }
+    ensures { result ≡ halfword_at region.now.shared.storage address }
 {
     let second = next_address(address);
     let a = region.byte(address)?;

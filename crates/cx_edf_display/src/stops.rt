@@ -1,6 +1,6 @@
 //! Where EDF stops a task.
 
-use cx_base_commands::Condition;
+use cx_base::Condition;
 use cx_ebcdic::Name4;
 
 /// How a task ended.

@@ -3,14 +3,14 @@ ghost use Rattle.std.specs.Prelude.{◌≡◌, ◌≤◌, fold, map};
 ghost use Rattle.std.specs.List.{AllByRecursion};
 ghost use Rattle.std.specs.Option.{option_map_or};
 ghost use Rattle.cx_region.specs.Tables.{terminal_of};
-ghost use Rattle.cx_base_text.specs.Pages.{blank_page};
-ghost use Rattle.cx_base_text.specs.Texts.{shown_text};
+ghost use Rattle.cx_base.specs.Pages.{blank_page};
+ghost use Rattle.cx_base.specs.Texts.{shown_text};
 ghost use Rattle.cx_edf_display.specs.Texts.{with_line};
 ghost use Rattle.cx_edf_display.specs.Displays.{storage_heading, storage_page, with_row};
 
 use crate::rows::{character_group, hex_group};
 use crate::seen::Seen;
-use cx_base_text::{Page, hexadecimal};
+use cx_base::{Page, hexadecimal};
 use cx_ebcdic::Name4;
 use cx_region::Region;
 use cx_storage::{Store, address_after};
@@ -23,7 +23,7 @@ const ROWS: [u32; 22] = [
 /// The first 352 bytes of a task's working storage.
 #[tactic(auto, unfolding(crate::specs::Displays::storage_page))]
 pub(crate) fn storage_page<S: Store + Drop>(region: &Region<S>, task: &Option<Seen>) -> Page
-    ensures { result ≡ storage_page region.now.storage task.now }
+    ensures { result ≡ storage_page region.now.shared.storage task.now }
 {
     let mut page = Page::blank();
     if let Some(task) = task {
@@ -45,7 +45,7 @@ fn put_heading(page: &mut Page, task: &Seen)
 /// Rows with these numbers.
 fn put_rows<S: Store + Drop>(page: &mut Page, region: &Region<S>, task: &Seen, rows: &[u32])
     requires { AllByRecursion (λ row. row ≤ 21) rows.now }
-    ensures { page.new ≡ fold (with_row region.now.storage task.now) page.old rows.now }
+    ensures { page.new ≡ fold (with_row region.now.shared.storage task.now) page.old rows.now }
 {
     let Some((row, rest)) = rows.split_first() else {
         return;
@@ -58,7 +58,7 @@ fn put_rows<S: Store + Drop>(page: &mut Page, region: &Region<S>, task: &Seen, r
 #[tactic(auto, unfolding(crate::specs::Displays::with_row))]
 fn put_row<S: Store + Drop>(page: &mut Page, region: &Region<S>, task: &Seen, row: u32)
     requires { row ≤ 21 }
-    ensures { page.new ≡ with_row region.now.storage task.now page.old row }
+    ensures { page.new ≡ with_row region.now.shared.storage task.now page.old row }
 {
     if 16 * row >= task.stg_len {
         return;
@@ -83,10 +83,10 @@ fn put_row<S: Store + Drop>(page: &mut Page, region: &Region<S>, task: &Seen, ro
 }
 
 /// The user's screen; a blank page where there is no such terminal.
-#[tactic(auto, unfolding(cx_base_text::specs::Pages::IsPage, cx_service::specs::Screen::IsScreen))]
+#[tactic(auto, unfolding(cx_base::specs::Pages::IsPage, cx_service::specs::Screen::IsScreen))]
 pub(crate) fn user_page<S: Store + Drop>(region: &Region<S>, name: Name4) -> Page
     ensures { result ≡ option_map_or
-        (λ terminal. map shown_text terminal.screen) (terminal_of region.now name) blank_page }
+        (λ terminal. map shown_text terminal.entry.screen) (terminal_of region.now name) blank_page }
 {
     match region.screen(name) {
         Some(screen) => Page::of_bytes(screen.cells()),

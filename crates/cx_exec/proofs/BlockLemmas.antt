@@ -20,6 +20,11 @@ use Rattle.cx_exec.proofs.SequenceLemmas.{stored_length, each_is_stored}
 abbrev Outside : ℕ → ℕ → ℕ → Type 0
 Outside n a1 a2 = (j : ℕ) → 0 < j → j < n → a1 ≢ address_after a2 j
 
+-- an effect on an operand that is present
+pub if_present : {A : Type 0} (o : Option A) (m after : Machine) (outcome : Outcome) (effect : Type 0) → is_some o ≡ true → effect → IfPresent o m outcome after (λ _. effect)
+if_present None m after outcome effect there x = cc
+if_present (Some y) m after outcome effect there x = x
+
 -- a byte that was stored earlier is at an address that follows the first operand's beginning
 back_at : (a1 a2 k : ℕ) → a1 < 2 ^ 24 → a2 < 2 ^ 24 → k ≤ 2 ^ 24 → distance a1 (address_after a2 k) < k → a1 ≡ address_after a2 (k - distance a1 (address_after a2 k))
 back_at a1 a2 k low1 low2 fits h = omega (arith, h)
@@ -113,12 +118,7 @@ copied m after n a1 a2 size old bytes updated outcome low1 low2 fits outside wid
     let full : bytes ≡ unwrap_or (span m.storage a2 n) old = rw width at filled in
     let same : bytes ≡ stored_by (moved_byte m.storage a1 a2) n = full ∙ read_is_moved m.storage a1 a2 n old low1 low2 fits outside present in
     let moves : Stores a1 (stored_by (moved_byte m.storage a1 a2) n) m.cc updated m outcome after = rw same at stores in
-    go (span m.storage a2 n) present moves
-  where
-    go : (o : Option (List ℕ)) → is_some o ≡ true → Stores a1 (stored_by (moved_byte m.storage a1 a2) n) m.cc updated m outcome after
-        → IfPresent o m outcome after (λ (_ : List ℕ). Stores a1 (stored_by (moved_byte m.storage a1 a2) n) m.cc updated m outcome after)
-    go None h x = cc
-    go (Some b) h x = x
+    if_present _ _ _ _ _ present moves
 
 -- and the bytes that it lends
 pub copied_lent : (m after : Machine) (n a1 a2 : ℕ) (bytes : List ℕ) (updated : Updated) (outcome : Outcome)
@@ -157,13 +157,8 @@ unfolding XcEffect
 joined m after n a1 a2 code new updated outcome there same coded stores =
     let result : Stores a1 new (logical_code (number_of new)) updated m outcome after = rw coded at stores in
     let joins : Stores a1 (stored_by (xored_byte m.storage a1 a2) n) (logical_code (number_of (stored_by (xored_byte m.storage a1 a2) n))) updated m outcome after = rw same at result in
-    go (span m.storage a1 n) (span m.storage a2 n) there joins
+    if_present _ _ _ _ _ (second (span m.storage a1 n) (span m.storage a2 n) there) joins
   where
-    go : (p o : Option (List ℕ)) → (is_some p && is_some o) ≡ true
-        → Stores a1 (stored_by (xored_byte m.storage a1 a2) n) (logical_code (number_of (stored_by (xored_byte m.storage a1 a2) n))) updated m outcome after
-        → IfPresent o m outcome after (λ (_ : List ℕ).
-        let new = stored_by (xored_byte m.storage a1 a2) n in
-        Stores a1 new (logical_code (number_of new)) updated m outcome after)
-    go None o h x = cc
-    go (Some f) None h x = cc
-    go (Some f) (Some b) h x = x
+    second : (p o : Option (List ℕ)) → (is_some p && is_some o) ≡ true → is_some o ≡ true
+    second None o h = cc
+    second (Some f) o h = h

@@ -10,7 +10,7 @@ use Rattle.cx_code.specs.declared.table.Op.{Op}
 use Rattle.cx_code.specs.declared.table.Format.{Format}
 use Rattle.cx_code.specs.declared.table.Format.TheVariants as form
 use Rattle.cx_code.specs.Table.{format_of, length_of, length_of_format, length_of_code}
-use Rattle.cx_code.specs.Spelling.{Instruction, format_with, IsWellFormed}
+use Rattle.cx_code.specs.Spelling.{Instruction}
 use Rattle.cx_code.specs.Reading.{reading}
 use Rattle.cx_exec.specs.Fetch.{code_bytes, code_at, read_as}
 use Rattle.cx_exec.specs.Machine.{Machine, effective}
@@ -86,11 +86,6 @@ unfolding instruction_to_perform
 lent_is_performed m bytes i low even there long short reads size =
     let found = found_is_read m.storage m.next bytes i low even there long short reads in
     rw (found.0, found.1, size) refl
-
--- the fields say how many bytes the row has
-pub length_with : (i : Instruction) → IsWellFormed i → length_of i.op ≡ length_of_format (format_with i.fields)
-unfolding IsWellFormed
-length_with i formed = ap length_of_format (sym formed.0)
 
 -- an EX is performed by the effect of its target
 pub executed_at : (m : Machine) (i : Instruction) (r1 x2 b2 d2 : ℕ) (outcome : Outcome) (after : Machine)

@@ -13,10 +13,10 @@ use Rattle.cx_exec.specs.Strings.{moved_byte, xored_byte, MvcEffect}
 use Rattle.cx_exec.specs.declared.machine.Updated.{Updated}
 use Rattle.cx_exec.specs.Machine.{Machine}
 use Rattle.cx_exec.specs.Outcome.{Outcome}
-use Rattle.cx_exec.specs.Operands.{IfPresent, Stores}
+use Rattle.cx_exec.specs.Operands.{Stores}
 use Rattle.cx_exec.proofs.SequenceLemmas.{stored_length, stored_none}
 use Rattle.cx_exec.proofs.RepeatLemmas.{repeated_is_moved}
-use Rattle.cx_exec.proofs.BlockLemmas.{outside_is_joined}
+use Rattle.cx_exec.proofs.BlockLemmas.{if_present, outside_is_joined}
 
 -- the first operand begins after the second's first byte
 pub begins_after : (a1 a2 : ℕ) → a1 < 2 ^ 24 → a2 < 2 ^ 24 → distance a2 a1 ≡ 1 → a1 ≡ address_after a2 1
@@ -68,12 +68,7 @@ spread m after n a1 a2 b updated outcome low some few begins here there stores =
     let is : b ≡ content m.storage a2 = rw here refl in
     let same : replicate n b ≡ stored_by (moved_byte m.storage a1 a2) n = sym (take-replicate n 256 b few) ∙ byte_is_moved m.storage a1 a2 n b low few begins is in
     let moves : Stores a1 (stored_by (moved_byte m.storage a1 a2) n) m.cc updated m outcome after = rw same at stores in
-    go (span m.storage a2 n) (begun m.storage a1 a2 n b some begins here there) moves
-  where
-    go : (o : Option (List ℕ)) → is_some o ≡ true → Stores a1 (stored_by (moved_byte m.storage a1 a2) n) m.cc updated m outcome after
-        → IfPresent o m outcome after (λ (_ : List ℕ). Stores a1 (stored_by (moved_byte m.storage a1 a2) n) m.cc updated m outcome after)
-    go None h x = cc
-    go (Some bytes) h x = x
+    if_present _ _ _ _ _ (begun m.storage a1 a2 n b some begins here there) moves
 
 pub zeros_are_joined : (s : Storage) (a n : ℕ) → a < 2 ^ 24 → n ≤ 256 → is_some (span s a n) ≡ true → take n (replicate 256 0) ≡ stored_by (xored_byte s a a) n
 zeros_are_joined s a n low few there = go (span s a n) refl there

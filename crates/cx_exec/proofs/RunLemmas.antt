@@ -1,5 +1,5 @@
 -- Runs of steps, one more at their end.
-use Rattle.std.proofs.Common.{◌-◌, false, None, List, Ok, Err, ◌≢◌, Some, ◌≡◌, ℕ, zero, suc, ◌+◌, ◌≤◌, ◌<◌, refl, sym, ◌∙◌, ap, add-one, subst, arith}
+use Rattle.std.proofs.Common.{◌-◌, false, List, Ok, Err, ◌≢◌, Some, ◌≡◌, ℕ, zero, suc, ◌+◌, ◌≤◌, ◌<◌, refl, sym, ◌∙◌, ap, add-one, subst, arith}
 use Rattle.cx_exec.specs.declared.machine.Step.TheVariants.{Done, AtEntry, Interrupt}
 use Rattle.cx_exec.specs.declared.machine.Interruption.{Interruption}
 use Rattle.cx_exec.specs.declared.machine.Halt.{Halt}
@@ -7,15 +7,13 @@ use Rattle.cx_exec.specs.declared.machine.Halt.TheVariants as halt
 use Rattle.cx_exec.specs.Machine.{Machine}
 use Rattle.cx_exec.specs.Outcome.{Outcome}
 use Rattle.cx_exec.specs.Rows.{Effect}
-use Rattle.cx_exec.specs.Step.{entry, updated_by, is_execute, performed_of, instruction_to_perform, Runs, Steps}
+use Rattle.cx_exec.specs.Step.{entry, updated_by, is_execute, Runs, Steps}
 use Rattle.cx_code.specs.declared.table.Op.{Op}
 use Rattle.cx_code.specs.Table.{length_of}
-use Rattle.cx_code.specs.Spelling.{Instruction, instruction}
+use Rattle.cx_code.specs.Spelling.{instruction}
 use Rattle.cx_code.specs.Reading.{fields_at}
 use Rattle.cx_exec.specs.Advance.{Passes, Advances}
-use Rattle.cx_exec.specs.Parts.{updated_at}
-use Rattle.cx_exec.specs.declared.places.Place.{Place}
-use Rattle.cx_exec.specs.declared.machine.Updated.{Updated}
+use Rattle.cx_exec.specs.Parts.{IsPerformed}
 
 pub passes_none : (m : Machine) → Passes 0 m m
 unfolding Passes
@@ -120,32 +118,25 @@ apart_more steps left m now fetched after within some so_far same run =
 
 -- an instruction except EX runs by the effect of its row
 row_runs : (now : Machine) (op : Op) (prefix : List ℕ) (outcome : Outcome) (after : Machine)
-    → instruction_to_perform now ≡ performed_of now (instruction op (fields_at op prefix)) (updated_by now.next (length_of op)) → is_execute op ≡ false
+    → IsPerformed now op prefix → is_execute op ≡ false
     → Effect (instruction op (fields_at op prefix)) (updated_by now.next (length_of op)) now outcome after → Runs now outcome after
 unfolding Runs
 row_runs now op prefix outcome after is plain effect = rw (is, plain) effect
 
-pub row_more : (steps left : ℕ) (m now fetched after : Machine) (op : Op) (prefix : List ℕ) → left ≤ steps → 0 < left → Passes (steps - left) m now → fetched ≡ now
+-- such an instruction, which was fetched with some steps left
+pub row_more : (steps left : ℕ) (m now fetched after : Machine) (op : Op) (prefix : List ℕ) → (left ≤ steps) × Passes (steps - left) m now → 0 < left → fetched ≡ now
+    → IsPerformed fetched op prefix → fetched.next ≢ entry → is_execute op ≡ false
     → Effect (instruction op (fields_at op prefix)) (updated_by fetched.next (length_of op)) fetched (Ok tt) after
-    → instruction_to_perform fetched ≡ performed_of fetched (instruction op (fields_at op prefix)) (updated_by fetched.next (length_of op)) → is_execute op ≡ false
-    → fetched.next ≢ entry → Passes (steps - (left - 1)) m after
-row_more steps left m now fetched after op prefix within some so_far same effect is plain apart =
-    run_more steps left m fetched after within some (subst (λ (s : Machine). Passes (steps - left) m s) (sym same) so_far) apart (row_runs fetched op prefix (Ok tt) after is plain effect)
+    → (left - 1 ≤ steps) × Passes (steps - (left - 1)) m after
+row_more steps left m now fetched after op prefix (within, so_far) some same is apart plain effect = (
+  omega (arith, within),
+  run_more steps left m fetched after within some (subst (λ (s : Machine). Passes (steps - left) m s) (sym same) so_far) apart (row_runs fetched op prefix (Ok tt) after is plain effect),
+)
 
-pub row_interrupt : (steps left : ℕ) (cause : Interruption) (m now fetched after : Machine) (op : Op) (prefix : List ℕ) → left ≤ steps → 0 < left → Passes (steps - left) m now → fetched ≡ now
+pub row_interrupt : (steps left : ℕ) (cause : Interruption) (m now fetched after : Machine) (op : Op) (prefix : List ℕ) → (left ≤ steps) × Passes (steps - left) m now → 0 < left → fetched ≡ now
+    → IsPerformed fetched op prefix → fetched.next ≢ entry → is_execute op ≡ false
     → Effect (instruction op (fields_at op prefix)) (updated_by fetched.next (length_of op)) fetched (Err cause) after
-    → instruction_to_perform fetched ≡ performed_of fetched (instruction op (fields_at op prefix)) (updated_by fetched.next (length_of op)) → is_execute op ≡ false
-    → fetched.next ≢ entry → Advances steps m (halt.Interrupt cause after.next) after
-row_interrupt steps left cause m now fetched after op prefix within some so_far same effect is plain apart =
+    → Advances steps m (halt.Interrupt cause after.next) after
+row_interrupt steps left cause m now fetched after op prefix (within, so_far) some same is apart plain effect =
     run_interrupt steps left after.next cause m fetched after within some (subst (λ (s : Machine). Passes (steps - left) m s) (sym same) so_far) apart
     (row_runs fetched op prefix (Err cause) after is plain effect) refl
-
--- what a place goes on by
-pub place_from : (place : Place) (n at : ℕ) → place.given ≡ None → place.from ≡ at → updated_at place n ≡ updated_by at n
-place_from place n at none same = rw (none, same) refl
-
-pub place_given : (place : Place) (n : ℕ) (updated : Updated) → place.given ≡ Some updated → updated_at place n ≡ updated
-place_given place n updated some = rw some refl
-
-pub effect_by : (i : Instruction) (one another : Updated) (m : Machine) (outcome : Outcome) (after : Machine) → one ≡ another → Effect i one m outcome after → Effect i another m outcome after
-effect_by i one another m outcome after same effect = subst (λ (u : Updated). Effect i u m outcome after) same effect

@@ -9,7 +9,7 @@ use Rattle.cx_exec.specs.Sequence.{content, byte_seen, stored_by}
 use Rattle.cx_exec.proofs.SequenceLemmas.{each_is_stored, stored_length}
 use Rattle.std.specs.List.{range_with_len}
 use Rattle.std.proofs.lemmas.Bool.{le-ltb, ne_eqb}
-use Rattle.cx_storage.specs.Storage.{Storage, byte_at, span}
+use Rattle.cx_storage.specs.Storage.{Storage, span}
 use Rattle.cx_exec.specs.Translation.{HasTable, table_byte, ends_search, first_found, translated_byte}
 
 nothing_found : (test : ℕ → Bool) (a n : ℕ) → ((j : ℕ) → j < n → test (a + j) ≡ false) → find test (range_with_len a n) ≡ None
@@ -56,9 +56,6 @@ found_first s n a1 a2 k h all e =
     found ∙ ap Some here
 
 -- ---- TR of an argument and a table that are lent, and apart
-argument_is : (s : Storage) (a1 n k : ℕ) (argument : List ℕ) → a1 < 2 ^ 24 → span s a1 n ≡ Some argument → k < n → byte_at s (address_after a1 k) ≡ Some (slice_index argument k)
-argument_is s a1 n k argument low e h = span_at s a1 n argument k low e h
-
 table_is : (s : Storage) (a1 a2 n k : ℕ) (argument table : List ℕ) → a1 < 2 ^ 24 → a2 < 2 ^ 24 → span s a1 n ≡ Some argument → span s a2 256 ≡ Some table
     → k < n → slice_index argument k < 256 → table_byte s a1 a2 k ≡ Some (slice_index table (slice_index argument k))
 table_is s a1 a2 n k argument table low1 low2 e f h small =

@@ -1,6 +1,6 @@
 -- Vocabulary of private functions: what is performed, an operand that is there or not, and rows whose code is kept
 -- together.
-use Rattle.std.specs.Prelude.{◌≡◌, unwrap_or, ℕ, List, Option, Some, None, Result, MatchResult, Bool, true, false, ◌||◌, if◌then◌else◌}
+use Rattle.std.specs.Prelude.{◌≡◌, unwrap_or, ℕ, List, Option, Some, None, Result, MatchResult, Bool, true, false, if◌then◌else◌}
 use Rattle.cx_storage.specs.Storage.{Storage}
 use Rattle.cx_storage.specs.Word.{word_at}
 use Rattle.cx_code.specs.declared.table.Op.{Op}
@@ -22,37 +22,33 @@ updated_at place bytes = unwrap_or place.given (updated_by place.from bytes)
 
 -- it is what is performed at the next address, for EX its target
 abbrev pub IsPerformed : Machine → Op → List ℕ → Type 0
-IsPerformed m op prefix = instruction_to_perform m ≡ performed_of m (instruction op (fields_at op prefix)) (updated_by m.next (length_of op))
+IsPerformed m op prefix =
+    instruction_to_perform m ≡ performed_of m (instruction op (fields_at op prefix)) (updated_by m.next (length_of op))
 
 -- an operand is given where its bytes are present; else addressing is the interruption
 abbrev pub IsThere : Option ℕ → Result ℕ Interruption → Type 0
-IsThere operand result = MatchResult result (λ x. operand ≡ Some x) (λ cause. (operand ≡ None) × (cause ≡ interruption.Addressing))
+IsThere operand result =
+    MatchResult result (λ x. operand ≡ Some x) (λ cause. (operand ≡ None) × (cause ≡ interruption.Addressing))
 
--- the rows of formats RR and RS
-abbrev pub has_registers : Op → Bool
-has_registers op.Balr = true
-has_registers op.Bctr = true
-has_registers op.Bcr = true
-has_registers op.Ltr = true
-has_registers op.Lcr = true
-has_registers op.Clr = true
-has_registers op.Xr = true
-has_registers op.Lr = true
-has_registers op.Cr = true
-has_registers op.Ar = true
-has_registers op.Sr = true
-has_registers op.Mr = true
-has_registers op.Dr = true
-has_registers op.Srl = true
-has_registers op.Sll = true
-has_registers op.Sra = true
-has_registers op.Sla = true
-has_registers op.Srda = true
-has_registers op.Stm = true
-has_registers op.Lm = true
-has_registers op.Stcm = true
-has_registers op.Icm = true
-has_registers _ = false
+-- the rows whose second operand is a halfword in storage
+abbrev pub has_half : Op → Bool
+has_half op.Lh = true
+has_half op.Ch = true
+has_half op.Ah = true
+has_half op.Sh = true
+has_half _ = false
+
+-- the rows that take a word as the second operand, extended by its sign where storage has a halfword, but M and D
+abbrev pub takes_second : Op → Bool
+takes_second op.L = true
+takes_second op.Cl = true
+takes_second op.C = true
+takes_second op.A = true
+takes_second op.S = true
+takes_second op = has_half op
+
+abbrev pub second_at : Op → Storage → ℕ → Option ℕ
+second_at op s a = if has_half op then extended_at s a else word_at s a
 
 -- L, CL and C
 abbrev pub has_word : Op → Bool
@@ -69,30 +65,6 @@ has_word_result op.M = true
 has_word_result op.D = true
 has_word_result _ = false
 
--- the rows whose second operand is a halfword in storage
-abbrev pub has_half : Op → Bool
-has_half op.Lh = true
-has_half op.Ch = true
-has_half op.Ah = true
-has_half op.Sh = true
-has_half _ = false
-
--- L, CL, C, A and S
-abbrev pub takes_word : Op → Bool
-takes_word op.L = true
-takes_word op.Cl = true
-takes_word op.C = true
-takes_word op.A = true
-takes_word op.S = true
-takes_word _ = false
-
--- the word that is taken as the second operand, extended by its sign where storage has a halfword
-abbrev pub takes_second : Op → Bool
-takes_second op = takes_word op || has_half op
-
-abbrev pub second_at : Op → Storage → ℕ → Option ℕ
-second_at op s a = if has_half op then extended_at s a else word_at s a
-
 -- the other rows of format RX except EX
 abbrev pub has_address : Op → Bool
 has_address op.Sth = true
@@ -106,12 +78,3 @@ has_address op.Cvd = true
 has_address op.Ic = true
 has_address op.Cvb = true
 has_address _ = false
-
--- the rows of format SI
-abbrev pub has_immediate : Op → Bool
-has_immediate op.Tm = true
-has_immediate op.Mvi = true
-has_immediate op.Ni = true
-has_immediate op.Cli = true
-has_immediate op.Oi = true
-has_immediate _ = false

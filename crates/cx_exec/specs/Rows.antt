@@ -1,5 +1,5 @@
--- The effect of each instruction, by its operation code (GA22-7000, "General Instructions"). The last
--- arm of each format is not reached: no other row has the format, except EX, which is defined separately.
+-- The effect of each instruction, by its operation code (GA22-7000, "General Instructions"). The last arm of each
+-- format is not reached: no other row has the format, except EX, which is defined separately.
 use Rattle.std.specs.Prelude.{ℕ, ◌+◌, ◌%◌, ◌^◌, [], ◌∷◌, Some}
 use Rattle.byteorder.specs.Endian.{big_bytes}
 use Rattle.cx_storage.specs.Word.{word_at}

@@ -3,7 +3,7 @@
 ghost use Rattle.std.specs.Prelude.{◌≡◌, false, ◌<◌, ◌^◌, ◌+ℤ◌, ◌-ℤ◌, neg_ℤ, Ok, slice_set};
 ghost use Rattle.cx_exec.specs.Numbers.{signed_word, word_of, fits_word, sum_code};
 
-use crate::machine::{Cpu, Interruption, Updated};
+use crate::machine::{Cpu, Performed, Updated};
 use crate::numbers::{sign_code, word_of};
 use crate::results::load_coded;
 
@@ -32,7 +32,7 @@ pub(crate) fn complement(word: u32) -> i64
 #[tactic(auto, unfolding(crate::specs::Numbers::sum_code))]
 #[cold]
 #[inline(never)]
-fn put_overflow(cpu: &mut Cpu, r: u8, x: i64, updated: Updated) -> Result<(), Interruption>
+fn put_overflow(cpu: &mut Cpu, r: u8, x: i64, updated: Updated) -> Performed
     requires register { r < 16 }
     requires large { fits_word x ≡ false }
     ensures done { result ≡ Ok tt }
@@ -45,7 +45,7 @@ fn put_overflow(cpu: &mut Cpu, r: u8, x: i64, updated: Updated) -> Result<(), In
 
 /// Puts an exact result into a register, modulo 2^32, and sets its code.
 #[tactic(auto, unfolding(crate::specs::Numbers::sum_code))]
-pub(crate) fn put_sum(cpu: &mut Cpu, r: u8, x: i64, updated: Updated) -> Result<(), Interruption>
+pub(crate) fn put_sum(cpu: &mut Cpu, r: u8, x: i64, updated: Updated) -> Performed
     requires register { r < 16 }
     ensures done { result ≡ Ok tt }
     ensures regs { cpu.new.regs ≡ slice_set cpu.old.regs r (word_of x) }

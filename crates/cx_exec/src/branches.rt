@@ -4,7 +4,7 @@ ghost use Rattle.std.specs.Prelude.{◌≡◌, ◌<◌, ◌≤◌, ◌^◌, Ok, 
 ghost use Rattle.cx_exec.specs.Branches.{less_one};
 ghost use Rattle.cx_exec.specs.Branches.{mask_bit, selects, link_word, branch_address};
 
-use crate::machine::{Cpu, Interruption, Updated};
+use crate::machine::{Cpu, Performed, Updated};
 use cx_storage::address_in;
 
 /// Whether a mask has the bit of a condition code.
@@ -48,7 +48,7 @@ pub(crate) fn branch_address(regs: &[u32; 16], r: u8, updated: Updated) -> u32
 }
 
 /// Puts the link word into a register and goes on elsewhere.
-pub(crate) fn link(cpu: &mut Cpu, r: u8, to: u32, updated: Updated) -> Result<(), Interruption>
+pub(crate) fn link(cpu: &mut Cpu, r: u8, to: u32, updated: Updated) -> Performed
     requires register { r < 16 }
     requires to { to < 2 ^ 24 }
     ensures done { result ≡ Ok tt }
@@ -62,7 +62,7 @@ pub(crate) fn link(cpu: &mut Cpu, r: u8, to: u32, updated: Updated) -> Result<()
 }
 
 /// Goes on at an address.
-pub(crate) fn go_on(cpu: &mut Cpu, to: u32) -> Result<(), Interruption>
+pub(crate) fn go_on(cpu: &mut Cpu, to: u32) -> Performed
     requires { to < 2 ^ 24 }
     ensures done { result ≡ Ok tt }
     ensures regs { cpu.new.regs ≡ cpu.old.regs }
@@ -74,7 +74,7 @@ pub(crate) fn go_on(cpu: &mut Cpu, to: u32) -> Result<(), Interruption>
 }
 
 /// Goes on elsewhere where the mask selects the condition code.
-pub(crate) fn branch(cpu: &mut Cpu, mask: u8, to: u32, updated: Updated) -> Result<(), Interruption>
+pub(crate) fn branch(cpu: &mut Cpu, mask: u8, to: u32, updated: Updated) -> Performed
     requires to { to < 2 ^ 24 }
     ensures done { result ≡ Ok tt }
     ensures regs { cpu.new.regs ≡ cpu.old.regs }
@@ -90,7 +90,7 @@ pub(crate) fn branch(cpu: &mut Cpu, mask: u8, to: u32, updated: Updated) -> Resu
 }
 
 /// Counts a register down by one, and goes on elsewhere where it isn't zero then.
-pub(crate) fn count(cpu: &mut Cpu, r: u8, to: u32, updated: Updated) -> Result<(), Interruption>
+pub(crate) fn count(cpu: &mut Cpu, r: u8, to: u32, updated: Updated) -> Performed
     requires register { r < 16 }
     requires to { to < 2 ^ 24 }
     ensures done { result ≡ Ok tt }

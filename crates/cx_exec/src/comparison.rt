@@ -1,12 +1,13 @@
 //! Comparison.
 
-ghost use Rattle.std.specs.Prelude.{◌≡◌, ℕ, ◌+◌, ◌<◌, ◌≤◌, ◌^◌, true, length, pos, slice_index};
+ghost use Rattle.std.specs.Prelude.{◌≡◌, ℕ, ◌+◌, ◌<◌, ◌≤◌, true, length, pos, slice_index};
 ghost use Rattle.cx_exec.specs.Numbers.{number_of};
 ghost use Rattle.cx_exec.specs.Machine.{machine};
 ghost use Rattle.cx_exec.specs.Numbers.{signed_word, order_code};
 ghost use Rattle.cx_exec.specs.Comparison.{ComparesStrings};
 
-use crate::machine::{Cpu, Interruption, Updated};
+use crate::addresses::Addresses;
+use crate::machine::{Cpu, Interruption, Performed, Updated};
 use crate::numbers::{eight_at, order_code};
 use crate::operands::of_length;
 use crate::results::set_code;
@@ -94,25 +95,22 @@ fn string_order(first: &[u8], second: &[u8]) -> u8
 fn clc_copies<S: Store>(
     cpu: &mut Cpu,
     store: &S,
-    a1: u32,
-    a2: u32,
+    at: Addresses,
     updated: Updated,
     n: u32,
-) -> Result<(), Interruption>
-    requires first { a1 < 2 ^ 24 }
-    requires second { a2 < 2 ^ 24 }
+) -> Performed
     requires count { n ≤ 256 }
     ensures { let before = machine cpu.old (S.storage store.now) in let after = machine cpu.new (S.storage store.now) in
-        ComparesStrings n a1 a2 updated before result after }
+        ComparesStrings n at.a1 at.a2 updated before result after }
 {
     let mut left = [0; 256];
     let mut right = [0; 256];
     let first = &mut left[..n as usize];
     let second = &mut right[..n as usize];
-    if !store.read(a1, first) {
+    if !store.read(at.a1, first) {
         return Err(Interruption::Addressing);
     }
-    if !store.read(a2, second) {
+    if !store.read(at.a2, second) {
         return Err(Interruption::Addressing);
     }
     let cc = string_order(first, second);
@@ -125,23 +123,20 @@ fn clc_copies<S: Store>(
 fn clc_few<S: Store, const N: u32>(
     cpu: &mut Cpu,
     store: &S,
-    a1: u32,
-    a2: u32,
+    at: Addresses,
     updated: Updated,
-) -> Result<(), Interruption>
-    requires first { a1 < 2 ^ 24 }
-    requires second { a2 < 2 ^ 24 }
+) -> Performed
     requires count { N ≤ 256 }
     ensures { let before = machine cpu.old (S.storage store.now) in let after = machine cpu.new (S.storage store.now) in
-        ComparesStrings N a1 a2 updated before result after }
+        ComparesStrings N at.a1 at.a2 updated before result after }
 {
-    if let Some(first) = store.slice_fast(a1, N as usize) {
-        if let Some(second) = store.slice_fast(a2, N as usize) {
+    if let Some(first) = store.slice_fast(at.a1, N as usize) {
+        if let Some(second) = store.slice_fast(at.a2, N as usize) {
             let cc = string_order(of_length(first, N as usize), of_length(second, N as usize));
             return set_code(cpu, cc, updated);
         }
     }
-    clc_many(cpu, store, a1, a2, updated, N)
+    clc_many(cpu, store, at, updated, N)
 }
 
 /// CLC of any length.
@@ -150,24 +145,21 @@ fn clc_few<S: Store, const N: u32>(
 fn clc_many<S: Store>(
     cpu: &mut Cpu,
     store: &S,
-    a1: u32,
-    a2: u32,
+    at: Addresses,
     updated: Updated,
     n: u32,
-) -> Result<(), Interruption>
-    requires first { a1 < 2 ^ 24 }
-    requires second { a2 < 2 ^ 24 }
+) -> Performed
     requires count { n ≤ 256 }
     ensures { let before = machine cpu.old (S.storage store.now) in let after = machine cpu.new (S.storage store.now) in
-        ComparesStrings n a1 a2 updated before result after }
+        ComparesStrings n at.a1 at.a2 updated before result after }
 {
-    if let Some(first) = store.slice(a1, n as usize) {
-        if let Some(second) = store.slice(a2, n as usize) {
+    if let Some(first) = store.slice(at.a1, n as usize) {
+        if let Some(second) = store.slice(at.a2, n as usize) {
             let cc = string_order(first, second);
             return set_code(cpu, cc, updated);
         }
     }
-    clc_copies(cpu, store, a1, a2, updated, n)
+    clc_copies(cpu, store, at, updated, n)
 }
 
 /// CLC. The operands, of `l` bytes and one, begin at `a1` and `a2`.
@@ -175,25 +167,22 @@ fn clc_many<S: Store>(
 pub(crate) fn clc<S: Store>(
     cpu: &mut Cpu,
     store: &S,
-    a1: u32,
-    a2: u32,
+    at: Addresses,
     updated: Updated,
     l: u8,
-) -> Result<(), Interruption>
-    requires first { a1 < 2 ^ 24 }
-    requires second { a2 < 2 ^ 24 }
+) -> Performed
     ensures { let before = machine cpu.old (S.storage store.now) in let after = machine cpu.new (S.storage store.now) in
-        ComparesStrings (l + 1) a1 a2 updated before result after }
+        ComparesStrings (l + 1) at.a1 at.a2 updated before result after }
 {
     match l {
-        0 => clc_few::<S, 1>(cpu, store, a1, a2, updated),
-        1 => clc_few::<S, 2>(cpu, store, a1, a2, updated),
-        2 => clc_few::<S, 3>(cpu, store, a1, a2, updated),
-        3 => clc_few::<S, 4>(cpu, store, a1, a2, updated),
-        4 => clc_few::<S, 5>(cpu, store, a1, a2, updated),
-        5 => clc_few::<S, 6>(cpu, store, a1, a2, updated),
-        6 => clc_few::<S, 7>(cpu, store, a1, a2, updated),
-        7 => clc_few::<S, 8>(cpu, store, a1, a2, updated),
-        _ => clc_many(cpu, store, a1, a2, updated, u32::from(l) + 1),
+        0 => clc_few::<S, 1>(cpu, store, at, updated),
+        1 => clc_few::<S, 2>(cpu, store, at, updated),
+        2 => clc_few::<S, 3>(cpu, store, at, updated),
+        3 => clc_few::<S, 4>(cpu, store, at, updated),
+        4 => clc_few::<S, 5>(cpu, store, at, updated),
+        5 => clc_few::<S, 6>(cpu, store, at, updated),
+        6 => clc_few::<S, 7>(cpu, store, at, updated),
+        7 => clc_few::<S, 8>(cpu, store, at, updated),
+        _ => clc_many(cpu, store, at, updated, u32::from(l) + 1),
     }
 }

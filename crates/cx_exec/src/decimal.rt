@@ -6,7 +6,7 @@ ghost use Rattle.cx_exec.specs.Machine.{machine};
 ghost use Rattle.cx_exec.specs.Numbers.{signed_word, fits_word};
 ghost use Rattle.cx_exec.specs.Decimal.{half, AreDigits, IsDecimal, first_digits, is_minus, decimal_number, IsReadAs, Converts, CvbEffect, decimal_bytes, CvdEffect};
 
-use crate::machine::{Cpu, Interruption, Updated};
+use crate::machine::{Cpu, Interruption, Performed, Updated};
 use crate::numbers::word_of;
 use crate::operands::put_bytes;
 use cx_storage::Store;
@@ -62,7 +62,7 @@ fn fits_word(number: i64) -> bool
 
 /// What CVB leaves of a number.
 #[tactic(auto, unfolding(crate::specs::Decimal::Converts))]
-fn convert(cpu: &mut Cpu, r1: u8, number: i64, updated: Updated) -> Result<(), Interruption>
+fn convert(cpu: &mut Cpu, r1: u8, number: i64, updated: Updated) -> Performed
     requires first { r1 < 16 }
     ensures { (storage : Storage) → let before = machine cpu.old storage in let after = machine cpu.new storage in
         Converts r1 number updated before result after }
@@ -79,13 +79,7 @@ fn convert(cpu: &mut Cpu, r1: u8, number: i64, updated: Updated) -> Result<(), I
 /// same.
 #[tactic(auto, unfolding(crate::specs::Decimal::CvbEffect))]
 #[inline(never)]
-pub(crate) fn cvb<S: Store>(
-    cpu: &mut Cpu,
-    store: &S,
-    r1: u8,
-    a: u32,
-    updated: Updated,
-) -> Result<(), Interruption>
+pub(crate) fn cvb<S: Store>(cpu: &mut Cpu, store: &S, r1: u8, a: u32, updated: Updated) -> Performed
     requires first { r1 < 16 }
     requires operand { a < 2 ^ 24 }
     ensures { let before = machine cpu.old (S.storage store.now) in let after = machine cpu.new (S.storage store.now) in
@@ -139,7 +133,7 @@ pub(crate) fn cvd<S: Store>(
     r1: u8,
     a: u32,
     updated: Updated,
-) -> Result<(), Interruption>
+) -> Performed
     requires first { r1 < 16 }
     requires operand { a < 2 ^ 24 }
     ensures { let before = machine cpu.old (S.storage store.old) in let after = machine cpu.new (S.storage store.new) in

@@ -5,7 +5,7 @@ ghost use Rattle.cx_storage.specs.Storage.{Storage};
 ghost use Rattle.cx_exec.specs.Machine.{machine};
 ghost use Rattle.cx_exec.specs.Division.{IsDivision, DividesRegisters};
 
-use crate::machine::{Cpu, Interruption, Updated};
+use crate::machine::{Cpu, Interruption, Performed, Updated};
 use crate::numbers::{signed, signed_double, word_of};
 use crate::results::pair;
 
@@ -30,7 +30,7 @@ pub(crate) fn division(dividend: i64, divisor: i64) -> Option<(i64, i64)>
 /// Interruption 9, and no change, where no word holds the quotient or the divisor is zero.
 #[tactic(auto, unfolding(crate::specs::Division::DividesRegisters))]
 #[inline(never)]
-pub(crate) fn divide(cpu: &mut Cpu, r: u8, word: u32, updated: Updated) -> Result<(), Interruption>
+pub(crate) fn divide(cpu: &mut Cpu, r: u8, word: u32, updated: Updated) -> Performed
     requires register { r < 15 }
     ensures { (storage : Storage)
         → DividesRegisters r word updated (machine cpu.old storage) result (machine cpu.new storage) }

@@ -1,6 +1,7 @@
 //! Executing instructions: one step, and runs of steps.
 #![tactic(auto)]
 
+mod addresses;
 mod arithmetic;
 mod branches;
 mod comparison;

@@ -5,7 +5,7 @@ ghost use Rattle.cx_exec.specs.Numbers.{number_of};
 ghost use Rattle.cx_exec.specs.Machine.{machine};
 ghost use Rattle.cx_exec.specs.Logic.{logical_code, test_code, StoresLogical};
 
-use crate::machine::{Cpu, Interruption, Updated};
+use crate::machine::{Cpu, Performed, Updated};
 use crate::operands::{put_apart, put_coded_at_hand};
 use cx_storage::Store;
 
@@ -41,7 +41,7 @@ pub(crate) fn put_logical<S: Store>(
     a: u32,
     byte: u8,
     updated: Updated,
-) -> Result<(), Interruption>
+) -> Performed
     requires operand { a < 2 ^ 24 }
     ensures { let before = machine cpu.old (S.storage store.old) in let after = machine cpu.new (S.storage store.new) in
         StoresLogical a byte updated before result after }

@@ -59,6 +59,9 @@ impl Interruption {
     }
 }
 
+/// That an instruction was performed, or what interrupted it.
+pub(crate) type Performed = Result<(), Interruption>;
+
 /// How a step ended.
 #[derive(Clone, Copy, Debug, PartialEq, Eq)]
 pub enum Step {

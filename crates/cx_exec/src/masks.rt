@@ -5,10 +5,18 @@ ghost use Rattle.cx_exec.specs.Machine.{machine};
 ghost use Rattle.cx_exec.specs.Masks.{byte_of, takes, selected_bytes, inserted_byte, word_inserted, insert_code, IcmEffect, StcmEffect};
 
 use crate::logic::is_zero;
-use crate::machine::{Cpu, Interruption, Updated};
+use crate::machine::{Cpu, Interruption, Performed, Updated};
 use crate::operands::{put_bytes, put_fast};
 use crate::results::load_coded;
 use cx_storage::Store;
+
+/// A register, below 16, and a mask of its bytes.
+#[derive(Clone, Copy)]
+pub struct Masked {
+    pub r1: u8,
+    pub mask: u8,
+    pub ghost low: { r1 < 16 },
+}
 
 /// The `k`-th byte (`k` is below 4) of a word, the leftmost first.
 fn byte_of(word: u32, k: u32) -> u8
@@ -66,18 +74,16 @@ fn take_bytes(mask: u8, word: u32, buffer: &mut [u8; 4]) -> usize
 fn stcm_slow<S: Store>(
     cpu: &mut Cpu,
     store: &mut S,
-    r1: u8,
-    mask: u8,
+    it: Masked,
     a: u32,
     updated: Updated,
-) -> Result<(), Interruption>
-    requires first { r1 < 16 }
+) -> Performed
     requires operand { a < 2 ^ 24 }
     ensures { let before = machine cpu.old (S.storage store.old) in let after = machine cpu.new (S.storage store.new) in
-        StcmEffect r1 mask a updated before result after }
+        StcmEffect it.r1 it.mask a updated before result after }
 {
     let mut buffer = [0; 4];
-    let count = take_bytes(mask, cpu.regs[r1 as usize], &mut buffer);
+    let count = take_bytes(it.mask, cpu.regs[it.r1 as usize], &mut buffer);
     put_bytes(cpu, store, a, &buffer[..count], updated)
 }
 
@@ -87,44 +93,40 @@ fn stcm_slow<S: Store>(
 fn stcm_by<S: Store>(
     cpu: &mut Cpu,
     store: &mut S,
-    r1: u8,
-    mask: u8,
+    it: Masked,
     a: u32,
     updated: Updated,
-) -> Result<(), Interruption>
-    requires first { r1 < 16 }
+) -> Performed
     requires operand { a < 2 ^ 24 }
     ensures { let before = machine cpu.old (S.storage store.old) in let after = machine cpu.new (S.storage store.new) in
-        StcmEffect r1 mask a updated before result after }
+        StcmEffect it.r1 it.mask a updated before result after }
 {
     let mut buffer = [0; 4];
-    let count = take_bytes(mask, cpu.regs[r1 as usize], &mut buffer);
+    let count = take_bytes(it.mask, cpu.regs[it.r1 as usize], &mut buffer);
     if put_fast(cpu, store, a, &buffer[..count], updated) {
         return Ok(());
     }
-    stcm_slow(cpu, store, r1, mask, a, updated)
+    stcm_slow(cpu, store, it, a, updated)
 }
 
-/// STCM. `r1` and the mask are below 16, and the bytes begin at `a`.
+/// STCM. The bytes begin at `a`.
 #[inline(never)]
 pub(crate) fn stcm<S: Store>(
     cpu: &mut Cpu,
     store: &mut S,
-    r1: u8,
-    mask: u8,
+    it: Masked,
     a: u32,
     updated: Updated,
-) -> Result<(), Interruption>
-    requires first { r1 < 16 }
+) -> Performed
     requires operand { a < 2 ^ 24 }
     ensures { let before = machine cpu.old (S.storage store.old) in let after = machine cpu.new (S.storage store.new) in
-        StcmEffect r1 mask a updated before result after }
+        StcmEffect it.r1 it.mask a updated before result after }
 {
     macro_rules! by {
         ($($known:literal)*) => {
-            match mask {
-                $($known => stcm_by(cpu, store, r1, $known, a, updated),)*
-                _ => stcm_by(cpu, store, r1, mask, a, updated),
+            match it.mask {
+                $($known => stcm_by(cpu, store, Masked { r1: it.r1, mask: $known }, a, updated),)*
+                _ => stcm_by(cpu, store, it, a, updated),
             }
         };
     }
@@ -175,92 +177,67 @@ fn insert_code(bytes: &[u8]) -> u8
 
 /// Puts bytes, as many as places chosen, into a register, and sets the condition code by them.
 #[inline(always)]
-fn insert(
-    cpu: &mut Cpu,
-    r1: u8,
-    mask: u8,
-    bytes: &[u8],
-    updated: Updated,
-) -> Result<(), Interruption>
-    requires first { r1 < 16 }
-    requires size { length bytes.now ≡ length (selected_bytes mask 4) }
+fn insert(cpu: &mut Cpu, it: Masked, bytes: &[u8], updated: Updated) -> Performed
+    requires { length bytes.now ≡ length (selected_bytes it.mask 4) }
     ensures done { result ≡ Ok tt }
-    ensures regs { let word = word_inserted mask (slice_index cpu.old.regs r1) bytes.now in
-        cpu.new.regs ≡ slice_set cpu.old.regs r1 word }
+    ensures regs { let word = word_inserted it.mask (slice_index cpu.old.regs it.r1) bytes.now in
+        cpu.new.regs ≡ slice_set cpu.old.regs it.r1 word }
     ensures code { cpu.new.cc ≡ insert_code bytes.now }
     ensures next { cpu.new.next ≡ updated.address }
 {
-    let word = word_inserted(mask, cpu.regs[r1 as usize], bytes);
-    load_coded(cpu, r1, word, insert_code(bytes), updated)
+    let word = word_inserted(it.mask, cpu.regs[it.r1 as usize], bytes);
+    load_coded(cpu, it.r1, word, insert_code(bytes), updated)
 }
 
 /// ICM, wherever its bytes lie.
 #[tactic(auto, unfolding(crate::specs::Masks::IcmEffect))]
 #[cold]
 #[inline(never)]
-fn icm_slow<S: Store>(
-    cpu: &mut Cpu,
-    store: &S,
-    r1: u8,
-    mask: u8,
-    a: u32,
-    updated: Updated,
-) -> Result<(), Interruption>
-    requires first { r1 < 16 }
+fn icm_slow<S: Store>(cpu: &mut Cpu, store: &S, it: Masked, a: u32, updated: Updated) -> Performed
     requires operand { a < 2 ^ 24 }
     ensures { let before = machine cpu.old (S.storage store.now) in let after = machine cpu.new (S.storage store.now) in
-        IcmEffect r1 mask a updated before result after }
+        IcmEffect it.r1 it.mask a updated before result after }
 {
     let mut buffer = [0; 4];
-    let bytes = &mut buffer[..number_chosen(mask, 4) as usize];
+    let bytes = &mut buffer[..number_chosen(it.mask, 4) as usize];
     if !store.read(a, bytes) {
         return Err(Interruption::Addressing);
     }
-    insert(cpu, r1, mask, bytes, updated)
+    insert(cpu, it, bytes, updated)
 }
 
 /// ICM of a mask, for which its code is made where that is known.
 #[tactic(auto, using(cx_storage::specs::Facts::Spans::span_length), unfolding(crate::specs::Masks::IcmEffect))]
 #[inline(always)]
-fn icm_by<S: Store>(
-    cpu: &mut Cpu,
-    store: &S,
-    r1: u8,
-    mask: u8,
-    a: u32,
-    updated: Updated,
-) -> Result<(), Interruption>
-    requires first { r1 < 16 }
+fn icm_by<S: Store>(cpu: &mut Cpu, store: &S, it: Masked, a: u32, updated: Updated) -> Performed
     requires operand { a < 2 ^ 24 }
     ensures { let before = machine cpu.old (S.storage store.now) in let after = machine cpu.new (S.storage store.now) in
-        IcmEffect r1 mask a updated before result after }
+        IcmEffect it.r1 it.mask a updated before result after }
 {
-    let Some(bytes) = store.slice(a, number_chosen(mask, 4) as usize) else {
-        return icm_slow(cpu, store, r1, mask, a, updated);
+    let Some(bytes) = store.slice(a, number_chosen(it.mask, 4) as usize) else {
+        return icm_slow(cpu, store, it, a, updated);
     };
-    insert(cpu, r1, mask, bytes, updated)
+    insert(cpu, it, bytes, updated)
 }
 
-/// ICM. `r1` and the mask are below 16, and the bytes begin at `a`.
+/// ICM. The bytes begin at `a`.
 #[inline(never)]
 pub(crate) fn icm<S: Store>(
     cpu: &mut Cpu,
     store: &S,
-    r1: u8,
-    mask: u8,
+    it: Masked,
     a: u32,
     updated: Updated,
-) -> Result<(), Interruption>
-    requires first { r1 < 16 }
+) -> Performed
     requires operand { a < 2 ^ 24 }
     ensures { let before = machine cpu.old (S.storage store.now) in let after = machine cpu.new (S.storage store.now) in
-        IcmEffect r1 mask a updated before result after }
+        IcmEffect it.r1 it.mask a updated before result after }
 {
     macro_rules! by {
         ($($known:literal)*) => {
-            match mask {
-                $($known => icm_by(cpu, store, r1, $known, a, updated),)*
-                _ => icm_by(cpu, store, r1, mask, a, updated),
+            match it.mask {
+                $($known => icm_by(cpu, store, Masked { r1: it.r1, mask: $known }, a, updated),)*
+                _ => icm_by(cpu, store, it, a, updated),
             }
         };
     }

@@ -4,7 +4,7 @@ ghost use Rattle.std.specs.Prelude.{◌≡◌, ◌<◌, ◌^◌, ◌+◌, ◌*�
 ghost use Rattle.cx_exec.specs.Numbers.{signed_word, double_of};
 ghost use Rattle.cx_exec.specs.Results.{with_pair};
 
-use crate::machine::{Cpu, Interruption, Updated};
+use crate::machine::{Cpu, Performed, Updated};
 use crate::numbers::double_of;
 use crate::results::load_pair;
 
@@ -16,12 +16,7 @@ fn product(first: u32, second: u32) -> i64
 }
 
 /// Multiplies the pair's second register by a word, into the pair.
-pub(crate) fn multiply(
-    cpu: &mut Cpu,
-    r: u8,
-    word: u32,
-    updated: Updated,
-) -> Result<(), Interruption>
+pub(crate) fn multiply(cpu: &mut Cpu, r: u8, word: u32, updated: Updated) -> Performed
     requires register { r < 15 }
     ensures done { result ≡ Ok tt }
     ensures regs { let first = slice_index cpu.old.regs (r + 1) in

@@ -9,7 +9,7 @@ ghost use Rattle.cx_exec.specs.Machine.{machine};
 ghost use Rattle.cx_exec.specs.Operands.{extended_at, Stores};
 ghost use Rattle.cx_exec.specs.Parts.{IsThere};
 
-use crate::machine::{Cpu, Interruption, Updated};
+use crate::machine::{Cpu, Interruption, Performed, Updated};
 use crate::numbers::extended;
 use byteorder::{BigEndian, ByteOrder};
 use cx_storage::Store;
@@ -191,7 +191,7 @@ pub(crate) fn put_bytes<S: Store>(
     a: u32,
     bytes: &[u8],
     updated: Updated,
-) -> Result<(), Interruption>
+) -> Performed
     requires operand { a < 2 ^ 24 }
     requires size { length bytes.now ≤ 65536 }
     ensures { let before = machine cpu.old (S.storage store.old) in let after = machine cpu.new (S.storage store.new) in
@@ -214,7 +214,7 @@ pub(crate) fn put_coded<S: Store>(
     bytes: &[u8],
     cc: u8,
     updated: Updated,
-) -> Result<(), Interruption>
+) -> Performed
     requires operand { a < 2 ^ 24 }
     requires size { length bytes.now ≤ 65536 }
     requires code { cc ≤ 3 }
@@ -236,7 +236,7 @@ pub(crate) fn put_apart<S: Store, const N: usize>(
     bytes: [u8; N],
     cc: u8,
     updated: Updated,
-) -> Result<(), Interruption>
+) -> Performed
     requires operand { a < 2 ^ 24 }
     requires size { N ≤ 65536 }
     requires code { cc ≤ 3 }
@@ -255,7 +255,7 @@ pub(crate) fn put_few<S: Store, const N: usize>(
     a: u32,
     bytes: [u8; N],
     updated: Updated,
-) -> Result<(), Interruption>
+) -> Performed
     requires operand { a < 2 ^ 24 }
     requires size { N ≤ 65536 }
     ensures { let before = machine cpu.old (S.storage store.old) in let after = machine cpu.new (S.storage store.new) in

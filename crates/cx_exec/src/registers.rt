@@ -7,7 +7,7 @@ ghost use Rattle.cx_exec.specs.Machine.{machine};
 ghost use Rattle.cx_exec.specs.Operands.{Stores};
 ghost use Rattle.cx_exec.specs.Registers.{place_after, register_count, words_at, loaded_registers, register_bytes, LoadsRegisters};
 
-use crate::machine::{Cpu, Interruption, Updated};
+use crate::machine::{Cpu, Performed, Updated};
 use crate::operands::{put_bytes, word_at};
 use byteorder::{BigEndian, ByteOrder};
 use cx_storage::{Store, address_after};
@@ -22,18 +22,25 @@ pub(crate) fn place_after(first: u8, r: u8) -> u8
     (r + (16 - first)) % 16
 }
 
+/// Registers from the first through the last one, both below 16: register 0 follows register 15.
+#[derive(Clone, Copy)]
+pub struct Range {
+    pub first: u8,
+    pub last: u8,
+    pub ghost low1: { first < 16 },
+    pub ghost low2: { last < 16 },
+}
+
 /// Loads the registers from the first through the last one, from the words in a row that lent bytes hold: those through
 /// register 15, then those from register 0 on.
 #[inline(always)]
-fn take_registers(part: &[u8], first: u8, last: u8, regs: &mut [u32; 16])
-    requires first { first < 16 }
-    requires last { last < 16 }
-    requires size { length part.now ≡ 4 * register_count first last }
-    ensures { (words : List ℕ) → let count = register_count first last in
+fn take_registers(part: &[u8], range: Range, regs: &mut [u32; 16])
+    requires size { length part.now ≡ 4 * register_count range.first range.last }
+    ensures { (words : List ℕ) → let count = register_count range.first range.last in
         ((k : ℕ) → k < count → slice_index words k ≡ big_number 4 (drop (4 * k) part.now))
-        → regs.new ≡ loaded_registers regs.old first last words }
+        → regs.new ≡ loaded_registers regs.old range.first range.last words }
 {
-    let from = first as usize;
+    let from = range.first as usize;
     let count = part.len() / 4;
     let high = count.min(16 - from);
     'high: for k in 0..high {
@@ -49,12 +56,7 @@ fn take_registers(part: &[u8], first: u8, last: u8, regs: &mut [u32; 16])
 #[tactic(auto, using(crate::proofs::RegisterLemmas::words_none, crate::proofs::RegisterLemmas::words_gone))]
 #[cold]
 #[inline(never)]
-fn read_slow<S: Store>(
-    store: &S,
-    a: u32,
-    count: usize,
-    words: &mut [u32; 16],
-) -> Result<(), Interruption>
+fn read_slow<S: Store>(store: &S, a: u32, count: usize, words: &mut [u32; 16]) -> Performed
     requires operand { a < 2 ^ 24 }
     requires count { count ≤ 16 }
     ensures { let read = words_at (S.storage store.now) a count in
@@ -69,15 +71,13 @@ fn read_slow<S: Store>(
 }
 
 /// Loads the registers from the first through the last one.
-pub(crate) fn load_registers(regs: &mut [u32; 16], first: u8, last: u8, words: &[u32])
-    requires first { first < 16 }
-    requires last { last < 16 }
-    requires length { length words.now ≡ register_count first last }
-    ensures { regs.new ≡ loaded_registers regs.old first last words.now }
+pub(crate) fn load_registers(regs: &mut [u32; 16], range: Range, words: &[u32])
+    requires length { length words.now ≡ register_count range.first range.last }
+    ensures { regs.new ≡ loaded_registers regs.old range.first range.last words.now }
 {
     for r in 0..16 {
-        let place = place_after(first, r);
-        if place <= place_after(first, last) {
+        let place = place_after(range.first, r);
+        if place <= place_after(range.first, range.last) {
             regs[r as usize] = words[place as usize];
         }
     }
@@ -108,21 +108,18 @@ pub(crate) fn write_registers(regs: &[u32; 16], first: u8, count: usize, bytes: 
 pub(crate) fn store_multiple<S: Store>(
     cpu: &mut Cpu,
     store: &mut S,
-    first: u8,
-    last: u8,
+    range: Range,
     a: u32,
     updated: Updated,
-) -> Result<(), Interruption>
-    requires first { first < 16 }
-    requires last { last < 16 }
+) -> Performed
     requires operand { a < 2 ^ 24 }
     ensures { let before = machine cpu.old (S.storage store.old) in let after = machine cpu.new (S.storage store.new) in
-        Stores a (register_bytes cpu.old.regs first (register_count first last))
+        Stores a (register_bytes cpu.old.regs range.first (register_count range.first range.last))
         cpu.old.cc updated before result after }
 {
-    let count = place_after(first, last) as usize + 1;
+    let count = place_after(range.first, range.last) as usize + 1;
     let mut bytes = [0; 64];
-    write_registers(&cpu.regs, first, count, &mut bytes);
+    write_registers(&cpu.regs, range.first, count, &mut bytes);
     put_bytes(cpu, store, a, &bytes[..4 * count], updated)
 }
 
@@ -134,22 +131,19 @@ pub(crate) fn store_multiple<S: Store>(
 fn load_slow<S: Store>(
     cpu: &mut Cpu,
     store: &S,
-    first: u8,
-    last: u8,
+    range: Range,
     a: u32,
     updated: Updated,
-) -> Result<(), Interruption>
-    requires first { first < 16 }
-    requires last { last < 16 }
+) -> Performed
     requires operand { a < 2 ^ 24 }
     ensures { let before = machine cpu.old (S.storage store.now) in let after = machine cpu.new (S.storage store.now) in
-        LoadsRegisters first last a updated before result after }
+        LoadsRegisters range.first range.last a updated before result after }
 {
-    let count = place_after(first, last) as usize + 1;
+    let count = place_after(range.first, range.last) as usize + 1;
     let mut words = [0; 16];
     read_slow(store, a, count, &mut words)?;
     let mut regs = cpu.regs;
-    load_registers(&mut regs, first, last, &words[..count]);
+    load_registers(&mut regs, range, &words[..count]);
     cpu.regs = regs;
     cpu.next = updated.address;
     Ok(())
@@ -161,22 +155,19 @@ fn load_slow<S: Store>(
 pub(crate) fn load_multiple<S: Store>(
     cpu: &mut Cpu,
     store: &S,
-    first: u8,
-    last: u8,
+    range: Range,
     a: u32,
     updated: Updated,
-) -> Result<(), Interruption>
-    requires first { first < 16 }
-    requires last { last < 16 }
+) -> Performed
     requires operand { a < 2 ^ 24 }
     ensures { let before = machine cpu.old (S.storage store.now) in let after = machine cpu.new (S.storage store.now) in
-        LoadsRegisters first last a updated before result after }
+        LoadsRegisters range.first range.last a updated before result after }
 {
-    let count = place_after(first, last) as usize + 1;
+    let count = place_after(range.first, range.last) as usize + 1;
     let Some(part) = store.slice(a, 4 * count) else {
-        return load_slow(cpu, store, first, last, a, updated);
+        return load_slow(cpu, store, range, a, updated);
     };
-    take_registers(part, first, last, &mut cpu.regs);
+    take_registers(part, range, &mut cpu.regs);
     cpu.next = updated.address;
     Ok(())
 }

@@ -4,10 +4,10 @@
 ghost use Rattle.std.specs.Prelude.{◌≡◌, ◌<◌, ◌≤◌, ◌^◌, Ok, slice_set};
 ghost use Rattle.cx_exec.specs.Results.{pair, with_pair};
 
-use crate::machine::{Cpu, Interruption, Updated};
+use crate::machine::{Cpu, Performed, Updated};
 
 /// Changes a register.
-pub(crate) fn load(cpu: &mut Cpu, r: u8, word: u32, updated: Updated) -> Result<(), Interruption>
+pub(crate) fn load(cpu: &mut Cpu, r: u8, word: u32, updated: Updated) -> Performed
     requires register { r < 16 }
     ensures done { result ≡ Ok tt }
     ensures regs { cpu.new.regs ≡ slice_set cpu.old.regs r word }
@@ -20,7 +20,7 @@ pub(crate) fn load(cpu: &mut Cpu, r: u8, word: u32, updated: Updated) -> Result<
 }
 
 /// Sets the condition code.
-pub(crate) fn set_code(cpu: &mut Cpu, cc: u8, updated: Updated) -> Result<(), Interruption>
+pub(crate) fn set_code(cpu: &mut Cpu, cc: u8, updated: Updated) -> Performed
     requires code { cc ≤ 3 }
     ensures done { result ≡ Ok tt }
     ensures regs { cpu.new.regs ≡ cpu.old.regs }
@@ -33,13 +33,7 @@ pub(crate) fn set_code(cpu: &mut Cpu, cc: u8, updated: Updated) -> Result<(), In
 }
 
 /// Changes a register and sets the condition code.
-pub(crate) fn load_coded(
-    cpu: &mut Cpu,
-    r: u8,
-    word: u32,
-    cc: u8,
-    updated: Updated,
-) -> Result<(), Interruption>
+pub(crate) fn load_coded(cpu: &mut Cpu, r: u8, word: u32, cc: u8, updated: Updated) -> Performed
     requires register { r < 16 }
     requires code { cc ≤ 3 }
     ensures done { result ≡ Ok tt }
@@ -62,13 +56,7 @@ pub(crate) fn pair(regs: &[u32; 16], r: u8) -> u64
 }
 
 /// Changes a pair of registers to a doubleword, and sets the condition code.
-pub(crate) fn load_pair(
-    cpu: &mut Cpu,
-    r: u8,
-    double: u64,
-    cc: u8,
-    updated: Updated,
-) -> Result<(), Interruption>
+pub(crate) fn load_pair(cpu: &mut Cpu, r: u8, double: u64, cc: u8, updated: Updated) -> Performed
     requires register { r < 15 }
     requires code { cc ≤ 3 }
     ensures done { result ≡ Ok tt }

@@ -8,8 +8,8 @@ ghost use Rattle.cx_exec.specs.declared.machine.Halt.TheVariants as halt;
 use crate::machine::{Cpu, ENTRY, Halt};
 use crate::places::Place;
 use crate::rows::{
-    half_rows, immediate_rows, in_group, indexed_rows, register_rows, strings_effect,
-    word_result_rows, word_rows,
+    half_rows, immediate_rows, in_group, indexed_rows, register_rows, register_storage_rows,
+    strings_effect, word_result_rows, word_rows,
 };
 use crate::stepping::{execute_found, fetch_fast, step_slow};
 use cx_code::Op;
@@ -54,7 +54,10 @@ fn pass<S: Store>(cpu: &mut Cpu, store: &mut S, steps: u32) -> Option<Halt>
             }
             continue;
         };
-        let place = Place::at(cpu.next);
+        let place = Place {
+            from: cpu.next,
+            given: None,
+        };
         // Each arm goes on or ends by itself, since results that were joined would be taken apart again.
         macro_rules! go_on_after {
             ($performed:expr) => {

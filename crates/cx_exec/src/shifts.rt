@@ -5,7 +5,7 @@ ghost use Rattle.cx_exec.specs.Numbers.{signed_word, word_of, sign_code, sum_cod
 ghost use Rattle.cx_exec.specs.Results.{pair, with_pair};
 ghost use Rattle.cx_exec.specs.Shifts.{shifted_right, shifted_left, floor_shifted, times_power, shifted_arithmetic};
 
-use crate::machine::{Cpu, Interruption, Updated};
+use crate::machine::{Cpu, Performed, Updated};
 use crate::numbers::{double_of, order_code, signed, signed_double, sum_code, word_of};
 use crate::results::{load_coded, load_pair, pair};
 
@@ -50,7 +50,7 @@ pub(crate) fn shifted_arithmetic(word: u32, n: u8) -> u32
 }
 
 /// Shifts a register right by n bits, its sign filled in.
-pub(crate) fn shift_right(cpu: &mut Cpu, r: u8, n: u8, updated: Updated) -> Result<(), Interruption>
+pub(crate) fn shift_right(cpu: &mut Cpu, r: u8, n: u8, updated: Updated) -> Performed
     requires register { r < 16 }
     requires amount { n < 64 }
     ensures done { result ≡ Ok tt }
@@ -71,7 +71,7 @@ pub(crate) fn shift_right(cpu: &mut Cpu, r: u8, n: u8, updated: Updated) -> Resu
 
 /// Shifts a register left by n bits except its sign bit, which stays.
 #[inline(never)]
-pub(crate) fn shift_left(cpu: &mut Cpu, r: u8, n: u8, updated: Updated) -> Result<(), Interruption>
+pub(crate) fn shift_left(cpu: &mut Cpu, r: u8, n: u8, updated: Updated) -> Performed
     requires register { r < 16 }
     requires amount { n < 64 }
     ensures done { result ≡ Ok tt }
@@ -91,7 +91,7 @@ pub(crate) fn shift_left(cpu: &mut Cpu, r: u8, n: u8, updated: Updated) -> Resul
 
 /// Shifts the pair right by n bits, its sign filled in.
 #[inline(never)]
-pub(crate) fn shift_pair(cpu: &mut Cpu, r: u8, n: u8, updated: Updated) -> Result<(), Interruption>
+pub(crate) fn shift_pair(cpu: &mut Cpu, r: u8, n: u8, updated: Updated) -> Performed
     requires register { r < 15 }
     requires amount { n < 64 }
     ensures done { result ≡ Ok tt }

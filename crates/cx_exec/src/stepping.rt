@@ -14,7 +14,7 @@ ghost use Rattle.cx_exec.specs.Parts.{IsPerformed};
 ghost use Rattle.cx_exec.specs.Step.{entry, changed_copy, target_at, updated_by, instruction_to_perform, Runs, Steps};
 
 use crate::fetch::code_at;
-use crate::machine::{Cpu, ENTRY, Interruption, Step, Updated};
+use crate::machine::{Cpu, ENTRY, Interruption, Performed, Step, Updated};
 use crate::places::Place;
 use crate::prefix::{Prefix, fetched_prefix, op_in};
 use crate::rows::{effect, effective, indexed_of, strings_effect};
@@ -137,7 +137,7 @@ fn effect_after<S: Store>(
     op: Op,
     prefix: Prefix,
     updated: Updated,
-) -> Result<(), Interruption>
+) -> Performed
     ensures { let before = machine cpu.old (S.storage store.old) in let after = machine cpu.new (S.storage store.new) in
         Effect (instruction op (fields_at op prefix)) updated before result after }
 {
@@ -147,12 +147,7 @@ fn effect_after<S: Store>(
 /// Performs an instruction except EX, and goes on where that is given.
 #[cold]
 #[inline(never)]
-fn perform_slow<S: Store>(
-    cpu: &mut Cpu,
-    store: &mut S,
-    inst: &Inst,
-    updated: Updated,
-) -> Result<(), Interruption>
+fn perform_slow<S: Store>(cpu: &mut Cpu, store: &mut S, inst: &Inst, updated: Updated) -> Performed
     ensures { let before = machine cpu.old (S.storage store.old) in let after = machine cpu.new (S.storage store.new) in
         Effect inst.now updated before result after }
 {
@@ -168,7 +163,7 @@ fn execute_slow<S: Store>(
     r1: u8,
     a: u32,
     updated: Updated,
-) -> Result<(), Interruption>
+) -> Performed
     requires first { r1 < 16 }
     requires operand { a < 2 ^ 24 }
     ensures { let before = machine cpu.old (S.storage store.old) in let after = machine cpu.new (S.storage store.new) in
@@ -181,7 +176,7 @@ fn execute_slow<S: Store>(
 
 /// Performs the target at `a` (below 2^24) of an EX at the next address. `r1` is below 16.
 #[inline(never)]
-fn execute<S: Store>(cpu: &mut Cpu, store: &mut S, r1: u8, a: u32) -> Result<(), Interruption>
+fn execute<S: Store>(cpu: &mut Cpu, store: &mut S, r1: u8, a: u32) -> Performed
     requires first { r1 < 16 }
     requires operand { a < 2 ^ 24 }
     ensures { let before = machine cpu.old (S.storage store.old) in let after = machine cpu.new (S.storage store.new) in
@@ -205,11 +200,7 @@ fn execute<S: Store>(cpu: &mut Cpu, store: &mut S, r1: u8, a: u32) -> Result<(),
 
 /// Performs an EX at the next address.
 #[inline(always)]
-pub(crate) fn execute_found<S: Store>(
-    cpu: &mut Cpu,
-    store: &mut S,
-    prefix: &Prefix,
-) -> Result<(), Interruption>
+pub(crate) fn execute_found<S: Store>(cpu: &mut Cpu, store: &mut S, prefix: &Prefix) -> Performed
     requires performed { IsPerformed (machine cpu.old (S.storage store.old)) op.Ex prefix.now }
     requires room { cpu.old.next + 8 ≤ 2 ^ 24 }
     ensures { Runs (machine cpu.old (S.storage store.old)) result (machine cpu.new (S.storage store.new)) }
@@ -222,7 +213,7 @@ pub(crate) fn execute_found<S: Store>(
 #[tactic(auto, unfolding(crate::specs::Step::Runs))]
 #[cold]
 #[inline(never)]
-pub(crate) fn step_slow<S: Store>(cpu: &mut Cpu, store: &mut S) -> Result<(), Interruption>
+pub(crate) fn step_slow<S: Store>(cpu: &mut Cpu, store: &mut S) -> Performed
     ensures { Runs (machine cpu.old (S.storage store.old)) result (machine cpu.new (S.storage store.new)) }
 {
     let due = fetch_slow(cpu, store)?;
@@ -232,7 +223,7 @@ pub(crate) fn step_slow<S: Store>(cpu: &mut Cpu, store: &mut S) -> Result<(), In
 /// Performs the instruction at the next address.
 #[tactic(auto, unfolding(crate::specs::Step::Runs))]
 #[inline(never)]
-fn run<S: Store>(cpu: &mut Cpu, store: &mut S) -> Result<(), Interruption>
+fn run<S: Store>(cpu: &mut Cpu, store: &mut S) -> Performed
     ensures { Runs (machine cpu.old (S.storage store.old)) result (machine cpu.new (S.storage store.new)) }
 {
     let Some(found) = fetch_fast(cpu, store) else {

@@ -7,8 +7,9 @@ ghost use Rattle.cx_exec.specs.Machine.{machine};
 ghost use Rattle.cx_exec.specs.Sequence.{stored_by};
 ghost use Rattle.cx_exec.specs.Strings.{moved_byte, xored_byte, MvcEffect, XcEffect};
 
+use crate::addresses::Addresses;
 use crate::logic::string_code;
-use crate::machine::{Cpu, Interruption, Updated};
+use crate::machine::{Cpu, Interruption, Performed, Updated};
 use crate::operands::{fill_fast, of_length, put_bytes, put_coded, put_fast};
 use crate::repeats::repeat;
 use crate::sequence::{content, distance, is_present, seen};
@@ -16,60 +17,52 @@ use cx_storage::{Store, address_after};
 
 /// Puts the bytes that MVC stores at the front of the buffer.
 #[tactic(auto, using(crate::proofs::SequenceLemmas::stored_none))]
-fn move_bytes<S: Store>(store: &S, n: u32, a1: u32, a2: u32, new: &mut [u8; 256])
-    requires first { a1 < 2 ^ 24 }
-    requires second { a2 < 2 ^ 24 }
+fn move_bytes<S: Store>(store: &S, n: u32, at: Addresses, new: &mut [u8; 256])
     requires count { n ≤ 256 }
-    ensures { take n new.new ≡ stored_by (moved_byte (S.storage store.now) a1 a2) n }
+    ensures { take n new.new ≡ stored_by (moved_byte (S.storage store.now) at.a1 at.a2) n }
 {
     for k in 0..n {
-        let from = address_after(a2, k);
-        let byte = seen(store, &new[..k as usize], distance(a1, from), from);
+        let from = address_after(at.a2, k);
+        let byte = seen(store, &new[..k as usize], distance(at.a1, from), from);
         new[k as usize] = byte;
     }
 }
 
 /// Puts the bytes that MVC stores at the front of the buffer, where the first operand may begin inside the second:
 /// those before its first byte are then repeated.
-fn fill_bytes<S: Store>(store: &S, n: u32, a1: u32, a2: u32, new: &mut [u8; 256])
-    requires first { a1 < 2 ^ 24 }
-    requires second { a2 < 2 ^ 24 }
+fn fill_bytes<S: Store>(store: &S, n: u32, at: Addresses, new: &mut [u8; 256])
     requires count { n ≤ 256 }
-    ensures { take n new.new ≡ stored_by (moved_byte (S.storage store.now) a1 a2) n }
+    ensures { take n new.new ≡ stored_by (moved_byte (S.storage store.now) at.a1 at.a2) n }
 {
-    let period = distance(a2, a1);
+    let period = distance(at.a2, at.a1);
     if period == 0 || n <= period {
-        move_bytes(store, n, a1, a2, new);
+        move_bytes(store, n, at, new);
         return;
     }
-    move_bytes(store, period, a1, a2, new);
+    move_bytes(store, period, at, new);
     repeat(&mut new[..n as usize], period as usize);
 }
 
 /// Puts the bytes that XC stores at the front of the buffer.
 #[tactic(auto, using(crate::proofs::SequenceLemmas::stored_none))]
-fn xor_bytes<S: Store>(store: &S, n: u32, a1: u32, a2: u32, new: &mut [u8; 256])
-    requires first { a1 < 2 ^ 24 }
-    requires second { a2 < 2 ^ 24 }
+fn xor_bytes<S: Store>(store: &S, n: u32, at: Addresses, new: &mut [u8; 256])
     requires count { n ≤ 256 }
-    ensures { take n new.new ≡ stored_by (xored_byte (S.storage store.now) a1 a2) n }
+    ensures { take n new.new ≡ stored_by (xored_byte (S.storage store.now) at.a1 at.a2) n }
 {
     for k in 0..n {
-        let from = address_after(a2, k);
-        let second = seen(store, &new[..k as usize], distance(a1, from), from);
-        new[k as usize] = content(store, address_after(a1, k)) ^ second;
+        let from = address_after(at.a2, k);
+        let second = seen(store, &new[..k as usize], distance(at.a1, from), from);
+        new[k as usize] = content(store, address_after(at.a1, k)) ^ second;
     }
 }
 
 /// Whether the first operand, of `n` bytes, doesn't begin inside the second after its first byte: then no byte is
 /// stored before it is fetched as one of the second operand.
-fn begins_outside(n: u32, a1: u32, a2: u32) -> bool
-    requires first { a1 < 2 ^ 24 }
-    requires second { a2 < 2 ^ 24 }
+fn begins_outside(n: u32, at: Addresses) -> bool
     requires count { n ≤ 256 }
-    ensures { result ≡ true → (j : ℕ) → 0 < j → j < n → a1 ≢ address_after a2 j }
+    ensures { result ≡ true → (j : ℕ) → 0 < j → j < n → at.a1 ≢ address_after at.a2 j }
 {
-    let apart = distance(a2, a1);
+    let apart = distance(at.a2, at.a1);
     apart == 0 || n <= apart
 }
 
@@ -80,22 +73,19 @@ fn begins_outside(n: u32, a1: u32, a2: u32) -> bool
 fn copy_through<S: Store>(
     cpu: &mut Cpu,
     store: &mut S,
-    a1: u32,
-    a2: u32,
+    at: Addresses,
     bytes: &mut [u8],
     updated: Updated,
-) -> Result<(), Interruption>
-    requires first { a1 < 2 ^ 24 }
-    requires second { a2 < 2 ^ 24 }
+) -> Performed
     requires count { length bytes.old ≤ 256 }
-    requires outside { (j : ℕ) → 0 < j → j < length bytes.old → a1 ≢ address_after a2 j }
+    requires outside { (j : ℕ) → 0 < j → j < length bytes.old → at.a1 ≢ address_after at.a2 j }
     ensures { let before = machine cpu.old (S.storage store.old) in let after = machine cpu.new (S.storage store.new) in
-        MvcEffect (length bytes.old) a1 a2 updated before result after }
+        MvcEffect (length bytes.old) at.a1 at.a2 updated before result after }
 {
-    if !store.read(a2, bytes) {
+    if !store.read(at.a2, bytes) {
         return Err(Interruption::Addressing);
     }
-    put_bytes(cpu, store, a1, bytes, updated)
+    put_bytes(cpu, store, at.a1, bytes, updated)
 }
 
 /// MVC of such operands, whatever their length.
@@ -103,24 +93,21 @@ fn copy_through<S: Store>(
 fn copy_long<S: Store>(
     cpu: &mut Cpu,
     store: &mut S,
-    a1: u32,
-    a2: u32,
+    at: Addresses,
     updated: Updated,
     n: u32,
-) -> Result<(), Interruption>
-    requires first { a1 < 2 ^ 24 }
-    requires second { a2 < 2 ^ 24 }
+) -> Performed
     requires count { n ≤ 256 }
-    requires outside { (j : ℕ) → 0 < j → j < n → a1 ≢ address_after a2 j }
+    requires outside { (j : ℕ) → 0 < j → j < n → at.a1 ≢ address_after at.a2 j }
     ensures { let before = machine cpu.old (S.storage store.old) in let after = machine cpu.new (S.storage store.new) in
-        MvcEffect n a1 a2 updated before result after }
+        MvcEffect n at.a1 at.a2 updated before result after }
 {
     if n <= 64 {
         let mut new = [0; 64];
-        return copy_through(cpu, store, a1, a2, &mut new[..n as usize], updated);
+        return copy_through(cpu, store, at, &mut new[..n as usize], updated);
     }
     let mut new = [0; 256];
-    copy_through(cpu, store, a1, a2, &mut new[..n as usize], updated)
+    copy_through(cpu, store, at, &mut new[..n as usize], updated)
 }
 
 /// MVC through a buffer of such operands, where their bytes are at hand; else nothing changes but the buffer.
@@ -129,25 +116,22 @@ fn copy_long<S: Store>(
 fn copy_at_hand<S: Store>(
     cpu: &mut Cpu,
     store: &mut S,
-    a1: u32,
-    a2: u32,
+    at: Addresses,
     bytes: &mut [u8],
     updated: Updated,
 ) -> bool
-    requires first { a1 < 2 ^ 24 }
-    requires second { a2 < 2 ^ 24 }
     requires count { length bytes.old ≤ 256 }
-    requires outside { (j : ℕ) → 0 < j → j < length bytes.old → a1 ≢ address_after a2 j }
+    requires outside { (j : ℕ) → 0 < j → j < length bytes.old → at.a1 ≢ address_after at.a2 j }
     ensures done { let before = machine cpu.old (S.storage store.old) in let after = machine cpu.new (S.storage store.new) in
-        result ≡ true → MvcEffect (length bytes.old) a1 a2 updated before (Ok tt) after }
+        result ≡ true → MvcEffect (length bytes.old) at.a1 at.a2 updated before (Ok tt) after }
     ensures same { result ≡ false → machine cpu.new (S.storage store.new) ≡ machine cpu.old (S.storage store.old) }
 {
     let n = bytes.len();
-    let Some(part) = store.slice_fast(a2, n) else {
+    let Some(part) = store.slice_fast(at.a2, n) else {
         return false;
     };
     bytes.copy_from_slice(of_length(part, n));
-    put_fast(cpu, store, a1, bytes, updated)
+    put_fast(cpu, store, at.a1, bytes, updated)
 }
 
 /// MVC of such operands of `N` bytes, for which there is code of its own.
@@ -156,49 +140,47 @@ fn copy_at_hand<S: Store>(
 fn copy_few<S: Store, const N: usize>(
     cpu: &mut Cpu,
     store: &mut S,
-    a1: u32,
-    a2: u32,
+    at: Addresses,
     updated: Updated,
-) -> Result<(), Interruption>
-    requires first { a1 < 2 ^ 24 }
-    requires second { a2 < 2 ^ 24 }
+) -> Performed
     requires count { N ≤ 256 }
-    requires outside { (j : ℕ) → 0 < j → j < N → a1 ≢ address_after a2 j }
+    requires outside { (j : ℕ) → 0 < j → j < N → at.a1 ≢ address_after at.a2 j }
     ensures { let before = machine cpu.old (S.storage store.old) in let after = machine cpu.new (S.storage store.new) in
-        MvcEffect N a1 a2 updated before result after }
+        MvcEffect N at.a1 at.a2 updated before result after }
 {
     let mut new = [0; N];
-    if copy_at_hand(cpu, store, a1, a2, &mut new, updated) {
+    if copy_at_hand(cpu, store, at, &mut new, updated) {
         return Ok(());
     }
-    copy_long(cpu, store, a1, a2, updated, N as u32)
+    copy_long(cpu, store, at, updated, N as u32)
 }
 
 /// MVC of such operands. The shortest lengths, which are the most frequent, have code of their own.
 #[inline(always)]
-fn copy<S: Store>(
-    cpu: &mut Cpu,
-    store: &mut S,
-    a1: u32,
-    a2: u32,
-    updated: Updated,
-    l: u8,
-) -> Result<(), Interruption>
-    requires first { a1 < 2 ^ 24 }
-    requires second { a2 < 2 ^ 24 }
-    requires outside { (j : ℕ) → 0 < j → j < l + 1 → a1 ≢ address_after a2 j }
+fn copy<S: Store>(cpu: &mut Cpu, store: &mut S, at: Addresses, updated: Updated, l: u8) -> Performed
+    requires outside { (j : ℕ) → 0 < j → j < l + 1 → at.a1 ≢ address_after at.a2 j }
     ensures { let before = machine cpu.old (S.storage store.old) in let after = machine cpu.new (S.storage store.new) in
-        MvcEffect (l + 1) a1 a2 updated before result after }
+        MvcEffect (l + 1) at.a1 at.a2 updated before result after }
 {
-    macro_rules! by {
-        ($($l:literal $n:literal)*) => {
-            match l {
-                $($l => copy_few::<S, $n>(cpu, store, a1, a2, updated),)*
-                _ => copy_long(cpu, store, a1, a2, updated, u32::from(l) + 1),
-            }
-        };
+    match l {
+        0 => copy_few::<S, 1>(cpu, store, at, updated),
+        1 => copy_few::<S, 2>(cpu, store, at, updated),
+        2 => copy_few::<S, 3>(cpu, store, at, updated),
+        3 => copy_few::<S, 4>(cpu, store, at, updated),
+        4 => copy_few::<S, 5>(cpu, store, at, updated),
+        5 => copy_few::<S, 6>(cpu, store, at, updated),
+        6 => copy_few::<S, 7>(cpu, store, at, updated),
+        7 => copy_few::<S, 8>(cpu, store, at, updated),
+        8 => copy_few::<S, 9>(cpu, store, at, updated),
+        9 => copy_few::<S, 10>(cpu, store, at, updated),
+        10 => copy_few::<S, 11>(cpu, store, at, updated),
+        11 => copy_few::<S, 12>(cpu, store, at, updated),
+        12 => copy_few::<S, 13>(cpu, store, at, updated),
+        13 => copy_few::<S, 14>(cpu, store, at, updated),
+        14 => copy_few::<S, 15>(cpu, store, at, updated),
+        15 => copy_few::<S, 16>(cpu, store, at, updated),
+        _ => copy_long(cpu, store, at, updated, u32::from(l) + 1),
     }
-    by!(0 1 1 2 2 3 3 4 4 5 5 6 6 7 7 8 8 9 9 10 10 11 11 12 12 13 13 14 14 15 15 16)
 }
 
 /// Puts the bytes of two strings, joined by exclusive or, into a buffer of their length.
@@ -216,21 +198,19 @@ fn join_bytes(first: &[u8], second: &[u8], new: &mut [u8])
 
 /// Puts the bytes that XC stores into a buffer, from copies of both operands. False where one of their bytes is absent.
 #[inline(never)]
-fn join_copies<S: Store>(store: &S, a1: u32, a2: u32, new: &mut [u8]) -> bool
-    requires first { a1 < 2 ^ 24 }
-    requires second { a2 < 2 ^ 24 }
+fn join_copies<S: Store>(store: &S, at: Addresses, new: &mut [u8]) -> bool
     requires count { length new.old ≤ 256 }
-    requires outside { (j : ℕ) → 0 < j → j < length new.old → a1 ≢ address_after a2 j }
+    requires outside { (j : ℕ) → 0 < j → j < length new.old → at.a1 ≢ address_after at.a2 j }
     ensures present { let s = S.storage store.now in let n = length new.old in
-        result ≡ is_some (span s a1 n) && is_some (span s a2 n) }
+        result ≡ is_some (span s at.a1 n) && is_some (span s at.a2 n) }
     ensures bytes { result ≡ true
-        → new.new ≡ stored_by (xored_byte (S.storage store.now) a1 a2) (length new.old) }
+        → new.new ≡ stored_by (xored_byte (S.storage store.now) at.a1 at.a2) (length new.old) }
 {
     let mut left = [0; 256];
     let mut right = [0; 256];
     let first = &mut left[..new.len()];
     let second = &mut right[..new.len()];
-    if !store.read(a1, first) || !store.read(a2, second) {
+    if !store.read(at.a1, first) || !store.read(at.a2, second) {
         return false;
     }
     join_bytes(first, second, new);
@@ -239,23 +219,21 @@ fn join_copies<S: Store>(store: &S, a1: u32, a2: u32, new: &mut [u8]) -> bool
 
 /// Puts the bytes that XC stores into a buffer. False where a byte of its operands is absent.
 #[inline(always)]
-fn join_stored<S: Store>(store: &S, a1: u32, a2: u32, new: &mut [u8]) -> bool
-    requires first { a1 < 2 ^ 24 }
-    requires second { a2 < 2 ^ 24 }
+fn join_stored<S: Store>(store: &S, at: Addresses, new: &mut [u8]) -> bool
     requires count { length new.old ≤ 256 }
-    requires outside { (j : ℕ) → 0 < j → j < length new.old → a1 ≢ address_after a2 j }
+    requires outside { (j : ℕ) → 0 < j → j < length new.old → at.a1 ≢ address_after at.a2 j }
     ensures present { let s = S.storage store.now in let n = length new.old in
-        result ≡ is_some (span s a1 n) && is_some (span s a2 n) }
+        result ≡ is_some (span s at.a1 n) && is_some (span s at.a2 n) }
     ensures bytes { result ≡ true
-        → new.new ≡ stored_by (xored_byte (S.storage store.now) a1 a2) (length new.old) }
+        → new.new ≡ stored_by (xored_byte (S.storage store.now) at.a1 at.a2) (length new.old) }
 {
-    if let Some(first) = store.slice(a1, new.len()) {
-        if let Some(second) = store.slice(a2, new.len()) {
+    if let Some(first) = store.slice(at.a1, new.len()) {
+        if let Some(second) = store.slice(at.a2, new.len()) {
             join_bytes(first, second, new);
             return true;
         }
     }
-    join_copies(store, a1, a2, new)
+    join_copies(store, at, new)
 }
 
 /// XC through a buffer of the operands' length, of operands of which the first doesn't begin inside the second after
@@ -265,23 +243,20 @@ fn join_stored<S: Store>(store: &S, a1: u32, a2: u32, new: &mut [u8]) -> bool
 fn join_through<S: Store>(
     cpu: &mut Cpu,
     store: &mut S,
-    a1: u32,
-    a2: u32,
+    at: Addresses,
     bytes: &mut [u8],
     updated: Updated,
-) -> Result<(), Interruption>
-    requires first { a1 < 2 ^ 24 }
-    requires second { a2 < 2 ^ 24 }
+) -> Performed
     requires count { length bytes.old ≤ 256 }
-    requires outside { (j : ℕ) → 0 < j → j < length bytes.old → a1 ≢ address_after a2 j }
+    requires outside { (j : ℕ) → 0 < j → j < length bytes.old → at.a1 ≢ address_after at.a2 j }
     ensures { let before = machine cpu.old (S.storage store.old) in let after = machine cpu.new (S.storage store.new) in
-        XcEffect (length bytes.old) a1 a2 updated before result after }
+        XcEffect (length bytes.old) at.a1 at.a2 updated before result after }
 {
-    if !join_stored(store, a1, a2, bytes) {
+    if !join_stored(store, at, bytes) {
         return Err(Interruption::Addressing);
     }
     let cc = string_code(bytes);
-    put_coded(cpu, store, a1, bytes, cc, updated)
+    put_coded(cpu, store, at.a1, bytes, cc, updated)
 }
 
 /// XC of such operands, whatever their length.
@@ -290,19 +265,16 @@ fn join_long<S: Store>(
     cpu: &mut Cpu,
     store: &mut S,
     n: u32,
-    a1: u32,
-    a2: u32,
+    at: Addresses,
     updated: Updated,
-) -> Result<(), Interruption>
-    requires first { a1 < 2 ^ 24 }
-    requires second { a2 < 2 ^ 24 }
+) -> Performed
     requires count { n ≤ 256 }
-    requires outside { (j : ℕ) → 0 < j → j < n → a1 ≢ address_after a2 j }
+    requires outside { (j : ℕ) → 0 < j → j < n → at.a1 ≢ address_after at.a2 j }
     ensures { let before = machine cpu.old (S.storage store.old) in let after = machine cpu.new (S.storage store.new) in
-        XcEffect n a1 a2 updated before result after }
+        XcEffect n at.a1 at.a2 updated before result after }
 {
     let mut new = [0; 256];
-    join_through(cpu, store, a1, a2, &mut new[..n as usize], updated)
+    join_through(cpu, store, at, &mut new[..n as usize], updated)
 }
 
 /// XC of such operands. Those of a few bytes need no large buffer, and the most frequent lengths have code of their
@@ -312,26 +284,23 @@ fn join<S: Store>(
     cpu: &mut Cpu,
     store: &mut S,
     n: u32,
-    a1: u32,
-    a2: u32,
+    at: Addresses,
     updated: Updated,
-) -> Result<(), Interruption>
-    requires first { a1 < 2 ^ 24 }
-    requires second { a2 < 2 ^ 24 }
+) -> Performed
     requires count { n ≤ 256 }
-    requires outside { (j : ℕ) → 0 < j → j < n → a1 ≢ address_after a2 j }
+    requires outside { (j : ℕ) → 0 < j → j < n → at.a1 ≢ address_after at.a2 j }
     ensures { let before = machine cpu.old (S.storage store.old) in let after = machine cpu.new (S.storage store.new) in
-        XcEffect n a1 a2 updated before result after }
+        XcEffect n at.a1 at.a2 updated before result after }
 {
     let mut new = [0; 16];
     match n {
-        1 => join_through(cpu, store, a1, a2, &mut new[..1], updated),
-        2 => join_through(cpu, store, a1, a2, &mut new[..2], updated),
-        3 => join_through(cpu, store, a1, a2, &mut new[..3], updated),
-        4 => join_through(cpu, store, a1, a2, &mut new[..4], updated),
-        8 => join_through(cpu, store, a1, a2, &mut new[..8], updated),
-        0..=16 => join_through(cpu, store, a1, a2, &mut new[..n as usize], updated),
-        _ => join_long(cpu, store, n, a1, a2, updated),
+        1 => join_through(cpu, store, at, &mut new[..1], updated),
+        2 => join_through(cpu, store, at, &mut new[..2], updated),
+        3 => join_through(cpu, store, at, &mut new[..3], updated),
+        4 => join_through(cpu, store, at, &mut new[..4], updated),
+        8 => join_through(cpu, store, at, &mut new[..8], updated),
+        0..=16 => join_through(cpu, store, at, &mut new[..n as usize], updated),
+        _ => join_long(cpu, store, n, at, updated),
     }
 }
 
@@ -341,27 +310,24 @@ fn join<S: Store>(
 fn spread<S: Store>(
     cpu: &mut Cpu,
     store: &mut S,
-    a1: u32,
-    a2: u32,
+    at: Addresses,
     updated: Updated,
     n: u32,
-) -> Result<(), Interruption>
-    requires first { a1 < 2 ^ 24 }
-    requires second { a2 < 2 ^ 24 }
+) -> Performed
     requires some { 0 < n }
     requires count { n ≤ 256 }
-    requires begins { a1 ≡ address_after a2 1 }
+    requires begins { at.a1 ≡ address_after at.a2 1 }
     ensures { let before = machine cpu.old (S.storage store.old) in let after = machine cpu.new (S.storage store.new) in
-        MvcEffect n a1 a2 updated before result after }
+        MvcEffect n at.a1 at.a2 updated before result after }
 {
-    let Some(byte) = store.byte(a2) else {
-        return fill(cpu, store, a1, a2, updated, n);
+    let Some(byte) = store.byte(at.a2) else {
+        return fill(cpu, store, at, updated, n);
     };
     let cc = cpu.cc;
-    if fill_fast(cpu, store, a1, n as usize, byte, cc, updated) {
+    if fill_fast(cpu, store, at.a1, n as usize, byte, cc, updated) {
         return Ok(());
     }
-    fill(cpu, store, a1, a2, updated, n)
+    fill(cpu, store, at, updated, n)
 }
 
 /// MVC of operands of which the first may begin inside the second.
@@ -370,23 +336,20 @@ fn spread<S: Store>(
 fn fill<S: Store>(
     cpu: &mut Cpu,
     store: &mut S,
-    a1: u32,
-    a2: u32,
+    at: Addresses,
     updated: Updated,
     n: u32,
-) -> Result<(), Interruption>
-    requires first { a1 < 2 ^ 24 }
-    requires second { a2 < 2 ^ 24 }
+) -> Performed
     requires count { n ≤ 256 }
     ensures { let before = machine cpu.old (S.storage store.old) in let after = machine cpu.new (S.storage store.new) in
-        MvcEffect n a1 a2 updated before result after }
+        MvcEffect n at.a1 at.a2 updated before result after }
 {
-    if !is_present(store, a2, n) {
+    if !is_present(store, at.a2, n) {
         return Err(Interruption::Addressing);
     }
     let mut new = [0; 256];
-    fill_bytes(store, n, a1, a2, &mut new);
-    put_bytes(cpu, store, a1, &new[..n as usize], updated)
+    fill_bytes(store, n, at, &mut new);
+    put_bytes(cpu, store, at.a1, &new[..n as usize], updated)
 }
 
 /// XC of such operands, byte by byte.
@@ -396,24 +359,21 @@ fn join_each<S: Store>(
     cpu: &mut Cpu,
     store: &mut S,
     n: u32,
-    a1: u32,
-    a2: u32,
+    at: Addresses,
     updated: Updated,
-) -> Result<(), Interruption>
-    requires first { a1 < 2 ^ 24 }
-    requires second { a2 < 2 ^ 24 }
+) -> Performed
     requires count { n ≤ 256 }
     ensures { let before = machine cpu.old (S.storage store.old) in let after = machine cpu.new (S.storage store.new) in
-        XcEffect n a1 a2 updated before result after }
+        XcEffect n at.a1 at.a2 updated before result after }
 {
-    if !is_present(store, a2, n) {
+    if !is_present(store, at.a2, n) {
         return Err(Interruption::Addressing);
     }
     let mut new = [0; 256];
-    xor_bytes(store, n, a1, a2, &mut new);
+    xor_bytes(store, n, at, &mut new);
     let bytes = &new[..n as usize];
     let cc = string_code(bytes);
-    put_coded(cpu, store, a1, bytes, cc, updated)
+    put_coded(cpu, store, at.a1, bytes, cc, updated)
 }
 
 /// XC of an operand with itself, whose bytes become zero, where they are at hand; else nothing changes.
@@ -433,25 +393,22 @@ fn clear<S: Store>(cpu: &mut Cpu, store: &mut S, n: u32, a: u32, updated: Update
 pub(crate) fn mvc<S: Store>(
     cpu: &mut Cpu,
     store: &mut S,
-    a1: u32,
-    a2: u32,
+    at: Addresses,
     updated: Updated,
     l: u8,
-) -> Result<(), Interruption>
-    requires first { a1 < 2 ^ 24 }
-    requires second { a2 < 2 ^ 24 }
+) -> Performed
     ensures { let before = machine cpu.old (S.storage store.old) in let after = machine cpu.new (S.storage store.new) in
-        MvcEffect (l + 1) a1 a2 updated before result after }
+        MvcEffect (l + 1) at.a1 at.a2 updated before result after }
 {
     let n = u32::from(l) + 1;
-    let apart = distance(a2, a1);
+    let apart = distance(at.a2, at.a1);
     if n <= apart {
-        return copy(cpu, store, a1, a2, updated, l);
+        return copy(cpu, store, at, updated, l);
     }
     if apart == 1 {
-        return spread(cpu, store, a1, a2, updated, n);
+        return spread(cpu, store, at, updated, n);
     }
-    fill(cpu, store, a1, a2, updated, n)
+    fill(cpu, store, at, updated, n)
 }
 
 /// XC. The operands, of `n` bytes, begin at `a1` and `a2`.
@@ -461,21 +418,18 @@ pub(crate) fn xc<S: Store>(
     cpu: &mut Cpu,
     store: &mut S,
     n: u32,
-    a1: u32,
-    a2: u32,
+    at: Addresses,
     updated: Updated,
-) -> Result<(), Interruption>
-    requires first { a1 < 2 ^ 24 }
-    requires second { a2 < 2 ^ 24 }
+) -> Performed
     requires count { n ≤ 256 }
     ensures { let before = machine cpu.old (S.storage store.old) in let after = machine cpu.new (S.storage store.new) in
-        XcEffect n a1 a2 updated before result after }
+        XcEffect n at.a1 at.a2 updated before result after }
 {
-    if a1 == a2 && clear(cpu, store, n, a1, updated) {
+    if at.a1 == at.a2 && clear(cpu, store, n, at.a1, updated) {
         return Ok(());
     }
-    if begins_outside(n, a1, a2) {
-        return join(cpu, store, n, a1, a2, updated);
+    if begins_outside(n, at) {
+        return join(cpu, store, n, at, updated);
     }
-    join_each(cpu, store, n, a1, a2, updated)
+    join_each(cpu, store, n, at, updated)
 }

@@ -6,33 +6,30 @@ ghost use Rattle.cx_exec.specs.Machine.{machine};
 ghost use Rattle.cx_exec.specs.Sequence.{stored_by};
 ghost use Rattle.cx_exec.specs.Translation.{table_byte, HasTable, translated_byte, first_found, TrEffect, with_address, found_at, TrtEffect};
 
+use crate::addresses::Addresses;
 use crate::loads::inserted;
-use crate::machine::{Cpu, Interruption, Updated};
+use crate::machine::{Cpu, Interruption, Performed, Updated};
 use crate::sequence::{content, distance, is_present, seen};
 use cx_storage::{Store, address_after};
 
 /// The table's byte for the `k`-th argument byte (`k` is at most 256), where both are present.
-fn table_byte<S: Store>(store: &S, a1: u32, a2: u32, k: u32) -> Option<u8>
-    requires first { a1 < 2 ^ 24 }
-    requires second { a2 < 2 ^ 24 }
+fn table_byte<S: Store>(store: &S, at: Addresses, k: u32) -> Option<u8>
     requires place { k ≤ 256 }
-    ensures { result ≡ table_byte (S.storage store.now) a1 a2 k }
+    ensures { result ≡ table_byte (S.storage store.now) at.a1 at.a2 k }
 {
-    let argument = store.byte(address_after(a1, k))?;
-    store.byte(address_after(a2, u32::from(argument)))
+    let argument = store.byte(address_after(at.a1, k))?;
+    store.byte(address_after(at.a2, u32::from(argument)))
 }
 
 /// Whether each of `n` argument bytes, and the table's byte for it, is present.
 #[tactic(auto, unfolding(crate::specs::Translation::HasTable))]
-fn has_table<S: Store>(store: &S, n: u32, a1: u32, a2: u32) -> bool
-    requires first { a1 < 2 ^ 24 }
-    requires second { a2 < 2 ^ 24 }
+fn has_table<S: Store>(store: &S, n: u32, at: Addresses) -> bool
     requires count { n ≤ 256 }
-    ensures { MatchBool result (HasTable (S.storage store.now) n a1 a2)
-        (HasTable (S.storage store.now) n a1 a2 → ⊥) }
+    ensures { MatchBool result (HasTable (S.storage store.now) n at.a1 at.a2)
+        (HasTable (S.storage store.now) n at.a1 at.a2 → ⊥) }
 {
     for k in 0..n {
-        if table_byte(store, a1, a2, k).is_none() {
+        if table_byte(store, at, k).is_none() {
             return false;
         }
     }
@@ -41,16 +38,14 @@ fn has_table<S: Store>(store: &S, n: u32, a1: u32, a2: u32) -> bool
 
 /// Puts the bytes that TR stores at the front of the buffer.
 #[tactic(auto, using(crate::proofs::SequenceLemmas::stored_none))]
-fn translate_bytes<S: Store>(store: &S, n: u32, a1: u32, a2: u32, new: &mut [u8; 256])
-    requires first { a1 < 2 ^ 24 }
-    requires second { a2 < 2 ^ 24 }
+fn translate_bytes<S: Store>(store: &S, n: u32, at: Addresses, new: &mut [u8; 256])
     requires count { n ≤ 256 }
-    ensures { take n new.new ≡ stored_by (translated_byte (S.storage store.now) a1 a2) n }
+    ensures { take n new.new ≡ stored_by (translated_byte (S.storage store.now) at.a1 at.a2) n }
 {
     for k in 0..n {
-        let argument = content(store, address_after(a1, k));
-        let from = address_after(a2, u32::from(argument));
-        let byte = seen(store, &new[..k as usize], distance(a1, from), from);
+        let argument = content(store, address_after(at.a1, k));
+        let from = address_after(at.a2, u32::from(argument));
+        let byte = seen(store, &new[..k as usize], distance(at.a1, from), from);
         new[k as usize] = byte;
     }
 }
@@ -71,20 +66,18 @@ fn look_up(argument: &[u8], table: &[u8], new: &mut [u8; 256])
 /// Puts the bytes that TR stores at the front of the buffer, where argument and table are each lent in one piece and
 /// apart. False elsewhere.
 #[tactic(auto, using(cx_storage::specs::Facts::Spans::span_length))]
-fn translate_lent<S: Store>(store: &S, n: u32, a1: u32, a2: u32, new: &mut [u8; 256]) -> bool
-    requires first { a1 < 2 ^ 24 }
-    requires second { a2 < 2 ^ 24 }
+fn translate_lent<S: Store>(store: &S, n: u32, at: Addresses, new: &mut [u8; 256]) -> bool
     requires count { n ≤ 256 }
     ensures { let s = S.storage store.now in
-        result ≡ true → HasTable s n a1 a2 × (take n new.new ≡ stored_by (translated_byte s a1 a2) n) }
+        result ≡ true → HasTable s n at.a1 at.a2 × (take n new.new ≡ stored_by (translated_byte s at.a1 at.a2) n) }
 {
-    let Some(argument) = store.slice(a1, n as usize) else {
+    let Some(argument) = store.slice(at.a1, n as usize) else {
         return false;
     };
-    let Some(table) = store.slice(a2, 256) else {
+    let Some(table) = store.slice(at.a2, 256) else {
         return false;
     };
-    if a2 < a1 + n && a1 < a2 + 256 {
+    if at.a2 < at.a1 + n && at.a1 < at.a2 + 256 {
         return false;
     }
     look_up(argument, table, new);
@@ -94,20 +87,18 @@ fn translate_lent<S: Store>(store: &S, n: u32, a1: u32, a2: u32, new: &mut [u8; 
 /// Puts the bytes that TR stores at the front of the buffer. False where an argument byte, or the table's byte for it,
 /// is absent.
 #[tactic(auto, unfolding(crate::specs::Translation::HasTable))]
-fn translate<S: Store>(store: &S, n: u32, a1: u32, a2: u32, new: &mut [u8; 256]) -> bool
-    requires first { a1 < 2 ^ 24 }
-    requires second { a2 < 2 ^ 24 }
+fn translate<S: Store>(store: &S, n: u32, at: Addresses, new: &mut [u8; 256]) -> bool
     requires count { n ≤ 256 }
-    ensures there { let has = HasTable (S.storage store.now) n a1 a2 in MatchBool result has (has → ⊥) }
-    ensures bytes { result ≡ true → take n new.new ≡ stored_by (translated_byte (S.storage store.now) a1 a2) n }
+    ensures there { let has = HasTable (S.storage store.now) n at.a1 at.a2 in MatchBool result has (has → ⊥) }
+    ensures bytes { result ≡ true → take n new.new ≡ stored_by (translated_byte (S.storage store.now) at.a1 at.a2) n }
 {
-    if translate_lent(store, n, a1, a2, new) {
+    if translate_lent(store, n, at, new) {
         return true;
     }
-    if !has_table(store, n, a1, a2) {
+    if !has_table(store, n, at) {
         return false;
     }
-    translate_bytes(store, n, a1, a2, new);
+    translate_bytes(store, n, at, new);
     true
 }
 
@@ -118,21 +109,18 @@ pub(crate) fn tr<S: Store>(
     cpu: &mut Cpu,
     store: &mut S,
     n: u32,
-    a1: u32,
-    a2: u32,
+    at: Addresses,
     updated: Updated,
-) -> Result<(), Interruption>
-    requires first { a1 < 2 ^ 24 }
-    requires second { a2 < 2 ^ 24 }
+) -> Performed
     requires count { n ≤ 256 }
     ensures { let before = machine cpu.old (S.storage store.old) in let after = machine cpu.new (S.storage store.new) in
-        TrEffect n a1 a2 updated before result after }
+        TrEffect n at.a1 at.a2 updated before result after }
 {
     let mut new = [0; 256];
-    if !translate(store, n, a1, a2, &mut new) {
+    if !translate(store, n, at, &mut new) {
         return Err(Interruption::Addressing);
     }
-    store.write(a1, &new[..n as usize]);
+    store.write(at.a1, &new[..n as usize]);
     cpu.next = updated.address;
     Ok(())
 }
@@ -157,32 +145,28 @@ fn first_in(argument: &[u8], table: &[u8]) -> Option<u32>
 /// The first of `n` places whose byte of the table is not there with the value zero, where argument and table are each
 /// lent in one piece.
 #[tactic(auto, using(cx_storage::specs::Facts::Spans::span_length))]
-fn first_lent<S: Store>(store: &S, n: u32, a1: u32, a2: u32) -> Option<Option<u32>>
-    requires first { a1 < 2 ^ 24 }
-    requires second { a2 < 2 ^ 24 }
+fn first_lent<S: Store>(store: &S, n: u32, at: Addresses) -> Option<Option<u32>>
     requires count { n ≤ 256 }
     ensures { IfSome result
-        (λ place. (place ≡ first_found (S.storage store.now) n a1 a2) × IfSome place (λ k. k < n)) }
+        (λ place. (place ≡ first_found (S.storage store.now) n at.a1 at.a2) × IfSome place (λ k. k < n)) }
 {
-    let argument = store.slice(a1, n as usize)?;
-    let table = store.slice(a2, 256)?;
+    let argument = store.slice(at.a1, n as usize)?;
+    let table = store.slice(at.a2, 256)?;
     Some(first_in(argument, table))
 }
 
 /// The first of `n` places whose byte of the table is not there with the value zero.
 #[tactic(auto, using(crate::proofs::TranslationLemmas::none_found, crate::proofs::TranslationLemmas::found_first))]
-fn first_found<S: Store>(store: &S, n: u32, a1: u32, a2: u32) -> Option<u32>
-    requires first { a1 < 2 ^ 24 }
-    requires second { a2 < 2 ^ 24 }
+fn first_found<S: Store>(store: &S, n: u32, at: Addresses) -> Option<u32>
     requires count { n ≤ 256 }
-    ensures place { result ≡ first_found (S.storage store.now) n a1 a2 }
+    ensures place { result ≡ first_found (S.storage store.now) n at.a1 at.a2 }
     ensures within { IfSome result (λ k. k < n) }
 {
-    if let Some(place) = first_lent(store, n, a1, a2) {
+    if let Some(place) = first_lent(store, n, at) {
         return place;
     }
     for k in 0..n {
-        if table_byte(store, a1, a2, k) != Some(0) {
+        if table_byte(store, at, k) != Some(0) {
             return Some(k);
         }
     }
@@ -197,18 +181,25 @@ fn with_address(word: u32, a: u32) -> u32
     word / 0x100_0000 * 0x100_0000 + a
 }
 
-/// What a search leaves that found a byte for the argument byte at place `k` of `n`.
+/// A byte of the table that a search found, and the place of its argument byte.
+#[derive(Clone, Copy)]
+pub struct FoundByte {
+    pub k: u32,
+    pub byte: u8,
+}
+
+/// What a search leaves that found a byte for one of `n` argument bytes, the first of them at `a`.
 #[tactic(auto, unfolding(crate::specs::Translation::found_at))]
-fn set_found(cpu: &mut Cpu, n: u32, a1: u32, k: u32, byte: u8, updated: Updated)
-    requires first { a1 < 2 ^ 24 }
-    requires place { k < n }
+fn set_found(cpu: &mut Cpu, n: u32, a: u32, found: FoundByte, updated: Updated)
+    requires operand { a < 2 ^ 24 }
+    requires place { found.k < n }
     requires count { n ≤ 256 }
     ensures { (storage : Storage)
-        → machine cpu.new storage ≡ found_at n a1 k byte updated (machine cpu.old storage) }
+        → machine cpu.new storage ≡ found_at n a found.k found.byte updated (machine cpu.old storage) }
 {
-    cpu.regs[1] = with_address(cpu.regs[1], address_after(a1, k));
-    cpu.regs[2] = inserted(cpu.regs[2], byte);
-    cpu.cc = if k + 1 == n { 2 } else { 1 };
+    cpu.regs[1] = with_address(cpu.regs[1], address_after(a, found.k));
+    cpu.regs[2] = inserted(cpu.regs[2], found.byte);
+    cpu.cc = if found.k + 1 == n { 2 } else { 1 };
     cpu.next = updated.address;
 }
 
@@ -219,27 +210,24 @@ pub(crate) fn trt<S: Store>(
     cpu: &mut Cpu,
     store: &S,
     n: u32,
-    a1: u32,
-    a2: u32,
+    at: Addresses,
     updated: Updated,
-) -> Result<(), Interruption>
-    requires first { a1 < 2 ^ 24 }
-    requires second { a2 < 2 ^ 24 }
+) -> Performed
     requires count { n ≤ 256 }
     ensures { let before = machine cpu.old (S.storage store.now) in let after = machine cpu.new (S.storage store.now) in
-        TrtEffect n a1 a2 updated before result after }
+        TrtEffect n at.a1 at.a2 updated before result after }
 {
-    if !is_present(store, a1, n) {
+    if !is_present(store, at.a1, n) {
         return Err(Interruption::Addressing);
     }
-    let Some(k) = first_found(store, n, a1, a2) else {
+    let Some(k) = first_found(store, n, at) else {
         cpu.cc = 0;
         cpu.next = updated.address;
         return Ok(());
     };
-    let Some(byte) = table_byte(store, a1, a2, k) else {
+    let Some(byte) = table_byte(store, at, k) else {
         return Err(Interruption::Addressing);
     };
-    set_found(cpu, n, a1, k, byte, updated);
+    set_found(cpu, n, at.a1, FoundByte { k, byte }, updated);
     Ok(())
 }

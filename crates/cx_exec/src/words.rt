@@ -7,12 +7,27 @@ ghost use Rattle.cx_exec.specs.Parts.{IsThere, takes_second, second_at};
 
 use crate::arithmetic::{difference, put_sum, sum};
 use crate::comparison::{logical_order, signed_order};
-use crate::machine::{Cpu, Interruption, Updated};
+use crate::machine::{Cpu, Interruption, Performed, Updated};
 use crate::numbers::extended;
 use crate::operands::{halfword_slow, lent_halfword, lent_word, word_slow};
 use crate::results::{load, set_code};
 use cx_code::Op;
 use cx_storage::Store;
+
+/// A row, and its register, which is below 16.
+#[derive(Clone, Copy)]
+pub struct Row {
+    pub op: Op,
+    pub r1: u8,
+    pub ghost low: { r1 < 16 },
+}
+
+/// A second operand: its address, and the word that it is.
+#[derive(Clone, Copy)]
+pub struct Second {
+    pub a: u32,
+    pub word: u32,
+}
 
 /// The effect of a row, of the word that its second operand is.
 #[tactic(auto, unfolding(crate::specs::Rows::RxEffect))]
@@ -20,29 +35,27 @@ use cx_storage::Store;
 fn with_second<S: Store>(
     cpu: &mut Cpu,
     _store: &S,
-    op: Op,
-    r1: u8,
-    _a: u32,
-    second: u32,
+    row: Row,
+    second: Second,
     updated: Updated,
-) -> Result<(), Interruption>
-    requires rows { takes_second op ≡ true }
-    requires first { r1 < 16 }
-    requires second { second_at op (S.storage _store.now) _a ≡ Some second }
+) -> Performed
+    requires rows { takes_second row.op ≡ true }
+    requires second { second_at row.op (S.storage _store.now) second.a ≡ Some second.word }
     ensures { let before = machine cpu.old (S.storage _store.now) in let after = machine cpu.new (S.storage _store.now) in
-        RxEffect op r1 _a updated before result after }
+        RxEffect row.op row.r1 second.a updated before result after }
 {
-    let first = cpu.regs[r1 as usize];
-    match op {
-        Op::L => load(cpu, r1, second, updated),
-        Op::Lh => load(cpu, r1, second, updated),
-        Op::Cl => set_code(cpu, logical_order(first, second), updated),
-        Op::C => set_code(cpu, signed_order(first, second), updated),
-        Op::Ch => set_code(cpu, signed_order(first, second), updated),
-        Op::A => put_sum(cpu, r1, sum(first, second), updated),
-        Op::Ah => put_sum(cpu, r1, sum(first, second), updated),
-        Op::S => put_sum(cpu, r1, difference(first, second), updated),
-        Op::Sh => put_sum(cpu, r1, difference(first, second), updated),
+    let first = cpu.regs[row.r1 as usize];
+    let word = second.word;
+    match row.op {
+        Op::L => load(cpu, row.r1, word, updated),
+        Op::Lh => load(cpu, row.r1, word, updated),
+        Op::Cl => set_code(cpu, logical_order(first, word), updated),
+        Op::C => set_code(cpu, signed_order(first, word), updated),
+        Op::Ch => set_code(cpu, signed_order(first, word), updated),
+        Op::A => put_sum(cpu, row.r1, sum(first, word), updated),
+        Op::Ah => put_sum(cpu, row.r1, sum(first, word), updated),
+        Op::S => put_sum(cpu, row.r1, difference(first, word), updated),
+        Op::Sh => put_sum(cpu, row.r1, difference(first, word), updated),
         // Not reached.
         _ => Err(Interruption::Operation),
     }
@@ -81,19 +94,17 @@ fn second_apart<S: Store>(store: &S, op: Op, a: u32) -> Result<u32, Interruption
 fn second_row_apart<S: Store>(
     cpu: &mut Cpu,
     store: &S,
-    op: Op,
-    r1: u8,
+    row: Row,
     a: u32,
     updated: Updated,
-) -> Result<(), Interruption>
-    requires rows { takes_second op ≡ true }
-    requires first { r1 < 16 }
+) -> Performed
+    requires rows { takes_second row.op ≡ true }
     requires operand { a < 2 ^ 24 }
     ensures { let before = machine cpu.old (S.storage store.now) in let after = machine cpu.new (S.storage store.now) in
-        RxEffect op r1 a updated before result after }
+        RxEffect row.op row.r1 a updated before result after }
 {
-    let second = second_apart(store, op, a)?;
-    with_second(cpu, store, op, r1, a, second, updated)
+    let word = second_apart(store, row.op, a)?;
+    with_second(cpu, store, row, Second { a, word }, updated)
 }
 
 /// The effect of a row whose second operand is a word, or a halfword extended to one.
@@ -101,19 +112,17 @@ fn second_row_apart<S: Store>(
 pub(crate) fn second_row<S: Store>(
     cpu: &mut Cpu,
     store: &S,
-    op: Op,
-    r1: u8,
+    row: Row,
     a: u32,
     updated: Updated,
-) -> Result<(), Interruption>
-    requires rows { takes_second op ≡ true }
-    requires first { r1 < 16 }
+) -> Performed
+    requires rows { takes_second row.op ≡ true }
     requires operand { a < 2 ^ 24 }
     ensures { let before = machine cpu.old (S.storage store.now) in let after = machine cpu.new (S.storage store.now) in
-        RxEffect op r1 a updated before result after }
+        RxEffect row.op row.r1 a updated before result after }
 {
-    match lent_second(store, op, a) {
-        Some(second) => with_second(cpu, store, op, r1, a, second, updated),
-        None => second_row_apart(cpu, store, op, r1, a, updated),
+    match lent_second(store, row.op, a) {
+        Some(word) => with_second(cpu, store, row, Second { a, word }, updated),
+        None => second_row_apart(cpu, store, row, a, updated),
     }
 }

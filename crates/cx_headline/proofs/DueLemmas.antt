@@ -7,7 +7,7 @@ use Rattle.std.proofs.lemmas.Bool.{cases_Bool, true≢false}
 use Rattle.std.proofs.lemmas.Option.{none-some, same_Some}
 use Rattle.cx_code.specs.declared.image.Image.{Image}
 use Rattle.cx_ebcdic.specs.Facts.Names.{is_name-decides, is_name-laws}
-use Rattle.cx_base_lists.specs.Facts.Lookups.{lookup-insert_entry-other, lookup-insert_entry-same, lookup-set_value-other, lookup-set_value-same}
+use Rattle.cx_base.specs.Facts.Lookups.{lookup-insert_entry-other, lookup-insert_entry-same, lookup-set_value-other, lookup-set_value-same}
 use Rattle.cx_load.specs.declared.program.Loaded.{Loaded}
 use Rattle.cx_region_state.specs.declared.replies.TurnReply.{TurnReply}
 use Rattle.cx_region_state.specs.declared.replies.TurnReply.TheVariants as turn
@@ -25,7 +25,7 @@ use Rattle.cx_region.specs.declared.replies.KeyReply.{KeyReply}
 use Rattle.cx_region.specs.declared.replies.KeyReply.TheVariants as key
 use Rattle.cx_region.specs.declared.replies.Reply.TheVariants as reply
 use Rattle.cx_ebcdic.specs.Names.{is_name}
-use Rattle.cx_region.specs.State.{RegionState, TerminalState, terminal_with}
+use Rattle.cx_region.specs.State.{RegionState, TerminalState}
 use Rattle.cx_region.specs.Tables.{fresh_terminal, program_of, terminal_of, transaction_of, with_terminal}
 use Rattle.cx_region.specs.Defining.{DefinesProgram, DefinesTerminal, DefinesTransaction, LoadsProgram, fresh_region, program_fault, terminal_fault, transaction_fault}
 use Rattle.cx_region.specs.Attach.{Attaches, Gives, TakesKey, OnlyAnswers, StartsTask, commarea_kept, first_level, fresh_task, input_from, next_number, transaction_named, with_task}
@@ -137,7 +137,7 @@ fresh_keeps tran number eib level = one_task (fresh_task tran number eib level) 
 attach_kept : (old new : RegionState) (name : List ℕ) (t : TerminalState) (input : Input) (tran program : List ℕ) (loaded : Loaded) (reply : KeyReply)
     → KeepsWhatIsDue old → terminal_of old name ≡ Some t → Attaches old name t input tran program loaded reply new → KeepsWhatIsDue new
 attach_kept old new name t input tran program loaded key.Attached kept there h =
-    let level = first_level program loaded (length (commarea_kept t.following)) h.areas in
+    let level = first_level program loaded (length (commarea_kept t.entry.following)) h.areas in
     let task = fresh_task tran (next_number old.counter) h.areas.eib level in
     set_kept old new name t (with_task t input task) there (ap (λ (r : RegionState). r.terminals) h.after)
     (fresh_keeps tran (next_number old.counter) h.areas.eib level) kept
@@ -163,18 +163,18 @@ key_kept old new name input reply kept h = at_terminal (terminal_of old name) re
     at_tran t tran there (Some program) h = at_program t tran program there (program_of old program) h
 
     at_input : (t : TerminalState) → terminal_of old name ≡ Some t → (o : Option Input)
-        → MatchOption o ((reply ≡ key.Given) × (new ≡ with_terminal old name (record t { input = Some input }))) (λ held. OnlyAnswers key.AlreadyHeldInput old reply new) → KeepsWhatIsDue new
+        → MatchOption o ((reply ≡ key.Given) × (new ≡ with_terminal old name (record t { entry = record t.entry { input = Some input } }))) (λ held. OnlyAnswers key.AlreadyHeldInput old reply new) → KeepsWhatIsDue new
     at_input t there None h =
-        set_kept old new name t (record t { input = Some input }) there (ap (λ (r : RegionState). r.terminals) h.1) (own_kept old name t kept there) kept
+        set_kept old new name t (record t { entry = record t.entry { input = Some input } }) there (ap (λ (r : RegionState). r.terminals) h.1) (own_kept old name t kept there) kept
     at_input t there (Some held) h = only key.AlreadyHeldInput h
 
     at_task : (t : TerminalState) → terminal_of old name ≡ Some t → (o : Option TaskState)
-        → MatchOption o (StartsTask old name t input (transaction_named t.following input.bytes) reply new) (λ task. Gives old name t input reply new) → KeepsWhatIsDue new
+        → MatchOption o (StartsTask old name t input (transaction_named t.entry.following input.bytes) reply new) (λ task. Gives old name t input reply new) → KeepsWhatIsDue new
     at_task t there None h =
-        let tran = transaction_named t.following input.bytes in at_tran t tran there (transaction_of old tran) h
-    at_task t there (Some task) h = at_input t there t.input h
+        let tran = transaction_named t.entry.following input.bytes in at_tran t tran there (transaction_of old tran) h
+    at_task t there (Some task) h = at_input t there t.entry.input h
 
-    at_terminal : (o : Option TerminalState) → terminal_of old name ≡ o → MatchOption o (OnlyAnswers key.NoSuchTerminal old reply new) (λ t. MatchOption t.task (StartsTask old name t input (transaction_named t.following input.bytes) reply new) (λ task. Gives old name t input reply new)) → KeepsWhatIsDue new
+    at_terminal : (o : Option TerminalState) → terminal_of old name ≡ o → MatchOption o (OnlyAnswers key.NoSuchTerminal old reply new) (λ t. MatchOption t.task (StartsTask old name t input (transaction_named t.entry.following input.bytes) reply new) (λ task. Gives old name t input reply new)) → KeepsWhatIsDue new
     at_terminal None there h = only key.NoSuchTerminal h
     at_terminal (Some t) there h = at_task t there t.task h
 
@@ -186,7 +186,7 @@ turn_kept law old new name reply kept h = at_terminal (terminal_of old name) ref
     turned : (t : TerminalState) (task : TaskState) → terminal_of old name ≡ Some t → t.task ≡ Some task → TaskTakesTurn old name t task reply new → KeepsWhatIsDue new
     turned t task there live h =
         let own = task_left_keeps (is_over reply) h.reached.task (law (context_of old t task) h.reached reply (own_kept old name t kept there task live) h.half_turn) in
-        set_kept old new name t (terminal_with h.reached.terminal_entry (task_after reply h.reached.task)) there (ap (λ (r : RegionState). r.terminals) h.after) own kept
+        set_kept old new name t (record { entry = h.reached.terminal_entry; task = task_after reply h.reached.task }) there (ap (λ (r : RegionState). r.terminals) h.after) own kept
 
     at_task : (t : TerminalState) → terminal_of old name ≡ Some t → (o : Option TaskState) → t.task ≡ o
         → MatchOption o ((reply ≡ turn.Idle) × (new ≡ old)) (λ task. TaskTakesTurn old name t task reply new) → KeepsWhatIsDue new
@@ -212,7 +212,7 @@ alter_kept law old new name change reply kept h = by_refusal (alter_refusal old 
     changed t task there live =
         let after = after_change change (context_of old t task) in
         let own = task_left_keeps (ends_task change) after.task (λ on. change_keeps law change (context_of old t task) (own_kept old name t kept there task live)) in
-        set_kept old (altered_at old name change t task) name t (terminal_with after.terminal_entry (task_left change after.task)) there refl own kept
+        set_kept old (altered_at old name change t task) name t (record { entry = after.terminal_entry; task = task_left change after.task }) there refl own kept
 
     by_task : (t : TerminalState) → terminal_of old name ≡ Some t → (o : Option TaskState) → t.task ≡ o → KeepsWhatIsDue (option_map_or (altered_at old name change t) o old)
     by_task t there None live = kept

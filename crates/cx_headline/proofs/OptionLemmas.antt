@@ -5,14 +5,14 @@ use Rattle.std.specs.List.{AllByRecursion, filter, list_all, list_any}
 use Rattle.std.specs.Str.{bytes_eq}
 use Rattle.std.proofs.lemmas.Bool.{and_parts}
 use Rattle.std.proofs.lemmas.Slice.Eq.{bytes_eq-Decides}
-use Rattle.cx_base_commands.specs.declared.commands.Command.{Command}
-use Rattle.cx_base_commands.specs.declared.options.CommandOption.{CommandOption}
-use Rattle.cx_base_commands.specs.declared.options.ArgumentKind.{ArgumentKind}
-use Rattle.cx_base_commands.specs.Arguments.{arguments_in, is_argument, takes_argument}
-use Rattle.cx_base_commands.specs.Commands.{row_of}
-use Rattle.cx_base_commands.specs.Facts.Commands.{each_command}
-use Rattle.cx_base_commands.specs.Legal.{has_bit, lists_conditions}
-use Rattle.cx_base_commands.specs.Options.{option_name}
+use Rattle.cx_base.specs.declared.commands.Command.{Command}
+use Rattle.cx_base.specs.declared.options.CommandOption.{CommandOption}
+use Rattle.cx_base.specs.declared.options.ArgumentKind.{ArgumentKind}
+use Rattle.cx_base.specs.Arguments.{arguments_in, is_argument, takes_argument}
+use Rattle.cx_base.specs.Commands.{row_of}
+use Rattle.cx_base.specs.Facts.Commands.{each_command}
+use Rattle.cx_base.specs.Legal.{has_bit, lists_conditions}
+use Rattle.cx_base.specs.Options.{option_name}
 use Rattle.cx_translate.specs.declared.due_arguments.DueArgument.{DueArgument}
 use Rattle.cx_translate.specs.declared.due_arguments.DueArgument.TheVariants.{Nothing, Name, Value, Label}
 use Rattle.cx_translate.specs.declared.faults.TransFault.{TransFault}

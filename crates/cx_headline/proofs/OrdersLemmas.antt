@@ -12,7 +12,7 @@ use Rattle.cx_orders.specs.Laws.{IsOrder}
 use Rattle.cx_orders.specs.Moves.{Moves, begun}
 use Rattle.cx_orders.specs.declared.states.KeyLine.{KeyLine}
 use Rattle.cx_orders.specs.declared.states.OrdersState.{OrdersState}
-use Rattle.cx_look_words.specs.Words.{Lines}
+use Rattle.cx_look_tables.specs.Words.{Lines}
 use Rattle.cx_look_orders.specs.Facts.Outcomes.{texts_stand_once}
 use Rattle.cx_look_orders.specs.Laws.{LoopsAreEndless, ScriptsAskForSteps, StepsAreRuns}
 use Rattle.cx_look_orders.specs.Outcomes.{AllCanRest, AreOutcomes, IsOutcome, IsStuck, MayLoop}
@@ -23,7 +23,7 @@ use Rattle.std.specs.Map.{keys_of as names_of}
 use Rattle.cx_edf.specs.State.{session_at}
 use Rattle.cx_look.specs.Laws.{KeysAreAskedByTheirLines}
 use Rattle.cx_look.specs.Orders.{orders_block}
-use Rattle.cx_look_script.specs.Laws.Orders.{IsSpelled, ScriptsAskForEvents}
+use Rattle.cx_look_script.specs.Laws.Orders.{HasSpelling, ScriptsAskForEvents}
 use Rattle.cx_look_script.specs.Orders.{names_with_edf}
 
 -- ---- turns and keys alter nothing
@@ -88,11 +88,11 @@ module _ (off : TheRegionIsOff) (runs : StepsAreRuns) (scripts : ScriptsAskForSt
   }
 
 -- ---- the lines that are written
-spelled_among : (p : List ℕ → Bool) (names : List (List ℕ)) → AllByRecursion IsSpelled names → AllByRecursion IsSpelled (filter p names)
+spelled_among : (p : List ℕ → Bool) (names : List (List ℕ)) → AllByRecursion HasSpelling names → AllByRecursion HasSpelling (filter p names)
 spelled_among p [] all = tt
 spelled_among p (name ∷ names) all = by (p name) (spelled_among p names all.1)
   where
-    by : (b : Bool) → AllByRecursion IsSpelled (filter p names) → AllByRecursion IsSpelled (cond b (name ∷ filter p names) (filter p names))
+    by : (b : Bool) → AllByRecursion HasSpelling (filter p names) → AllByRecursion HasSpelling (cond b (name ∷ filter p names) (filter p names))
     by true others = (all.0, others)
     by false others = others
 

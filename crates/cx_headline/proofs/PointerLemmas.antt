@@ -3,11 +3,11 @@ use Rattle.std.proofs.Common.{◌≡◌, ◌≢◌, ℕ, ◌+◌, ◌<◌, None,
 use Rattle.std.specs.Prelude.{Result, codes, drop, option_map, slice_get, take, slice_index, slice_set}
 use Rattle.std.proofs.lemmas.Bool.{true≢false}
 use Rattle.std.proofs.lemmas.Option.{slice_get-map}
-use Rattle.cx_base_commands.specs.declared.commands.Command.{Command}
-use Rattle.cx_base_commands.specs.declared.conditions.Condition.{Condition}
-use Rattle.cx_base_commands.specs.declared.options.CommandOption.{CommandOption}
-use Rattle.cx_base_commands.specs.Arguments.{argument_index, arguments_in}
-use Rattle.cx_base_commands.specs.Commands.{row_of}
+use Rattle.cx_base.specs.declared.commands.Command.{Command}
+use Rattle.cx_base.specs.declared.conditions.Condition.{Condition}
+use Rattle.cx_base.specs.declared.options.CommandOption.{CommandOption}
+use Rattle.cx_base.specs.Arguments.{argument_index, arguments_in}
+use Rattle.cx_base.specs.Commands.{row_of}
 use Rattle.cx_storage.specs.Address.{address_in, address_after}
 use Rattle.cx_storage.specs.Storage.{Storage}
 use Rattle.cx_storage.specs.Word.{word_at}
@@ -17,10 +17,10 @@ use Rattle.cx_load.specs.declared.program.Loaded.{Loaded}
 use Rattle.cx_exec.specs.Machine.{Machine, address_part}
 use Rattle.cx_exec.specs.Step.{Steps}
 use Rattle.cx_exec.specs.declared.machine.Step.TheVariants.{Done}
-use Rattle.cx_region_call.specs.declared.call.CallFault.{CallFault}
-use Rattle.cx_region_call.specs.declared.outputs.Output.{Output}
-use Rattle.cx_region_call.specs.declared.outputs.OutputValue.TheVariants.{Word}
-use Rattle.cx_region_call.specs.Call.{Call, place_of}
+use Rattle.cx_region_state.specs.declared.call.CallFault.{CallFault}
+use Rattle.cx_region_state.specs.declared.outputs.Output.{Output}
+use Rattle.cx_region_state.specs.declared.outputs.OutputValue.TheVariants.{Word}
+use Rattle.cx_region_state.specs.Call.{Call, place_of}
 use Rattle.cx_asm_execution.specs.Arrives.{Arrives}
 use Rattle.cx_asm_execution.specs.Stands.{code_length}
 use Rattle.cx_asm_execution.specs.Expansion.{Argument, Statement, argument_address, call_made, instructions_made}
@@ -43,7 +43,7 @@ use Rattle.cx_region_state.specs.State.{TaskContext}
 use Rattle.cx_region_state.specs.Verdicts.{handed_over}
 use Rattle.cx_region_task.specs.Turn.{machine_of}
 use Rattle.cx_region_laws.specs.Laws.Pointers.{HasPutOut, OutputsStay, ProgramsGoOn, is_written_again}
-use Rattle.cx_headline.specs.Laws.Pointers.{GetsPointer, IsPerformed, PointersAreGiven}
+use Rattle.cx_headline.specs.Laws.Pointers.{GetsPointer, IsCommandPerformed, PointersAreGiven}
 use Rattle.cx_headline.proofs.OptionLemmas.{option_is_read}
 
 -- what the laws say
@@ -107,7 +107,7 @@ module _ (laws : Laws) (translated : Source) (assembly : AssemblyParts) (item : 
 
   module _ (storage loaded : Storage) (program : Loaded) (sections : Sections) (m : Machine) (before : TaskContext) (condition : Condition) (after : TaskContext)
       (fit : IsFit assembly.section.image) (stored : IsLoaded storage assembly.section.image program loaded)
-      (performed : IsPerformed loaded (address_after program.at arrives.call.at) (address_after program.at at) sections (bases_of site) back.argument.base s m before condition after) where
+      (performed : IsCommandPerformed loaded (address_after program.at arrives.call.at) (address_after program.at at) sections (bases_of site) back.argument.base s m before condition after) where
     abbrev put : HasPutOut condition before after
     put = laws.stay before after condition performed.storage performed.task performed.half_turn
 

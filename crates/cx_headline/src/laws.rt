@@ -145,6 +145,6 @@ pub fn what_is_due_is_kept()
 pub fn a_pointer_comes_back()
     ensures { PointersAreGiven }
 {
-    cx_base_commands::laws::arguments_are_found_by_name();
+    cx_base::laws::arguments_are_found_by_name();
     cx_region_laws::laws::a_pointer_stays();
 }

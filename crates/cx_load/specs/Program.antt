@@ -1,5 +1,5 @@
--- Loading a checked image (this product's own): the text is put, relocated, at the least place of the
--- program range, in a fixed area of slot 0.
+-- Loading a checked image (this product's own): the text is put, relocated, at the least place of the program range, in
+-- a fixed area of slot 0.
 use Rattle.std.specs.Prelude.{◌≡◌, ℕ, ◌+◌, List, length, Option, Some}
 use Rattle.cx_code.specs.declared.image.Image.{Image}
 use Rattle.cx_storage.specs.declared.areas.Owner.{Owner}

@@ -77,10 +77,19 @@ field_look term text =
 abbrev pub fields_look : List ℕ → Option (List ℕ) → Option Look
 fields_look term text = option_map (look.Fields term) (level_of text)
 
--- the next turn of a terminal, with the last so many of its instructions, 1 to 256; 16 without a number
+-- the next turn of a terminal: where it comes to a line of a program's source, or with the last so many of its
+-- instructions, 1 to 256; 16 without a number
+abbrev pub line_look : List ℕ → List ℕ → Option Look
+line_look term text = two_words (look.AheadAt term) (padded_name 8) (count_of 99999) text
+
+abbrev pub ahead_with : List ℕ → List ℕ → Option Look
+ahead_with term text =
+    if bytes_eq (word text) (codes "AT") then option_and_then (line_look term) (after_first_blank text)
+    else option_map (look.Ahead term) (count_of 256 text)
+
 abbrev pub ahead_look : List ℕ → Option (List ℕ) → Option Look
 ahead_look term None = Some (look.Ahead term 16)
-ahead_look term (Some text) = option_map (look.Ahead term) (count_of 256 text)
+ahead_look term (Some text) = ahead_with term text
 
 -- the last abend of a terminal, its storage, or its fields
 abbrev pub abend_look : List ℕ → Option (List ℕ) → Option Look

@@ -52,6 +52,7 @@ is_sight (look.Abend name) = false
 is_sight (look.AbendStorage name) = false
 is_sight (look.AbendFields name) = false
 is_sight (look.Ahead name n) = false
+is_sight (look.AheadAt name program line) = false
 is_sight (look.Faults source) = false
 is_sight (look.Help word) = false
 is_sight _ = true

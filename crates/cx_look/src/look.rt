@@ -4,10 +4,10 @@ ghost use Rattle.std.specs.List.{find};
 ghost use Rattle.std.specs.Option.{option_copied};
 ghost use Rattle.std.specs.Str.{bytes_eq};
 ghost use Rattle.cx_script_actions.specs.Words.{hex_bytes};
-ghost use Rattle.cx_look.specs.Looks.{abend_look, ahead_look, count_of, field_look, level_of, look_of, look_by_word, queue_look, queue_name_of, subject_name, subject_of};
+ghost use Rattle.cx_look.specs.Looks.{abend_look, ahead_look, ahead_with, count_of, field_look, level_of, line_look, look_of, look_by_word, queue_look, queue_name_of, subject_name, subject_of};
 ghost use Rattle.cx_look.specs.declared.look.Subject.TheVariants as subject;
 
-use cx_base_lists::List;
+use cx_base::List;
 use cx_ebcdic::{Name4, Name8};
 use cx_script_actions::{hex_address, name4, name8, number, split_word};
 use cx_source::Text;
@@ -26,6 +26,9 @@ const LAST_INSTRUCTIONS: u32 = 16;
 
 /// The most instructions of a turn that are looked at together.
 const MOST_INSTRUCTIONS: u32 = 256;
+
+/// The highest number of a line of a source.
+const LAST_LINE: u32 = 99_999;
 
 /// The digits that spell the eight bytes of a queue's name.
 const NAME_DIGITS: usize = 16;
@@ -76,6 +79,8 @@ pub enum Look {
     Command(Name4),
     /// What the next turn of a terminal will do, with the last so many of its instructions: 1 to 256.
     Ahead(Name4, u32),
+    /// What a terminal's task has where its next turn first comes to a line of a program's source: the line's number, 1 to 99,999.
+    AheadAt(Name4, Name8, u32),
     /// A symbol of a program's source: the program and the symbol.
     Symbol(Name8, Name8),
     /// All symbols of a program's source.
@@ -359,15 +364,37 @@ fn abend(text: &[u8]) -> Option<Look>
     abend_look(name, rest)
 }
 
+/// A line of a source to which the next turn of a terminal comes, by its program and its number.
+fn line_look(term: Name4, text: &[u8]) -> Option<Look>
+    ensures { result ≡ line_look term text.now }
+{
+    let (word, rest) = split_word(text);
+    let program = name8(word)?;
+    let line = count_of(rest?, LAST_LINE)?;
+    Some(Look::AheadAt(term, program, line))
+}
+
+/// The next turn of a terminal, by the words after the terminal.
+fn ahead_with(term: Name4, text: &[u8]) -> Option<Look>
+    ensures { result ≡ ahead_with term text.now }
+{
+    let (first, rest) = split_word(text);
+    if first == b"AT".as_slice() {
+        line_look(term, rest?)
+    } else {
+        let n = count_of(text, MOST_INSTRUCTIONS)?;
+        Some(Look::Ahead(term, n))
+    }
+}
+
 /// The next turn of a terminal, by what follows the terminal.
 fn ahead_look(term: Name4, rest: Option<&[u8]>) -> Option<Look>
     ensures { result ≡ ahead_look term (option_copied rest.entry) }
 {
-    let Some(rest) = rest else {
-        return Some(Look::Ahead(term, LAST_INSTRUCTIONS));
-    };
-    let n = count_of(rest, MOST_INSTRUCTIONS)?;
-    Some(Look::Ahead(term, n))
+    match rest {
+        Some(text) => ahead_with(term, text),
+        None => Some(Look::Ahead(term, LAST_INSTRUCTIONS)),
+    }
 }
 
 /// AHEAD, by what follows it.

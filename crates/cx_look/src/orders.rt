@@ -11,7 +11,7 @@ ghost use Rattle.cx_look.specs.declared.orders.OrdersLine.TheVariants as says;
 ghost use Rattle.cx_orders.specs.Moves.{IsFew};
 
 use crate::look::{Look, look_of};
-use cx_base_lists::List;
+use cx_base::List;
 use cx_code::Bytes;
 use cx_ebcdic::Name4;
 use cx_edf::EdfEvent;
@@ -167,6 +167,7 @@ fn is_sight(look: &Look) -> bool
             | Look::AbendFields(_)
             | Look::AbendStorage(_)
             | Look::Ahead(_, _)
+            | Look::AheadAt(_, _, _)
             | Look::Faults(_)
             | Look::Help(_)
     )

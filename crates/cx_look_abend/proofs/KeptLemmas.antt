@@ -25,7 +25,7 @@ use Rattle.cx_look_abend.specs.Abends.{before_turn, last_of_turn, kept_task}
 use Rattle.cx_look_abend.specs.declared.abends.TaskBefore.{TaskBefore}
 use Rattle.cx_look_abend.proofs.DumpLemmas.{RunsAreDecided, dumps_decide}
 use Rattle.cx_look_abend.specs.Laws.{AbendsAreKept, KeepsTurn, NotedDecide}
-use Rattle.cx_look_abend.specs.Noting.{Abends, IsTaskBefore, with_last}
+use Rattle.cx_look_abend.specs.Noting.{KeptAbends, IsTaskBefore, with_last}
 
 turn_explains : AbendRecordsExplain → (old new : RegionState) (name : List ℕ) (given : TurnReply) (abend_record : Option AbendRecord)
     → TakesTurn old name given new → TurnHasAbendRecord old name abend_record → Explains abend_record given
@@ -63,7 +63,7 @@ event_explains law make old new name given abend_record applies recorded = by_he
         let same : reply.Turn given ≡ it.reply = cc in
         passed_explains law old.region new.region name given it.reply abend_record same it.applies that
 
-kept_by : (before : Abends) (region : RegionState) (name : List ℕ) (task : TaskBefore) (given : TurnReply) (abend_record : Option AbendRecord) → Explains abend_record given
+kept_by : (before : KeptAbends) (region : RegionState) (name : List ℕ) (task : TaskBefore) (given : TurnReply) (abend_record : Option AbendRecord) → Explains abend_record given
     → KeepsTurn before name task.task given (option_map_or (with_last before name) (last_of_turn region name given task abend_record) before)
 kept_by before region name task turn.Idle None is = refl
 kept_by before region name task turn.NoSuchTerminal None is = refl

@@ -1,14 +1,14 @@
 -- What is kept of a terminal's last abend (own).
 use Rattle.std.specs.Prelude.{ℕ, List, [], Option, Some, None, Result, Ok, Err, if◌then◌else◌, map, reverse, slice_index}
 use Rattle.std.specs.Option.{option_and_then, option_map, option_map_or}
-use Rattle.cx_base_commands.specs.Abends.{abend_code}
-use Rattle.cx_base_commands.specs.declared.abends.Abend.TheVariants.{Xedf}
+use Rattle.cx_base.specs.Abends.{abend_code}
+use Rattle.cx_base.specs.declared.abends.Abend.TheVariants.{Xedf}
 use Rattle.cx_program.specs.Levels.{Levels}
 use Rattle.cx_program.specs.declared.level.Level.{Level}
 use Rattle.cx_storage.specs.Address.{address_in}
 use Rattle.cx_storage.specs.Storage.{Storage}
-use Rattle.cx_region_call.specs.Call.{Call, call_of}
-use Rattle.cx_region_call.specs.declared.call.CallFault.{CallFault}
+use Rattle.cx_region_state.specs.Call.{Call, call_of}
+use Rattle.cx_region_state.specs.declared.call.CallFault.{CallFault}
 use Rattle.cx_region_state.specs.State.{TaskState}
 use Rattle.cx_region_state.specs.declared.replies.TurnReply.{TurnReply}
 use Rattle.cx_region_state.specs.declared.replies.TurnReply.TheVariants as turn
@@ -24,8 +24,8 @@ use Rattle.cx_look_abend.specs.declared.abends.Explanation.{Explanation}
 use Rattle.cx_look_abend.specs.declared.abends.KeptTask.{KeptTask}
 use Rattle.cx_look_abend.specs.declared.abends.LastAbend.{LastAbend}
 use Rattle.cx_look_abend.specs.declared.abends.TaskBefore.{TaskBefore}
-use Rattle.cx_look_command.specs.Commands.{call_text}
-use Rattle.cx_look_words.specs.Words.{Lines}
+use Rattle.cx_look_tasks.specs.Commands.{call_text}
+use Rattle.cx_look_tables.specs.Words.{Lines}
 use Rattle.cx_look_symbols.specs.Places.{place_of, spot_before}
 use Rattle.cx_look_symbols.specs.declared.places.Place.{Place}
 
@@ -46,11 +46,11 @@ abbrev pub abend_place : AbendRecord → ℕ
 abend_place abend_record = place_by abend_record.cause abend_record
 
 -- where the program goes on, where an exit took the abend
-abbrev pub next_of : RegionState → List ℕ → Option ℕ
-next_of region name = option_map (λ task. task.next) (task_of region name)
+abbrev pub next_address_of : RegionState → List ℕ → Option ℕ
+next_address_of region name = option_map (λ task. task.next) (task_of region name)
 
 abbrev pub exit_place : RegionState → List ℕ → TurnReply → Option Place
-exit_place region name (turn.TookExit code) = option_map (place_of region.programs) (next_of region name)
+exit_place region name (turn.TookExit code) = option_map (place_of region.shared.programs) (next_address_of region name)
 exit_place region name _ = None
 
 -- why a turn led to an abend, where its program was, the arguments of its command, and its DFHEISTG; the byte before a
@@ -59,8 +59,8 @@ abbrev pub explanation_of : RegionState → TaskBefore → AbendRecord → Expla
 explanation_of region before abend_record =
     record {
       abend_record = abend_record;
-      place = place_of region.programs (abend_place abend_record);
-      before = spot_before region.programs (abend_place abend_record);
+      place = place_of region.shared.programs (abend_place abend_record);
+      before = spot_before region.shared.programs (abend_place abend_record);
       arguments = before.arguments;
       dump = before.dump;
     }
@@ -93,7 +93,7 @@ abbrev pub before_turn : RegionState → List ℕ → Option Dump → TaskBefore
 before_turn region name dump =
     record {
       task = kept_task region name;
-      arguments = option_map_or (due_arguments region.storage) (task_of region name) [];
+      arguments = option_map_or (due_arguments region.shared.storage) (task_of region name) [];
       dump = dump;
     }
 

@@ -1,8 +1,8 @@
 -- The DFHEISTG of a level as it is at an abend (own).
 use Rattle.std.specs.Prelude.{◌≡◌, ℕ, zero, suc, ◌+◌, ◌*◌, ◌/◌, min, Bool, MatchBool, MatchOption, Option, None, is_some, List, [], ◌∷◌, ◌++◌, codes, drop, length, take}
 use Rattle.std.specs.Option.{option_map, option_map_or}
-use Rattle.cx_base_text.specs.Digits.{digits, hex_digits}
-use Rattle.cx_base_text.specs.Texts.{in_columns, join, shown_name, shown_text}
+use Rattle.cx_base.specs.Digits.{digits, hex_digits}
+use Rattle.cx_base.specs.Texts.{in_columns, join, shown_name, shown_text}
 use Rattle.cx_exec.specs.Advance.{Advances}
 use Rattle.cx_exec.specs.Machine.{Machine}
 use Rattle.cx_exec.specs.declared.machine.Halt.{Halt}
@@ -13,7 +13,7 @@ use Rattle.cx_region.specs.State.{RegionState}
 use Rattle.cx_region.specs.Tables.{task_of}
 use Rattle.cx_region_state.specs.State.{TaskState}
 use Rattle.cx_region_task.specs.Turn.{most_steps}
-use Rattle.cx_look_words.specs.Words.{look_line, or_none, Lines}
+use Rattle.cx_look_tables.specs.Words.{look_line, or_none, Lines}
 use Rattle.cx_look_symbols.specs.Sources.{Sources, source_lines}
 use Rattle.cx_look_levels.specs.KeptFields.{kept_fields}
 
@@ -27,7 +27,8 @@ pub record Dump : Type 0 where
 unfoldable pub dump_in : Storage → Level → Option Dump
 dump_in s level =
     let at = address_in level.stg in
-    option_map (λ bytes. record { program = level.program; at = at; bytes = bytes }) (span s at (min level.stg_len 65520))
+    option_map (λ bytes. record { program = level.program; at = at; bytes = bytes })
+    (span s at (min level.stg_len 65520))
 
 -- ---- at the abend
 -- the machine that a task runs on
@@ -55,30 +56,30 @@ HasDump s task dump =
 -- of a terminal's task, where there is one
 unfoldable pub TurnHasDump : RegionState → List ℕ → Option Dump → Type 0
 TurnHasDump region name dump =
-    MatchOption (task_of region name) (dump ≡ None) (λ task. HasDump region.storage task dump)
+    MatchOption (task_of region name) (dump ≡ None) (λ task. HasDump region.shared.storage task dump)
 
 -- ---- as it is written: rows of sixteen bytes, as STORAGE has them
 -- four bytes of a row in hexadecimal digits
-abbrev pub group_of : List ℕ → ℕ → List ℕ
-group_of row k = in_columns 8 (join (hex_digits (take 4 (drop k row)) ∷ []))
+abbrev pub dump_group : List ℕ → ℕ → List ℕ
+dump_group row k = in_columns 8 (join (hex_digits (take 4 (drop k row)) ∷ []))
 
-unfoldable pub row_line : ℕ → List ℕ → Lines
-row_line at row =
-    look_line (digits 16 6 at ∷ [] ∷ group_of row 0 ∷ group_of row 4 ∷ group_of row 8 ∷ group_of row 12 ∷ []
+unfoldable pub dump_row_line : ℕ → List ℕ → Lines
+dump_row_line at row =
+    look_line (digits 16 6 at ∷ [] ∷ dump_group row 0 ∷ dump_group row 4 ∷ dump_group row 8 ∷ dump_group row 12 ∷ []
     ∷ in_columns 16 (join (shown_text row ∷ [])) ∷ [])
 
-abbrev pub row_of : ℕ → List ℕ → ℕ → Lines
-row_of at bytes k = row_line (address_after at (16 * k)) (take 16 (drop (16 * k) bytes))
+abbrev pub dump_row : ℕ → List ℕ → ℕ → Lines
+dump_row at bytes k = dump_row_line (address_after at (16 * k)) (take 16 (drop (16 * k) bytes))
 
-abbrev pub first_rows : ℕ → List ℕ → ℕ → Lines
-first_rows at bytes zero = []
-first_rows at bytes (suc k) = first_rows at bytes k ++ row_of at bytes k
+abbrev pub first_dump_rows : ℕ → List ℕ → ℕ → Lines
+first_dump_rows at bytes zero = []
+first_dump_rows at bytes (suc k) = first_dump_rows at bytes k ++ dump_row at bytes k
 
 -- its address and its length, and its rows
 unfoldable pub dump_lines : Dump → Lines
 dump_lines dump =
     look_line (codes "DFHEISTG" ∷ digits 16 6 dump.at ∷ codes "LENGTH" ∷ digits 16 6 (length dump.bytes) ∷ [])
-    ++ first_rows dump.at dump.bytes ((length dump.bytes + 15) / 16)
+    ++ first_dump_rows dump.at dump.bytes ((length dump.bytes + 15) / 16)
 
 -- hyphens where it wasn't kept, as of an operator's abend
 abbrev pub if_dumped : Option Dump → Lines

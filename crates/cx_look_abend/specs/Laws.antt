@@ -1,6 +1,6 @@
 -- Which turns keep an abend; what is kept is decided.
 use Rattle.std.specs.Prelude.{◌≡◌, ◌≤◌, ◌+◌, ℕ, length, min, true, is_some, List, Option, Some}
-use Rattle.cx_base_commands.specs.declared.commands.Command.{Command}
+use Rattle.cx_base.specs.declared.commands.Command.{Command}
 use Rattle.cx_exec.specs.Machine.{Machine}
 use Rattle.cx_storage.specs.Storage.{Storage}
 use Rattle.cx_program.specs.declared.level.Level.{Level}
@@ -23,15 +23,15 @@ use Rattle.cx_edf.specs.declared.answers.EdfEvent.{EdfEvent}
 use Rattle.cx_edf.specs.declared.answers.EdfEvent.TheVariants as edf_event
 use Rattle.cx_look_levels.specs.FieldTexts.{field_line, typed}
 use Rattle.cx_look_levels.specs.KeptFields.{kept_field, kept_line}
-use Rattle.cx_look_values.specs.declared.readings.NamedReading.{NamedReading}
-use Rattle.cx_look_abend.specs.Noting.{Abends, AppliesWithAbends, with_last}
+use Rattle.cx_look_levels.specs.declared.readings.NamedReading.{NamedReading}
+use Rattle.cx_look_abend.specs.Noting.{KeptAbends, AppliesWithAbends, with_last}
 use Rattle.cx_look_abend.specs.Abends.{kept_task}
 use Rattle.cx_look_abend.specs.Dumps.{Dump, TurnHasDump, dump_in}
 use Rattle.cx_look_abend.specs.declared.abends.LastAbend.{LastAbend}
 use Rattle.cx_look_abend.specs.declared.abends.KeptTask.{KeptTask}
 
 -- an abend of this task with this code, to which a turn led, is the terminal's last one
-pub record IsLast (before : Abends) (name : List ℕ) (task : Option KeptTask) (code : List ℕ) (after : Abends)
+pub record IsLast (before : KeptAbends) (name : List ℕ) (task : Option KeptTask) (code : List ℕ) (after : KeptAbends)
     : Type 0 where
   pub last : LastAbend
   pub kept : after ≡ with_last before name last
@@ -40,7 +40,7 @@ pub record IsLast (before : Abends) (name : List ℕ) (task : Option KeptTask) (
   pub explained : is_some last.explanation ≡ true
 
 -- a turn that was answered as an abend, whether an exit took it or not, is kept; any other leaves what is kept
-abbrev pub KeepsTurn : Abends → List ℕ → Option KeptTask → TurnReply → Abends → Type 0
+abbrev pub KeepsTurn : KeptAbends → List ℕ → Option KeptTask → TurnReply → KeptAbends → Type 0
 KeepsTurn before name task (turn.TookExit code) after = IsLast before name task code after
 KeepsTurn before name task (turn.Abended code) after = IsLast before name task code after
 KeepsTurn before name task _ after = after ≡ before
@@ -67,12 +67,12 @@ FieldsAreOfDumps = (s : Storage) (level : Level) (dump : Dump) (term name : List
     ≡ field_line s term name (typed readings name (kept_field dump.at offset value))
 
 abbrev pub AbendsAreKept : Type 0
-AbendsAreKept = (old new : EdfState) (before after : Abends) (name : List ℕ) (given : TurnReply)
+AbendsAreKept = (old new : EdfState) (before after : KeptAbends) (name : List ℕ) (given : TurnReply)
     → AppliesWithAbends old before (edf_event.Plain (event.Turn name)) (answer.Region (reply.Turn given)) new after
     → KeepsTurn before name (kept_task old.region name) given after
 
 -- the state and what is kept before an event decide its answer, the state after it, and what is kept then
 abbrev pub NotedDecide : Type 0
-NotedDecide = (old new later : EdfState) (before after others : Abends) (e : EdfEvent) (given other : Answer)
+NotedDecide = (old new later : EdfState) (before after others : KeptAbends) (e : EdfEvent) (given other : Answer)
     → AppliesWithAbends old before e given new after → AppliesWithAbends old before e other later others
     → (given ≡ other) × (new ≡ later) × (after ≡ others)

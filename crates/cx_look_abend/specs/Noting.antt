@@ -25,11 +25,11 @@ use Rattle.cx_look_abend.specs.declared.abends.LastAbend.{LastAbend}
 use Rattle.cx_look_abend.specs.declared.abends.TaskBefore.{TaskBefore}
 
 -- the terminals that are defined, each with its last abend, where it has had one
-abbrev pub Abends : Type 0
-Abends = List (List ℕ × Option LastAbend)
+abbrev pub KeptAbends : Type 0
+KeptAbends = List (List ℕ × Option LastAbend)
 
 -- the same, with this as a terminal's last abend
-abbrev pub with_last : Abends → List ℕ → LastAbend → Abends
+abbrev pub with_last : KeptAbends → List ℕ → LastAbend → KeptAbends
 with_last abends name last = set_value (is_name name) abends (Some last)
 
 -- a terminal that is defined has had no abend
@@ -37,22 +37,22 @@ abbrev pub is_defined : Answer → Bool
 is_defined (answer.Region (reply.Terminal (Ok done))) = true
 is_defined _ = false
 
-abbrev pub kept_terminal : Abends → List ℕ → Answer → Abends
+abbrev pub kept_terminal : KeptAbends → List ℕ → Answer → KeptAbends
 kept_terminal abends name given = if is_defined given then insert_entry is_name abends name None else abends
 
 -- an abend to which a turn led, in the region after it
-abbrev pub kept_turn : Abends → List ℕ → TaskBefore → Answer → Option AbendRecord → RegionState → Abends
+abbrev pub kept_turn : KeptAbends → List ℕ → TaskBefore → Answer → Option AbendRecord → RegionState → KeptAbends
 kept_turn abends name task (answer.Region (reply.Turn given)) abend_record region =
     option_map_or (with_last abends name) (last_of_turn region name given task abend_record) abends
 kept_turn abends name task _ abend_record region = abends
 
 -- an abend that an operator asked for, by ALTER, or by PF12 that ends a task
-abbrev pub kept_alter : Abends → List ℕ → TaskBefore → Change → Answer → Abends
+abbrev pub kept_alter : KeptAbends → List ℕ → TaskBefore → Change → Answer → KeptAbends
 kept_alter abends name task change.Abend (answer.Region (reply.Alter alter.Altered)) =
     with_last abends name (by_operator task)
 kept_alter abends name task _ _ = abends
 
-abbrev pub kept_key : Abends → List ℕ → TaskBefore → Bool → Abends
+abbrev pub kept_key : KeptAbends → List ℕ → TaskBefore → Bool → KeptAbends
 kept_key abends name task ends = if ends then with_last abends name (by_operator task) else abends
 
 -- what is kept, before an event, of the task of the terminal that it names
@@ -65,7 +65,8 @@ IsTaskBefore region _ before = before ≡ record { task = None; arguments = []; 
 
 -- What is kept after an event with that task that was answered so, with that record of an abend, in the region after
 -- it; the flag says that it was PF12 that ends a task.
-abbrev pub kept_after : Abends → Bool → TaskBefore → EdfEvent → Answer → Option AbendRecord → RegionState → Abends
+abbrev pub kept_after : KeptAbends → Bool → TaskBefore → EdfEvent → Answer → Option AbendRecord → RegionState
+    → KeptAbends
 kept_after abends ends task (edf_event.Plain (event.Terminal name)) given abend_record region =
     kept_terminal abends name given
 kept_after abends ends task (edf_event.Plain (event.Turn name)) given abend_record region =
@@ -76,19 +77,19 @@ kept_after abends ends task (edf_event.Plain (event.Key name aid bytes)) given a
     kept_key abends name task ends
 kept_after abends ends task _ given abend_record region = abends
 
-abbrev pub ends_task : EdfState → EdfEvent → Bool
-ends_task old (edf_event.Plain (event.Key name aid bytes)) = ends_by_key old name aid
-ends_task old _ = false
+abbrev pub is_ending_key : EdfState → EdfEvent → Bool
+is_ending_key old (edf_event.Plain (event.Key name aid bytes)) = ends_by_key old name aid
+is_ending_key old _ = false
 
 -- an event, and what is kept after it
-pub record AppliesWithAbends (old : EdfState) (before : Abends) (e : EdfEvent) (given : Answer) (new : EdfState)
-    (after : Abends) : Type 0 where
+pub record AppliesWithAbends (old : EdfState) (before : KeptAbends) (e : EdfEvent) (given : Answer) (new : EdfState)
+    (after : KeptAbends) : Type 0 where
   pub abend_record : Option AbendRecord
   pub applies : EdfApplies old e given new
   pub recorded : EdfHasAbendRecord old e abend_record
   pub task : TaskBefore
   pub taken : IsTaskBefore old.region e task
-  pub kept : after ≡ kept_after before (ends_task old e) task e given abend_record new.region
+  pub kept : after ≡ kept_after before (is_ending_key old e) task e given abend_record new.region
 
 -- A new terminal takes room for its last abend, and a turn of a task for what is kept of the task before it; any other
 -- event may take memory as it may without what is kept.

@@ -5,14 +5,14 @@ ghost use Rattle.indexmap.specs.IndexMap.{insert_entry, spare};
 ghost use Rattle.cx_ebcdic.specs.Names.{is_name};
 ghost use Rattle.cx_program.specs.Levels.{all_levels};
 ghost use Rattle.cx_look_abend.specs.Parts.Callers.{caller_at};
-ghost use Rattle.cx_look_abend.specs.Abends.{abend_code_in, abend_place, by_operator, caller_of, callers_of, exit_place, explanation_of, kept_task, last_of_turn, next_of};
+ghost use Rattle.cx_look_abend.specs.Abends.{abend_code_in, abend_place, by_operator, caller_of, callers_of, exit_place, explanation_of, kept_task, last_of_turn, next_address_of};
 
 use crate::dumps::StorageDump;
 use arrayvec::ArrayVec;
-use cx_base_commands::Abend;
+use cx_base::Abend;
 use cx_ebcdic::{Name4, Name8};
 use cx_look_symbols::{Place, Spot, place_of, spot_before};
-use cx_look_words::Report;
+use cx_look_tables::Report;
 use cx_program::{Level, LevelStack};
 use cx_region::{AbendRecord, Cause, Region, TurnReply};
 use cx_storage::{Store, address_in};
@@ -90,7 +90,7 @@ impl Callers {
     }
 }
 
-/// What is kept of a task.
+/// What is kept of a task for the time after it: an abend that no exit takes ends it.
 #[derive(Debug, Drop)]
 pub struct KeptTask {
     pub tran: Name4,
@@ -110,7 +110,7 @@ pub struct TaskBefore {
     pub dump: Option<StorageDump>,
 }
 
-/// A terminal's last abend.
+/// A terminal's last abend, with what is kept of the task that abended.
 #[derive(Drop)]
 pub struct LastAbend {
     pub code: Name4,
@@ -242,8 +242,8 @@ fn abend_place(abend_record: &AbendRecord) -> u32
 }
 
 /// The next address of a terminal's task, where there is one.
-fn next_of<S: Store + Drop>(region: &Region<S>, name: Name4) -> Option<u32>
-    ensures { result ≡ next_of region.now name }
+fn next_address_of<S: Store + Drop>(region: &Region<S>, name: Name4) -> Option<u32>
+    ensures { result ≡ next_address_of region.now name }
 {
     let terminal = region.terminals().get(&name)?;
     let task = terminal.task()?;
@@ -256,7 +256,7 @@ fn exit_place<S: Store + Drop>(region: &Region<S>, name: Name4, reply: &TurnRepl
 {
     match reply {
         TurnReply::TookExit(_code) => {
-            let next = next_of(region, name)?;
+            let next = next_address_of(region, name)?;
             Some(place_of(&region.shared().programs, next))
         }
         _ => None,

@@ -10,11 +10,10 @@ use crate::abends::{TaskBefore, kept_task};
 use crate::dumps::dump_of;
 use cx_ebcdic::Name4;
 use cx_edf::EdfEvent;
-use cx_look_command::call_text;
-use cx_look_words::Report;
+use cx_look_tables::Report;
+use cx_look_tasks::call_text;
 use cx_region::{Event, Region};
-use cx_region_call::read_call;
-use cx_region_state::Task;
+use cx_region_state::{Task, read_call};
 use cx_storage::{Store, address_in};
 use std::alloc::{AllocError, Global};
 

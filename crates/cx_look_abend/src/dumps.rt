@@ -1,13 +1,13 @@
 //! The DFHEISTG of a level as it is at an abend.
 ghost use Rattle.std.specs.Prelude.{◌≡◌, ◌≤◌, ◌+◌, ◌*◌, ◌/◌, ◌<◌, ◌^◌, ◌++◌, IfOk, OnOk, drop, length, take};
-ghost use Rattle.cx_look_abend.specs.Dumps.{HasDump, RunLeaves, dump_in, dump_lines, field_lines, first_rows, group_of, if_dumped, if_fields, is_wide, row_line, row_of};
+ghost use Rattle.cx_look_abend.specs.Dumps.{HasDump, RunLeaves, dump_in, dump_lines, field_lines, first_dump_rows, dump_group, if_dumped, if_fields, is_wide, dump_row_line, dump_row};
 
-use cx_base_text::{hexadecimal, in_columns, shown};
+use cx_base::{hexadecimal, in_columns, shown};
 use cx_ebcdic::{Name4, Name8};
 use cx_exec::{Cpu, advance};
 use cx_look_levels::{fields_word, kept_fields};
 use cx_look_symbols::Sources;
-use cx_look_words::{Report, spelled};
+use cx_look_tables::{Report, spelled};
 use cx_program::Level;
 use cx_region_state::Task;
 use cx_storage::{Store, address_after, address_in};
@@ -153,48 +153,48 @@ fn first_bytes(bytes: &[u8], count: usize) -> &[u8]
 }
 
 /// The group of four bytes at a place of a row, as far as it has them, in hexadecimal digits.
-fn group_of(alloc: Global, row: &[u8], k: usize) -> Result<[u8; 8], AllocError>
-    ensures { IfOk result (λ text. text ≡ group_of row.now k) }
+fn dump_group(alloc: Global, row: &[u8], k: usize) -> Result<[u8; 8], AllocError>
+    ensures { IfOk result (λ text. text ≡ dump_group row.now k) }
 {
     let digits = spelled(alloc, first_bytes(after(row, k), GROUP))?;
     Ok(in_columns::<8>(&[&digits]))
 }
 
 /// Adds the line of a row at an address.
-#[tactic(auto, unfolding(crate::specs::Dumps::row_line))]
-fn row_line(report: &mut Report, at: u32, row: &[u8]) -> Result<(), AllocError>
-    ensures { OnOk result (report.new ≡ report.old ++ row_line at row.now) }
+#[tactic(auto, unfolding(crate::specs::Dumps::dump_row_line))]
+fn dump_row_line(report: &mut Report, at: u32, row: &[u8]) -> Result<(), AllocError>
+    ensures { OnOk result (report.new ≡ report.old ++ dump_row_line at row.now) }
 {
     let alloc = report.alloc();
     let place = hexadecimal::<6>(at);
-    let a = group_of(alloc, row, 0)?;
-    let b = group_of(alloc, row, 4)?;
-    let c = group_of(alloc, row, 8)?;
-    let d = group_of(alloc, row, 12)?;
+    let a = dump_group(alloc, row, 0)?;
+    let b = dump_group(alloc, row, 4)?;
+    let c = dump_group(alloc, row, 8)?;
+    let d = dump_group(alloc, row, 12)?;
     let characters = shown(alloc, row)?;
     let characters = in_columns::<16>(&[&characters]);
     report.line(&[&place, b"", &a, &b, &c, &d, b"", &characters])
 }
 
 /// Adds the line of a row of bytes from an address on, counted from 0.
-fn row_of(report: &mut Report, at: u32, bytes: &[u8], k: u32) -> Result<(), AllocError>
+fn dump_row(report: &mut Report, at: u32, bytes: &[u8], k: u32) -> Result<(), AllocError>
     requires { 16 * k < 2 ^ 32 }
-    ensures { OnOk result (report.new ≡ report.old ++ row_of at bytes.now k) }
+    ensures { OnOk result (report.new ≡ report.old ++ dump_row at bytes.now k) }
 {
     let offset = ROW * k;
     let row = first_bytes(after(bytes, offset as usize), ROW as usize);
-    row_line(report, address_after(at, offset), row)
+    dump_row_line(report, address_after(at, offset), row)
 }
 
 /// Adds the rows of bytes from an address on.
 fn all_rows(report: &mut Report, at: u32, bytes: &[u8]) -> Result<(), AllocError>
     requires { length bytes.now ≤ 65520 }
-    ensures { let more = first_rows at bytes.now ((length bytes.now + 15) / 16) in
+    ensures { let more = first_dump_rows at bytes.now ((length bytes.now + 15) / 16) in
         OnOk result (report.new ≡ report.old ++ more) }
 {
     let rows = (bytes.len() as u32 + 15) / ROW;
     for k in 0..rows {
-        row_of(report, at, bytes, k)?;
+        dump_row(report, at, bytes, k)?;
     }
     Ok(())
 }

@@ -5,7 +5,7 @@ ghost use Rattle.indexmap.specs.IndexMap.{spare};
 ghost use Rattle.cx_edf.specs.Runs.{IsAllowedEdf};
 ghost use Rattle.cx_edf.specs.State.{ends_by_key};
 ghost use Rattle.cx_look_abend.specs.Abends.{last_of_turn};
-ghost use Rattle.cx_look_abend.specs.Noting.{AppliesWithAbends, MayTakeNoted, ends_task, is_defined, kept_after, kept_alter, kept_key, kept_terminal, kept_turn, with_last};
+ghost use Rattle.cx_look_abend.specs.Noting.{AppliesWithAbends, MayTakeNoted, is_ending_key, is_defined, kept_after, kept_alter, kept_key, kept_terminal, kept_turn, with_last};
 ghost use Rattle.cx_look_abend.specs.Parts.Terminals.{defines_terminal};
 
 use crate::abends::{LastAbend, LastAbends, TaskBefore, by_operator, last_of_turn, put_none};
@@ -17,7 +17,7 @@ use cx_storage::Store;
 use std::alloc::AllocError;
 
 /// Keeps an abend as a terminal's last one, where the terminal is defined.
-#[tactic(auto, using(cx_base_lists::specs::Facts::Tables::set_value_absent))]
+#[tactic(auto, using(cx_base::specs::Facts::Tables::set_value_absent))]
 fn put(abends: &mut LastAbends, name: Name4, last: LastAbend)
     ensures { abends.new.entries ≡ with_last abends.old.entries name last }
 {
@@ -45,22 +45,31 @@ fn keep_terminal(abends: &mut LastAbends, name: Name4, answer: &Answer)
     put_none(abends, name);
 }
 
+/// What an event led to, with what was kept of its terminal's task before it.
+#[derive(Drop)]
+struct EventOutcome<'a> {
+    task: TaskBefore,
+    /// Whether the event was a key that ended the task.
+    ends: bool,
+    answer: &'a Answer,
+    abend_record: &'a Option<AbendRecord>,
+}
+
 /// Keeps an abend to which a turn led, where the region is as it was after the turn.
 fn keep_turn<S: Store + Drop>(
     abends: &mut LastAbends,
     region: &Region<S>,
     name: Name4,
-    task: TaskBefore,
-    answer: &Answer,
-    abend_record: &Option<AbendRecord>,
+    outcome: EventOutcome<'_>,
 )
-    ensures { abends.new.entries
-        ≡ kept_turn abends.old.entries name task answer.now abend_record.now region.now }
+    ensures { let answer = outcome.entry.answer.now in let abend_record = outcome.entry.abend_record.now in
+        abends.new.entries
+        ≡ kept_turn abends.old.entries name outcome.entry.task answer abend_record region.now }
 {
-    let Answer::Region(Reply::Turn(reply)) = answer else {
+    let Answer::Region(Reply::Turn(reply)) = outcome.answer else {
         return;
     };
-    let Some(last) = last_of_turn(region, name, reply, task, abend_record) else {
+    let Some(last) = last_of_turn(region, name, reply, outcome.task, outcome.abend_record) else {
         return;
     };
     put(abends, name, last);
@@ -90,28 +99,28 @@ fn keep_key(abends: &mut LastAbends, name: Name4, task: TaskBefore, ends: bool)
     }
 }
 
-/// Keeps what an event led to that was answered so, with what was kept of the task before it, where the region is as it was after it.
+/// Keeps what an event led to, where the region is as it was after it.
 fn keep<S: Store + Drop>(
     abends: &mut LastAbends,
     region: &Region<S>,
-    task: TaskBefore,
     event: &EdfEvent,
-    answer: &Answer,
-    abend_record: &Option<AbendRecord>,
-    ends: bool,
+    outcome: EventOutcome<'_>,
 )
     requires { defines_terminal event.now ≡ true → 1 ≤ spare abends.old }
-    ensures { abends.new.entries
-        ≡ kept_after abends.old.entries ends task event.now answer.now abend_record.now region.now }
+    ensures { let answer = outcome.entry.answer.now in let abend_record = outcome.entry.abend_record.now in
+        let after = kept_after abends.old.entries outcome.entry.ends outcome.entry.task in
+        abends.new.entries ≡ after event.now answer abend_record region.now }
 {
     let EdfEvent::Plain(plain) = event else {
         return;
     };
     match plain {
-        Event::Terminal(name) => keep_terminal(abends, *name, answer),
-        Event::Turn(name) => keep_turn(abends, region, *name, task, answer, abend_record),
-        Event::Alter(name, change) => keep_alter(abends, *name, task, change, answer),
-        Event::Key(name, _aid, _bytes) => keep_key(abends, *name, task, ends),
+        Event::Terminal(name) => keep_terminal(abends, *name, outcome.answer),
+        Event::Turn(name) => keep_turn(abends, region, *name, outcome),
+        Event::Alter(name, change) => {
+            keep_alter(abends, *name, outcome.task, change, outcome.answer)
+        }
+        Event::Key(name, _aid, _bytes) => keep_key(abends, *name, outcome.task, outcome.ends),
         _ => (),
     }
 }
@@ -127,8 +136,8 @@ fn ends_by_key<S: Store + Drop>(state: &Debugged<S>, name: Name4, aid: Aid) -> b
 }
 
 /// Whether an event is a key that ends the task of its terminal.
-fn ends_task<S: Store + Drop>(state: &Debugged<S>, event: &EdfEvent) -> bool
-    ensures { result ≡ ends_task state.now event.now }
+fn is_ending_key<S: Store + Drop>(state: &Debugged<S>, event: &EdfEvent) -> bool
+    ensures { result ≡ is_ending_key state.now event.now }
 {
     match event {
         EdfEvent::Plain(Event::Key(name, aid, _bytes)) => ends_by_key(state, *name, *aid),
@@ -165,17 +174,15 @@ pub fn apply_keeping_abends<S: Store + Drop>(
     ensures err { OnErr result ((state.new ≡ state.old) × (abends.new.entries ≡ abends.old.entries)) }
 {
     make_room(abends, event)?;
-    let ends = ends_task(state, event);
+    let ends = is_ending_key(state, event);
     let task = task_before(state.region(), event)?;
     let (answer, abend_record) = state.apply_with_cause(event)?;
-    keep(
-        abends,
-        state.region(),
+    let outcome = EventOutcome {
         task,
-        event,
-        &answer,
-        &abend_record,
         ends,
-    );
+        answer: &answer,
+        abend_record: &abend_record,
+    };
+    keep(abends, state.region(), event, outcome);
     Ok(answer)
 }

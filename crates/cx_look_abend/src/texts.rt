@@ -2,13 +2,11 @@
 ghost use Rattle.std.specs.Prelude.{◌≡◌, ◌++◌, [], IfOk, OnOk, is_some, take};
 ghost use Rattle.std.specs.Option.{option_copied, option_map_or};
 ghost use Rattle.std.specs.List.{flat_map, list_all};
-ghost use Rattle.cx_look_abend.specs.Texts.{abend_fields_text, abend_storage_text, abend_text, argument_lines, byte_digits, bytes_word, caller_line, caller_lines, cause_word, code_line, command_lines, command_word, dumped, exit_line, explanation_lines, fields_dumped, goes_on_word, head_line, instruction_word, interruption_word, last_of, last_text, list_word, next_line, none_line, task_word, where_lines, why_word};
+ghost use Rattle.cx_look_abend.specs.Texts.{abend_fields_text, abend_storage_text, abend_text, argument_lines, byte_digits, present_bytes_word, caller_line, caller_lines, cause_word, code_line, abend_command_lines, command_word, dumped, abend_exit_line, explanation_lines, fields_dumped, goes_on_word, head_line, instruction_word, interruption_word, last_abend_of, last_text, argument_list_word, next_line, no_abend_line, task_word, where_lines, why_word};
 
 use crate::abends::{Caller, Explanation, KeptTask, LastAbend, LastAbends};
 use crate::dumps::{if_dumped, if_fields};
-use cx_base_commands::Command;
-use cx_base_lists::List;
-use cx_base_text::{decimal, hexadecimal, shown, shown_name};
+use cx_base::{Command, decimal, hexadecimal, shown, shown_name};
 use cx_code::instruction_length;
 use cx_ebcdic::{Name4, Name8};
 use cx_exec::Interruption;
@@ -16,7 +14,7 @@ use cx_load::Loaded;
 use cx_look_symbols::{
     Place, Sources, address_word, place_of, place_word, push_led_by, spot_before, statement_at,
 };
-use cx_look_words::{Report, register_lines};
+use cx_look_tables::{Report, register_lines};
 use cx_region::{AbendRecord, Cause};
 use cx_storage::address_in;
 use indexmap::IndexMap;
@@ -88,8 +86,8 @@ fn push_bytes(text: &mut Vec<u8>, bytes: &[Option<u8>]) -> Result<(), AllocError
 }
 
 /// Bytes, where all of them are there.
-fn bytes_word(alloc: Global, bytes: &[Option<u8>]) -> Result<Vec<u8>, AllocError>
-    ensures { IfOk result (λ text. text.items ≡ bytes_word bytes.now) }
+fn present_bytes_word(alloc: Global, bytes: &[Option<u8>]) -> Result<Vec<u8>, AllocError>
+    ensures { IfOk result (λ text. text.items ≡ present_bytes_word bytes.now) }
 {
     if !are_there(bytes) {
         return b"--".to_vec(alloc);
@@ -105,7 +103,7 @@ fn instruction_word(alloc: Global, bytes: &[Option<u8>; 6]) -> Result<Vec<u8>, A
     ensures { IfOk result (λ text. text.items ≡ instruction_word bytes.now) }
 {
     match bytes[0] {
-        Some(code) => bytes_word(alloc, first_bytes(bytes, instruction_length(code))),
+        Some(code) => present_bytes_word(alloc, first_bytes(bytes, instruction_length(code))),
         None => b"--".to_vec(alloc),
     }
 }
@@ -137,8 +135,12 @@ fn command_word(command: &Option<Command>) -> &'static [u8]
 }
 
 /// The address of a command's argument list, and the line of its EXEC with its text.
-fn list_word(alloc: Global, sources: &Sources, it: &Explanation) -> Result<Vec<u8>, AllocError>
-    ensures { IfOk result (λ text. text.items ≡ list_word sources.now it.now) }
+fn argument_list_word(
+    alloc: Global,
+    sources: &Sources,
+    it: &Explanation,
+) -> Result<Vec<u8>, AllocError>
+    ensures { IfOk result (λ text. text.items ≡ argument_list_word sources.now it.now) }
 {
     let mut text = hexadecimal::<6>(address_in(it.abend_record.regs[1])).to_vec(alloc)?;
     push_led_by(
@@ -149,34 +151,27 @@ fn list_word(alloc: Global, sources: &Sources, it: &Explanation) -> Result<Vec<u
     Ok(text)
 }
 
-/// Adds lines.
-fn push_lines(report: &mut Report, lines: &[List<u8>]) -> Result<(), AllocError>
-    ensures { OnOk result (report.new ≡ report.old ++ lines.now) }
-{
-    let alloc = report.alloc();
-    for line in lines {
-        report.push(line.as_slice().to_vec(alloc)?)?;
-    }
-    Ok(())
-}
-
 /// Adds the arguments of a command that was refused.
 fn argument_lines(report: &mut Report, it: &Explanation) -> Result<(), AllocError>
     ensures { let more = argument_lines it.now.abend_record.cause it.now.arguments in
         OnOk result (report.new ≡ report.old ++ more) }
 {
     match it.abend_record.cause {
-        Cause::Refused(_abend) => push_lines(report, it.arguments.lines()),
+        Cause::Refused(_abend) => report.append(&it.arguments),
         _ => Ok(()),
     }
 }
 
 /// Adds the lines of a command.
-fn command_lines(report: &mut Report, sources: &Sources, it: &Explanation) -> Result<(), AllocError>
-    ensures { OnOk result (report.new ≡ report.old ++ command_lines sources.now it.now) }
+fn abend_command_lines(
+    report: &mut Report,
+    sources: &Sources,
+    it: &Explanation,
+) -> Result<(), AllocError>
+    ensures { OnOk result (report.new ≡ report.old ++ abend_command_lines sources.now it.now) }
 {
     let command = command_word(&it.abend_record.command);
-    let list = list_word(report.alloc(), sources, it)?;
+    let list = argument_list_word(report.alloc(), sources, it)?;
     report.line(&[b"COMMAND", command, b"LIST", &list])?;
     argument_lines(report, it)?;
     let place = address_word(report.alloc(), &it.place)?;
@@ -190,7 +185,7 @@ fn where_lines(report: &mut Report, sources: &Sources, it: &Explanation) -> Resu
 {
     match it.abend_record.cause {
         Cause::Interrupted(_) | Cause::Limit => next_line(report, sources, it),
-        _ => command_lines(report, sources, it),
+        _ => abend_command_lines(report, sources, it),
     }
 }
 
@@ -216,8 +211,12 @@ fn explanation_lines(
 }
 
 /// Adds the line of an exit, where there is one.
-fn exit_line(report: &mut Report, sources: &Sources, exit: &Option<Place>) -> Result<(), AllocError>
-    ensures { OnOk result (report.new ≡ report.old ++ exit_line sources.now exit.now) }
+fn abend_exit_line(
+    report: &mut Report,
+    sources: &Sources,
+    exit: &Option<Place>,
+) -> Result<(), AllocError>
+    ensures { OnOk result (report.new ≡ report.old ++ abend_exit_line sources.now exit.now) }
 {
     let Some(place) = exit else {
         return Ok(());
@@ -342,22 +341,22 @@ fn last_text(
         OnOk result (report.new ≡ report.old ++ more) }
 {
     head_line(report, name, last)?;
-    exit_line(report, sources, &last.exit)?;
+    abend_exit_line(report, sources, &last.exit)?;
     if_explained(report, sources, &last.explanation)?;
     caller_lines(report, sources, programs, &last.task)
 }
 
 /// Adds the line of a terminal without an abend.
-fn none_line(report: &mut Report, name: Name4) -> Result<(), AllocError>
-    ensures { OnOk result (report.new ≡ report.old ++ none_line name) }
+fn no_abend_line(report: &mut Report, name: Name4) -> Result<(), AllocError>
+    ensures { OnOk result (report.new ≡ report.old ++ no_abend_line name) }
 {
     let name = shown_name(report.alloc(), name)?;
     report.line(&[b"ABEND", &name, b"NONE"])
 }
 
 /// A terminal's last abend.
-fn last_of(abends: &LastAbends, name: Name4) -> Option<&LastAbend>
-    ensures { option_copied result ≡ last_of abends.now.entries name }
+fn last_abend_of(abends: &LastAbends, name: Name4) -> Option<&LastAbend>
+    ensures { option_copied result ≡ last_abend_of abends.now.entries name }
 {
     let kept = abends.get(&name)?;
     kept.last()
@@ -386,12 +385,12 @@ pub fn abend_storage_text(
     ensures { IfOk result (λ report. report ≡ abend_storage_text abends.now.entries name) }
 {
     let mut report = Report::new(alloc);
-    match last_of(abends, name) {
+    match last_abend_of(abends, name) {
         Some(last) => {
             head_line(&mut report, name, last)?;
             dumped(&mut report, last)?;
         }
-        None => none_line(&mut report, name)?,
+        None => no_abend_line(&mut report, name)?,
     }
     Ok(report)
 }
@@ -425,13 +424,13 @@ pub fn abend_fields_text(
     ensures { IfOk result (λ report. report ≡ abend_fields_text sources.now abends.now.entries name) }
 {
     let mut report = Report::new(alloc);
-    match last_of(abends, name) {
+    match last_abend_of(abends, name) {
         Some(last) => {
             head_line(&mut report, name, last)?;
             let fields = fields_dumped(alloc, sources, name, last)?;
-            push_lines(&mut report, fields.lines())?;
+            report.append(&fields)?;
         }
-        None => none_line(&mut report, name)?,
+        None => no_abend_line(&mut report, name)?,
     }
     Ok(report)
 }
@@ -452,9 +451,9 @@ pub fn abend_text(
         IfOk result (λ report. report ≡ text) }
 {
     let mut report = Report::new(alloc);
-    match last_of(abends, name) {
+    match last_abend_of(abends, name) {
         Some(last) => last_text(&mut report, sources, programs, name, last)?,
-        None => none_line(&mut report, name)?,
+        None => no_abend_line(&mut report, name)?,
     }
     Ok(report)
 }

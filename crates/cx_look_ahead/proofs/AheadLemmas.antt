@@ -14,13 +14,13 @@ use Rattle.cx_region.specs.State.{RegionState, TerminalState}
 use Rattle.cx_region.specs.Tables.{terminal_of}
 use Rattle.cx_region.specs.Turn.{TakesTurn, TaskTakesTurn, context_of, put_back, task_after}
 use Rattle.cx_storage.specs.Storage.{Storage}
-use Rattle.cx_look_words.specs.Words.{Lines}
+use Rattle.cx_look_tables.specs.Words.{Lines}
 use Rattle.cx_look_symbols.specs.Sources.{Sources}
-use Rattle.cx_look_steps.specs.Laws.{TracesDecide, VisitsAreOfRuns}
-use Rattle.cx_look_steps.specs.Traces.{IsTrace}
-use Rattle.cx_look_steps.specs.declared.traces.Trace.{Trace}
-use Rattle.cx_look_steps.specs.declared.traces.Visit.{Visit}
-use Rattle.cx_look_ahead.specs.Ahead.{TurnText, end_line, row_line}
+use Rattle.cx_look_ahead.specs.Laws.{TracesDecide, VisitsAreOfRuns}
+use Rattle.cx_look_ahead.specs.Traces.{IsTrace}
+use Rattle.cx_look_ahead.specs.declared.traces.Trace.{Trace}
+use Rattle.cx_look_ahead.specs.declared.traces.Visit.{Visit}
+use Rattle.cx_look_ahead.specs.Ahead.{TurnText, end_line, names_ahead, row_line}
 use Rattle.cx_look_ahead.specs.Instructions.{IsAhead, count_line, machine_ahead, runs_on, trace_lines, visit_line}
 use Rattle.cx_look_ahead.specs.Laws.{AheadDecides, AreTraced, NextTurnIsShown, RowsAreTheDifference, RowsDecide, TurnsRunThem}
 use Rattle.cx_look_ahead.proofs.RowLemmas.{differs_in_row, in_row_differs, rows_decide}
@@ -46,22 +46,24 @@ lines_decide decide sources programs n (Some m) (Some one) (Some other) p q =
     ∙ ap (λ (last : List Visit). count_line other.count ++ flat_map (visit_line sources programs) last) same.1
 
 ahead_lines : TracesDecide → (sources : Sources) (region : RegionState) (name : List ℕ) (n : ℕ) (one other : Option Trace) → IsAhead region name n one
-    → IsAhead region name n other → trace_lines sources region.programs one ≡ trace_lines sources region.programs other
+    → IsAhead region name n other → trace_lines sources region.shared.programs one ≡ trace_lines sources region.shared.programs other
 unfolding IsAhead AreOf
-ahead_lines decide sources region name n one other p q = lines_decide decide sources region.programs n (machine_ahead region name) one other p q
+ahead_lines decide sources region name n one other p q = lines_decide decide sources region.shared.programs n (machine_ahead region name) one other p q
 
 turn_texts_decide : TracesDecide → (sources : Sources) (region : RegionState) (name : List ℕ) (n : ℕ) (reply : TurnReply) (after : Storage)
     (one other : Lines) → TurnText sources region name n reply after one → TurnText sources region name n reply after other → one ≡ other
 turn_texts_decide decide sources region name n reply after one other p q =
-    let rows = rows_decide region.storage after 0 p.rows q.rows p.differ q.differ in
+    let rows = rows_decide region.shared.storage after 0 p.rows q.rows p.differ q.differ in
     let ran = ahead_lines decide sources region name n p.trace q.trace p.ahead q.ahead in
     p.are
-    ∙ ap (λ them. end_line name reply ++ trace_lines sources region.programs p.trace ++ flat_map (row_line region.storage after) them) rows
-    ∙ ap (λ (them : Lines). end_line name reply ++ them ++ flat_map (row_line region.storage after) q.rows) ran ∙ sym q.are
+    ∙ ap (λ them. end_line name reply ++ trace_lines sources region.shared.programs p.trace
+    ++ flat_map (row_line (names_ahead sources region name) region.shared.storage after) them) rows
+    ∙ ap (λ (them : Lines). end_line name reply ++ them ++ flat_map (row_line (names_ahead sources region name) region.shared.storage after) q.rows) ran
+    ∙ sym q.are
 
 pub ahead_decides : TurnsDecide → TracesDecide → AheadDecides
 ahead_decides decide traces sources region name n one other p q =
-    turn_texts_decide traces sources region name n q.reply q.after.storage one other
+    turn_texts_decide traces sources region name n q.reply q.after.shared.storage one other
     (next_turn_is_shown decide sources region q.after name n q.reply one p q.turns) q.is
 
 -- ---- the turn runs these instructions
@@ -95,7 +97,7 @@ of_run of_runs region new name n trace reply terminal task abend_record reached 
 
 on_task : VisitsAreOfRuns → (region new : RegionState) (name : List ℕ) (n : ℕ) (trace : Trace) (reply : TurnReply) (terminal : TerminalState)
     (task : Option TaskState) → terminal_of region name ≡ Some terminal → terminal.task ≡ task
-    → AreOf n (option_and_then (runs_on region.storage) task) (Some trace)
+    → AreOf n (option_and_then (runs_on region.shared.storage) task) (Some trace)
     → MatchOption task ((reply ≡ turn.Idle) × (new ≡ region)) (λ task. TaskTakesTurn region name terminal task reply new)
     → AreTraced region name n trace reply new
 unfolding HalfTurnWith AreOf
@@ -106,7 +108,7 @@ on_task of_runs region new name n trace reply terminal (Some task) there live ar
 
 on_terminal : VisitsAreOfRuns → (region new : RegionState) (name : List ℕ) (n : ℕ) (trace : Trace) (reply : TurnReply)
     (terminal : Option TerminalState) → terminal_of region name ≡ terminal
-    → AreOf n (option_and_then (runs_on region.storage) (option_and_then (λ terminal. terminal.task) terminal)) (Some trace)
+    → AreOf n (option_and_then (runs_on region.shared.storage) (option_and_then (λ terminal. terminal.task) terminal)) (Some trace)
     → MatchOption terminal ((reply ≡ turn.NoSuchTerminal) × (new ≡ region)) (λ terminal.
     MatchOption terminal.task ((reply ≡ turn.Idle) × (new ≡ region)) (λ task. TaskTakesTurn region name terminal task reply new))
     → AreTraced region name n trace reply new

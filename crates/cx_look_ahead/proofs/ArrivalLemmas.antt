@@ -10,10 +10,10 @@ use Rattle.cx_region_task.specs.Turn.{most_steps}
 use Rattle.cx_region.specs.State.{RegionState}
 use Rattle.cx_region.specs.Tables.{task_of}
 use Rattle.cx_look_symbols.specs.Lines.{SourcePlaces}
-use Rattle.cx_look_steps.specs.Laws.{TracesDecide}
-use Rattle.cx_look_steps.specs.Traces.{Follows, IsTrace, Visits, visit}
-use Rattle.cx_look_steps.specs.declared.traces.Trace.{Trace}
-use Rattle.cx_look_steps.specs.declared.traces.Visit.{Visit}
+use Rattle.cx_look_ahead.specs.Laws.{TracesDecide}
+use Rattle.cx_look_ahead.specs.Traces.{Follows, IsTrace, Visits, visit}
+use Rattle.cx_look_ahead.specs.declared.traces.Trace.{Trace}
+use Rattle.cx_look_ahead.specs.declared.traces.Visit.{Visit}
 use Rattle.cx_look_ahead.specs.Arrivals.{are_among, does_some, is_command_among, statements_on}
 use Rattle.cx_look_ahead.specs.Instructions.{IsAhead, machine_ahead}
 use Rattle.cx_look_ahead.specs.Laws.{AreTraced, TurnsRunThem}
@@ -37,18 +37,18 @@ few_after n one (Interrupt cause) after visits few are =
     omega (arith, whole)
 few_after n one AtEntry after visits few none = no_visits (suc n) visits none
 
-few_visits : (n : ℕ) (m : Machine) (visits : List Visit) → Visits n m visits → length visits ≤ n
+pub few_visits : (n : ℕ) (m : Machine) (visits : List Visit) → Visits n m visits → length visits ≤ n
 unfolding Visits
 few_visits zero m visits none = no_visits zero visits none
 few_visits (suc n) m visits (step, after, steps, follows) = few_after n (visit m) step after visits (λ more are. few_visits n after more are) follows
 
-kept_all : (n : ℕ) (visits : List Visit) → length visits ≤ n → keep_last n visits ≡ visits
+pub kept_all : (n : ℕ) (visits : List Visit) → length visits ≤ n → keep_last n visits ≡ visits
 kept_all n visits few =
     let none : length visits - n ≡ 0 = omega (arith, few) in
     ap (λ k. drop k visits) none
 
 -- of a run of at most so many instructions
-traced_all : (n : ℕ) (m : Machine) (count : ℕ) (last visits : List Visit) → IsTrace n m n count last → count ≡ length visits → last ≡ keep_last n visits → last ≡ visits
+pub traced_all : (n : ℕ) (m : Machine) (count : ℕ) (last visits : List Visit) → IsTrace n m n count last → count ≡ length visits → last ≡ keep_last n visits → last ≡ visits
 traced_all n m count last visits trace counted kept =
     let few = few_visits n m trace.visits trace.are in
     let same = trace.counted in
@@ -59,16 +59,16 @@ AreOf : Option Machine → Option Trace → Type 0
 AreOf m trace = MatchOption m (trace ≡ None) (λ m. IsSomeAnd trace (λ it. IsTrace most_steps m most_steps it.count it.last.items))
 
 does : (places : SourcePlaces) (region : RegionState) (name : List ℕ) (line : SourceLine) → Option Trace → Bool
-does places region name line trace = does_some region.programs line.program (statements_on places line) (task_of region name) trace
+does places region name line trace = does_some region.shared.programs line.program (statements_on places line) (task_of region name) trace
 
 runs_some : (places : SourcePlaces) (region new : RegionState) (name : List ℕ) (line : SourceLine) (comes : Bool) (reply : TurnReply) (m : Option Machine)
     (trace : Option Trace) → ((it : Trace) → trace ≡ Some it → AreTraced region name most_steps it reply new) → AreOf m trace
     → comes ≡ does places region name line trace
-    → MatchOption m (comes ≡ is_command_among region.programs line.program (statements_on places line) (task_of region name))
+    → MatchOption m (comes ≡ is_command_among region.shared.programs line.program (statements_on places line) (task_of region name))
     (λ m. RunsSome places region name line comes reply new)
 unfolding AreOf does
 runs_some places region new name line comes reply None trace traced none is =
-    is ∙ ap (λ (t : Option Trace). does_some region.programs line.program (statements_on places line) (task_of region name) t) none
+    is ∙ ap (λ (t : Option Trace). does_some region.shared.programs line.program (statements_on places line) (task_of region name) t) none
 runs_some places region new name line comes reply (Some m) None traced are is = absurd are
 runs_some places region new name line comes reply (Some m) (Some it) traced are is =
     let run = traced it refl in
@@ -76,7 +76,7 @@ runs_some places region new name line comes reply (Some m) (Some it) traced are 
     record {
       visits = run.visits;
       run = run.run;
-      is = is ∙ ap (λ (l : List Visit). are_among region.programs line.program (statements_on places line) l) all;
+      is = is ∙ ap (λ (l : List Visit). are_among region.shared.programs line.program (statements_on places line) l) all;
     }
 
 pub turns_do_some : TurnsRunThem → TurnsDoSome
@@ -91,12 +91,12 @@ same_does : TracesDecide → (places : SourcePlaces) (region : RegionState) (nam
     → AreOf m one → AreOf m other → does places region name line one ≡ does places region name line other
 unfolding AreOf does
 same_does decide places region name line None one other p q =
-    ap (λ (t : Option Trace). does_some region.programs line.program (statements_on places line) (task_of region name) t) (p ∙ sym q)
+    ap (λ (t : Option Trace). does_some region.shared.programs line.program (statements_on places line) (task_of region name) t) (p ∙ sym q)
 same_does decide places region name line (Some m) None other p q = absurd p
 same_does decide places region name line (Some m) (Some one) None p q = absurd q
 same_does decide places region name line (Some m) (Some one) (Some other) p q =
     let same = decide most_steps m most_steps one.count other.count one.last.items other.last.items p q in
-    ap (λ (l : List Visit). are_among region.programs line.program (statements_on places line) l) same.1
+    ap (λ (l : List Visit). are_among region.shared.programs line.program (statements_on places line) l) same.1
 
 pub arrivals_decide : TracesDecide → ArrivalsDecide
 unfolding IsAhead AreOf does

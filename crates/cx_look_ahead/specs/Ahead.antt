@@ -1,10 +1,10 @@
 -- AHEAD: what a terminal's next turn will do (own).
-use Rattle.std.specs.Prelude.{◌≡◌, ℕ, zero, suc, min, Option, List, [], ◌∷◌, ◌++◌, codes}
+use Rattle.std.specs.Prelude.{◌≡◌, ℕ, zero, suc, min, Option, None, option_and_then, option_map, List, [], ◌∷◌, ◌++◌, codes}
 use Rattle.std.specs.Fmt.{decimal}
 use Rattle.std.specs.List.{flat_map}
 use Rattle.std.specs.Option.{option_map_or, option_to_list}
-use Rattle.cx_base_text.specs.Digits.{digits}
-use Rattle.cx_base_text.specs.Texts.{shown_name}
+use Rattle.cx_base.specs.Digits.{digits}
+use Rattle.cx_base.specs.Texts.{shown_name}
 use Rattle.cx_storage.specs.Address.{address_after}
 use Rattle.cx_storage.specs.Storage.{Storage, byte_at}
 use Rattle.cx_region_state.specs.Replies.{turn_reply_name}
@@ -12,9 +12,12 @@ use Rattle.cx_region_state.specs.declared.replies.TurnReply.{TurnReply}
 use Rattle.cx_region.specs.State.{RegionState}
 use Rattle.cx_region.specs.Turn.{TakesTurn}
 use Rattle.cx_script_actions.specs.Texts.{turn_reply_detail}
-use Rattle.cx_look_words.specs.Words.{Lines, look_line}
-use Rattle.cx_look_symbols.specs.Sources.{Sources}
-use Rattle.cx_look_steps.specs.declared.traces.Trace.{Trace}
+use Rattle.cx_look_tables.specs.Words.{Lines, look_line}
+use Rattle.cx_look_symbols.specs.Sources.{Sources, led_by, source_lines}
+use Rattle.cx_look_levels.specs.FieldTexts.{standing_at}
+use Rattle.cx_look_levels.specs.Names.{LevelNames, names_at, nearest_by}
+use Rattle.cx_look_levels.specs.Wheres.{near_word}
+use Rattle.cx_look_ahead.specs.declared.traces.Trace.{Trace}
 use Rattle.cx_look_ahead.specs.Instructions.{IsAhead, trace_lines}
 use Rattle.cx_look_ahead.specs.Rows.{AreRows}
 use Rattle.cx_look_ahead.specs.declared.rows.Row.{Row}
@@ -29,12 +32,24 @@ abbrev pub bytes_word : Storage → ℕ → ℕ → List ℕ
 bytes_word s at zero = []
 bytes_word s at (suc k) = bytes_word s at k ++ option_map_or (digits 16 2) (byte_at s (address_after at k)) (codes "--")
 
--- a row of bytes that the turn changes, of which the first 64 are shown, before the turn and after it
-unfoldable pub row_line : Storage → Storage → Row → Lines
-row_line before after row =
+-- what fields are found by: those of the current level of the terminal's task, in front of the turn
+abbrev pub names_ahead : Sources → RegionState → List ℕ → Option LevelNames
+names_ahead sources region name =
+    option_and_then (λ standing. names_at (source_lines sources standing.program) standing)
+    (standing_at region name None)
+
+-- the field that has the byte at an address
+abbrev pub field_word : Option LevelNames → ℕ → Option (List ℕ)
+field_word names address = option_map near_word (option_and_then (nearest_by address) names)
+
+-- a row of bytes that the turn changes, of which the first 64 are shown, before the turn and after it, and the field
+-- that has its first byte
+unfoldable pub row_line : Option LevelNames → Storage → Storage → Row → Lines
+row_line names before after row =
     let shown = min row.length 64 in
+    let changed = bytes_word after row.at shown ++ led_by (codes " FIELD ") (field_word names row.at) in
     look_line (codes "CHANGES" ∷ digits 16 6 row.at ∷ decimal row.length ∷ codes "FROM" ∷ bytes_word before row.at shown
-    ∷ codes "TO" ∷ bytes_word after row.at shown ∷ [])
+    ∷ codes "TO" ∷ changed ∷ [])
 
 -- what is written for a turn of a region of that reply to that storage, with its last n instructions
 pub record TurnText (sources : Sources) (region : RegionState) (name : List ℕ) (n : ℕ) (reply : TurnReply)
@@ -42,14 +57,14 @@ pub record TurnText (sources : Sources) (region : RegionState) (name : List ℕ)
   pub trace : Option Trace
   pub ahead : IsAhead region name n trace
   pub rows : List Row
-  pub differ : AreRows region.storage after 0 rows
+  pub differ : AreRows region.shared.storage after 0 rows
   pub are : lines
-      ≡ end_line name reply ++ trace_lines sources region.programs trace
-      ++ flat_map (row_line region.storage after) rows
+      ≡ end_line name reply ++ trace_lines sources region.shared.programs trace
+      ++ flat_map (row_line (names_ahead sources region name) region.shared.storage after) rows
 
 -- what is written for the turn that the region would do next
 pub record AheadText (sources : Sources) (region : RegionState) (name : List ℕ) (n : ℕ) (lines : Lines) : Type 0 where
   pub reply : TurnReply
   pub after : RegionState
   pub turns : TakesTurn region name reply after
-  pub is : TurnText sources region name n reply after.storage lines
+  pub is : TurnText sources region name n reply after.shared.storage lines

@@ -14,8 +14,8 @@ use Rattle.cx_look_symbols.specs.Lines.{SourcePlaces, holds}
 use Rattle.cx_look_symbols.specs.Places.{spot_before, spot_of}
 use Rattle.cx_look_symbols.specs.declared.places.Spot.{Spot}
 use Rattle.cx_look_symbols.specs.declared.statements.StatementPlace.{StatementPlace}
-use Rattle.cx_look_steps.specs.declared.traces.Trace.{Trace}
-use Rattle.cx_look_steps.specs.declared.traces.Visit.{Visit}
+use Rattle.cx_look_ahead.specs.declared.traces.Trace.{Trace}
+use Rattle.cx_look_ahead.specs.declared.traces.Visit.{Visit}
 use Rattle.cx_look_ahead.specs.Instructions.{IsAhead}
 use Rattle.cx_look_ahead.specs.declared.arrivals.SourceLine.{SourceLine}
 
@@ -58,4 +58,4 @@ pub record ComesTo (places : SourcePlaces) (region : RegionState) (name : List �
     : Type 0 where
   pub trace : Option Trace
   pub ahead : IsAhead region name most_steps trace
-  pub is : comes ≡ does_some region.programs line.program (statements_on places line) (task_of region name) trace
+  pub is : comes ≡ does_some region.shared.programs line.program (statements_on places line) (task_of region name) trace

@@ -3,7 +3,7 @@ use Rattle.std.specs.Prelude.{◌≡◌, ℕ, if◌then◌else◌, Option, Some,
 use Rattle.std.specs.Fmt.{decimal}
 use Rattle.std.specs.List.{flat_map}
 use Rattle.std.specs.Option.{option_map_or}
-use Rattle.cx_base_text.specs.Digits.{hex_digits}
+use Rattle.cx_base.specs.Digits.{hex_digits}
 use Rattle.cx_storage.specs.Storage.{Storage}
 use Rattle.cx_exec.specs.Machine.{Machine}
 use Rattle.cx_load.specs.declared.program.Loaded.{Loaded}
@@ -11,13 +11,13 @@ use Rattle.cx_region_state.specs.State.{TaskState}
 use Rattle.cx_region_task.specs.Turn.{most_steps}
 use Rattle.cx_region.specs.State.{RegionState}
 use Rattle.cx_region.specs.Tables.{task_of}
-use Rattle.cx_look_words.specs.Words.{Lines, look_line}
+use Rattle.cx_look_tables.specs.Words.{Lines, look_line}
 use Rattle.cx_look_symbols.specs.Places.{address_word, place_of}
 use Rattle.cx_look_symbols.specs.Sources.{Sources, led_by, statement_at}
 use Rattle.cx_look_symbols.specs.declared.places.Place.{Place}
-use Rattle.cx_look_steps.specs.Traces.{IsTrace}
-use Rattle.cx_look_steps.specs.declared.traces.Trace.{Trace}
-use Rattle.cx_look_steps.specs.declared.traces.Visit.{Visit}
+use Rattle.cx_look_ahead.specs.Traces.{IsTrace}
+use Rattle.cx_look_ahead.specs.declared.traces.Trace.{Trace}
+use Rattle.cx_look_ahead.specs.declared.traces.Visit.{Visit}
 
 -- the machine that the turn runs on; None where a command is due, or there is no task
 abbrev pub runs_on : Storage → TaskState → Option Machine
@@ -26,7 +26,7 @@ runs_on storage task =
     else Some (record { regs = task.regs; cc = task.cc; next = task.next; storage = storage })
 
 abbrev pub machine_ahead : RegionState → List ℕ → Option Machine
-machine_ahead region name = option_and_then (runs_on region.storage) (task_of region name)
+machine_ahead region name = option_and_then (runs_on region.shared.storage) (task_of region name)
 
 -- how many instructions it comes to, and the last n of them
 unfoldable pub IsAhead : RegionState → List ℕ → ℕ → Option Trace → Type 0

@@ -1,8 +1,15 @@
 -- The definitions, in reading order, then what the laws state.
+pub mod Traces
+pub mod Laws
+pub mod Parts
 pub mod Rows
 pub mod Instructions
 pub mod Ahead
 pub mod Arrivals
-pub mod Laws
-pub mod Parts
-pub use Rattle.cx_look_words.specs.Words
+pub mod At
+pub use Rattle.cx_look_tables.specs.Words
+pub mod Writing
+pub mod Watching
+pub mod Facts
+pub use Rattle.cx_look_ahead.specs.Rows
+pub use Rattle.cx_look_ahead.specs.Ahead

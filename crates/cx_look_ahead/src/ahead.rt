@@ -1,16 +1,17 @@
 //! AHEAD.
 ghost use Rattle.std.specs.Prelude.{◌≡◌, [], ◌∷◌, ◌++◌, codes, IfOk, OnOk};
 ghost use Rattle.std.specs.List.{flat_map};
-ghost use Rattle.cx_look_words.specs.Words.{look_line};
-ghost use Rattle.cx_look_ahead.specs.Ahead.{AheadText, TurnText, end_line, row_line};
+ghost use Rattle.cx_look_tables.specs.Words.{look_line};
+ghost use Rattle.cx_look_ahead.specs.Ahead.{AheadText, TurnText, end_line, names_ahead, row_line};
 
 use crate::bytes::row_line;
 use crate::instructions::{trace_ahead, trace_lines};
 use crate::rows::{Row, rows_between};
-use cx_base_text::{shown, shown_name};
+use cx_base::{shown, shown_name};
 use cx_ebcdic::Name4;
+use cx_look_levels::{LevelNames, level_names, standing_at};
 use cx_look_symbols::Sources;
-use cx_look_words::Report;
+use cx_look_tables::Report;
 use cx_region::{Region, TurnReply};
 use cx_region_snapshot::turn_apart;
 use cx_storage::Store;
@@ -54,18 +55,34 @@ fn end_line(report: &mut Report, name: Name4, reply: &TurnReply) -> Result<(), A
     }
 }
 
+/// What the fields of the current level of a terminal's task are found by.
+fn names_ahead<S: Store + Drop>(
+    alloc: Global,
+    sources: &Sources,
+    region: &Region<S>,
+    name: Name4,
+) -> Result<Option<LevelNames>, AllocError>
+    ensures { IfOk result (λ names. names ≡ names_ahead sources.now region.now name) }
+{
+    match standing_at(region, name, None) {
+        Some(standing) => level_names(alloc, sources.source_lines(standing.program), &standing),
+        None => Ok(None),
+    }
+}
+
 /// Adds the lines of rows.
 fn row_lines<S: Store + Drop>(
     report: &mut Report,
+    names: &Option<LevelNames>,
     before: &Region<S>,
     after: &Region<S>,
     rows: &[Row],
 ) -> Result<(), AllocError>
-    ensures { let more = flat_map (row_line before.now.storage after.now.storage) rows.now in
-        OnOk result (report.new ≡ report.old ++ more) }
+    ensures { let line = row_line names.now before.now.shared.storage after.now.shared.storage in
+        OnOk result (report.new ≡ report.old ++ flat_map line rows.now) }
 {
     for row in rows {
-        row_line(report, before, after, *row)?;
+        row_line(report, names, before, after, *row)?;
     }
     Ok(())
 }
@@ -80,22 +97,23 @@ fn turn_text<S: Store + Drop>(
     before: &Region<S>,
     after: &Region<S>,
 ) -> Result<Report, AllocError>
-    ensures { IfOk result (λ report. TurnText sources.now before.now name most reply after.now.storage report) }
+    ensures { IfOk result (λ report. TurnText sources.now before.now name most reply after.now.shared.storage report) }
 {
     let mut report = Report::new(alloc);
     end_line(&mut report, name, &reply)?;
     let trace = trace_ahead(alloc, before, name, most)?;
     trace_lines(&mut report, sources, &before.shared().programs, &trace)?;
     let rows = rows_between(alloc, &before.shared().store, &after.shared().store)?;
-    row_lines(&mut report, before, after, &rows)?;
+    let names = names_ahead(alloc, sources, before, name)?;
+    row_lines(&mut report, &names, before, after, &rows)?;
     Ok(report)
 }
 
 /// Looks at what the next turn of a terminal will do: how it will end, in the words that are written for the turn;
 /// where it runs instructions how many, and a line for each of the last ones, at most `most`: its address and where that
 /// is, its bytes, and the statement of a source that has it; and a line for each row of bytes that it will change, with
-/// the first 64 of them before the turn and after it. The turn is done in a region like this one, and its instructions
-/// once more over a store like this region's, so nothing changes here.
+/// the first 64 of them before the turn and after it, and the field of the task's current level that has its first byte. The turn is done in
+/// a region like this one, and its instructions once more over a store like this region's, so nothing changes here.
 ///
 /// An error comes only where memory for these, for what the turn makes, or for the report was refused.
 pub fn ahead_text<S: Store + Drop>(

@@ -5,10 +5,10 @@ ghost use Rattle.cx_look_symbols.specs.Lines.{holds};
 ghost use Rattle.cx_region.specs.Tables.{task_of};
 ghost use Rattle.cx_look_ahead.specs.Arrivals.{ComesTo, are_among, does_some, has_statement, is_among, is_command_among, program_places, statements_on};
 
+use crate::Trace;
 use crate::instructions::{MOST_STEPS, trace_ahead};
 use cx_ebcdic::{Name4, Name8};
 use cx_load::Loaded;
-use cx_look_steps::Trace;
 use cx_look_symbols::{SourcePlaces, Sources, Spot, StatementPlace, holds, place_of, spot_before};
 use cx_region::Region;
 use cx_storage::{Store, address_in};
@@ -44,12 +44,12 @@ pub fn has_statement(sources: &Sources, line: SourceLine) -> bool
 }
 
 /// The statements on a line.
-fn statements_on(
+pub(crate) fn statements_on(
     alloc: Global,
     places: &SourcePlaces,
-    line: SourceLine,
+    line: &SourceLine,
 ) -> Result<Vec<StatementPlace>, AllocError>
-    ensures { IfOk result (λ found. found.items ≡ statements_on places.now.entries line) }
+    ensures { IfOk result (λ found. found.items ≡ statements_on places.now.entries line.now) }
 {
     program_places(places, line.program)
         .iter()
@@ -66,7 +66,7 @@ fn is_held(statements: &[StatementPlace], offset: u32) -> bool
 }
 
 /// Whether one of some statements of a program has a byte.
-fn is_among(program: Name8, statements: &[StatementPlace], spot: Option<Spot>) -> bool
+pub(crate) fn is_among(program: Name8, statements: &[StatementPlace], spot: Option<Spot>) -> bool
     ensures { result ≡ is_among program statements.now spot }
 {
     match spot {
@@ -95,7 +95,7 @@ fn is_command_among<S: Store + Drop>(
     statements: &[StatementPlace],
 ) -> bool
     ensures { let task = task_of region.now name in
-        result ≡ is_command_among region.now.programs program statements.now task }
+        result ≡ is_command_among region.now.shared.programs program statements.now task }
 {
     let Some(terminal) = region.terminals().get(&name) else {
         return false;
@@ -120,7 +120,7 @@ fn does_some<S: Store + Drop>(
     trace: &Option<Trace>,
 ) -> bool
     ensures { let task = task_of region.now name in
-        result ≡ does_some region.now.programs program statements.now task trace.now }
+        result ≡ does_some region.now.shared.programs program statements.now task trace.now }
 {
     match trace {
         Some(trace) => are_among(&region.shared().programs, program, statements, trace),
@@ -142,8 +142,7 @@ pub fn comes_to<S: Store + Drop>(
 ) -> Result<bool, AllocError>
     ensures { IfOk result (λ comes. ComesTo sources.now.places region.now name line comes) }
 {
-    let program = line.program;
-    let statements = statements_on(alloc, sources.places(), line)?;
+    let statements = statements_on(alloc, sources.places(), &line)?;
     let trace = trace_ahead(alloc, region, name, MOST_STEPS as usize)?;
-    Ok(does_some(region, name, program, &statements, &trace))
+    Ok(does_some(region, name, line.program, &statements, &trace))
 }

@@ -1,13 +1,16 @@
 //! Bytes in lines.
 ghost use Rattle.std.specs.Prelude.{◌≡◌, ◌^◌, ◌<◌, ◌++◌, IfOk, OnOk, codes};
+ghost use Rattle.cx_look_symbols.specs.Sources.{led_by};
 ghost use Rattle.std.specs.Option.{option_map_or};
-ghost use Rattle.cx_base_text.specs.Digits.{digits};
+ghost use Rattle.cx_base.specs.Digits.{digits};
 ghost use Rattle.cx_storage.specs.Storage.{byte_at};
-ghost use Rattle.cx_look_ahead.specs.Ahead.{bytes_word, row_line};
+ghost use Rattle.cx_look_ahead.specs.Ahead.{bytes_word, field_word, row_line};
 
 use crate::rows::Row;
-use cx_base_text::hexadecimal;
-use cx_look_words::{Report, decimal};
+use cx_base::{List, hexadecimal};
+use cx_look_levels::{LevelNames, near_word};
+use cx_look_symbols::push_led_by;
+use cx_look_tables::{Report, decimal};
 use cx_region::Region;
 use cx_storage::{Store, address_after};
 use std::alloc::{AllocError, Global};
@@ -44,20 +47,44 @@ pub fn bytes_word<S: Store>(
     Ok(text)
 }
 
+/// The field that has the byte at an address, and how far after its first that is.
+fn field_word(
+    alloc: Global,
+    names: &Option<LevelNames>,
+    address: u32,
+) -> Result<Option<List<u8>>, AllocError>
+    ensures { IfOk result (λ word. word ≡ field_word names.now address) }
+{
+    let Some(names) = names else {
+        return Ok(None);
+    };
+    let Some(near) = names.nearest(alloc, address)? else {
+        return Ok(None);
+    };
+    Ok(Some(List::from_vec(near_word(alloc, near)?)))
+}
+
 /// Adds the line of a row.
 #[tactic(auto, unfolding(crate::specs::Ahead::row_line))]
 pub(crate) fn row_line<S: Store + Drop>(
     report: &mut Report,
+    names: &Option<LevelNames>,
     before: &Region<S>,
     after: &Region<S>,
     row: Row,
 ) -> Result<(), AllocError>
-    ensures { OnOk result (report.new ≡ report.old ++ row_line before.now.storage after.now.storage row) }
+    ensures { let line = row_line names.now before.now.shared.storage after.now.shared.storage row in
+        OnOk result (report.new ≡ report.old ++ line) }
 {
     let shown = row.length.min(MOST_SHOWN);
     let at = hexadecimal::<6>(row.at);
     let length = decimal(report.alloc(), row.length as usize)?;
     let from = bytes_word(report.alloc(), &before.shared().store, row.at, shown)?;
-    let to = bytes_word(report.alloc(), &after.shared().store, row.at, shown)?;
+    let mut to = bytes_word(report.alloc(), &after.shared().store, row.at, shown)?;
+    push_led_by(
+        &mut to,
+        b" FIELD ",
+        &field_word(report.alloc(), names, row.at)?,
+    )?;
     report.line(&[b"CHANGES", &at, &length, b"FROM", &from, b"TO", &to])
 }

@@ -2,18 +2,18 @@
 ghost use Rattle.std.specs.Prelude.{◌≡◌, ◌++◌, codes, IfOk, OnOk};
 ghost use Rattle.std.specs.List.{flat_map};
 ghost use Rattle.std.specs.Option.{option_map, option_map_or};
-ghost use Rattle.cx_base_text.specs.Digits.{hex_digits};
+ghost use Rattle.cx_base.specs.Digits.{hex_digits};
 ghost use Rattle.cx_exec.specs.Machine.{machine};
 ghost use Rattle.cx_region_task.specs.Turn.{most_steps};
-ghost use Rattle.cx_look_steps.specs.Traces.{IsTrace};
+ghost use Rattle.cx_look_ahead.specs.Traces.{IsTrace};
 ghost use Rattle.cx_look_ahead.specs.Instructions.{IsAhead, count_line, machine_ahead, trace_lines, visit_line, visit_word};
 
+use crate::{Code, Trace, Visit, trace_run};
 use cx_ebcdic::{Name4, Name8};
 use cx_exec::Cpu;
 use cx_load::Loaded;
-use cx_look_steps::{Code, Trace, Visit, trace_run};
 use cx_look_symbols::{Place, Sources, address_word, place_of, push_led_by, statement_at};
-use cx_look_words::{Report, decimal, spelled};
+use cx_look_tables::{Report, decimal, spelled};
 use cx_region::Region;
 use cx_storage::Store;
 use cx_storage_snapshot::StorageSnapshot;
@@ -24,8 +24,8 @@ use std::alloc::{AllocError, Global};
 pub(crate) const MOST_STEPS: u32 = 65_536;
 
 /// The processor that a terminal's next turn runs; None where a command is due, or there is no task.
-fn cpu_ahead<S: Store + Drop>(region: &Region<S>, name: Name4) -> Option<Cpu>
-    ensures { option_map (λ cpu. machine cpu region.now.storage) result ≡ machine_ahead region.now name }
+pub(crate) fn cpu_ahead<S: Store + Drop>(region: &Region<S>, name: Name4) -> Option<Cpu>
+    ensures { option_map (λ cpu. machine cpu region.now.shared.storage) result ≡ machine_ahead region.now name }
 {
     let terminal = region.terminals().get(&name)?;
     let task = terminal.task()?;
@@ -104,7 +104,7 @@ fn visit_word(
 }
 
 /// Adds the line of an instruction.
-fn visit_line(
+pub(crate) fn visit_line(
     report: &mut Report,
     sources: &Sources,
     programs: &IndexMap<Name8, Loaded>,

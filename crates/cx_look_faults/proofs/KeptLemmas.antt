@@ -7,7 +7,7 @@ use Rattle.std.specs.Result.{result_err}
 use Rattle.std.specs.Str.{bytes_eq}
 use Rattle.std.proofs.lemmas.Bool.Decides.{nat_tests}
 use Rattle.std.proofs.lemmas.Grind.{reverse_onto}
-use Rattle.cx_base_commands.specs.declared.commands.Command.{Command}
+use Rattle.cx_base.specs.declared.commands.Command.{Command}
 use Rattle.cx_asm.specs.Assembly.{end_line, first_found, last_line, later_faults, second_faults_of}
 use Rattle.cx_asm_build.specs.Kinds.{of_assembly, of_source, of_translation}
 use Rattle.cx_asm_build.specs.Prepared.{prepared_of}

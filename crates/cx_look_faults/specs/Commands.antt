@@ -3,13 +3,13 @@ use Rattle.std.specs.Prelude.{ℕ, Bool, ◌&&◌, not, ◌==◌, if◌then◌el
 use Rattle.std.specs.List.{find, list_any}
 use Rattle.std.specs.Option.{option_map_or, option_or, option_zip}
 use Rattle.std.specs.Str.{bytes_eq}
-use Rattle.cx_base_commands.specs.Commands.{command_named, row_of}
-use Rattle.cx_base_commands.specs.Legal.{lists_conditions}
-use Rattle.cx_base_commands.specs.Options.{option_name}
-use Rattle.cx_base_commands.specs.declared.commands.Command.{Command}
-use Rattle.cx_base_commands.specs.declared.options.CommandOption.{CommandOption}
-use Rattle.cx_base_commands.specs.declared.options.Rule.{Rule}
-use Rattle.cx_base_commands.specs.declared.options.Rule.TheVariants.{Together, NotBoth, Needs, OneOfTwo, OneOfThree}
+use Rattle.cx_base.specs.Commands.{command_named, row_of}
+use Rattle.cx_base.specs.Legal.{lists_conditions}
+use Rattle.cx_base.specs.Options.{option_name}
+use Rattle.cx_base.specs.declared.commands.Command.{Command}
+use Rattle.cx_base.specs.declared.options.CommandOption.{CommandOption}
+use Rattle.cx_base.specs.declared.options.Rule.{Rule}
+use Rattle.cx_base.specs.declared.options.Rule.TheVariants.{Together, NotBoth, Needs, OneOfTwo, OneOfThree}
 use Rattle.cx_source.specs.Lines.{trim_blanks}
 use Rattle.cx_asm_build.specs.declared.faults.SourceKind.{SourceKind}
 use Rattle.cx_asm_build.specs.declared.faults.SourceKind.TheVariants as kind

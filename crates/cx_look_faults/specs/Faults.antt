@@ -139,6 +139,7 @@ kinds_of faults = fold put_line [] faults
 abbrev pub by_number : List FaultyLine → List FaultyLine
 by_number faults = map (λ entry. faulty entry.0 entry.1) (kinds_of faults)
 
--- the faulty lines of the source that lines make, ascending, each with the lowest fault of the first stage that finds one
+-- the faulty lines of the source that lines make, ascending, each with the lowest fault of the first stage that finds
+-- one
 unfoldable pub faults_of : List (List ℕ) → List FaultyLine
 faults_of all = by_number (lines_by_stages all)

@@ -1,16 +1,16 @@
--- What is accepted and is most likely not meant: in an EXEC statement an address where a value is due, and a literal where
--- the command writes; in a DC `*` in an item of several copies (own).
+-- What is accepted and is most likely not meant: in an EXEC statement an address where a value is due, and a literal
+-- where the command writes; in a DC `*` in an item of several copies (own).
 use Rattle.std.specs.Prelude.{ℕ, Bool, ◌&&◌, false, if◌then◌else◌, is_none, nat_le, nat_lt, Option, Some, None, List, [], ◌++◌, codes, option_and_then, option_map}
 use Rattle.std.specs.List.{filter_map, find, flat_map, list_all, list_any}
 use Rattle.std.specs.Option.{option_map_or}
 use Rattle.std.specs.Result.{result_ok}
 use Rattle.std.specs.Str.{byte, bytes_eq}
-use Rattle.cx_base_commands.specs.Commands.{row_of}
-use Rattle.cx_base_commands.specs.Options.{option_name}
-use Rattle.cx_base_commands.specs.declared.commands.Command.{Command}
-use Rattle.cx_base_commands.specs.declared.options.ArgumentKind.{ArgumentKind}
-use Rattle.cx_base_commands.specs.declared.options.ArgumentKind.TheVariants as argument
-use Rattle.cx_base_commands.specs.declared.options.CommandOption.{CommandOption}
+use Rattle.cx_base.specs.Commands.{row_of}
+use Rattle.cx_base.specs.Options.{option_name}
+use Rattle.cx_base.specs.declared.commands.Command.{Command}
+use Rattle.cx_base.specs.declared.options.ArgumentKind.{ArgumentKind}
+use Rattle.cx_base.specs.declared.options.ArgumentKind.TheVariants as argument
+use Rattle.cx_base.specs.declared.options.CommandOption.{CommandOption}
 use Rattle.cx_source.specs.Lines.{skip_blanks, trim_blanks}
 use Rattle.cx_source.specs.Mended.{source_read}
 use Rattle.cx_source.specs.declared.source.Item.{Item}

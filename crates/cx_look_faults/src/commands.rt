@@ -32,7 +32,7 @@ ghost use Rattle.cx_look_faults.specs.Spans.{span};
 use crate::judging::has_exec_fault;
 use crate::spans::{Cut, Span, cells_of, spans_of, text_in};
 use cx_asm_build::SourceKind;
-use cx_base_commands::{Command, CommandOption, Rule};
+use cx_base::{Command, CommandOption, Rule};
 use cx_source::trim_blanks;
 use std::alloc::{AllocError, Global};
 

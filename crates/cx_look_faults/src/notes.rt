@@ -9,7 +9,7 @@ ghost use Rattle.cx_asm_expressions.specs.Items.{Constant as ConstantValue, cons
 ghost use Rattle.cx_asm_operands.specs.Storage.{is_literal};
 ghost use Rattle.cx_asm_pass1.specs.Locations.{IsPlaced, final_state};
 ghost use Rattle.cx_asm_pass2.specs.Whole.{whole_by, whole_of};
-ghost use Rattle.cx_base_commands.specs.Options.{option_name};
+ghost use Rattle.cx_base.specs.Options.{option_name};
 ghost use Rattle.cx_look_faults.specs.Notes.{
   argument_of,
   bare,
@@ -43,7 +43,7 @@ use crate::positions::{SourceStmt, Spot};
 use crate::spans::{Cut, Span, cells_of, spans_of, text_in};
 use cx_asm_expressions::{Constant, TermFault, parenthesized_body, value_of};
 use cx_asm_pass1::{Places, place_with_faults};
-use cx_base_commands::{ArgumentKind, CommandOption};
+use cx_base::{ArgumentKind, CommandOption};
 use cx_source::{Item, Source, Text, skip_blanks, source_with_faults, trim_blanks};
 use cx_translate::translate_with_faults;
 use std::alloc::{AllocError, Global};

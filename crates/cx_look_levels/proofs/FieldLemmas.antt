@@ -16,7 +16,7 @@ use Rattle.cx_asm_pass1.specs.declared.place.LineFault.{LineFault}
 use Rattle.cx_asm_pass2.specs.SecondFaults.{bases_after, bases_after_all}
 use Rattle.cx_asm_pass2.specs.Statements.{PlacedStatement}
 use Rattle.cx_asm_pass2.specs.Whole.{Whole, whole_of}
-use Rattle.cx_look_levels.specs.Fields.{bases_at, bases_in, field_by, stands_at}
+use Rattle.cx_look_levels.specs.Fields.{bases_at, bases_at_offset, field_by, stands_at}
 use Rattle.cx_look_levels.specs.Laws.{FieldsAreOperands, context_at}
 
 -- ---- bases, statement by statement
@@ -57,9 +57,9 @@ fields_are_operands source offset before s after regs name text value address at
     let made : implied_address bases value ≡ Ok address =
     sym (ap (λ (o : Option Operand). option_map_or (λ (it : Operand). address_by_subfields c it.place it.subfields) o (Err BadOperand)) written)
     ∙ makes in
-    let known : bases_in source offset ≡ Some bases =
+    let known : bases_at_offset source offset ≡ Some bases =
     ap (λ (l : List PlacedStatement). bases_at w offset none_in_use l) at.among
     ∙ found w offset none_in_use before s after at.first at.there
     ∙ ap (λ (it : Bases). Some it)
     (sym (ap (λ (l : List PlacedStatement). bases_after_all w l) (sym (append-nil (reverse before))) ∙ all_passed w before [])) in
-    by_parts regs bases value address (final_state source).fault (w.find name) (bases_in source offset) fault there known made
+    by_parts regs bases value address (final_state source).fault (w.find name) (bases_at_offset source offset) fault there known made

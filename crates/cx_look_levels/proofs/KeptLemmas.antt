@@ -6,8 +6,8 @@ use Rattle.std.proofs.lemmas.List.{get_or-drop, get_or-take, length-drop, length
 use Rattle.cx_storage.specs.Address.{address_after}
 use Rattle.cx_storage.specs.Facts.Spans.{span_at, span_from, span_length}
 use Rattle.cx_storage.specs.Storage.{Storage, byte_at, span}
-use Rattle.cx_look_values.specs.Readings.{reading_named}
-use Rattle.cx_look_levels.specs.FieldTexts.{bytes_word, field_words}
+use Rattle.cx_look_levels.specs.Readings.{reading_named}
+use Rattle.cx_look_levels.specs.FieldTexts.{field_bytes_word, field_words}
 use Rattle.cx_look_levels.specs.KeptFields.{first_bytes, kept_field}
 use Rattle.cx_look_levels.specs.Laws.{KeptFieldsAreOfStorage}
 
@@ -37,5 +37,5 @@ part_of s at count offset n bytes small is h =
 
 pub kept_fields_are_of_storage : KeptFieldsAreOfStorage
 kept_fields_are_of_storage s at count bytes term readings name value offset small is h =
-    ap (λ (o : Option (List ℕ)). field_words term name (kept_field at offset value) (bytes_word (reading_named readings name) o))
+    ap (λ (o : Option (List ℕ)). field_words term name (kept_field at offset value) (field_bytes_word (reading_named readings name) o))
     (part_of s at count offset (min 32 value.length) bytes small is h)

@@ -23,7 +23,7 @@ use Rattle.cx_look_symbols.specs.Lines.{holds}
 use Rattle.cx_look_symbols.specs.Places.{spot_before, spot_of}
 use Rattle.cx_look_symbols.specs.Statements.{place_of}
 use Rattle.cx_look_symbols.specs.declared.places.Spot.{Spot}
-use Rattle.cx_look_levels.specs.Levels.{goes_on}
+use Rattle.cx_look_levels.specs.Levels.{resume_address}
 use Rattle.cx_look_levels.specs.declared.fields.Field.{Field}
 use Rattle.cx_look_levels.specs.declared.standing.Standing.{Standing}
 
@@ -31,7 +31,7 @@ use Rattle.cx_look_levels.specs.declared.standing.Standing.{Standing}
 -- a level that has called another is at its last command
 abbrev pub calling : List (List ℕ × Loaded) → Level → Standing
 calling programs level =
-    record { program = level.program; regs = level.regs; spot = spot_before programs (goes_on level) }
+    record { program = level.program; regs = level.regs; spot = spot_before programs (resume_address level) }
 
 -- the current one is at the command that is due, or else at its next instruction
 abbrev pub spot_now : List (List ℕ × Loaded) → TaskState → Option Spot
@@ -48,13 +48,13 @@ level_numbered programs task k =
     if k == length (all_levels task.levels) then Some (current programs task)
     else option_map (calling programs) (slice_get (all_levels task.levels) (k - 1))
 
-unfoldable pub standing_of : List (List ℕ × Loaded) → TaskState → Option ℕ → Option Standing
-standing_of programs task None = Some (current programs task)
-standing_of programs task (Some k) = level_numbered programs task k
+unfoldable pub standing_in : List (List ℕ × Loaded) → TaskState → Option ℕ → Option Standing
+standing_in programs task None = Some (current programs task)
+standing_in programs task (Some k) = level_numbered programs task k
 
 -- the offset in the level's own program
-abbrev pub offset_of : Standing → Option ℕ
-offset_of standing =
+abbrev pub own_offset : Standing → Option ℕ
+own_offset standing =
     option_and_then (λ it. if is_name it.program standing.program then Some it.offset else None) standing.spot
 
 -- ---- the bases in use in front of the statement that has the byte at an offset
@@ -66,8 +66,8 @@ bases_at whole offset bases [] = None
 bases_at whole offset bases (s ∷ after) =
     if stands_at whole offset s then Some bases else bases_at whole offset (bases_after whole bases s) after
 
-abbrev pub bases_in : Source → ℕ → Option Bases
-bases_in source offset = bases_at (whole_of source) offset none_in_use (statements_of source)
+abbrev pub bases_at_offset : Source → ℕ → Option Bases
+bases_at_offset source offset = bases_at (whole_of source) offset none_in_use (statements_of source)
 
 -- ---- a value's address by the base that the assembler chooses for it, and its length
 unfoldable pub field_by : List ℕ → Bases → Value → Option Field
@@ -80,7 +80,7 @@ abbrev pub field_in : Source → List ℕ → ℕ → List ℕ → Option Field
 field_in source regs offset name =
     if is_none (final_state source).fault
     then option_and_then (λ bases. option_and_then (field_by regs bases) ((whole_of source).find name))
-    (bases_in source offset)
+    (bases_at_offset source offset)
     else None
 
 -- a symbol of a dummy section

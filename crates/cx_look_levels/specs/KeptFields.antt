@@ -3,16 +3,15 @@ use Rattle.std.specs.Prelude.{ℕ, min, nat_le, pos, int_le, unsigned_abs, ◌&&
 use Rattle.std.specs.List.{flat_map}
 use Rattle.std.specs.Option.{option_map_or}
 use Rattle.cx_storage.specs.Address.{address_after}
-use Rattle.cx_source.specs.declared.source.Source.{Source}
 use Rattle.cx_asm_expressions.specs.Names.{symbol_name}
 use Rattle.cx_asm_expressions.specs.declared.values.Value.{Value}
 use Rattle.cx_asm_pass1.specs.PassState.{is_control}
-use Rattle.cx_look_words.specs.Words.{Lines}
-use Rattle.cx_look_symbols.specs.Symbols.{SourceSymbols, named_of, translated_in}
+use Rattle.cx_look_tables.specs.Words.{Lines}
+use Rattle.cx_look_symbols.specs.Symbols.{named_of, translated_in}
 use Rattle.cx_look_symbols.specs.declared.rows.Symbol.{Symbol}
-use Rattle.cx_look_values.specs.Readings.{reading_named, readings_of}
-use Rattle.cx_look_values.specs.declared.readings.NamedReading.{NamedReading}
-use Rattle.cx_look_levels.specs.FieldTexts.{bytes_word, field_words}
+use Rattle.cx_look_levels.specs.Readings.{reading_named, readings_of}
+use Rattle.cx_look_levels.specs.declared.readings.NamedReading.{NamedReading}
+use Rattle.cx_look_levels.specs.FieldTexts.{field_bytes_word, field_words}
 use Rattle.cx_look_levels.specs.declared.fields.Field.{Field}
 
 -- the offset of a symbol in the dummy section DFHEISTG, where that is in the first `count` bytes or right after them
@@ -33,19 +32,16 @@ kept_field at offset value = record { address = address_after at offset; length 
 abbrev pub kept_line : List ℕ → List NamedReading → ℕ → List ℕ → List ℕ → Value → ℕ → Lines
 kept_line term readings at bytes name value offset =
     field_words term name (kept_field at offset value)
-    (bytes_word (reading_named readings name) (first_bytes (min 32 value.length) (drop offset bytes)))
+    (field_bytes_word (reading_named readings name) (first_bytes (min 32 value.length) (drop offset bytes)))
 
 abbrev pub kept_row : List ℕ → List NamedReading → ℕ → List ℕ → List ℕ × Symbol → Lines
 kept_row term readings at bytes (name, symbol) =
     option_map_or (kept_line term readings at bytes name symbol.value) (offset_in (length bytes) symbol.value) []
 
-abbrev pub kept_rows : List ℕ → List NamedReading → ℕ → List ℕ → Option SourceSymbols → Lines
-kept_rows term readings at bytes named =
-    option_map_or (λ it. flat_map (kept_row term readings at bytes) it.rows) named []
-
 -- those of a source, in its order
-abbrev pub kept_in_source : List ℕ → ℕ → List ℕ → Source → Lines
-kept_in_source term at bytes source = kept_rows term (readings_of source) at bytes (named_of source)
-
 unfoldable pub kept_fields : List ℕ → List (List ℕ) → ℕ → List ℕ → Lines
-kept_fields term lines at bytes = option_map_or (kept_in_source term at bytes) (translated_in lines) []
+kept_fields term lines at bytes =
+    option_map_or (λ source.
+    let line = kept_row term (readings_of source) at bytes in
+    option_map_or (λ named. flat_map line named.rows) (named_of source) [])
+    (translated_in lines) []

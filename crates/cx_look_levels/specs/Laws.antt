@@ -1,5 +1,5 @@
--- Where a field is, and what is written of one that was kept.
-use Rattle.std.specs.Prelude.{◌≡◌, ◌≤◌, ◌<◌, ◌^◌, ◌+◌, ℕ, min, true, false, Some, None, Ok, List, [], ◌∷◌, ◌++◌, reverse}
+-- Where a field is, what is written of one that was kept, and what WHERE reports (own).
+use Rattle.std.specs.Prelude.{◌≡◌, ◌≤◌, ◌<◌, ◌^◌, ◌+◌, ℕ, min, true, false, Some, None, Ok, List, [], ◌∷◌, ◌++◌, reverse, Option}
 use Rattle.std.specs.List.{AllByRecursion}
 use Rattle.cx_exec.specs.Machine.{effective}
 use Rattle.cx_storage.specs.Storage.{Storage, span}
@@ -12,10 +12,17 @@ use Rattle.cx_asm_pass1.specs.Locations.{final_state}
 use Rattle.cx_asm_pass2.specs.SecondFaults.{bases_after_all}
 use Rattle.cx_asm_pass2.specs.Statements.{PlacedStatement, statements_of}
 use Rattle.cx_asm_pass2.specs.Whole.{instruction_context, whole_of}
-use Rattle.cx_look_values.specs.declared.readings.NamedReading.{NamedReading}
-use Rattle.cx_look_levels.specs.Fields.{field_in, stands_at}
+use Rattle.cx_look_levels.specs.declared.readings.NamedReading.{NamedReading}
+use Rattle.cx_look_levels.specs.Fields.{field_in, stands_at, is_field, own_offset}
 use Rattle.cx_look_levels.specs.FieldTexts.{field_line, typed}
 use Rattle.cx_look_levels.specs.KeptFields.{kept_field, kept_line}
+use Rattle.cx_storage.specs.Address.{distance}
+use Rattle.cx_look_symbols.specs.Symbols.{Rows, SourceSymbols, named_in, named_of, translated_in}
+use Rattle.cx_look_symbols.specs.declared.rows.Symbol.{Symbol}
+use Rattle.cx_look_levels.specs.declared.fields.Field.{Field}
+use Rattle.cx_look_levels.specs.declared.standing.Standing.{Standing}
+use Rattle.cx_look_levels.specs.Names.{near_label, nearest_field, nearest_label}
+use Rattle.cx_look_levels.specs.declared.nearest.Near.{Near}
 
 -- the statement that has the byte at an offset: none in front of it has the byte
 pub record IsStatementAt (source : Source) (offset : ℕ) (before : List PlacedStatement) (s : PlacedStatement)
@@ -41,10 +48,53 @@ FieldsAreOperands =
     → field_in source regs offset name
     ≡ Some (record { address = effective regs 0 address.base address.displacement; length = value.length })
 
--- Of a field that is all in the bytes that were kept of a storage, what is written is what FIELD writes in that storage.
+-- Of a field that is all in the bytes that were kept of a storage, what is written is what FIELD writes in that
+-- storage.
 abbrev pub KeptFieldsAreOfStorage : Type 0
 KeptFieldsAreOfStorage =
     (s : Storage) (at count : ℕ) (bytes term : List ℕ) (readings : List NamedReading) (name : List ℕ) (value : Value)
     → (offset : ℕ) → at < 2 ^ 24 → span s at count ≡ Some bytes → offset + min 32 value.length ≤ count
     → kept_line term readings at bytes name value offset
     ≡ field_line s term name (typed readings name (kept_field at offset value))
+
+-- ---- the nearest of some names: `Has` says of a name that it is there, and how many bytes after its first the place
+-- is. It is the one that begins last, and of equal ones the first.
+pub record IsNearestSymbol (Has : List ℕ × Symbol → ℕ → Type 0) (rows : Rows) (near : Near) : Type 0 where
+  pub before : Rows
+  pub symbol : Symbol
+  pub after : Rows
+  pub among : rows ≡ before ++ (near.name, symbol) ∷ after
+  pub has : Has (near.name, symbol) near.distance
+  pub nearer : AllByRecursion (λ row. (n : ℕ) → Has row n → near.distance < n) before
+  pub as_near : AllByRecursion (λ row. (n : ℕ) → Has row n → near.distance ≤ n) after
+
+-- None only where there is none.
+unfoldable pub MatchNearest : (List ℕ × Symbol → ℕ → Type 0) → Rows → Option Near → Type 0
+MatchNearest Has rows None = AllByRecursion (λ row. (n : ℕ) → Has row n → ⊥) rows
+MatchNearest Has rows (Some near) = IsNearestSymbol Has rows near
+
+-- ---- fields
+-- FIELD finds the name, that of a dummy section's symbol, as a field which has the byte at an address, n after its
+-- first
+pub record FieldHasByte (source : Source) (regs : List ℕ) (offset : ℕ) (control : Option (List ℕ)) (address : ℕ)
+    (row : List ℕ × Symbol) (n : ℕ) : Type 0 where
+  pub dummy : is_field control row.1.value ≡ true
+  pub field : Field
+  pub found : field_in source regs offset row.0 ≡ Some field
+  pub place : distance field.address address ≡ n
+  pub within : n < field.length
+
+abbrev pub NearestFieldIs : Type 0
+NearestFieldIs = (lines : List (List ℕ)) (standing : Standing) (offset : ℕ) (source : Source) (named : SourceSymbols)
+    → (address : ℕ)
+    → own_offset standing ≡ Some offset → translated_in lines ≡ Some source → named_of source ≡ Some named
+    → MatchNearest (FieldHasByte source standing.regs offset named.control address) named.rows
+    (nearest_field address lines standing)
+
+-- ---- labels
+abbrev pub IsLabel : ℕ → Option (List ℕ) → List ℕ × Symbol → ℕ → Type 0
+IsLabel offset control row n = near_label offset control row ≡ Some (record { name = row.0; distance = n })
+
+abbrev pub NearestLabelIs : Type 0
+NearestLabelIs = (lines : List (List ℕ)) (offset : ℕ) (named : SourceSymbols) → named_in lines ≡ Some named
+    → MatchNearest (IsLabel offset named.control) named.rows (nearest_label offset lines)

@@ -2,10 +2,10 @@
 use Rattle.std.specs.Prelude.{ℕ, ◌+◌, Option, List, [], ◌∷◌, ◌++◌, length, reverse, slice_index, codes}
 use Rattle.std.specs.List.{flat_map}
 use Rattle.std.specs.Option.{option_map_or}
-use Rattle.cx_base_commands.specs.Conditions.{entry_of, handled_conditions}
-use Rattle.cx_base_commands.specs.Eistg.{eistg_field}
-use Rattle.cx_base_commands.specs.declared.conditions.Condition.{Condition}
-use Rattle.cx_base_commands.specs.declared.eistg.EistgField.TheVariants.{Eicap}
+use Rattle.cx_base.specs.Conditions.{entry_of, handled_conditions}
+use Rattle.cx_base.specs.Eistg.{eistg_field}
+use Rattle.cx_base.specs.declared.conditions.Condition.{Condition}
+use Rattle.cx_base.specs.declared.eistg.EistgField.TheVariants.{Eicap}
 use Rattle.cx_storage.specs.Address.{address_in, address_after}
 use Rattle.cx_storage.specs.Storage.{Storage}
 use Rattle.cx_storage.specs.Word.{word_at}
@@ -19,9 +19,9 @@ use Rattle.cx_program.specs.declared.entries.Exit.{Exit}
 use Rattle.cx_program.specs.declared.entries.Exit.TheVariants as exit
 use Rattle.cx_program.specs.declared.level.Level.{Level}
 use Rattle.cx_region_state.specs.State.{SharedState}
-use Rattle.cx_base_text.specs.Digits.{digits}
-use Rattle.cx_base_text.specs.Texts.{shown_name}
-use Rattle.cx_look_words.specs.Words.{look_line, Lines}
+use Rattle.cx_base.specs.Digits.{digits}
+use Rattle.cx_base.specs.Texts.{shown_name}
+use Rattle.cx_look_tables.specs.Words.{look_line, Lines}
 use Rattle.cx_look_symbols.specs.Lines.{SourcePlaces}
 use Rattle.cx_look_symbols.specs.Places.{address_word, place_of, place_word, spot_before}
 use Rattle.cx_look_symbols.specs.Sources.{Sources, statement_at}
@@ -39,8 +39,8 @@ pushed_number k n = level_number k ++ codes " PUSHED " ++ digits 10 2 n
 
 -- ---- its program, where it goes on, its DFHEISTG, the word at DFHEICAP, EIBCALEN, how many PUSH HANDLEs keep
 -- something the address in the register 14 that it kept
-abbrev pub goes_on : Level → ℕ
-goes_on level = address_in (slice_index level.regs 14)
+abbrev pub resume_address : Level → ℕ
+resume_address level = address_in (slice_index level.regs 14)
 
 abbrev pub cap_word : Storage → Level → List ℕ
 cap_word s level =
@@ -49,7 +49,8 @@ cap_word s level =
 unfoldable pub level_line : SharedState → ℕ → Level → Lines
 level_line shared k level =
     level_words (level_number k)
-    (codes "PROGRAM" ∷ shown_name level.program ∷ codes "R14" ∷ address_word (place_of shared.programs (goes_on level))
+    (codes "PROGRAM" ∷ shown_name level.program ∷ codes "R14"
+    ∷ address_word (place_of shared.programs (resume_address level))
     ∷ codes "DFHEISTG" ∷ digits 16 6 level.stg ∷ codes "LENGTH" ∷ digits 16 6 level.stg_len ∷ codes "DFHEICAP"
     ∷ cap_word shared.storage level
     ∷ codes "EIBCALEN" ∷ digits 16 4 level.calen ∷ codes "PUSHED" ∷ digits 10 2 (length level.handles.kept) ∷ [])
@@ -60,8 +61,9 @@ abbrev pub command_lines : ℕ → Option (List ℕ) → Lines
 command_lines k command =
     option_map_or (λ it. level_words (level_number k) (codes "COMMAND" ∷ codes "LINE" ∷ it ∷ [])) command []
 
-unfoldable pub last_line : Sources → List (List ℕ × Loaded) → ℕ → Level → Lines
-last_line sources programs k level = command_lines k (statement_at sources (spot_before programs (goes_on level)))
+unfoldable pub last_command_line : Sources → List (List ℕ × Loaded) → ℕ → Level → Lines
+last_command_line sources programs k level =
+    command_lines k (statement_at sources (spot_before programs (resume_address level)))
 
 -- ---- handles, with the number of their level: a condition that is ignored, and one with a label
 abbrev pub ignore_line : List ℕ → Condition → Lines
@@ -105,7 +107,7 @@ pushed_lines sources programs k n (handling ∷ more) =
 -- first; and levels from the number k on
 unfoldable pub level_text : Sources → SharedState → ℕ → Level → Lines
 level_text sources shared k level =
-    (level_line shared k level ++ last_line sources shared.programs k level)
+    (level_line shared k level ++ last_command_line sources shared.programs k level)
     ++ (handling_lines sources.places shared.programs (level_number k) level.handles.active
     ++ pushed_lines sources.places shared.programs k 1 (reverse level.handles.kept))
 

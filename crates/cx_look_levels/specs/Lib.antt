@@ -1,8 +1,15 @@
--- The definitions, in reading order.
+-- The definitions, in reading order, then what the laws state.
+pub mod Numbers
+pub mod Readings
+pub mod Texts
 pub mod Levels
 pub mod Tasks
 pub mod Fields
 pub mod FieldTexts
+pub mod Chosen
 pub mod KeptFields
 pub mod Laws
 pub mod Parts
+pub mod Nearest
+pub mod Names
+pub mod Wheres

@@ -1,19 +1,19 @@
 -- TASK: what is kept of a task (own).
 use Rattle.std.specs.Prelude.{ℕ, List, [], ◌∷◌, ◌++◌, codes, Result, Ok, Err, if◌then◌else◌}
 use Rattle.std.specs.Option.{option_map_or}
-use Rattle.cx_base_commands.specs.Commands.{row_of}
+use Rattle.cx_base.specs.Commands.{row_of}
 use Rattle.cx_storage.specs.Storage.{Storage}
 use Rattle.cx_program.specs.Levels.{all_levels}
-use Rattle.cx_region_call.specs.Call.{Call, call_of}
-use Rattle.cx_region_call.specs.declared.call.CallFault.{CallFault}
+use Rattle.cx_region_state.specs.Call.{Call, call_of}
+use Rattle.cx_region_state.specs.declared.call.CallFault.{CallFault}
 use Rattle.cx_region_state.specs.State.{SharedState, TaskState}
 use Rattle.cx_region_task.specs.Performing.{list_of}
-use Rattle.cx_region.specs.State.{RegionState, shared_of}
+use Rattle.cx_region.specs.State.{RegionState}
 use Rattle.cx_region.specs.Tables.{task_of}
-use Rattle.cx_base_text.specs.Digits.{digits}
-use Rattle.cx_base_text.specs.Texts.{shown_name}
-use Rattle.cx_look_words.specs.Registers.{register_lines}
-use Rattle.cx_look_words.specs.Words.{look_line, Lines}
+use Rattle.cx_base.specs.Digits.{digits}
+use Rattle.cx_base.specs.Texts.{shown_name}
+use Rattle.cx_look_tables.specs.Registers.{register_lines}
+use Rattle.cx_look_tables.specs.Words.{look_line, Lines}
 use Rattle.cx_look_symbols.specs.Lines.{SourcePlaces}
 use Rattle.cx_look_symbols.specs.Places.{place_of, place_word}
 use Rattle.cx_look_symbols.specs.Sources.{Sources}
@@ -38,20 +38,20 @@ abbrev pub task_line : SharedState → List ℕ → TaskState → Lines
 task_line shared name task = task_words name task (due_word shared.storage task)
 
 -- ---- its condition code, and where it goes on
-unfoldable pub state_line : SourcePlaces → SharedState → TaskState → Lines
-state_line sources shared task =
+unfoldable pub cc_next_line : SourcePlaces → SharedState → TaskState → Lines
+cc_next_line sources shared task =
     look_line
     (codes "CC" ∷ digits 10 1 task.cc ∷ codes "NEXT" ∷ place_word sources (place_of shared.programs task.next) ∷ [])
 
 -- ---- all, with its registers, and its levels from the highest, which is number 1
-abbrev pub text_of : Sources → SharedState → List ℕ → TaskState → Lines
-text_of sources shared name task =
-    task_line shared name task ++ register_lines task.regs ++ state_line sources.places shared task
+abbrev pub task_lines_of : Sources → SharedState → List ℕ → TaskState → Lines
+task_lines_of sources shared name task =
+    task_line shared name task ++ register_lines task.regs ++ cc_next_line sources.places shared task
     ++ levels_text sources shared 1 (all_levels task.levels)
 
-abbrev pub none_line : List ℕ → Lines
-none_line name = look_line (codes "TASK" ∷ shown_name name ∷ codes "NONE" ∷ [])
+abbrev pub no_task_line : List ℕ → Lines
+no_task_line name = look_line (codes "TASK" ∷ shown_name name ∷ codes "NONE" ∷ [])
 
 unfoldable pub task_text : Sources → RegionState → List ℕ → Lines
 task_text sources region name =
-    option_map_or (text_of sources (shared_of region) name) (task_of region name) (none_line name)
+    option_map_or (task_lines_of sources region.shared name) (task_of region name) (no_task_line name)

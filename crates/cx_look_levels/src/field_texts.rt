@@ -3,19 +3,21 @@ ghost use Rattle.std.specs.Prelude.{◌≡◌, ◌<◌, ◌^◌, ◌++◌, [], I
 ghost use Rattle.std.specs.List.{flat_map};
 ghost use Rattle.cx_asm_pass1.specs.Locations.{IsPlaced, final_state};
 ghost use Rattle.cx_storage.specs.Storage.{span};
-ghost use Rattle.cx_base_text.specs.Texts.{shown_name};
-ghost use Rattle.cx_look_levels.specs.FieldTexts.{bytes_word, field_line, field_text, field_there, field_words, fields_text, fields_there, no_field, program_at, row_line, source_lines, standing_at, typed_in};
+ghost use Rattle.cx_base.specs.Texts.{shown_name};
+ghost use Rattle.cx_look_levels.specs.FieldTexts.{field_bytes_word, field_line, field_text, field_there, field_words, fields_text, fields_there, no_field, program_at, symbol_field_line, source_field_lines, standing_at, typed_in};
 
-use crate::fields::{Field, SourcePoint, TypedField, bases_in, field_by, field_in, is_field};
-use crate::standing::{Standing, standing_of};
+use crate::fields::{
+    Field, SourcePoint, TypedField, bases_at_offset, field_by, field_in, is_field,
+};
+use crate::standing::{Standing, standing_in};
 use crate::tasks::task_of;
+use crate::{NamedReading, Reading, reading_named, readings_of, value_text};
 use cx_asm_operands::Bases;
 use cx_asm_pass1::{Places, place_all};
-use cx_base_text::{hexadecimal, shown, shown_name};
+use cx_base::{hexadecimal, shown, shown_name};
 use cx_ebcdic::{Name4, Name8};
 use cx_look_symbols::{Names, Symbol, length_word, names_of_places, translated_in};
-use cx_look_values::{NamedReading, Reading, reading_named, readings_of, value_text};
-use cx_look_words::{Report, in_apostrophes, spelled, written_name};
+use cx_look_tables::{Report, in_apostrophes, spelled, written_name};
 use cx_region::Region;
 use cx_source::{Source, Text};
 use cx_storage::Store;
@@ -41,7 +43,7 @@ pub(crate) fn word_of(
     bytes: &[u8],
     reading: Option<Reading>,
 ) -> Result<Vec<u8>, AllocError>
-    ensures { IfOk result (λ word. word.items ≡ bytes_word reading (Some bytes.now)) }
+    ensures { IfOk result (λ word. word.items ≡ field_bytes_word reading (Some bytes.now)) }
 {
     let characters = in_apostrophes(alloc, &shown(alloc, bytes)?)?;
     let mut word = spelled(alloc, bytes)?;
@@ -52,7 +54,7 @@ pub(crate) fn word_of(
 }
 
 /// A field's first bytes in hexadecimal digits and in characters, and the number that they are.
-fn bytes_word<S: Store>(
+fn field_bytes_word<S: Store>(
     alloc: Global,
     store: &S,
     field: Field,
@@ -60,7 +62,7 @@ fn bytes_word<S: Store>(
 ) -> Result<Vec<u8>, AllocError>
     requires { field.address < 2 ^ 24 }
     ensures { let bytes = span (S.storage store.now) field.address (min 32 field.length) in
-        IfOk result (λ word. word.items ≡ bytes_word reading bytes) }
+        IfOk result (λ word. word.items ≡ field_bytes_word reading bytes) }
 {
     let mut buffer = [0; MOST_BYTES];
     let count = count_of(field.length);
@@ -109,7 +111,7 @@ fn field_line<S: Store>(
     requires { typed.field.address < 2 ^ 24 }
     ensures { OnOk result (report.new ≡ report.old ++ field_line (S.storage store.now) term name typed) }
 {
-    let bytes = bytes_word(report.alloc(), store, typed.field, typed.reading)?;
+    let bytes = field_bytes_word(report.alloc(), store, typed.field, typed.reading)?;
     field_words(report, term, name, typed.field, &bytes)
 }
 
@@ -134,7 +136,7 @@ pub fn standing_at<S: Store + Drop>(
     ensures { result ≡ standing_at region.now term k }
 {
     let task = task_of(region, term)?;
-    standing_of(&region.shared().programs, task, k)
+    standing_in(&region.shared().programs, task, k)
 }
 
 /// The program of a level of a terminal's task: of its number, 1 being the highest, or without one of the current level; None where there is
@@ -233,19 +235,24 @@ pub fn field_text<S: Store + Drop>(
 
 /// What the fields that a base reaches are written by.
 #[derive(Drop)]
-struct ReachedFields<'a, S: Store> {
-    store: &'a S,
-    term: Name4,
-    readings: &'a [NamedReading],
-    regs: &'a [u32; 16],
-    bases: &'a Bases,
-    names: &'a Names,
+pub(crate) struct ReachedFields<'a, S: Store> {
+    pub(crate) store: &'a S,
+    pub(crate) term: Name4,
+    pub(crate) readings: &'a [NamedReading],
+    pub(crate) regs: &'a [u32; 16],
+    pub(crate) bases: &'a Bases,
+    pub(crate) names: &'a Names,
 }
 
 impl<'a, S: Store> ReachedFields<'a, S> {
     /// Adds the line of a symbol, where it is a field that a base reaches.
-    fn row_line(&self, report: &mut Report, name: Name8, symbol: &Symbol) -> Result<(), AllocError>
-        ensures { let line = row_line (S.storage self.now.store.now) self.now.term self.now.readings.now
+    pub(crate) fn symbol_field_line(
+        &self,
+        report: &mut Report,
+        name: Name8,
+        symbol: &Symbol,
+    ) -> Result<(), AllocError>
+        ensures { let line = symbol_field_line (S.storage self.now.store.now) self.now.term self.now.readings.now
             self.now.regs.now self.now.bases.now self.now.names.now.control in
             OnOk result (report.new ≡ report.old ++ line (name, symbol.now)) }
     {
@@ -267,23 +274,23 @@ impl<'a, S: Store> ReachedFields<'a, S> {
 
     /// Adds the lines of the symbols that are fields which a base reaches.
     fn rows_lines(&self, report: &mut Report) -> Result<(), AllocError>
-        ensures { let line = row_line (S.storage self.now.store.now) self.now.term self.now.readings.now
+        ensures { let line = symbol_field_line (S.storage self.now.store.now) self.now.term self.now.readings.now
             self.now.regs.now self.now.bases.now self.now.names.now.control in
             OnOk result (report.new ≡ report.old ++ flat_map line self.now.names.now.symbols.entries) }
     {
         for (name, symbol) in self.names.symbols.iter() {
-            self.row_line(report, *name, symbol)?;
+            self.symbol_field_line(report, *name, symbol)?;
         }
         Ok(())
     }
 }
 
-/// What the fields of a level are written by.
+/// What the fields of a level are written by: storage, the terminal that is written, and where the level stands in its source.
 #[derive(Drop)]
-struct LevelFields<'a, S: Store> {
-    store: &'a S,
-    term: Name4,
-    at: SourcePoint<'a>,
+pub struct LevelFields<'a, S: Store> {
+    pub store: &'a S,
+    pub term: Name4,
+    pub at: SourcePoint<'a>,
 }
 
 impl<'a, S: Store> LevelFields<'a, S> {
@@ -296,11 +303,11 @@ impl<'a, S: Store> LevelFields<'a, S> {
     ) -> Result<(), AllocError>
         requires fault { (final_state source.now).fault ≡ None }
         requires placed { IsPlaced (final_state source.now) places.now }
-        ensures { let lines = source_lines (S.storage self.now.store.now) self.now.term self.now.at.regs.now
+        ensures { let lines = source_field_lines (S.storage self.now.store.now) self.now.term self.now.at.regs.now
             self.now.at.offset in OnOk result (report.new ≡ report.old ++ lines source.now) }
     {
         let alloc = report.alloc();
-        let Some(bases) = bases_in(alloc, source, places, self.at.offset)? else {
+        let Some(bases) = bases_at_offset(alloc, source, places, self.at.offset)? else {
             return Ok(());
         };
         let names = names_of_places(alloc, source, places)?;
@@ -317,8 +324,8 @@ impl<'a, S: Store> LevelFields<'a, S> {
     }
 
     /// Adds the lines of the fields of a source.
-    fn source_lines(&self, report: &mut Report, source: &Source) -> Result<(), AllocError>
-        ensures { let lines = source_lines (S.storage self.now.store.now) self.now.term self.now.at.regs.now
+    fn source_field_lines(&self, report: &mut Report, source: &Source) -> Result<(), AllocError>
+        ensures { let lines = source_field_lines (S.storage self.now.store.now) self.now.term self.now.at.regs.now
             self.now.at.offset in OnOk result (report.new ≡ report.old ++ lines source.now) }
     {
         match place_all(report.alloc(), source)? {
@@ -353,7 +360,7 @@ fn fields_there<S: Store>(
             offset,
         },
     };
-    level.source_lines(report, &source)
+    level.source_field_lines(report, &source)
 }
 
 /// The words that a look at all fields begins with.

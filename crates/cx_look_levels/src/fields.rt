@@ -4,15 +4,15 @@ ghost use Rattle.cx_asm_operands.specs.Bases.{none_in_use};
 ghost use Rattle.cx_asm_pass1.specs.Locations.{IsPlaced, final_state};
 ghost use Rattle.cx_asm_pass2.specs.Whole.{whole_by};
 ghost use Rattle.cx_exec.specs.Machine.{address_part, effective};
-ghost use Rattle.cx_look_levels.specs.Fields.{bases_at, bases_in, field_by, field_in, is_field, stands_at};
+ghost use Rattle.cx_look_levels.specs.Fields.{bases_at, bases_at_offset, field_by, field_in, is_field, stands_at};
 
+use crate::Reading;
 use cx_asm_expressions::Value;
 use cx_asm_operands::{Address, Bases};
 use cx_asm_pass1::{Places, place_all};
 use cx_asm_pass2::{Statement, control_name, pass_bases, placed_lines, stated};
 use cx_ebcdic::Name8;
 use cx_look_symbols::{holds, is_control, statement_place};
-use cx_look_values::Reading;
 use cx_source::Source;
 use std::alloc::{AllocError, Global};
 
@@ -77,14 +77,14 @@ fn bases_at(
 ///
 /// An error comes only where memory was refused.
 #[tactic(auto, using(cx_look_symbols::specs::Facts::Whole::whole_is))]
-pub fn bases_in(
+pub fn bases_at_offset(
     alloc: Global,
     source: &Source,
     places: &Places<'_>,
     offset: u32,
 ) -> Result<Option<Bases>, AllocError>
     requires placed { IsPlaced (final_state source.now) places.now }
-    ensures { IfOk result (λ bases. bases ≡ bases_in source.now offset) }
+    ensures { IfOk result (λ bases. bases ≡ bases_at_offset source.now offset) }
 {
     let placed = placed_lines(alloc, source, places.statements.as_slice())?;
     let statements = stated(alloc, placed.as_slice())?;
@@ -140,7 +140,7 @@ fn field_placed(
     ensures value { IfOk result (λ field. field ≡ field_in source.now at.entry.regs.now at.entry.offset name) }
     ensures short { IfOk result (λ field. IfSome field (λ it. it.address < 2 ^ 24)) }
 {
-    let Some(bases) = bases_in(alloc, source, places, at.offset)? else {
+    let Some(bases) = bases_at_offset(alloc, source, places, at.offset)? else {
         return Ok(None);
     };
     let Some(value) = places.symbols.get(name) else {

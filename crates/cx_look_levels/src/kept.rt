@@ -1,18 +1,19 @@
 //! The fields of a working storage that was kept.
-ghost use Rattle.std.specs.Prelude.{◌≡◌, ◌≤◌, ◌++◌, IfOk, OnOk, None, drop, length};
+ghost use Rattle.std.specs.Prelude.{◌≡◌, ◌≤◌, ◌++◌, [], IfOk, OnOk, None, drop, length};
 ghost use Rattle.std.specs.List.{flat_map};
-ghost use Rattle.cx_asm_pass1.specs.Locations.{IsPlaced, final_state};
-ghost use Rattle.cx_look_levels.specs.FieldTexts.{bytes_word};
-ghost use Rattle.cx_look_levels.specs.KeptFields.{first_bytes, kept_fields, kept_in_source, kept_line, kept_row, offset_in};
+ghost use Rattle.std.specs.Option.{option_map_or};
+ghost use Rattle.cx_look_symbols.specs.Symbols.{named_of};
+ghost use Rattle.cx_look_levels.specs.FieldTexts.{field_bytes_word};
+ghost use Rattle.cx_look_levels.specs.KeptFields.{first_bytes, kept_fields, kept_line, kept_row, offset_in};
 
 use crate::field_texts::{count_of, field_words, word_of};
 use crate::fields::Field;
+use crate::{NamedReading, Reading, reading_named, readings_of};
 use cx_asm_expressions::{Value, symbol_name};
-use cx_asm_pass1::{Places, place_all};
+use cx_asm_pass1::place_all;
 use cx_ebcdic::{Name4, Name8};
 use cx_look_symbols::{Names, Symbol, is_control, names_of_places, translated_in};
-use cx_look_values::{NamedReading, Reading, reading_named, readings_of};
-use cx_look_words::Report;
+use cx_look_tables::Report;
 use cx_source::{Source, Text};
 use cx_storage::address_after;
 use std::alloc::{AllocError, Global};
@@ -42,7 +43,7 @@ fn first_word(
     count: usize,
     reading: Option<Reading>,
 ) -> Result<Vec<u8>, AllocError>
-    ensures { IfOk result (λ word. word.items ≡ bytes_word reading (first_bytes count bytes.now)) }
+    ensures { IfOk result (λ word. word.items ≡ field_bytes_word reading (first_bytes count bytes.now)) }
 {
     if count > bytes.len() {
         return b"--".to_vec(alloc);
@@ -50,113 +51,80 @@ fn first_word(
     word_of(alloc, bytes.split_at(count).0, reading)
 }
 
-/// Adds the line of a field by its offset in the bytes that were kept.
-fn kept_line(
-    report: &mut Report,
+/// What was kept of a working storage.
+#[derive(Drop)]
+struct KeptStorage<'a> {
+    /// Of which terminal's task it was.
     term: Name4,
-    readings: &[NamedReading],
+    /// The address of its first byte.
     at: u32,
-    bytes: &[u8],
-    name: Name8,
-    value: &Value,
-    offset: u32,
-) -> Result<(), AllocError>
-    ensures { let line = kept_line term readings.now at bytes.now name value.now offset in
-        OnOk result (report.new ≡ report.old ++ line) }
-{
-    let alloc = report.alloc();
-    let reading = reading_named(readings, name);
-    let first = after(bytes, offset as usize);
-    let word = first_word(alloc, first, count_of(value.length), reading)?;
-    let field = Field {
-        address: address_after(at, offset),
-        length: value.length,
-    };
-    field_words(report, term, name, field, &word)
+    bytes: &'a [u8],
+    /// How the fields of its program's source are read.
+    readings: &'a [NamedReading],
 }
 
-/// Adds the line of a symbol, where it is a field of the working storage.
-fn kept_row(
-    report: &mut Report,
-    term: Name4,
-    readings: &[NamedReading],
-    at: u32,
-    bytes: &[u8],
-    name: Name8,
-    symbol: &Symbol,
-) -> Result<(), AllocError>
-    requires { length bytes.now ≤ 65520 }
-    ensures { let line = kept_row term readings.now at bytes.now (name, symbol.now) in
-        OnOk result (report.new ≡ report.old ++ line) }
-{
-    let Some(offset) = offset_in(bytes.len() as u32, &symbol.value) else {
-        return Ok(());
-    };
-    kept_line(
-        report,
-        term,
-        readings,
-        at,
-        bytes,
-        name,
-        &symbol.value,
-        offset,
-    )
-}
-
-/// Adds the lines of the symbols that are fields of the working storage.
-fn kept_rows(
-    report: &mut Report,
-    term: Name4,
-    readings: &[NamedReading],
-    at: u32,
-    bytes: &[u8],
-    names: &Names,
-) -> Result<(), AllocError>
-    requires { length bytes.now ≤ 65520 }
-    ensures { let line = kept_row term readings.now at bytes.now in
-        OnOk result (report.new ≡ report.old ++ flat_map line names.now.symbols.entries) }
-{
-    for (name, symbol) in names.symbols.iter() {
-        kept_row(report, term, readings, at, bytes, *name, symbol)?;
+impl<'a> KeptStorage<'a> {
+    /// Adds the line of a field by its offset in the bytes that were kept.
+    fn field_line(
+        &self,
+        report: &mut Report,
+        name: Name8,
+        value: &Value,
+        offset: u32,
+    ) -> Result<(), AllocError>
+        ensures { let line = kept_line self.now.term self.now.readings.now self.now.at self.now.bytes.now in
+            OnOk result (report.new ≡ report.old ++ line name value.now offset) }
+    {
+        let alloc = report.alloc();
+        let reading = reading_named(self.readings, name);
+        let first = after(self.bytes, offset as usize);
+        let word = first_word(alloc, first, count_of(value.length), reading)?;
+        let field = Field {
+            address: address_after(self.at, offset),
+            length: value.length,
+        };
+        field_words(report, self.term, name, field, &word)
     }
-    Ok(())
-}
 
-/// Adds the lines of the fields of a source that is placed.
-fn kept_placed(
-    report: &mut Report,
-    term: Name4,
-    at: u32,
-    bytes: &[u8],
-    source: &Source,
-    places: &Places<'_>,
-) -> Result<(), AllocError>
-    requires within { length bytes.now ≤ 65520 }
-    requires fault { (final_state source.now).fault ≡ None }
-    requires placed { IsPlaced (final_state source.now) places.now }
-    ensures { OnOk result (report.new ≡ report.old ++ kept_in_source term at bytes.now source.now) }
-{
-    let alloc = report.alloc();
-    let names = names_of_places(alloc, source, places)?;
-    let readings = readings_of(alloc, source)?;
-    kept_rows(report, term, readings.as_slice(), at, bytes, &names)
-}
+    /// Adds the line of a symbol, where it is a field of the working storage.
+    fn row_line(&self, report: &mut Report, name: Name8, symbol: &Symbol) -> Result<(), AllocError>
+        requires { length self.now.bytes.now ≤ 65520 }
+        ensures { let line = kept_row self.now.term self.now.readings.now self.now.at self.now.bytes.now in
+            OnOk result (report.new ≡ report.old ++ line (name, symbol.now)) }
+    {
+        let Some(offset) = offset_in(self.bytes.len() as u32, &symbol.value) else {
+            return Ok(());
+        };
+        self.field_line(report, name, &symbol.value, offset)
+    }
 
-/// Adds the lines of the fields of a source.
-fn kept_in_source(
-    report: &mut Report,
-    term: Name4,
-    at: u32,
-    bytes: &[u8],
-    source: &Source,
-) -> Result<(), AllocError>
-    requires { length bytes.now ≤ 65520 }
-    ensures { OnOk result (report.new ≡ report.old ++ kept_in_source term at bytes.now source.now) }
-{
-    match place_all(report.alloc(), source)? {
-        Ok(places) => kept_placed(report, term, at, bytes, source, &places),
-        Err(_) => Ok(()),
+    /// Adds the lines of the symbols that are fields of the working storage.
+    fn rows_lines(&self, report: &mut Report, names: &Names) -> Result<(), AllocError>
+        requires { length self.now.bytes.now ≤ 65520 }
+        ensures { let line = kept_row self.now.term self.now.readings.now self.now.at self.now.bytes.now in
+            OnOk result (report.new ≡ report.old ++ flat_map line names.now.symbols.entries) }
+    {
+        for (name, symbol) in names.symbols.iter() {
+            self.row_line(report, *name, symbol)?;
+        }
+        Ok(())
+    }
+
+    /// Adds the lines of the fields of a source.
+    fn source_lines(&self, report: &mut Report, source: &Source) -> Result<(), AllocError>
+        requires { length self.now.bytes.now ≤ 65520 }
+        ensures { let line = kept_row self.now.term self.now.readings.now self.now.at self.now.bytes.now in
+            let lines = option_map_or (λ named. flat_map line named.rows) (named_of source.now) [] in
+            OnOk result (report.new ≡ report.old ++ lines) }
+    {
+        let alloc = report.alloc();
+        match place_all(alloc, source)? {
+            Ok(places) => {
+                let names = names_of_places(alloc, source, &places)?;
+                self.rows_lines(report, &names)
+            }
+            Err(_) => Ok(()),
+        }
     }
 }
 
@@ -175,8 +143,16 @@ pub fn kept_fields(
     requires { length bytes.now ≤ 65520 }
     ensures { OnOk result (report.new ≡ report.old ++ kept_fields term lines.now at bytes.now) }
 {
-    let Some(source) = translated_in(report.alloc(), lines)? else {
+    let alloc = report.alloc();
+    let Some(source) = translated_in(alloc, lines)? else {
         return Ok(());
     };
-    kept_in_source(report, term, at, bytes, &source)
+    let readings = readings_of(alloc, &source)?;
+    let kept = KeptStorage {
+        term,
+        at,
+        bytes,
+        readings: readings.as_slice(),
+    };
+    kept.source_lines(report, &source)
 }

@@ -1,6 +1,6 @@
-//! What follows from the definitions of looks at levels.
+//! What follows from the definitions of looks at levels and at an address.
 
-ghost use Rattle.cx_look_levels.specs.Laws.{FieldsAreOperands, KeptFieldsAreOfStorage};
+ghost use Rattle.cx_look_levels.specs.Laws.{FieldsAreOperands, KeptFieldsAreOfStorage, NearestFieldIs, NearestLabelIs};
 
 /// A field is where an operand is that is written at the level's statement without a base or an index: the address of the base and the
 /// displacement that the assembler makes of it.
@@ -13,3 +13,13 @@ pub fn fields_are_operands()
 pub fn kept_fields_are_of_storage()
     ensures { KeptFieldsAreOfStorage }
 {}
+
+/// Of the fields of a level that have a byte, each at the address that FIELD finds, the one is reported that begins last,
+/// and of those that begin together the one that is defined first; none only where no field has the byte. So it is of
+/// the labels at a byte or before it.
+pub fn the_nearest_is_reported()
+    ensures fields { NearestFieldIs }
+    ensures labels { NearestLabelIs }
+{
+    cx_look_symbols::laws::symbols_are_looked_up();
+}

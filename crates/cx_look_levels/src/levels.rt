@@ -1,19 +1,17 @@
 //! The levels of a task.
 ghost use Rattle.std.specs.Prelude.{◌≡◌, ◌++◌, ◌+◌, ◌∷◌, ◌≤◌, [], IfOk, OnOk, map, codes, length, reverse, slice_get};
 ghost use Rattle.cx_program.specs.Levels.{all_levels};
-ghost use Rattle.cx_look_levels.specs.Parts.Levels.{level_at, number_of};
-ghost use Rattle.cx_look_levels.specs.Levels.{cap_word, command_lines, exit_line, exit_words, handle_line, handle_lines, handling_lines, ignore_line, label_line, last_line, level_line, level_number, level_text, level_words, levels_text, pushed_lines};
+ghost use Rattle.cx_look_levels.specs.Parts.Levels.{level_at, handles_number};
+ghost use Rattle.cx_look_levels.specs.Levels.{cap_word, command_lines, exit_line, exit_words, handle_line, handle_lines, handling_lines, ignore_line, label_line, last_command_line, level_line, level_number, level_text, level_words, levels_text, pushed_lines};
 ghost use Rattle.cx_look_levels.specs.declared.levels.Handles.TheVariants as handles;
 
-use cx_base_commands::{Condition, EistgField};
-use cx_base_lists::List;
-use cx_base_text::{decimal, hexadecimal, shown_name};
+use cx_base::{Condition, EistgField, List, decimal, hexadecimal, shown_name};
 use cx_ebcdic::Name8;
 use cx_load::Loaded;
 use cx_look_symbols::{
     SourcePlaces, Sources, address_word, place_of, place_word, spot_before, statement_at,
 };
-use cx_look_words::Report;
+use cx_look_tables::Report;
 use cx_program::{Entries, Exit, Handler, Handling, Level, LevelStack};
 use cx_region_state::Shared;
 use cx_storage::{Store, address_after, address_in, word_at};
@@ -89,15 +87,15 @@ fn if_stated(report: &mut Report, k: u32, command: &Option<List<u8>>) -> Result<
 }
 
 /// Adds the line of a level's last command, by the byte before the place where it goes on: the last one of the command's EXEC.
-#[tactic(auto, unfolding(crate::specs::Levels::last_line))]
-fn last_line(
+#[tactic(auto, unfolding(crate::specs::Levels::last_command_line))]
+fn last_command_line(
     report: &mut Report,
     sources: &Sources,
     programs: &IndexMap<Name8, Loaded>,
     k: u32,
     level: &Level,
 ) -> Result<(), AllocError>
-    ensures { let line = last_line sources.now programs.now.entries k level.now in
+    ensures { let line = last_command_line sources.now programs.now.entries k level.now in
         OnOk result (report.new ≡ report.old ++ line) }
 {
     let before = spot_before(programs, address_in(level.regs[14]));
@@ -113,8 +111,8 @@ pub(crate) enum Handles {
 }
 
 /// The number of the level that has them.
-fn number_of(alloc: Global, of: Handles) -> Result<Vec<u8>, AllocError>
-    ensures { IfOk result (λ number. number.items ≡ number_of of) }
+fn handles_number(alloc: Global, of: Handles) -> Result<Vec<u8>, AllocError>
+    ensures { IfOk result (λ number. number.items ≡ handles_number of) }
 {
     match of {
         Handles::InForce(k) => decimal::<2>(k).to_vec(alloc),
@@ -129,9 +127,9 @@ fn number_of(alloc: Global, of: Handles) -> Result<Vec<u8>, AllocError>
 
 /// Adds the line of a condition that is ignored.
 fn ignore_line(report: &mut Report, of: Handles, condition: Condition) -> Result<(), AllocError>
-    ensures { OnOk result (report.new ≡ report.old ++ ignore_line (number_of of) condition) }
+    ensures { OnOk result (report.new ≡ report.old ++ ignore_line (handles_number of) condition) }
 {
-    let number = number_of(report.alloc(), of)?;
+    let number = handles_number(report.alloc(), of)?;
     let name = condition.name().as_bytes();
     report.line(&[b"LEVEL", &number, b"IGNORE", name])
 }
@@ -153,9 +151,9 @@ impl LevelHandles<'_> {
         label: u32,
     ) -> Result<(), AllocError>
         ensures { let more = label_line self.now.sources.now.entries self.now.programs.now.entries
-            (number_of self.now.of) condition label in OnOk result (report.new ≡ report.old ++ more) }
+            (handles_number self.now.of) condition label in OnOk result (report.new ≡ report.old ++ more) }
     {
-        let number = number_of(report.alloc(), self.of)?;
+        let number = handles_number(report.alloc(), self.of)?;
         let name = condition.name().as_bytes();
         let place = place_word(
             report.alloc(),
@@ -173,7 +171,7 @@ impl LevelHandles<'_> {
         entry: Handler,
     ) -> Result<(), AllocError>
         ensures { let more = handle_line self.now.sources.now.entries self.now.programs.now.entries
-            (number_of self.now.of) condition entry in OnOk result (report.new ≡ report.old ++ more) }
+            (handles_number self.now.of) condition entry in OnOk result (report.new ≡ report.old ++ more) }
     {
         match entry {
             Handler::NoEntry => Ok(()),
@@ -190,7 +188,7 @@ impl LevelHandles<'_> {
         conditions: &[Condition],
     ) -> Result<(), AllocError>
         ensures { let more = handle_lines self.now.sources.now.entries self.now.programs.now.entries
-            (number_of self.now.of) entries.now conditions.now in OnOk result (report.new ≡ report.old ++ more) }
+            (handles_number self.now.of) entries.now conditions.now in OnOk result (report.new ≡ report.old ++ more) }
     {
         for condition in conditions {
             self.handle_line(report, *condition, entries.entry_for(*condition))?;
@@ -201,9 +199,9 @@ impl LevelHandles<'_> {
     /// Adds the line of an exit, with the word that says whether it is on.
     fn exit_words(&self, report: &mut Report, label: u32, state: &[u8]) -> Result<(), AllocError>
         ensures { let more = exit_words self.now.sources.now.entries self.now.programs.now.entries
-            (number_of self.now.of) label state.now in OnOk result (report.new ≡ report.old ++ more) }
+            (handles_number self.now.of) label state.now in OnOk result (report.new ≡ report.old ++ more) }
     {
-        let number = number_of(report.alloc(), self.of)?;
+        let number = handles_number(report.alloc(), self.of)?;
         let place = place_word(
             report.alloc(),
             self.sources,
@@ -215,7 +213,7 @@ impl LevelHandles<'_> {
     /// Adds the line of an exit, where there is one.
     fn exit_line(&self, report: &mut Report, exit: Exit) -> Result<(), AllocError>
         ensures { let more = exit_line self.now.sources.now.entries self.now.programs.now.entries
-            (number_of self.now.of) exit in OnOk result (report.new ≡ report.old ++ more) }
+            (handles_number self.now.of) exit in OnOk result (report.new ≡ report.old ++ more) }
     {
         match exit {
             Exit::NoExit => Ok(()),
@@ -228,7 +226,7 @@ impl LevelHandles<'_> {
     #[tactic(auto, unfolding(crate::specs::Levels::handling_lines))]
     fn handling_lines(&self, report: &mut Report, handling: &Handling) -> Result<(), AllocError>
         ensures { let more = handling_lines self.now.sources.now.entries self.now.programs.now.entries
-            (number_of self.now.of) handling.now in OnOk result (report.new ≡ report.old ++ more) }
+            (handles_number self.now.of) handling.now in OnOk result (report.new ≡ report.old ++ more) }
     {
         self.handle_lines(report, &handling.entries, Condition::handled())?;
         self.exit_line(report, handling.exit)
@@ -291,11 +289,11 @@ fn heading_text<S: Store + Drop>(
     k: u32,
     level: &Level,
 ) -> Result<(), AllocError>
-    ensures { let last = last_line sources.now shared.now.programs k level.now in
+    ensures { let last = last_command_line sources.now shared.now.programs k level.now in
         OnOk result (report.new ≡ report.old ++ (level_line shared.now k level.now ++ last)) }
 {
     level_line(report, shared, k, level)?;
-    last_line(report, sources, &shared.programs, k, level)
+    last_command_line(report, sources, &shared.programs, k, level)
 }
 
 /// Adds the lines of a level.

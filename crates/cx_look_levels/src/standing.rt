@@ -1,7 +1,7 @@
 //! Where a level stands.
 ghost use Rattle.std.specs.Prelude.{◌≡◌, ◌-◌, ◌≤◌, slice_get, option_map};
 ghost use Rattle.cx_program.specs.Levels.{all_levels};
-ghost use Rattle.cx_look_levels.specs.Fields.{calling, current, level_numbered, offset_of, spot_now, standing_of};
+ghost use Rattle.cx_look_levels.specs.Fields.{calling, current, level_numbered, own_offset, spot_now, standing_in};
 
 use cx_ebcdic::Name8;
 use cx_load::Loaded;
@@ -22,7 +22,7 @@ pub struct Standing {
 impl Standing {
     /// The offset in the level's own program; None where it is in no program or another one.
     pub fn offset(&self) -> Option<u32>
-        ensures { result ≡ offset_of self.now }
+        ensures { result ≡ own_offset self.now }
     {
         let spot = self.spot?;
         if spot.program == self.program {
@@ -91,13 +91,13 @@ fn level_numbered(programs: &IndexMap<Name8, Loaded>, task: &Task, k: u8) -> Opt
 
 /// Where the level of a number stands, 1 being the highest, or without one the current level; None where there is no such level. It takes no
 /// memory.
-#[tactic(auto, unfolding(crate::specs::Fields::standing_of))]
-pub fn standing_of(
+#[tactic(auto, unfolding(crate::specs::Fields::standing_in))]
+pub fn standing_in(
     programs: &IndexMap<Name8, Loaded>,
     task: &Task,
     k: Option<u8>,
 ) -> Option<Standing>
-    ensures { result ≡ standing_of programs.now.entries task.now k }
+    ensures { result ≡ standing_in programs.now.entries task.now k }
 {
     match k {
         Some(k) => level_numbered(programs, task, k),

@@ -2,16 +2,15 @@
 ghost use Rattle.std.specs.Prelude.{◌≡◌, ◌++◌, IfOk, OnOk};
 ghost use Rattle.std.specs.Option.{option_copied};
 ghost use Rattle.cx_region.specs.Tables.{task_of};
-ghost use Rattle.cx_look_levels.specs.Tasks.{due_word, none_line, state_line, task_line, task_text, task_words, text_of};
+ghost use Rattle.cx_look_levels.specs.Tasks.{due_word, no_task_line, cc_next_line, task_line, task_text, task_words, task_lines_of};
 
 use crate::levels::levels_text;
-use cx_base_text::{decimal, shown_name};
+use cx_base::{decimal, shown_name};
 use cx_ebcdic::Name4;
 use cx_look_symbols::{SourcePlaces, Sources, place_of, place_word};
-use cx_look_words::{Report, register_lines};
+use cx_look_tables::{Report, register_lines};
 use cx_region::Region;
-use cx_region_call::read_call;
-use cx_region_state::{Shared, Task};
+use cx_region_state::{Shared, Task, read_call};
 use cx_storage::{Store, address_in};
 use std::alloc::{AllocError, Global};
 
@@ -56,14 +55,14 @@ fn task_line<S: Store + Drop>(
 }
 
 /// Adds the line of a task's condition code and next address.
-#[tactic(auto, unfolding(crate::specs::Tasks::state_line))]
-fn state_line<S: Store + Drop>(
+#[tactic(auto, unfolding(crate::specs::Tasks::cc_next_line))]
+fn cc_next_line<S: Store + Drop>(
     report: &mut Report,
     sources: &SourcePlaces,
     shared: &Shared<S>,
     task: &Task,
 ) -> Result<(), AllocError>
-    ensures { OnOk result (report.new ≡ report.old ++ state_line sources.now.entries shared.now task.now) }
+    ensures { OnOk result (report.new ≡ report.old ++ cc_next_line sources.now.entries shared.now task.now) }
 {
     let cc = decimal::<1>(u32::from(task.cpu.cc));
     let place = place_of(&shared.programs, task.cpu.next);
@@ -72,24 +71,24 @@ fn state_line<S: Store + Drop>(
 }
 
 /// Adds the lines of a task.
-fn text_of<S: Store + Drop>(
+fn task_lines_of<S: Store + Drop>(
     report: &mut Report,
     sources: &Sources,
     shared: &Shared<S>,
     name: Name4,
     task: &Task,
 ) -> Result<(), AllocError>
-    ensures { OnOk result (report.new ≡ report.old ++ text_of sources.now shared.now name task.now) }
+    ensures { OnOk result (report.new ≡ report.old ++ task_lines_of sources.now shared.now name task.now) }
 {
     task_line(report, shared, name, task)?;
     register_lines(report, &task.cpu.regs)?;
-    state_line(report, sources.places(), shared, task)?;
+    cc_next_line(report, sources.places(), shared, task)?;
     levels_text(report, sources, shared, &task.levels)
 }
 
 /// Adds the line of a terminal without a task.
-fn none_line(report: &mut Report, name: Name4) -> Result<(), AllocError>
-    ensures { OnOk result (report.new ≡ report.old ++ none_line name) }
+fn no_task_line(report: &mut Report, name: Name4) -> Result<(), AllocError>
+    ensures { OnOk result (report.new ≡ report.old ++ no_task_line name) }
 {
     let name = shown_name(report.alloc(), name)?;
     report.line(&[b"TASK", &name, b"NONE"])
@@ -119,8 +118,8 @@ pub fn task_text<S: Store + Drop>(
 {
     let mut report = Report::new(alloc);
     match task_of(region, name) {
-        Some(task) => text_of(&mut report, sources, region.shared(), name, task)?,
-        None => none_line(&mut report, name)?,
+        Some(task) => task_lines_of(&mut report, sources, region.shared(), name, task)?,
+        None => no_task_line(&mut report, name)?,
     }
     Ok(report)
 }

@@ -1,23 +1,8 @@
 -- Items of lists.
-use Rattle.std.proofs.Common.{◌≡◌, ℕ, zero, suc, ◌+◌, ◌<◌, ◌≤◌, List, [], ◌∷◌, ◌++◌, length, drop, map, Some, ◌⊎◌, inl, inr, ap, refl, ◌∙◌, arith}
+use Rattle.std.proofs.Common.{◌≡◌, ℕ, zero, suc, ◌+◌, ◌<◌, List, [], ◌∷◌, ◌++◌, drop, map, Some, ◌⊎◌, inl, inr, ap, refl, ◌∙◌, arith}
 use Rattle.std.specs.Prelude.{slice_get, Err, IfOk, Ok, Result}
 use Rattle.std.proofs.lemmas.Bool.{cases_lt}
 use Rattle.std.proofs.lemmas.Option.{none-some, same_Some}
-
-pub item_kept : {X : Type 0} (xs zs : List X) (i : ℕ) (y : X) → slice_get xs i ≡ Some y → slice_get (xs ++ zs) i ≡ Some y
-item_kept [] zs i y is = absurd (none-some y is)
-item_kept (x ∷ xs) zs zero y is = is
-item_kept (x ∷ xs) zs (suc i) y is = item_kept xs zs i y is
-
-pub item_last : {X : Type 0} (xs : List X) (y : X) → slice_get (xs ++ y ∷ []) (length xs) ≡ Some y
-item_last [] y = refl
-item_last (x ∷ xs) y = item_last xs y
-
-pub item_appended : {X : Type 0} (xs : List X) (x y : X) (i : ℕ) → slice_get (xs ++ x ∷ []) i ≡ Some y → (slice_get xs i ≡ Some y) ⊎ ((i ≡ length xs) × (x ≡ y))
-item_appended [] x y zero is = inr (refl, same_Some x y is)
-item_appended [] x y (suc i) is = absurd (none-some y is)
-item_appended (z ∷ xs) x y zero is = inl is
-item_appended (z ∷ xs) x y (suc i) is = elim (item_appended xs x y i is) [ inl h ↦ inl h | inr h ↦ inr (ap suc h.0, h.1) ]
 
 pub below_next : (i n : ℕ) → i < n + 1 → (i < n) ⊎ (i ≡ n)
 below_next i n l = elim (cases_lt i n) [ inl m ↦ inl m | inr m ↦ inr (omega (arith, l, m)) ]
@@ -27,12 +12,6 @@ pub drop_item : {X : Type 0} (xs : List X) (i : ℕ) (x : X) → slice_get xs i 
 drop_item [] i x is = absurd (none-some x is)
 drop_item (y ∷ xs) zero x is = ap (λ z. z ∷ xs) (same_Some y x is)
 drop_item (y ∷ xs) (suc i) x is = drop_item xs i x is
-
-pub drop_all : {X : Type 0} (xs : List X) (i : ℕ) → length xs ≤ i → drop i xs ≡ []
-drop_all [] zero l = refl
-drop_all [] (suc i) l = refl
-drop_all (x ∷ xs) zero l = absurd (omega arith)
-drop_all (x ∷ xs) (suc i) l = drop_all xs i (omega arith)
 
 pub drop_none : {X : Type 0} (xs : List X) → drop 0 xs ≡ xs
 drop_none [] = refl
@@ -48,10 +27,6 @@ pub of_mapped : {X Y : Type 0} (f : X → Y) (xs : List X) (i : ℕ) (y : Y) →
 of_mapped f [] i y is = absurd (none-some y is)
 of_mapped f (x ∷ xs) zero y is = (x, (refl, same_Some (f x) y is))
 of_mapped f (x ∷ xs) (suc i) y is = of_mapped f xs i y is
-
-pub length_mapped : {X Y : Type 0} (f : X → Y) (xs : List X) → length (map f xs) ≡ length xs
-length_mapped f [] = refl
-length_mapped f (x ∷ xs) = ap suc (length_mapped f xs)
 
 -- what is said of a result goes on
 pub ok_on : {A E : Type 0} (P Q : A → Type 0) (r : Result A E) → ((x : A) → P x → Q x) → IfOk r P → IfOk r Q

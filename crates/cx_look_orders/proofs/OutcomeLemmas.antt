@@ -11,7 +11,7 @@ use Rattle.cx_search.specs.Laws.{FirstIsOne, SoonerOrders}
 use Rattle.cx_search.specs.Moves.{IsSooner}
 use Rattle.cx_search.specs.Rest.{AreResting, IsNear}
 use Rattle.cx_look_tasks.specs.Laws.{WaitsTextsDecide}
-use Rattle.cx_look_words.specs.Words.{Lines}
+use Rattle.cx_look_tables.specs.Words.{Lines}
 use Rattle.cx_region.specs.State.{RegionState}
 use Rattle.cx_orders.specs.Moves.{Moves}
 use Rattle.cx_orders.specs.declared.states.KeyLine.{KeyLine}
@@ -22,7 +22,8 @@ use Rattle.cx_look_orders.specs.Rest.{RestText, incident_line, keys_text}
 use Rattle.cx_look_orders.specs.Steps.{moves_of}
 use Rattle.cx_look_orders.specs.declared.outcomes.Outcome.{Outcome}
 use Rattle.cx_look_orders.specs.declared.steps.Step.{Step}
-use Rattle.cx_look_orders.proofs.ListLemmas.{below_next, item_appended, item_kept, item_last}
+use Rattle.cx_search.specs.Facts.Items.{item_appended, item_kept, item_last}
+use Rattle.cx_look_orders.proofs.ListLemmas.{below_next}
 use Rattle.cx_look_orders.proofs.PlaceLemmas.{kept_least, kept_moves, no_later, one_state}
 use Rattle.std.specs.List.{flat_map}
 use Rattle.cx_look_orders.specs.Facts.Outcomes.{many_moves, near_less}

@@ -17,7 +17,9 @@ use Rattle.cx_look_orders.specs.Outcomes.{AllCanRest, AreReached, HasReached, Ha
 use Rattle.cx_look_orders.specs.Parts.Ways.{AreFirstSteps, Reaches}
 use Rattle.cx_look_orders.specs.Steps.{moves_of}
 use Rattle.cx_look_orders.specs.declared.steps.Step.{Step}
-use Rattle.cx_look_orders.proofs.ListLemmas.{item_appended, length_mapped, mapped_item, of_mapped}
+use Rattle.std.proofs.lemmas.List.{length-map}
+use Rattle.cx_search.specs.Facts.Items.{item_appended}
+use Rattle.cx_look_orders.proofs.ListLemmas.{mapped_item, of_mapped}
 
 -- a list that is no later is no longer
 pub no_longer : (ms ns : List ℕ) → NoLater ms ns → length ms ≤ length ns
@@ -96,7 +98,7 @@ module _ (keys : List KeyLine) (start : OrdersState) (found : List (OrdersState 
       states = states;
       reached = reached_at None (λ p s origin there. tt);
       all = has_all None (whole_reaches all);
-      is = sym (length_mapped (λ (entry : OrdersState × Origin). entry.0) found);
+      is = sym (length-map found (λ (entry : OrdersState × Origin). entry.0));
     }
 
     -- ---- where a search is cut
@@ -132,13 +134,13 @@ module _ (keys : List KeyLine) (start : OrdersState) (found : List (OrdersState 
       ]
 
       many_more : length more ≡ length found + 1
-      many_more = omega (arith, length-append states (nearest.more ∷ []), length_mapped (λ (entry : OrdersState × Origin). entry.0) found)
+      many_more = omega (arith, length-append states (nearest.more ∷ []), length-map found (λ (entry : OrdersState × Origin). entry.0))
 
       pub cut_at : length found ≤ most → IsCutAt keys start most moves
       cut_at few = record {
         near = states;
         all = has_all (Some moves) (cut_reaches most moves nearest);
-        few = omega (arith, few, length_mapped (λ (entry : OrdersState × Origin). entry.0) found);
+        few = omega (arith, few, length-map found (λ (entry : OrdersState × Origin). entry.0));
         more = more;
         reached = record { each = more_each; once = more_once };
         many = omega (arith, many_more, nearest.full);

@@ -3,11 +3,11 @@ use Rattle.std.proofs.Common.{◌≡◌, ℕ, ◌+◌, ◌<◌, List, [], ◌∷
 use Rattle.std.specs.Prelude.{◌==◌, ◌&&◌, nat_lt, if◌then◌else◌, replicate, ⊤}
 use Rattle.std.proofs.lemmas.Bool.{eqb-true, ltb-true}
 use Rattle.std.proofs.lemmas.List.{replicate-append-replicate}
-use Rattle.cx_look_words.specs.Words.{Lines}
+use Rattle.cx_look_tables.specs.Words.{Lines}
 use Rattle.cx_region.specs.State.{RegionState}
 use Rattle.cx_orders.specs.declared.states.KeyLine.{KeyLine}
-use Rattle.cx_look_orders.specs.Laws.{AskFor, IsAsked, ScriptsAskForSteps, asked_steps}
-use Rattle.cx_look_orders.specs.Script.{goes_on, key_line, row_lines, steps_lines}
+use Rattle.cx_look_orders.specs.Laws.{AskFor, IsStepAsked, ScriptsAskForSteps, asked_steps}
+use Rattle.cx_look_orders.specs.Script.{row_goes_on, key_line, row_lines, steps_lines}
 use Rattle.cx_look_orders.specs.declared.script.Row.{Row}
 use Rattle.cx_look_orders.specs.declared.steps.Step.{Step}
 
@@ -30,7 +30,7 @@ one_more many step steps =
 module _ (region : RegionState) (keys : List KeyLine) where
   abbrev IsRow : Option Row → Type 0
   IsRow None = ⊤
-  IsRow (Some row) = IsAsked (of_row row)
+  IsRow (Some row) = IsStepAsked (of_row row)
 
   abbrev row_steps : Option Row → List Step
   row_steps None = []
@@ -71,7 +71,7 @@ module _ (region : RegionState) (keys : List KeyLine) where
       (if goes then [] else row_lines region (Some row) ++ [])
       ++ steps_lines region keys (Some (record { number = number; many = (if goes then row.many else 0) + 1 })) steps
 
-  turn_by : (goes : Bool) (row : Row) (number : ℕ) (steps : List Step) → IsAsked (of_row row) → AsksOf steps
+  turn_by : (goes : Bool) (row : Row) (number : ℕ) (steps : List Step) → IsStepAsked (of_row row) → AsksOf steps
       → (goes ≡ true → (row.number ≡ number) × (row.many < 4096))
       → AskFor region keys (lines_by goes row number steps) (asked_steps (of_row row) ++ turn_of number ∷ steps)
   turn_by true row number steps is on tests =
@@ -99,7 +99,7 @@ module _ (region : RegionState) (keys : List KeyLine) where
       let it = on (Some (record { number = number; many = 0 + 1 })) (omega arith, omega arith) in
       record { asked = it.asked; each = it.each; written = it.written; done = it.done }
   turn_on (Some row) number steps is on =
-      turn_by (goes_on (Some row) (turn_of number)) row number steps is on (λ goes.
+      turn_by (row_goes_on (Some row) (turn_of number)) row number steps is on (λ goes.
       let tests = both (row.number == number) (nat_lt row.many 4096) goes in
       (eqb-true row.number number tests.0, ltb-true row.many 4096 tests.1))
 

@@ -8,7 +8,8 @@ use Rattle.cx_orders.specs.declared.states.OrdersState.{OrdersState}
 use Rattle.cx_look_orders.specs.Parts.Ways.{AreFirstSteps, AreStepsOf, came_between}
 use Rattle.cx_look_orders.specs.Steps.{AreSteps, IsStep, moves_of}
 use Rattle.cx_look_orders.specs.declared.steps.Step.{Step}
-use Rattle.cx_look_orders.proofs.ListLemmas.{drop_all, drop_item, drop_none}
+use Rattle.std.proofs.lemmas.List.{drop_all}
+use Rattle.cx_look_orders.proofs.ListLemmas.{drop_item, drop_none}
 use Rattle.cx_look_orders.specs.Facts.Steps.{step_between, step_is}
 
 module _ (keys : List KeyLine) where
@@ -95,7 +96,7 @@ module _ (keys : List KeyLine) where
   pub walk_ends : (start : OrdersState) (moves : List ℕ) (to : OrdersState) (done : ℕ) (at : OrdersState) (steps : List Step) → Walks start moves to done at steps
       → length moves ≤ done → AreStepsOf keys start moves to steps
   walk_ends start moves to done at steps w l =
-      let none = drop_all moves done l in
+      let none = drop_all done moves l in
       record {
         are = subst (λ s. AreSteps keys start steps s) (sym (leads_none at to (subst (λ ms. Leads (Moves keys) at ms to) none w.rest))) w.are;
         of = sym (w.all ∙ ap (λ ms. moves_of steps ++ ms) none ∙ append-nil (moves_of steps));

@@ -5,7 +5,7 @@ use Rattle.std.specs.List.{AllByRecursion, IsDistinct, flat_map}
 use Rattle.std.specs.Map.{keys_of as names_of}
 use Rattle.cx_ebcdic.specs.Names.{is_name}
 use Rattle.cx_search.specs.Forever.{IsLong}
-use Rattle.cx_look_words.specs.Words.{Lines}
+use Rattle.cx_look_tables.specs.Words.{Lines}
 use Rattle.cx_region.specs.Events.{Run}
 use Rattle.cx_region.specs.State.{RegionState}
 use Rattle.cx_region.specs.declared.replies.Event.{Event}
@@ -74,13 +74,13 @@ abbrev pub asked_steps : Step × ℕ → List Step
 asked_steps (step, many) = replicate many step
 
 -- for a key once
-abbrev pub IsAsked : Step × ℕ → Type 0
-IsAsked (step, many) = (1 ≤ many) × (many ≤ (if is_none step.key then 4096 else 1))
+abbrev pub IsStepAsked : Step × ℕ → Type 0
+IsStepAsked (step, many) = (1 ≤ many) × (many ≤ (if is_none step.key then 4096 else 1))
 
 -- the lines ask for these steps, one after another
 pub record AskFor (region : RegionState) (keys : List KeyLine) (lines : Lines) (steps : List Step) : Type 0 where
   pub asked : List (Step × ℕ)
-  pub each : AllByRecursion IsAsked asked
+  pub each : AllByRecursion IsStepAsked asked
   pub written : lines ≡ flat_map (asked_lines region keys) asked
   pub done : flat_map asked_steps asked ≡ steps
 

@@ -4,7 +4,7 @@ use Rattle.cx_search.specs.Forever.{AtRest, CanRest, IsBounded, Loops}
 use Rattle.cx_search.specs.Moves.{IsSooner, Leads}
 use Rattle.cx_search.specs.Rest.{IsNear}
 use Rattle.cx_region.specs.State.{RegionState}
-use Rattle.cx_look_words.specs.Words.{Lines}
+use Rattle.cx_look_tables.specs.Words.{Lines}
 use Rattle.cx_orders.specs.Moves.{Moves}
 use Rattle.cx_orders.specs.declared.states.KeyLine.{KeyLine}
 use Rattle.cx_orders.specs.declared.states.OrdersState.{OrdersState}

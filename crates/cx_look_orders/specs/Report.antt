@@ -2,7 +2,7 @@
 use Rattle.std.specs.Prelude.{◌≡◌, ◌⊎◌, ℕ, ◌+◌, ◌≤◌, Bool, if◌then◌else◌, List, [], ◌∷◌, ◌++◌, Option, None, Some, MatchBool, codes, length}
 use Rattle.std.specs.Fmt.{decimal}
 use Rattle.std.specs.Option.{option_map_or}
-use Rattle.cx_look_words.specs.Words.{Lines, look_line}
+use Rattle.cx_look_tables.specs.Words.{Lines, look_line}
 use Rattle.cx_region.specs.State.{RegionState}
 use Rattle.cx_orders.specs.Moves.{begun}
 use Rattle.cx_orders.specs.declared.states.KeyLine.{KeyLine}

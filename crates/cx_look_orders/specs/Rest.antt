@@ -5,10 +5,10 @@ use Rattle.std.specs.Fmt.{decimal}
 use Rattle.std.specs.List.{flat_map, list_any}
 use Rattle.std.specs.Map.{keys_of as names_of}
 use Rattle.std.specs.Option.{option_and_then, option_map_or}
-use Rattle.cx_base_text.specs.Texts.{shown_name}
+use Rattle.cx_base.specs.Texts.{shown_name}
 use Rattle.cx_ebcdic.specs.Names.{is_name}
 use Rattle.cx_look_tasks.specs.Tasks.{WaitsText}
-use Rattle.cx_look_words.specs.Words.{Lines, look_line}
+use Rattle.cx_look_tables.specs.Words.{Lines, look_line}
 use Rattle.cx_orders.specs.Moves.{keys_of}
 use Rattle.cx_orders.specs.declared.states.Incident.{Incident}
 use Rattle.cx_orders.specs.declared.states.Incident.TheVariants as incident
@@ -28,12 +28,12 @@ incident_value (incident.Abended code) = shown_name code
 incident_value (incident.Refused reply) = key_reply_name reply
 
 -- the name of the terminal with that number, counted from 0
-abbrev pub name_at : RegionState → ℕ → List ℕ
-name_at region number = option_map_or (λ entry. shown_name entry.0) (slice_get region.terminals number) []
+abbrev pub terminal_name_at : RegionState → ℕ → List ℕ
+terminal_name_at region number = option_map_or (λ entry. shown_name entry.0) (slice_get region.terminals number) []
 
 unfoldable pub incident_line : RegionState → IncidentAt → Lines
 incident_line region one =
-    look_line (incident_word one.incident ∷ name_at region one.number ∷ incident_value one.incident ∷ [])
+    look_line (incident_word one.incident ∷ terminal_name_at region one.number ∷ incident_value one.incident ∷ [])
 
 -- ---- keys that couldn't come
 -- how many keys of the terminal of that name came: none, where no such terminal is defined

@@ -3,20 +3,20 @@ use Rattle.std.specs.Prelude.{ℕ, ◌+◌, ◌==◌, ◌&&◌, Bool, false, nat
 use Rattle.std.specs.Fmt.{decimal}
 use Rattle.std.specs.List.{flat_map}
 use Rattle.std.specs.Option.{option_and_then, option_map_or}
-use Rattle.cx_base_text.specs.Texts.{shown_name}
-use Rattle.cx_look_words.specs.Words.{Lines, look_line}
+use Rattle.cx_base.specs.Texts.{shown_name}
+use Rattle.cx_look_tables.specs.Words.{Lines, look_line}
 use Rattle.cx_region.specs.State.{RegionState}
 use Rattle.cx_orders.specs.Moves.{keys_of}
 use Rattle.cx_orders.specs.declared.states.KeyLine.{KeyLine}
-use Rattle.cx_look_orders.specs.Rest.{name_at}
+use Rattle.cx_look_orders.specs.Rest.{terminal_name_at}
 use Rattle.cx_look_orders.specs.declared.script.Row.{Row}
 use Rattle.cx_look_orders.specs.declared.steps.Step.{Step}
 
 -- ---- turns in a row
 -- the step is one more turn of the terminal whose turns stand in a row before it, of which a line can ask for 4,096
-abbrev pub goes_on : Option Row → Step → Bool
-goes_on None step = false
-goes_on (Some row) step = is_none step.key && (row.number == step.number) && nat_lt row.many 4096
+abbrev pub row_goes_on : Option Row → Step → Bool
+row_goes_on None step = false
+row_goes_on (Some row) step = is_none step.key && (row.number == step.number) && nat_lt row.many 4096
 
 -- how many turns a row has
 abbrev pub many_of : Option Row → ℕ
@@ -24,7 +24,7 @@ many_of row = option_map_or (λ (r : Row). r.many) row 0
 
 -- the row with the step, where that is a turn: one more than before it, or the first
 abbrev pub many_before : Option Row → Step → ℕ
-many_before row step = if goes_on row step then many_of row else 0
+many_before row step = if row_goes_on row step then many_of row else 0
 
 abbrev pub row_after : Option Row → Step → Option Row
 row_after row step =
@@ -32,7 +32,7 @@ row_after row step =
 
 abbrev pub row_lines : RegionState → Option Row → Lines
 row_lines region None = []
-row_lines region (Some row) = look_line (codes "RUN" ∷ name_at region row.number ∷ decimal row.many ∷ [])
+row_lines region (Some row) = look_line (codes "RUN" ∷ terminal_name_at region row.number ∷ decimal row.many ∷ [])
 
 -- ---- keys
 -- the terminal's key before which so many come
@@ -48,7 +48,7 @@ key_line region keys step =
 -- ---- the script
 -- the lines that are written before a step's row goes on: none where it is one more of the row
 abbrev pub step_lines : RegionState → List KeyLine → Option Row → Step → Lines
-step_lines region keys row step = if goes_on row step then [] else row_lines region row ++ key_line region keys step
+step_lines region keys row step = if row_goes_on row step then [] else row_lines region row ++ key_line region keys step
 
 unfoldable pub steps_lines : RegionState → List KeyLine → Option Row → List Step → Lines
 steps_lines region keys row [] = row_lines region row

@@ -11,7 +11,7 @@ mod steps;
 
 pub use outcomes::Outcome;
 pub use report::orders_text;
-pub use rest::{push_lines, rest_text};
+pub use rest::rest_text;
 #[doc(hidden)]
 pub use script::Row;
 pub use seen::Seen;

@@ -9,10 +9,9 @@ ghost use Rattle.cx_search.specs.Finds.{Finds};
 use crate::rest::rest_text;
 use crate::seen::Seen;
 use crate::steps::{Step, steps_to};
-use cx_base_copies::are_same_items;
-use cx_base_lists::List;
+use cx_base::{List, are_same_items};
+use cx_look_tables::Report;
 use cx_look_tasks::laws::texts_decide;
-use cx_look_words::Report;
 use cx_orders::Orders;
 use cx_region::Region;
 use cx_search::Found;
@@ -78,7 +77,8 @@ fn add_outcome<S: Store + Drop, V: Seen<S>>(
     requires so_far { AreOfFirst (V.shows searched.now.seen.now) searched.now.orders.now.keys.items
         (begun searched.now.region.now) searched.now.found.now.states.entries places.now index outcomes.old.items }
     ensures { OnOk result (AreOfFirst (V.shows searched.now.seen.now) searched.now.orders.now.keys.items
-        (begun searched.now.region.now) searched.now.found.now.states.entries places.now (index + 1) outcomes.new.items) }
+        (begun searched.now.region.now) searched.now.found.now.states.entries places.now (index + 1)
+        outcomes.new.items) }
 {
     let orders = searched.orders;
     searched.seen.shows_decide();

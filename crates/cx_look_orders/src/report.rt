@@ -8,13 +8,12 @@ ghost use Rattle.cx_orders.specs.Moves.{Moves, begun};
 ghost use Rattle.cx_search.specs.Finds.{Finds, IsWhole};
 
 use crate::outcomes::{Outcome, Searched, outcomes_of};
-use crate::rest::push_lines;
 use crate::script::script_lines;
 use crate::seen::Seen;
 use crate::steps::{Step, steps_to};
-use cx_base_lists::List;
+use cx_base::List;
 use cx_ebcdic::Name4;
-use cx_look_words::{Report, decimal};
+use cx_look_tables::{Report, decimal};
 use cx_orders::{KeyLine, Orders};
 use cx_region::Region;
 use cx_region_snapshot::RegionSnapshot;
@@ -65,7 +64,7 @@ fn outcome_lines<S: Store + Drop>(
 ) -> Result<(), AllocError>
     ensures { OnOk result (report.new ≡ report.old ++ outcome_lines region.now keys.now edf.now one.now) }
 {
-    push_lines(report, &one.text)?;
+    report.append(&one.text)?;
     script_lines(report, region, keys, edf, one.steps.as_slice())
 }
 

@@ -3,14 +3,14 @@
 ghost use Rattle.std.specs.Prelude.{◌≡◌, ◌++◌, ◌-◌, IfOk, OnOk, length};
 ghost use Rattle.std.specs.List.{flat_map, list_any};
 ghost use Rattle.cx_ebcdic.specs.Names.{is_name};
-ghost use Rattle.cx_look_orders.specs.Rest.{came_of, incident_line, incident_value, incident_word, key_lines, RestText, keys_text, left_line, name_at};
+ghost use Rattle.cx_look_orders.specs.Rest.{came_of, incident_line, incident_value, incident_word, key_lines, RestText, keys_text, left_line, terminal_name_at};
 ghost use Rattle.cx_orders.specs.Moves.{keys_of};
 
 use crate::seen::Seen;
-use cx_base_text::shown_name;
+use cx_base::shown_name;
 use cx_ebcdic::Name4;
+use cx_look_tables::{Report, decimal};
 use cx_look_tasks::waits_text;
-use cx_look_words::{Report, decimal};
 use cx_orders::{Incident, IncidentAt, KeyLine, OrdersState};
 use cx_region::Region;
 use cx_storage::Store;
@@ -37,12 +37,12 @@ fn incident_value(alloc: Global, incident: &Incident) -> Result<Vec<u8>, AllocEr
 }
 
 /// The name of the terminal with that number.
-pub(crate) fn name_at<S: Store + Drop>(
+pub(crate) fn terminal_name_at<S: Store + Drop>(
     alloc: Global,
     region: &Region<S>,
     number: usize,
 ) -> Result<Vec<u8>, AllocError>
-    ensures { IfOk result (λ name. name.items ≡ name_at region.now number) }
+    ensures { IfOk result (λ name. name.items ≡ terminal_name_at region.now number) }
 {
     match region.terminals().get_index(number) {
         Some((name, _terminal)) => shown_name(alloc, *name),
@@ -59,7 +59,7 @@ fn incident_line<S: Store + Drop>(
 ) -> Result<(), AllocError>
     ensures { OnOk result (report.new ≡ report.old ++ incident_line region.now one.now) }
 {
-    let name = name_at(report.alloc(), region, one.number)?;
+    let name = terminal_name_at(report.alloc(), region, one.number)?;
     let value = incident_value(report.alloc(), &one.incident)?;
     report.line(&[
         incident_word(&one.incident),
@@ -106,18 +106,6 @@ fn has_key(keys: &[KeyLine], name: Name4) -> bool
     ensures { result ≡ list_any (λ (other : KeyLine). is_name other.name name) keys.now }
 {
     keys.iter().any(|key| key.name == name)
-}
-
-/// Adds the lines of another report.
-pub fn push_lines(report: &mut Report, more: &Report) -> Result<(), AllocError>
-    ensures { OnOk result (report.new ≡ report.old ++ more.now) }
-{
-    let lines = more.lines();
-    for line in lines {
-        let line = line.as_slice().to_vec(report.alloc())?;
-        report.push(line)?;
-    }
-    Ok(())
 }
 
 /// Adds how many keys of a terminal are left, where some are.
@@ -203,8 +191,8 @@ pub fn rest_text<S: Store + Drop, V: Seen<S>>(
     let sight = seen.seen(alloc, region)?;
     let mut report = Report::new(alloc);
     incident_lines(&mut report, region, state.incidents.as_slice())?;
-    push_lines(&mut report, &waits)?;
+    report.append(&waits)?;
     keys_text(&mut report, region, state, keys)?;
-    push_lines(&mut report, &sight)?;
+    report.append(&sight)?;
     Ok(report)
 }

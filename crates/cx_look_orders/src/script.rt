@@ -3,13 +3,13 @@
 ghost use Rattle.std.specs.Prelude.{◌≡◌, ◌<◌, ◌++◌, None, OnOk};
 ghost use Rattle.std.specs.Option.{option_copied};
 ghost use Rattle.std.specs.List.{flat_map};
-ghost use Rattle.cx_look_orders.specs.Script.{goes_on, key_at, key_line, many_before, off_line, row_after, row_lines, script_lines, step_lines, steps_lines};
+ghost use Rattle.cx_look_orders.specs.Script.{row_goes_on, key_at, key_line, many_before, off_line, row_after, row_lines, script_lines, step_lines, steps_lines};
 
-use crate::rest::name_at;
+use crate::rest::terminal_name_at;
 use crate::steps::Step;
-use cx_base_text::shown_name;
+use cx_base::shown_name;
 use cx_ebcdic::Name4;
-use cx_look_words::{Report, decimal};
+use cx_look_tables::{Report, decimal};
 use cx_orders::{KeyLine, key_of};
 use cx_region::Region;
 use cx_storage::Store;
@@ -23,8 +23,8 @@ pub struct Row {
 }
 
 /// Whether a step is one more turn of a row, of which a line can ask for 4,096.
-fn goes_on(row: Option<Row>, step: Step) -> bool
-    ensures { result ≡ goes_on row step }
+fn row_goes_on(row: Option<Row>, step: Step) -> bool
+    ensures { result ≡ row_goes_on row step }
 {
     let Some(row) = row else {
         return false;
@@ -40,7 +40,7 @@ fn many_before(row: Option<Row>, step: Step) -> usize
     let Some(row) = row else {
         return 0;
     };
-    if goes_on(Some(row), step) {
+    if row_goes_on(Some(row), step) {
         row.many
     } else {
         0
@@ -72,7 +72,7 @@ fn row_lines<S: Store + Drop>(
     let Some(row) = row else {
         return Ok(());
     };
-    let name = name_at(report.alloc(), region, row.number)?;
+    let name = terminal_name_at(report.alloc(), region, row.number)?;
     let many = decimal(report.alloc(), row.many)?;
     report.line(&[b"RUN", name.as_slice(), many.as_slice()])
 }
@@ -119,7 +119,7 @@ fn step_lines<S: Store + Drop>(
 ) -> Result<(), AllocError>
     ensures { OnOk result (report.new ≡ report.old ++ step_lines region.now keys.now row step) }
 {
-    if goes_on(row, step) {
+    if row_goes_on(row, step) {
         return Ok(());
     }
     row_lines(report, region, row)?;

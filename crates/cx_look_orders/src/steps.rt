@@ -8,7 +8,7 @@ ghost use Rattle.cx_search.specs.Finds.{Finds};
 ghost use Rattle.cx_search.specs.Found.{IsAt};
 ghost use Rattle.cx_search.specs.Moves.{Leads};
 
-use cx_base_lists::List;
+use cx_base::List;
 use cx_orders::{Orders, OrdersState, begin};
 use cx_region::Region;
 use cx_region_snapshot::RegionSnapshot;

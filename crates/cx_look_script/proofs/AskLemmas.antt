@@ -10,7 +10,7 @@ use Rattle.std.proofs.lemmas.Bool.{le-leb}
 use Rattle.std.proofs.lemmas.Grind.{flat_map-append}
 use Rattle.std.proofs.lemmas.List.{map-append}
 use Rattle.std.proofs.lemmas.Option.{none-some, same_Some}
-use Rattle.cx_base_text.specs.Texts.{shown_name}
+use Rattle.cx_base.specs.Texts.{shown_name}
 use Rattle.cx_ebcdic.specs.Facts.Names.{is_name-decides}
 use Rattle.cx_ebcdic.specs.Names.{is_name, is_name_character, padded_name}
 use Rattle.cx_edf.specs.declared.answers.EdfEvent.{EdfEvent}
@@ -30,12 +30,12 @@ use Rattle.cx_orders.specs.declared.states.KeyLine.{KeyLine}
 use Rattle.cx_look.specs.Laws.{IsAskedByItsLine}
 use Rattle.cx_look.specs.Looks.{count_of, subject_of}
 use Rattle.cx_look.specs.declared.look.Subject.TheVariants as subject
-use Rattle.cx_look_words.specs.Words.{Lines, line_of as words_line, look_line}
-use Rattle.cx_look_orders.specs.Laws.{IsAsked, ScriptsAskForSteps, asked_lines, asked_steps, event_at, event_of}
-use Rattle.cx_look_orders.specs.Rest.{name_at}
+use Rattle.cx_look_tables.specs.Words.{Lines, line_of as words_line, look_line}
+use Rattle.cx_look_orders.specs.Laws.{IsStepAsked, ScriptsAskForSteps, asked_lines, asked_steps, event_at, event_of}
+use Rattle.cx_look_orders.specs.Rest.{terminal_name_at}
 use Rattle.cx_look_orders.specs.Script.{key_at, off_line, script_lines, steps_lines}
 use Rattle.cx_look_orders.specs.declared.steps.Step.{Step}
-use Rattle.cx_look_script.specs.Laws.Orders.{AskForEvents, IsSpelled, ScriptsAskForEvents, asked_events}
+use Rattle.cx_look_script.specs.Laws.Orders.{AskForEvents, HasSpelling, ScriptsAskForEvents, asked_events}
 use Rattle.cx_look_script.specs.Reading.{line_by, line_of_subject, look_line_of, own_line, run_of, run_with, turns_of}
 use Rattle.cx_look_script.specs.Runs.{turn_of}
 use Rattle.cx_look_script.specs.declared.action.LookAction.{LookAction}
@@ -106,7 +106,7 @@ run_line number name text digits n spells it all few is =
     line_of_run number asked = Some (line.Action (unwrap_or asked (action.BadLook number subject.Run)))
 
 -- RUN of a name and a number, as it is written, is read as that
-run_read : ShownAsItself → (number : ℕ) (name : List ℕ) (n : ℕ) → IsSpelled name → 1 ≤ n → n ≤ 4096
+run_read : ShownAsItself → (number : ℕ) (name : List ℕ) (n : ℕ) → HasSpelling name → 1 ≤ n → n ≤ 4096
     → look_line_of number (words_line (codes "RUN" ∷ shown_name name ∷ decimal n ∷ [])) ≡ Some (line.Action (action.Run name n stop.Never))
 unfolding look_line_of
 run_read itself number name n spelled least most =
@@ -128,7 +128,7 @@ off_asked name text spells all =
     ∙ ap (λ o. option_and_then (λ a. option_map (edf_switch a) (option_and_then switch_of (after_first_blank rest))) o) spells
     ∙ ap (λ o. option_map (edf_switch name) (option_and_then switch_of o)) (after_of text (codes "OFF") all)
 
-off_read : ShownAsItself → (number : ℕ) (name : List ℕ) → IsSpelled name
+off_read : ShownAsItself → (number : ℕ) (name : List ℕ) → HasSpelling name
     → look_line_of number (words_line (codes "EDF" ∷ shown_name name ∷ codes "OFF" ∷ []))
     ≡ Some (line.Action (action.Script (edf_action.Event (edf_event.Off name))))
 unfolding look_line_of
@@ -164,7 +164,7 @@ ask_both ones others es fs p q =
     }
 
 -- EDF OFF of each
-offs_ask : ShownAsItself → (edf : List (List ℕ)) → AllByRecursion IsSpelled edf → AskForEvents (flat_map off_line edf) (map edf_event.Off edf)
+offs_ask : ShownAsItself → (edf : List (List ℕ)) → AllByRecursion HasSpelling edf → AskForEvents (flat_map off_line edf) (map edf_event.Off edf)
 offs_ask itself [] all = ask_nothing
 offs_ask itself (name ∷ edf) all =
     ask_both (off_line name) (flat_map off_line edf) (edf_event.Off name ∷ []) (map edf_event.Off edf)
@@ -177,20 +177,20 @@ step_of number key = record { number = number; key = key }
 
 -- the name of the terminal with that number, and that a text spells it
 record IsTerminal (region : RegionState) (number : ℕ) (name : List ℕ) : Type 0 where
-  shown : name_at region number ≡ shown_name name
-  spelled : IsSpelled name
+  shown : terminal_name_at region number ≡ shown_name name
+  spelled : HasSpelling name
   keys : (keys : List KeyLine) (came : ℕ) → key_at region keys number came ≡ slice_get (keys_of keys name) came
 
-terminal_at : (terminals : List (List ℕ × TerminalState)) (number : ℕ) (name : List ℕ) → AllByRecursion IsSpelled (names_of terminals)
+terminal_at : (terminals : List (List ℕ × TerminalState)) (number : ℕ) (name : List ℕ) → AllByRecursion HasSpelling (names_of terminals)
     → slice_get (names_of terminals) number ≡ Some name
-    → (terminal : TerminalState) × ((slice_get terminals number ≡ Some (name, terminal)) × IsSpelled name)
+    → (terminal : TerminalState) × ((slice_get terminals number ≡ Some (name, terminal)) × HasSpelling name)
 terminal_at [] number name all at = absurd (none-some name at)
 terminal_at (t ∷ terminals) zero name all at =
     let same = same_Some t.0 name at in
-    (t.1, (ap (λ (n : List ℕ). Some (n, t.1)) same, subst IsSpelled same all.0))
+    (t.1, (ap (λ (n : List ℕ). Some (n, t.1)) same, subst HasSpelling same all.0))
 terminal_at (t ∷ terminals) (suc number) name all at = terminal_at terminals number name all.1 at
 
-terminal_of : (region : RegionState) (number : ℕ) (name : List ℕ) → AllByRecursion IsSpelled (names_of region.terminals)
+terminal_of : (region : RegionState) (number : ℕ) (name : List ℕ) → AllByRecursion HasSpelling (names_of region.terminals)
     → slice_get (names_of region.terminals) number ≡ Some name → IsTerminal region number name
 terminal_of region number name all at =
     let it = terminal_at region.terminals number name all at in
@@ -239,7 +239,7 @@ plains : (many : ℕ) (e : Event) → replicate many (edf_event.Plain e) ≡ map
 plains zero e = refl
 plains (suc many) e = ap (λ l. edf_event.Plain e ∷ l) (plains many e)
 
-module _ (itself : ShownAsItself) (region : RegionState) (keys : List KeyLine) (all : AllByRecursion IsSpelled (names_of region.terminals))
+module _ (itself : ShownAsItself) (region : RegionState) (keys : List KeyLine) (all : AllByRecursion HasSpelling (names_of region.terminals))
     (read : AllByRecursion IsAskedByItsLine keys) where
   abbrev names : List (List ℕ)
   names = names_of region.terminals
@@ -264,9 +264,9 @@ module _ (itself : ShownAsItself) (region : RegionState) (keys : List KeyLine) (
 
   -- the line of so many turns
   turns_ask : (number many : ℕ) (name : List ℕ) → IsTerminal region number name → 1 ≤ many → many ≤ 4096
-      → AskForEvents (look_line (codes "RUN" ∷ name_at region number ∷ decimal many ∷ [])) (map edf_event.Plain (replicate many (event.Turn name)))
+      → AskForEvents (look_line (codes "RUN" ∷ terminal_name_at region number ∷ decimal many ∷ [])) (map edf_event.Plain (replicate many (event.Turn name)))
   turns_ask number many name it least most =
-      subst (λ es. AskForEvents (look_line (codes "RUN" ∷ name_at region number ∷ decimal many ∷ [])) es) (plains many (event.Turn name))
+      subst (λ es. AskForEvents (look_line (codes "RUN" ∷ terminal_name_at region number ∷ decimal many ∷ [])) es) (plains many (event.Turn name))
       (subst (λ s. AskForEvents (look_line (codes "RUN" ∷ s ∷ decimal many ∷ [])) (replicate many (turn_of name))) (sym it.shown)
       (ask_one (words_line (codes "RUN" ∷ shown_name name ∷ decimal many ∷ [])) (action.Run name many stop.Never)
       (λ at. run_read itself at name many it.spelled least most)))
@@ -275,7 +275,7 @@ module _ (itself : ShownAsItself) (region : RegionState) (keys : List KeyLine) (
   abbrev Asked : ℕ → Option ℕ → ℕ → Event → Type 0
   Asked number key many what = AskForEvents (asked_lines region keys (step_of number key, suc many)) (map edf_event.Plain (replicate (suc many) what))
 
-  step_asks : (number : ℕ) (key : Option ℕ) (many : ℕ) (what : Event) (name : List ℕ) → IsAsked (step_of number key, suc many) → IsTerminal region number name
+  step_asks : (number : ℕ) (key : Option ℕ) (many : ℕ) (what : Event) (name : List ℕ) → IsStepAsked (step_of number key, suc many) → IsTerminal region number name
       → event_at keys name key ≡ Some what → Asked number key many what
   step_asks number None many what name few it is =
       subst (λ e. Asked number None many e) (same_Some (event.Turn name) what is) (turns_ask number (suc many) name it few.0 few.1)
@@ -283,12 +283,12 @@ module _ (itself : ShownAsItself) (region : RegionState) (keys : List KeyLine) (
       let once : many ≡ 0 = omega (arith, few.1) in
       subst (λ k. Asked number (Some came) k what) (sym once) (key_asks number came name what it is)
 
-  named_asks : (number : ℕ) (key : Option ℕ) (many : ℕ) (what : Event) (name : Option (List ℕ)) → IsAsked (step_of number key, suc many)
+  named_asks : (number : ℕ) (key : Option ℕ) (many : ℕ) (what : Event) (name : Option (List ℕ)) → IsStepAsked (step_of number key, suc many)
       → slice_get names number ≡ name → option_and_then (λ n. event_at keys n key) name ≡ Some what → Asked number key many what
   named_asks number key many what None few at is = absurd (none-some what is)
   named_asks number key many what (Some name) few at is = step_asks number key many what name few (terminal_of region number name all at) is
 
-  all_ask : (asked : List (Step × ℕ)) (events : List Event) → AllByRecursion IsAsked asked
+  all_ask : (asked : List (Step × ℕ)) (events : List Event) → AllByRecursion IsStepAsked asked
       → map (event_of names keys) (flat_map asked_steps asked) ≡ map Some events
       → AskForEvents (flat_map (asked_lines region keys) asked) (map edf_event.Plain events)
   all_ask [] [] each e = ask_nothing

@@ -10,8 +10,8 @@ use Rattle.cx_script.specs.Transcript.{PerformsAll}
 use Rattle.cx_look_script.specs.Looking.{Acts, NotedPerforms, RunsTurn, TakesOneMore}
 use Rattle.cx_look_script.specs.Runs.{StopsWith, run_over}
 use Rattle.cx_look_script.specs.State.{LookState}
-use Rattle.cx_look_script.specs.Watched.{cause_of, watched_text}
-use Rattle.cx_look_script.specs.Laws.Looks.{ArePartsOf, ChangesNothing, IsMoreOfRun, IsPart, IsTurnOfRun, LooksChangeNothing, Part, after_turns, kept_after, plain_of, text_of, turn_action, written_of}
+use Rattle.cx_look_script.specs.Watched.{IsWatchedText, cause_of}
+use Rattle.cx_look_script.specs.Laws.Looks.{ArePartsOf, ChangesNothing, IsMoreOfRun, IsPart, IsTurnOfRun, LooksChangeNothing, ActionPart, after_turns, state_kept_after, plain_of, text_of_part, turn_action, written_of}
 use Rattle.cx_look_script.specs.declared.action.LookAction.{LookAction}
 use Rattle.cx_look_script.specs.declared.action.LookAction.TheVariants as action
 use Rattle.cx_look_script.specs.declared.action.Stop.{Stop}
@@ -33,17 +33,17 @@ performs old (edf_action.Previous name k) text new p = p.0
 -- ---- parts
 -- what became of an action, where this is written of what is watched
 record Did (old : LookState) (a : LookAction) (own watched : List ℕ) (new : LookState) : Type 0 where
-  part : Part
+  part : ActionPart
   is : IsPart old a part
   done : LookState
   runs : PerformsAll NotedPerforms old part.plain part.written done
-  kept : new ≡ kept_after old a part.plain done
+  kept : new ≡ state_kept_after old a part.plain done
   whole : own ≡ part.written ++ part.looked
   shown : part.watched ≡ watched
 
 -- an action that is done as one of `cicsedf`
-did_action : (old : LookState) (a : LookAction) (done : Action) (text watched : List ℕ) (new : LookState) → IsPart old a (let part : Part = record { plain = done ∷ []; written = text; looked = []; watched = watched } in part)
-    → new ≡ kept_after old a (done ∷ []) new → NotedPerforms old done text new → Did old a text watched new
+did_action : (old : LookState) (a : LookAction) (done : Action) (text watched : List ℕ) (new : LookState) → IsPart old a (let part : ActionPart = record { plain = done ∷ []; written = text; looked = []; watched = watched } in part)
+    → new ≡ state_kept_after old a (done ∷ []) new → NotedPerforms old done text new → Did old a text watched new
 did_action old a done text watched new is kept p =
     record {
       part = record { plain = done ∷ []; written = text; looked = []; watched = watched };
@@ -56,8 +56,8 @@ did_action old a done text watched new is kept p =
     }
 
 -- an action that does none
-did_nothing : (old : LookState) (a : LookAction) (text watched : List ℕ) (new : LookState) → IsPart old a (let part : Part = record { plain = []; written = []; looked = text; watched = watched } in part)
-    → new ≡ kept_after old a [] old → Did old a text watched new
+did_nothing : (old : LookState) (a : LookAction) (text watched : List ℕ) (new : LookState) → IsPart old a (let part : ActionPart = record { plain = []; written = []; looked = text; watched = watched } in part)
+    → new ≡ state_kept_after old a [] old → Did old a text watched new
 unfolding PerformsAll
 did_nothing old a text watched new is kept =
     record {
@@ -72,7 +72,7 @@ did_nothing old a text watched new is kept =
 
 -- a turn of RUN, or the line in its place
 record Turned (old : LookState) (name : List ℕ) (s : Stop) (own watched : List ℕ) (new : LookState) : Type 0 where
-  part : Part
+  part : ActionPart
   is : IsTurnOfRun old name s part
   done : LookState
   runs : PerformsAll NotedPerforms old part.plain part.written done
@@ -116,7 +116,7 @@ same_over old e = ap (λ (b : Bool). let s : LookState = record old { goes_on = 
 did_more : (old : LookState) (name : List ℕ) (n : ℕ) (s : Stop) (text watched : List ℕ) (new : LookState) (on : Bool) → old.goes_on ≡ on
     → MatchBool on (TakesOneMore old name n s text new) ((text ≡ []) × (new ≡ old)) → Did old (action.RunOn name n s) text watched new
 did_more old name zero s text watched new true e p =
-    let last : Part = record { plain = []; written = []; looked = text; watched = watched } in
+    let last : ActionPart = record { plain = []; written = []; looked = text; watched = watched } in
     did_nothing old (action.RunOn name zero s) text watched new
     (subst (λ (on : Bool). MatchBool on (IsMoreOfRun old name zero s last) ((last.plain ≡ []) × (last.looked ≡ []))) (sym e) (refl, p.0)) p.1
 did_more old name (suc n) s text watched new true e p =
@@ -131,7 +131,7 @@ did_more old name (suc n) s text watched new true e p =
       shown = t.shown;
     }
 did_more old name n s text watched new false e p =
-    let none : Part = record { plain = []; written = []; looked = text; watched = watched } in
+    let none : ActionPart = record { plain = []; written = []; looked = text; watched = watched } in
     did_nothing old (action.RunOn name n s) text watched new
     (subst (λ (on : Bool). MatchBool on (IsMoreOfRun old name n s none) ((none.plain ≡ []) × (none.looked ≡ []))) (sym e) (refl, p.0)) (p.1 ∙ same_over old e)
 
@@ -168,7 +168,7 @@ after_same : (plain : List Action) (done : LookState) → (after_turns plain don
 after_same [] done = refl
 after_same (turn ∷ turns) done = refl
 
-kept_same : (old : LookState) (a : LookAction) (plain : List Action) (done : LookState) → (kept_after old a plain done).edf ≡ done.edf
+kept_same : (old : LookState) (a : LookAction) (plain : List Action) (done : LookState) → (state_kept_after old a plain done).edf ≡ done.edf
 kept_same old (action.Script a) plain done = refl
 kept_same old (action.Source name lines a) plain done = refl
 kept_same old (action.Run name n s) plain done = after_same plain done
@@ -178,26 +178,25 @@ kept_same old (action.Watch w) plain done = refl
 kept_same old (action.Look l) plain done = refl
 kept_same old (action.Orders block) plain done = refl
 
-in_front : (old : LookState) (a : LookAction) (own first : List ℕ) (between : LookState) (actions : List LookAction) (rest text : List ℕ) (new : LookState)
-    → Did old a own (watched_text old (cause_of a) between) between → first ≡ own ++ watched_text old (cause_of a) between → ChangesNothing between actions rest new → text ≡ first ++ rest → ChangesNothing old (a ∷ actions) text new
+in_front : (old : LookState) (a : LookAction) (own first watched : List ℕ) (between : LookState) (actions : List LookAction) (rest text : List ℕ) (new : LookState)
+    → Did old a own watched between → IsWatchedText old (cause_of a) between watched → first ≡ own ++ watched → ChangesNothing between actions rest new → text ≡ first ++ rest → ChangesNothing old (a ∷ actions) text new
 unfolding ArePartsOf
-in_front old a own first between actions rest text new d is r e =
+in_front old a own first watched between actions rest text new d seen is r e =
     let plain : List Action = flat_map plain_of r.parts in
     let written : List ℕ = flat_map written_of r.parts in
-    let watched : List ℕ = watched_text old (cause_of a) between in
-    let shown : own ++ watched ≡ text_of d.part =
+    let shown : own ++ watched ≡ text_of_part d.part =
     ap (λ l. l ++ watched) d.whole ∙ ap (λ w. d.part.written ++ d.part.looked ++ w) (sym d.shown) in
     let same : between.edf ≡ d.done.edf = ap (λ (s : LookState). s.edf) d.kept ∙ kept_same old a d.part.plain d.done in
     record {
       parts = d.part ∷ r.parts;
-      each = (d.done, between, d.is, d.runs, d.kept, d.shown, r.each);
+      each = (d.done, between, d.is, d.runs, d.kept, subst (λ (w : List ℕ). IsWatchedText old (cause_of a) between w) (sym d.shown) seen, r.each);
       runs = append_plain old d.part.plain d.part.written d.done plain written new d.runs
           (subst (λ (s : EdfState). PerformsAll Performs s plain written new.edf) same r.runs);
-      whole = e ∙ ap (λ l. l ++ rest) (is ∙ shown) ∙ ap (λ l. text_of d.part ++ l) r.whole;
+      whole = e ∙ ap (λ l. l ++ rest) (is ∙ shown) ∙ ap (λ l. text_of_part d.part ++ l) r.whole;
     }
 
 pub looks_change_nothing : LooksChangeNothing
 unfolding PerformsAll ArePartsOf
 looks_change_nothing old [] text new p = record { parts = []; each = p.1; runs = (refl, ap (λ (s : LookState). s.edf) p.1); whole = p.0 }
 looks_change_nothing old (a ∷ actions) text new p =
-    in_front old a p.3.own p.1 p.0 actions p.2 text new (did old a p.3.own (watched_text old (cause_of a) p.0) p.0 p.3.acts) p.3.is (looks_change_nothing p.0 actions p.2 new p.4) p.5
+    in_front old a p.3.own p.1 p.3.watched p.0 actions p.2 text new (did old a p.3.own p.3.watched p.0 p.3.acts) p.3.shown p.3.is (looks_change_nothing p.0 actions p.2 new p.4) p.5

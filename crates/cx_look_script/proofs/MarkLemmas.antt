@@ -2,10 +2,11 @@
 use Rattle.std.proofs.Common.{◌≡◌, ap, sym, subst, ◌∙◌}
 use Rattle.cx_look.specs.declared.look.Look.{Look}
 use Rattle.cx_look.specs.declared.look.Look.TheVariants as look
-use Rattle.cx_look_words.specs.Facts.Marked.{marked_is_of_looks}
-use Rattle.cx_look_words.specs.Marked.{IsOfLooks}
-use Rattle.cx_look_words.specs.Words.{Lines, marked}
+use Rattle.cx_look_tables.specs.Facts.Marked.{marked_is_of_looks}
+use Rattle.cx_look_tables.specs.Marked.{IsOfLooks}
+use Rattle.cx_look_tables.specs.Words.{Lines, marked}
 use Rattle.cx_look_ahead.specs.Laws.{AheadDecides}
+use Rattle.cx_look_ahead.specs.Laws.Ats.{AtDecides}
 use Rattle.cx_look_tasks.specs.Laws.{ResourcesTextsDecide, TasksTextsDecide}
 use Rattle.cx_look_script.specs.Looking.{AreLookLines}
 use Rattle.cx_look_script.specs.Laws.Looks.{LooksAreMarked, LooksAreReportedOnce, OrdersAreMarked}
@@ -17,33 +18,35 @@ looks_are_marked look state text it = subst IsOfLooks (sym it.is) (marked_is_of_
 pub orders_are_marked : OrdersAreMarked
 orders_are_marked block state text it = subst IsOfLooks (sym it.is) (marked_is_of_looks it.lines)
 
-pub same_lines : TasksTextsDecide → ResourcesTextsDecide → AheadDecides → (look : Look) (state : LookState) (one other : Lines) → AreLookLines look state one → AreLookLines look state other → one ≡ other
+pub same_lines : TasksTextsDecide → ResourcesTextsDecide → AheadDecides → AtDecides → (look : Look) (state : LookState) (one other : Lines) → AreLookLines look state one → AreLookLines look state other → one ≡ other
 unfolding AreLookLines
-same_lines tasks resources ahead look.Queues state one other p q = p ∙ sym q
-same_lines tasks resources ahead (look.Queue name) state one other p q = p ∙ sym q
-same_lines tasks resources ahead (look.Item name n) state one other p q = p ∙ sym q
-same_lines tasks resources ahead look.Programs state one other p q = p ∙ sym q
-same_lines tasks resources ahead look.Tasks state one other p q = tasks state.edf.region one other p q
-same_lines tasks resources ahead look.Resources state one other p q = resources state.edf.region one other p q
-same_lines tasks resources ahead (look.Command name) state one other p q = p ∙ sym q
-same_lines tasks resources ahead (look.Ahead name n) state one other p q = ahead state.sources state.edf.region name n one other p q
-same_lines tasks resources ahead (look.Storage at n) state one other p q = p ∙ sym q
-same_lines tasks resources ahead (look.Where at) state one other p q = p ∙ sym q
-same_lines tasks resources ahead look.Areas state one other p q = p ∙ sym q
-same_lines tasks resources ahead (look.AreasOf name) state one other p q = p ∙ sym q
-same_lines tasks resources ahead (look.Task name) state one other p q = p ∙ sym q
-same_lines tasks resources ahead (look.Abend name) state one other p q = p ∙ sym q
-same_lines tasks resources ahead (look.AbendStorage name) state one other p q = p ∙ sym q
-same_lines tasks resources ahead (look.AbendFields name) state one other p q = p ∙ sym q
-same_lines tasks resources ahead (look.Faults source) state one other p q = p ∙ sym q
-same_lines tasks resources ahead (look.Symbol program name) state one other p q = p ∙ sym q
-same_lines tasks resources ahead (look.Symbols program) state one other p q = p ∙ sym q
-same_lines tasks resources ahead (look.Xref program) state one other p q = p ∙ sym q
-same_lines tasks resources ahead look.Terminals state one other p q = p ∙ sym q
-same_lines tasks resources ahead (look.Field term name k) state one other p q = p ∙ sym q
-same_lines tasks resources ahead (look.Fields term k) state one other p q = p ∙ sym q
-same_lines tasks resources ahead (look.Help word) state one other p q = p ∙ sym q
+same_lines tasks resources ahead at look.Queues state one other p q = p ∙ sym q
+same_lines tasks resources ahead at (look.Queue name) state one other p q = p ∙ sym q
+same_lines tasks resources ahead at (look.Item name n) state one other p q = p ∙ sym q
+same_lines tasks resources ahead at look.Programs state one other p q = p ∙ sym q
+same_lines tasks resources ahead at look.Tasks state one other p q = tasks state.edf.region one other p q
+same_lines tasks resources ahead at look.Resources state one other p q = resources state.edf.region one other p q
+same_lines tasks resources ahead at (look.Command name) state one other p q = p ∙ sym q
+same_lines tasks resources ahead at (look.Ahead name n) state one other p q = ahead state.sources state.edf.region name n one other p q
+same_lines tasks resources ahead at (look.AheadAt name program line) state one other p q =
+    at state.sources state.edf.region name (record { program = program; line = line }) one other p q
+same_lines tasks resources ahead at (look.Storage address n) state one other p q = p ∙ sym q
+same_lines tasks resources ahead at (look.Where address) state one other p q = p ∙ sym q
+same_lines tasks resources ahead at look.Areas state one other p q = p ∙ sym q
+same_lines tasks resources ahead at (look.AreasOf name) state one other p q = p ∙ sym q
+same_lines tasks resources ahead at (look.Task name) state one other p q = p ∙ sym q
+same_lines tasks resources ahead at (look.Abend name) state one other p q = p ∙ sym q
+same_lines tasks resources ahead at (look.AbendStorage name) state one other p q = p ∙ sym q
+same_lines tasks resources ahead at (look.AbendFields name) state one other p q = p ∙ sym q
+same_lines tasks resources ahead at (look.Faults source) state one other p q = p ∙ sym q
+same_lines tasks resources ahead at (look.Symbol program name) state one other p q = p ∙ sym q
+same_lines tasks resources ahead at (look.Symbols program) state one other p q = p ∙ sym q
+same_lines tasks resources ahead at (look.Xref program) state one other p q = p ∙ sym q
+same_lines tasks resources ahead at look.Terminals state one other p q = p ∙ sym q
+same_lines tasks resources ahead at (look.Field term name k) state one other p q = p ∙ sym q
+same_lines tasks resources ahead at (look.Fields term k) state one other p q = p ∙ sym q
+same_lines tasks resources ahead at (look.Help word) state one other p q = p ∙ sym q
 
-pub looks_are_reported_once : TasksTextsDecide → ResourcesTextsDecide → AheadDecides → LooksAreReportedOnce
-looks_are_reported_once tasks resources ahead look state one other p q =
-    p.is ∙ ap marked (same_lines tasks resources ahead look state p.lines q.lines p.are q.are) ∙ sym q.is
+pub looks_are_reported_once : TasksTextsDecide → ResourcesTextsDecide → AheadDecides → AtDecides → LooksAreReportedOnce
+looks_are_reported_once tasks resources ahead at look state one other p q =
+    p.is ∙ ap marked (same_lines tasks resources ahead at look state p.lines q.lines p.are q.are) ∙ sym q.is

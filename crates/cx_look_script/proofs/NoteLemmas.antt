@@ -6,13 +6,13 @@ use Rattle.cx_asm_build.specs.Prepared.{prepared_of}
 use Rattle.cx_asm_build.specs.declared.faults.PrepareFault.{PrepareFault}
 use Rattle.cx_asm_build.specs.declared.faults.PrepareFault.TheVariants.{At}
 use Rattle.cx_look.specs.declared.look.SourceLines.{SourceLines}
-use Rattle.cx_look_words.specs.Words.{Lines}
+use Rattle.cx_look_tables.specs.Words.{Lines}
 use Rattle.cx_look_faults.specs.Kept.{kept_faults}
 use Rattle.cx_look_faults.specs.Laws.First.{Has, IsAmong}
 use Rattle.cx_look_faults.specs.Marks.{marks_of}
 use Rattle.cx_look_faults.specs.Notes.{notes_of}
 use Rattle.cx_look_faults.specs.declared.faults.FaultyLine.{FaultyLine}
-use Rattle.cx_look_script.specs.Faults.{fault_line, fault_lines, faults_text, note_line}
+use Rattle.cx_look_script.specs.Faults.{mark_line, fault_lines, faults_text, note_line}
 use Rattle.cx_look_script.specs.Laws.Notes.{NotesRefuseNothing, RefusalsAreWritten}
 
 abbrev Among : Type 0
@@ -26,7 +26,7 @@ notes_refuse_nothing among listing disassembly source accepted =
     ap (λ (faults : List FaultyLine). fault_lines source faults ++ flat_map (note_line source) (notes_of source.lines faults)) none
 
 not_none : (source : SourceLines) (fault : PrepareFault) (faults : List FaultyLine) (notes : Lines) → Has fault faults
-    → fault_lines source faults ++ notes ≡ flat_map (fault_line source) (marks_of source.lines faults) ++ notes
+    → fault_lines source faults ++ notes ≡ flat_map (mark_line source) (marks_of source.lines faults) ++ notes
 not_none source fault [] notes h = absurd h
 not_none source fault (f ∷ faults) notes h = refl
 

@@ -241,7 +241,7 @@ acts_same old (action.Orders block) b text new e p = cc
 performs_same : (old : LookState) (a : LookAction) (b : Action) (text : List ℕ) (new : LookState) → plain_action a ≡ Some b → old.watched ≡ [] → LookPerforms old a text new
     → Performs old.edf b text new.edf
 performs_same old a b text new e none p =
-    subst (λ l. Performs old.edf b l new.edf) (sym (alone_unwatched old new (cause_of a) p.own text p.is none)) (acts_same old a b p.own new e p.acts)
+    subst (λ l. Performs old.edf b l new.edf) (sym (alone_unwatched old new (cause_of a) p.own text p.watched p.shown p.is none)) (acts_same old a b p.own new e p.acts)
 
 -- and no more is watched
 no_watch : (a : LookAction) (b : Action) → plain_action a ≡ Some b → is_watch a ≡ false

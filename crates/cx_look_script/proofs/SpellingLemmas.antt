@@ -11,7 +11,7 @@ use Rattle.std.proofs.lemmas.Fmt.{decimal_nonempty, digits_decimal, digits_value
 use Rattle.std.proofs.lemmas.List.Sums.{take_while-cons}
 use Rattle.std.proofs.lemmas.Option.{none-some, same_Some}
 use Rattle.std.proofs.lemmas.Str.Parse.{FoldsDigits, IsDigitsTest, IsNumeralModel, numerals_by_fold}
-use Rattle.cx_base_text.specs.Texts.{is_filled, shown_name}
+use Rattle.cx_base.specs.Texts.{is_filled, shown_name}
 use Rattle.cx_ebcdic.specs.Characters.{code_of, shown_as, table}
 use Rattle.cx_ebcdic.specs.Lookup.{each_some}
 use Rattle.cx_ebcdic.specs.Names.{is_name_character, name_code, pad, padded_name}

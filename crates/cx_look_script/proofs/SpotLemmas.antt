@@ -2,7 +2,8 @@
 use Rattle.std.proofs.Common.{◌≡◌, ℕ, ◌-◌, List, ◌++◌, append_assoc, drop, map, take, refl, sym, ap, ◌∙◌}
 use Rattle.std.proofs.lemmas.List.{length-take, take-append-drop}
 use Rattle.cx_look_faults.specs.declared.positions.Spot.{Spot}
-use Rattle.cx_look_script.specs.Faults.{shown_byte, text_at, with_marks}
+use Rattle.cx_look_script.specs.Faults.{source_text_at, with_marks}
+use Rattle.cx_script_blocks.specs.Shown.{printable_byte}
 use Rattle.cx_look_script.specs.Laws.Marks.{FaultsAreMarked, IsMarked}
 
 cut : (k n : ℕ) (line : List ℕ) → line ≡ take k line ++ take n (drop k line) ++ drop n (drop k line)
@@ -22,5 +23,5 @@ is_marked spot line =
 
 pub faults_are_marked : FaultsAreMarked
 faults_are_marked source mark =
-    let line = map shown_byte (text_at source.lines mark.spot.line) in
+    let line = map printable_byte (source_text_at source.lines mark.spot.line) in
     record { marked = with_marks mark.spot line; written = refl; is = is_marked mark.spot line }

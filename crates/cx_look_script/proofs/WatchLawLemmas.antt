@@ -5,7 +5,7 @@ use Rattle.cx_script_actions.specs.declared.actions.Action.{Action}
 use Rattle.cx_script_actions.specs.declared.actions.Action.TheVariants as script
 use Rattle.cx_look.specs.declared.look.Look.{Look}
 use Rattle.cx_look.specs.declared.look.Look.TheVariants as look
-use Rattle.cx_look_words.specs.Words.{Lines}
+use Rattle.cx_look_tables.specs.Words.{Lines}
 use Rattle.cx_look_ahead.specs.declared.rows.Row.{Row}
 use Rattle.cx_look_script.specs.Laws.Looks.{turn_action}
 use Rattle.cx_look_script.specs.Laws.Watches.{WatchesChangeNothing, WatchesStay, watching}
@@ -61,6 +61,7 @@ same_lines look.Tasks state lines ranges p = p
 same_lines look.Resources state lines ranges p = p
 same_lines (look.Command name) state lines ranges p = p
 same_lines (look.Ahead name n) state lines ranges p = p
+same_lines (look.AheadAt name program line) state lines ranges p = p
 same_lines (look.Storage at n) state lines ranges p = p
 same_lines (look.Where at) state lines ranges p = p
 same_lines look.Areas state lines ranges p = p

@@ -1,13 +1,12 @@
 -- FAULTS: the faulty lines of a source in a script (own).
-use Rattle.std.specs.Prelude.{ℕ, ◌+◌, ◌-◌, ◌==◌, if◌then◌else◌, is_some, List, [], ◌∷◌, ◌++◌, codes, drop, length, map, slice_get, take, unwrap_or}
+use Rattle.std.specs.Prelude.{ℕ, ◌+◌, ◌-◌, ◌==◌, if◌then◌else◌, List, [], ◌∷◌, ◌++◌, codes, drop, length, map, slice_get, take, unwrap_or}
 use Rattle.std.specs.Fmt.{decimal}
 use Rattle.std.specs.List.{flat_map}
-use Rattle.std.specs.Str.{byte}
-use Rattle.cx_base_text.specs.Texts.{shown_name}
-use Rattle.cx_ebcdic.specs.Characters.{code_of}
+use Rattle.cx_base.specs.Texts.{shown_name}
 use Rattle.cx_asm_build.specs.Kinds.{kind_name}
+use Rattle.cx_script_blocks.specs.Shown.{printable_byte}
 use Rattle.cx_look.specs.declared.look.SourceLines.{SourceLines}
-use Rattle.cx_look_words.specs.Words.{Lines, look_line}
+use Rattle.cx_look_tables.specs.Words.{Lines, look_line}
 use Rattle.cx_look_faults.specs.Kept.{kept_faults}
 use Rattle.cx_look_faults.specs.Marks.{marks_of}
 use Rattle.cx_look_faults.specs.Notes.{notes_of}
@@ -17,12 +16,8 @@ use Rattle.cx_look_faults.specs.declared.notes.Note.{Note}
 use Rattle.cx_look_faults.specs.declared.positions.Spot.{Spot}
 
 -- A source's line by its number, as it is in the script; after the last comes the block's end.
-abbrev pub text_at : List (List ℕ) → ℕ → List ℕ
-text_at lines number = unwrap_or (slice_get lines (number - 1)) (codes "/*")
-
--- a line as it is shown: a period for a byte without a character
-abbrev pub shown_byte : ℕ → ℕ
-shown_byte c = if is_some (code_of c) then c else byte "."
+abbrev pub source_text_at : List (List ℕ) → ℕ → List ℕ
+source_text_at lines number = unwrap_or (slice_get lines (number - 1)) (codes "/*")
 
 -- with >> and << round a part
 abbrev pub with_marks : Spot → List ℕ → List ℕ
@@ -31,27 +26,27 @@ with_marks spot text =
     take (spot.column - 1) text ++ codes ">>" ++ take spot.length from ++ codes "<<" ++ drop spot.length from
 
 -- where a part is in the script: line and column
-abbrev pub place_word : SourceLines → Spot → List ℕ
-place_word source spot = decimal (source.first + spot.line) ++ codes ":" ++ decimal spot.column
+abbrev pub line_and_column : SourceLines → Spot → List ℕ
+line_and_column source spot = decimal (source.first + spot.line) ++ codes ":" ++ decimal spot.column
 
 -- the fault's name, and the names of what is missing
 abbrev pub fault_word : Mark → List ℕ
 fault_word mark = kind_name mark.kind ++ (if length mark.missing == 0 then [] else codes " " ++ mark.missing)
 
 -- a faulty line: the place of the part that is at fault, the fault, and the part's line
-abbrev pub fault_line : SourceLines → Mark → Lines
-fault_line source mark =
-    let text = map shown_byte (text_at source.lines mark.spot.line) in
-    look_line (place_word source mark.spot ∷ fault_word mark ∷ with_marks mark.spot text ∷ [])
+abbrev pub mark_line : SourceLines → Mark → Lines
+mark_line source mark =
+    let text = map printable_byte (source_text_at source.lines mark.spot.line) in
+    look_line (line_and_column source mark.spot ∷ fault_word mark ∷ with_marks mark.spot text ∷ [])
 
 -- a line for each of some faulty lines, or the words that there is none
 abbrev pub fault_lines : SourceLines → List FaultyLine → Lines
 fault_lines source [] = look_line (codes "FAULTS" ∷ shown_name source.name ∷ codes "NONE" ∷ [])
-fault_lines source (fault ∷ faults) = flat_map (fault_line source) (marks_of source.lines (fault ∷ faults))
+fault_lines source (fault ∷ faults) = flat_map (mark_line source) (marks_of source.lines (fault ∷ faults))
 
 -- a note: the place of what it is about, and what it says
 abbrev pub note_line : SourceLines → Note → Lines
-note_line source note = look_line (place_word source note.spot ∷ codes "NOTE" ∷ map shown_byte note.text ∷ [])
+note_line source note = look_line (line_and_column source note.spot ∷ codes "NOTE" ∷ map printable_byte note.text ∷ [])
 
 -- What is written for the lines of a source: the faulty lines, and then the notes.
 unfoldable pub faults_text : SourceLines → Lines

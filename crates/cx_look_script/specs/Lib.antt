@@ -14,13 +14,14 @@ pub use Rattle.cx_script_actions.specs.Actions
 pub use Rattle.cx_script_actions.specs.Language
 pub use Rattle.cx_script_actions.specs.Texts
 pub use Rattle.cx_script_actions.specs.Effects
+pub use Rattle.cx_script_blocks.specs.Shown
 pub use Rattle.cx_look.specs.Looks
 pub use Rattle.cx_look.specs.Orders as Blocks
 pub use Rattle.cx_look_orders.specs.Report as OrdersReports
 pub use Rattle.cx_look_faults.specs.Faults as FaultyLines
 pub use Rattle.cx_asm_build.specs.Kinds
-pub use Rattle.cx_look_words.specs.Words
-pub use Rattle.cx_look_words.specs.Marked
+pub use Rattle.cx_look_tables.specs.Words
+pub use Rattle.cx_look_tables.specs.Marked
 pub use Rattle.cx_look_tables.specs.Queues
 pub use Rattle.cx_look_tables.specs.Programs
 pub use Rattle.cx_look_tables.specs.Terminals
@@ -31,15 +32,17 @@ pub use Rattle.cx_look_levels.specs.Levels
 pub use Rattle.cx_look_levels.specs.Tasks as TasksLookedAt
 pub use Rattle.cx_look_levels.specs.Fields
 pub use Rattle.cx_look_levels.specs.FieldTexts
-pub use Rattle.cx_look_command.specs.Commands
-pub use Rattle.cx_look_command.specs.Looks as LooksAtCommands
+pub use Rattle.cx_look_tasks.specs.Commands
+pub use Rattle.cx_look_tasks.specs.Looks as LooksAtCommands
 pub use Rattle.cx_look_symbols.specs.Symbols
 pub use Rattle.cx_look_symbols.specs.Texts as SymbolTexts
 pub use Rattle.cx_look_symbols.specs.Places
 pub use Rattle.cx_look_symbols.specs.Sources as SourcesKept
 pub use Rattle.cx_look_ahead.specs.Rows
 pub use Rattle.cx_look_ahead.specs.Ahead
-pub use Rattle.cx_look_watch.specs.Watching
+pub use Rattle.cx_look_ahead.specs.Writing
+pub use Rattle.cx_look_ahead.specs.At
+pub use Rattle.cx_look_ahead.specs.Watching
 pub use Rattle.cx_look_tasks.specs.Activities
 pub use Rattle.cx_look_tasks.specs.Tasks
 pub use Rattle.cx_look_abend.specs.Dumps

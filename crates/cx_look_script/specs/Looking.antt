@@ -11,18 +11,19 @@ use Rattle.cx_script_actions.specs.declared.actions.Action.TheVariants as edf_ac
 use Rattle.cx_look.specs.declared.look.Look.{Look}
 use Rattle.cx_look.specs.declared.orders.OrdersBlock.{OrdersBlock}
 use Rattle.cx_look.specs.declared.look.Look.TheVariants as look
-use Rattle.cx_look_words.specs.Words.{Lines, marked}
+use Rattle.cx_look_tables.specs.Words.{Lines, marked}
 use Rattle.cx_look_tables.specs.Queues.{item_text, queue_text, queues_text}
 use Rattle.cx_look_tables.specs.Programs.{programs_text}
 use Rattle.cx_look_tables.specs.Terminals.{terminals_text}
 use Rattle.cx_look_ahead.specs.Ahead.{AheadText}
-use Rattle.cx_look_command.specs.Looks.{command_text}
+use Rattle.cx_look_ahead.specs.At.{AtText}
+use Rattle.cx_look_tasks.specs.Looks.{command_text}
 use Rattle.cx_look_symbols.specs.Sources.{source_lines}
 use Rattle.cx_look_symbols.specs.Texts.{symbol_text, symbols_text}
 use Rattle.cx_look_xref.specs.Texts.{xref_text}
 use Rattle.cx_look_storage.specs.Areas.{areas_text, task_areas_text}
 use Rattle.cx_look_storage.specs.Bytes.{storage_text}
-use Rattle.cx_look_where.specs.Wheres.{where_text}
+use Rattle.cx_look_levels.specs.Wheres.{where_text}
 use Rattle.cx_look_levels.specs.Tasks.{task_text}
 use Rattle.cx_look_levels.specs.FieldTexts.{field_text, fields_text}
 use Rattle.cx_look_tasks.specs.Tasks.{ResourcesText, TasksText}
@@ -30,7 +31,7 @@ use Rattle.cx_look_abend.specs.Texts.{abend_fields_text, abend_storage_text, abe
 use Rattle.cx_look_script.specs.State.{LookState}
 use Rattle.cx_look_script.specs.Sources.{level_lines, with_source}
 use Rattle.cx_look_script.specs.Runs.{AppliesAtLooks, StopsWith, run_over, still_running, turn_of}
-use Rattle.cx_look_script.specs.Watched.{cause_of, watch_lines, watched_after, watched_text}
+use Rattle.cx_look_script.specs.Watched.{IsWatchedText, cause_of, watch_lines, watched_after}
 use Rattle.cx_look_script.specs.Faults.{faults_text}
 use Rattle.cx_look_script.specs.Help.{bad_look_text, help_text}
 use Rattle.cx_look_script.specs.Orders.{IsOrdersText}
@@ -40,21 +41,24 @@ use Rattle.cx_look_script.specs.declared.action.Stop.{Stop}
 
 -- What a look has to say of a state.
 unfoldable pub AreLookLines : Look → LookState → Lines → Type 0
-AreLookLines look.Queues state lines = lines ≡ queues_text state.edf.region.queues
-AreLookLines (look.Queue name) state lines = lines ≡ queue_text state.edf.region.queues name
-AreLookLines (look.Item name n) state lines = lines ≡ item_text state.edf.region.queues name n
-AreLookLines look.Programs state lines = lines ≡ programs_text state.edf.region.programs state.edf.region.transactions
+AreLookLines look.Queues state lines = lines ≡ queues_text state.edf.region.shared.queues
+AreLookLines (look.Queue name) state lines = lines ≡ queue_text state.edf.region.shared.queues name
+AreLookLines (look.Item name n) state lines = lines ≡ item_text state.edf.region.shared.queues name n
+AreLookLines look.Programs state lines =
+    lines ≡ programs_text state.edf.region.shared.programs state.edf.region.transactions
 AreLookLines look.Tasks state lines = TasksText state.edf.region lines
 AreLookLines look.Resources state lines = ResourcesText state.edf.region lines
 AreLookLines (look.Command name) state lines = lines ≡ command_text state.edf.region name
 AreLookLines (look.Ahead name n) state lines = AheadText state.sources state.edf.region name n lines
+AreLookLines (look.AheadAt name program line) state lines =
+    AtText state.sources state.edf.region name (record { program = program; line = line }) lines
 AreLookLines (look.Task name) state lines = lines ≡ task_text state.sources state.edf.region name
 AreLookLines look.Areas state lines = lines ≡ areas_text state.edf.region
 AreLookLines (look.AreasOf name) state lines = lines ≡ task_areas_text state.edf.region name
 AreLookLines (look.Storage at n) state lines = lines ≡ storage_text state.edf.region at n
 AreLookLines (look.Where at) state lines = lines ≡ where_text state.sources state.edf.region at
 AreLookLines (look.Abend name) state lines =
-    lines ≡ abend_text state.sources state.edf.region.programs state.abends name
+    lines ≡ abend_text state.sources state.edf.region.shared.programs state.abends name
 AreLookLines (look.AbendStorage name) state lines = lines ≡ abend_storage_text state.abends name
 AreLookLines (look.AbendFields name) state lines = lines ≡ abend_fields_text state.sources state.abends name
 AreLookLines (look.Faults source) state lines = lines ≡ faults_text source
@@ -102,14 +106,14 @@ pub record SourcePerforms (old : LookState) (name : List ℕ) (lines : List (Lis
   pub keeps : new ≡ with_source old name lines done
 
 -- a turn of a terminal
-abbrev pub TakesTurn : LookState → List ℕ → List ℕ → LookState → Type 0
-TakesTurn old name text new = NotedPerforms old (edf_action.Event (turn_of name)) text new
+abbrev pub TakesNotedTurn : LookState → List ℕ → List ℕ → LookState → Type 0
+TakesNotedTurn old name text new = NotedPerforms old (edf_action.Event (turn_of name)) text new
 
 -- a turn of RUN, or the line with which it ends in front of the turn
 pub record RunsTurn (old : LookState) (name : List ℕ) (s : Stop) (text : List ℕ) (new : LookState) : Type 0 where
   pub line : Option (List ℕ)
   pub stops : StopsWith s old.sources old.edf name line
-  pub does : MatchOption line (TakesTurn old name text new) (λ l. (text ≡ l) × (new ≡ run_over old))
+  pub does : MatchOption line (TakesNotedTurn old name text new) (λ l. (text ≡ l) × (new ≡ run_over old))
 
 -- one more turn, or where none is left the line that says so
 abbrev pub TakesOneMore : LookState → List ℕ → ℕ → Stop → List ℕ → LookState → Type 0
@@ -135,4 +139,6 @@ Acts old (action.BadLook number s) text new = (text ≡ marked (bad_look_text nu
 pub record LookPerforms (old : LookState) (a : LookAction) (text : List ℕ) (new : LookState) : Type 0 where
   pub own : List ℕ
   pub acts : Acts old a own new
-  pub is : text ≡ own ++ watched_text old (cause_of a) new
+  pub watched : List ℕ
+  pub shown : IsWatchedText old (cause_of a) new watched
+  pub is : text ≡ own ++ watched

@@ -40,12 +40,12 @@ stop_at_line text =
     if bytes_eq (word text) (codes "TO")
     then option_map (λ line. stop.BeforeLine line) (option_and_then source_line_of (after_first_blank text)) else None
 
-abbrev pub stop_of : Option (List ℕ) → Option Stop
-stop_of None = Some stop.Never
-stop_of (Some text) = if bytes_eq text (codes "BEFORE ABEND") then Some stop.BeforeAbend else stop_at_line text
+abbrev pub stop_asked_for : Option (List ℕ) → Option Stop
+stop_asked_for None = Some stop.Never
+stop_asked_for (Some text) = if bytes_eq text (codes "BEFORE ABEND") then Some stop.BeforeAbend else stop_at_line text
 
 abbrev pub run_with : List ℕ → ℕ → Option (List ℕ) → Option LookAction
-run_with name n rest = option_map (λ s. action.Run name n s) (stop_of rest)
+run_with name n rest = option_map (λ s. action.Run name n s) (stop_asked_for rest)
 
 -- RUN of a terminal: at most as many turns as the number after it says, 1,000 where there is none
 abbrev pub turns_of : List ℕ → Option (List ℕ) → Option LookAction

@@ -1,8 +1,8 @@
 -- RUN: turns of a terminal, one after another (own).
 use Rattle.std.specs.Prelude.{◌≡◌, ℕ, zero, suc, ◌-◌, Bool, true, false, ◌&&◌, not, MatchBool, if◌then◌else◌, Option, Some, None, List, [], ◌∷◌, ◌++◌, codes}
 use Rattle.std.specs.Option.{option_map}
-use Rattle.cx_base_text.specs.Digits.{digits}
-use Rattle.cx_base_text.specs.Texts.{shown_name, shown_text}
+use Rattle.cx_base.specs.Digits.{digits}
+use Rattle.cx_base.specs.Texts.{shown_name, shown_text}
 use Rattle.cx_region_state.specs.declared.replies.TurnReply.{TurnReply}
 use Rattle.cx_region_state.specs.declared.replies.TurnReply.TheVariants as turn
 use Rattle.cx_region.specs.State.{RegionState}
@@ -14,7 +14,7 @@ use Rattle.cx_edf.specs.declared.answers.Answer.TheVariants as answer
 use Rattle.cx_edf.specs.declared.answers.EdfEvent.{EdfEvent}
 use Rattle.cx_edf.specs.declared.answers.EdfEvent.TheVariants as edf_event
 use Rattle.cx_edf.specs.State.{EdfState, holds, stopped_at}
-use Rattle.cx_look_words.specs.Words.{look_line, marked}
+use Rattle.cx_look_tables.specs.Words.{look_line, marked}
 use Rattle.cx_look_symbols.specs.Sources.{Sources}
 use Rattle.cx_look_ahead.specs.Arrivals.{ComesTo, has_statement}
 use Rattle.cx_look_ahead.specs.declared.arrivals.SourceLine.{SourceLine}
@@ -37,9 +37,9 @@ is_midway (answer.Region (reply.Turn (turn.TookExit code))) = true
 is_midway _ = false
 
 -- one more turn follows a turn that was answered so, unless EDF stopped the task there
-abbrev pub goes_on : EdfState → EdfEvent → Answer → Bool
-goes_on state (edf_event.Plain (event.Turn name)) given = is_midway given && not (stopped_at state name)
-goes_on state _ given = false
+abbrev pub turn_goes_on : EdfState → EdfEvent → Answer → Bool
+turn_goes_on state (edf_event.Plain (event.Turn name)) given = is_midway given && not (stopped_at state name)
+turn_goes_on state _ given = false
 
 abbrev pub turn_of : List ℕ → EdfEvent
 turn_of name = edf_event.Plain (event.Turn name)
@@ -53,7 +53,7 @@ pub record AppliesAtLooks (old : LookState) (e : EdfEvent) (given : Answer) (new
   pub noted : AppliesWithAbends old.edf old.abends e given new.edf new.abends
   pub sources : new.sources ≡ old.sources
   pub watched : new.watched ≡ old.watched
-  pub goes_on : new.goes_on ≡ goes_on new.edf e given
+  pub goes_on : new.goes_on ≡ turn_goes_on new.edf e given
 
 -- RUN is over: its last turn isn't to be followed by one more
 abbrev pub run_over : LookState → LookState

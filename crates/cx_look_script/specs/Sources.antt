@@ -8,14 +8,14 @@ use Rattle.cx_look_symbols.specs.Sources.{source_lines, with_lines}
 use Rattle.cx_look_script.specs.State.{LookState}
 
 -- whether a program was defined: the region had none of this name, and has one
-abbrev pub is_defined : RegionState → List ℕ → RegionState → Bool
-is_defined old name new = not (is_some (program_of old name)) && is_some (program_of new name)
+abbrev pub is_program_defined : RegionState → List ℕ → RegionState → Bool
+is_program_defined old name new = not (is_some (program_of old name)) && is_some (program_of new name)
 
 -- what is kept after a source's end: its lines, where it defined the program
 abbrev pub with_source : LookState → List ℕ → List (List ℕ) → LookState → LookState
 with_source old name lines new =
     record new {
-      sources = if is_defined old.edf.region name new.edf.region then with_lines new.sources name lines
+      sources = if is_program_defined old.edf.region name new.edf.region then with_lines new.sources name lines
           else new.sources;
     }
 

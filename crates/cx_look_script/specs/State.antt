@@ -2,7 +2,7 @@
 use Rattle.std.specs.Prelude.{Bool, false, List, []}
 use Rattle.cx_edf.specs.State.{EdfState}
 use Rattle.cx_script_actions.specs.Effects.{fresh_state}
-use Rattle.cx_look_abend.specs.Noting.{Abends}
+use Rattle.cx_look_abend.specs.Noting.{KeptAbends}
 use Rattle.cx_look_ahead.specs.declared.rows.Row.{Row}
 use Rattle.cx_look_symbols.specs.Sources.{Sources}
 
@@ -10,7 +10,7 @@ use Rattle.cx_look_symbols.specs.Sources.{Sources}
 -- whether the last event was a turn that one more turn takes on
 pub record LookState : Type 0 where
   pub edf : EdfState
-  pub abends : Abends
+  pub abends : KeptAbends
   pub sources : Sources
   pub watched : List Row
   pub goes_on : Bool

@@ -1,19 +1,20 @@
 -- What is watched, and what is written after an action that changes it (own).
-use Rattle.std.specs.Prelude.{ℕ, min, Option, None, List, [], ◌∷◌, codes, option_and_then, option_map}
+use Rattle.std.specs.Prelude.{◌≡◌, ℕ, map, min, Option, None, List, [], ◌∷◌, codes, option_and_then, option_map}
 use Rattle.std.specs.Option.{option_map_or}
-use Rattle.cx_base_text.specs.Texts.{shown_name}
+use Rattle.cx_base.specs.Texts.{shown_name}
 use Rattle.cx_region.specs.declared.replies.Event.TheVariants as event
 use Rattle.cx_edf.specs.declared.answers.EdfEvent.{EdfEvent}
 use Rattle.cx_edf.specs.declared.answers.EdfEvent.TheVariants as edf_event
 use Rattle.cx_script_actions.specs.declared.actions.Action.{Action}
 use Rattle.cx_script_actions.specs.declared.actions.Action.TheVariants as edf_action
-use Rattle.cx_look_words.specs.Words.{Lines, look_line, marked, written_name}
+use Rattle.cx_look_tables.specs.Words.{Lines, look_line, marked, written_name}
 use Rattle.cx_look_ahead.specs.declared.rows.Row.{Row}
 use Rattle.cx_look_levels.specs.FieldTexts.{field_there, standing_at}
 use Rattle.cx_look_levels.specs.declared.fields.Field.{Field}
-use Rattle.cx_look_watch.specs.Watching.{begun, changes, with_range}
-use Rattle.cx_look_watch.specs.declared.watching.Cause.{Cause}
-use Rattle.cx_look_watch.specs.declared.watching.Cause.TheVariants as cause
+use Rattle.cx_look_ahead.specs.Watching.{AreOfRanges, Effect, work_of, begun, kept_in, with_range}
+use Rattle.cx_look_ahead.specs.declared.watching.Cause.{Cause}
+use Rattle.cx_look_ahead.specs.declared.watching.Cause.TheVariants as cause
+use Rattle.cx_look_ahead.specs.declared.watching.Kept.{Kept}
 use Rattle.cx_look_script.specs.State.{LookState}
 use Rattle.cx_look_script.specs.Sources.{level_lines}
 use Rattle.cx_look_script.specs.declared.action.LookAction.{LookAction}
@@ -43,9 +44,11 @@ watched_after state (watch.Field term name) =
 
 abbrev pub watch_lines : LookState → WatchLine → Lines
 watch_lines state watch.Off = look_line (codes "WATCH" ∷ codes "OFF" ∷ [])
-watch_lines state (watch.Range at n) = begun state.watched state.edf.region.storage (record { at = at; length = n })
+watch_lines state (watch.Range at n) =
+    begun state.watched state.edf.region.shared.storage (record { at = at; length = n })
 watch_lines state (watch.Field term name) =
-    option_map_or (begun state.watched state.edf.region.storage) (field_range state term name) (no_range term name)
+    option_map_or (begun state.watched state.edf.region.shared.storage) (field_range state term name)
+    (no_range term name)
 
 -- ---- after an action
 -- what is done
@@ -69,6 +72,23 @@ cause_of (action.Run name n s) = cause.Turn name
 cause_of (action.RunOn name n s) = cause.Turn name
 cause_of _ = cause.Other
 
+-- what it did, between two states
+abbrev pub effect_of : LookState → Cause → LookState → Effect
+effect_of old by new =
+    record {
+      by = by;
+      done = work_of old.edf.region by;
+      sources = new.sources;
+      programs = new.edf.region.shared.programs;
+      storage = new.edf.region.shared.storage;
+    }
+
 -- a line for each range of which a byte has changed
-unfoldable pub watched_text : LookState → Cause → LookState → List ℕ
-watched_text old by new = marked (changes old.watched by old.edf.region.storage new.edf.region.storage)
+pub record ShowsChanges (effect : Effect) (kept : List Kept) (text : List ℕ) : Type 0 where
+  pub lines : Lines
+  pub are : AreOfRanges effect kept lines
+  pub is : text ≡ marked lines
+
+abbrev pub IsWatchedText : LookState → Cause → LookState → List ℕ → Type 0
+IsWatchedText old by new text =
+    ShowsChanges (effect_of old by new) (map (kept_in old.edf.region.shared.storage) old.watched) text

@@ -5,10 +5,10 @@ ghost use Rattle.std.specs.Option.{option_copied, option_map_or};
 ghost use Rattle.cx_script_actions.specs.Allowed.{IsAllowedAction, IsAllowedLine};
 ghost use Rattle.cx_look.specs.Looks.{count_of};
 ghost use Rattle.cx_look_script.specs.Allowed.{IsAllowedLook};
-ghost use Rattle.cx_look_script.specs.Reading.{asked_by, faults_line, look_language, look_line_of, line_of_subject, orders_line, own_line, run_of, run_with, source_line_of, stop_at_line, stop_of, as_look_line, turns_of, watch_of, watched_field, watched_range};
+ghost use Rattle.cx_look_script.specs.Reading.{asked_by, faults_line, look_language, look_line_of, line_of_subject, orders_line, own_line, run_of, run_with, source_line_of, stop_at_line, stop_asked_for, as_look_line, turns_of, watch_of, watched_field, watched_range};
 ghost use Rattle.cx_look_script.specs.Runs.{look_actions_of};
 
-use cx_base_lists::List;
+use cx_base::List;
 use cx_ebcdic::{Name4, Name8};
 use cx_look::{
     Look, OrdersBlock, SourceLines, Subject, look_of, orders_block, orders_with, states_of,
@@ -117,8 +117,8 @@ fn stop_at_line(text: &[u8]) -> Option<Stop>
 }
 
 /// What ends a RUN in front of a turn, by the words after its number.
-fn stop_of(rest: Option<&[u8]>) -> Option<Stop>
-    ensures { result ≡ stop_of (option_copied rest.entry) }
+fn stop_asked_for(rest: Option<&[u8]>) -> Option<Stop>
+    ensures { result ≡ stop_asked_for (option_copied rest.entry) }
 {
     match rest {
         None => Some(Stop::Never),
@@ -132,7 +132,7 @@ fn run_with(name: Name4, n: u16, rest: Option<&[u8]>) -> Option<LookAction>
     ensures value { result ≡ run_with name n (option_copied rest.entry) }
     ensures allowed { IfSome result IsAllowedLook }
 {
-    let stop = stop_of(rest)?;
+    let stop = stop_asked_for(rest)?;
     Some(LookAction::Run(name, n, stop))
 }
 

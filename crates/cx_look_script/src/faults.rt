@@ -2,19 +2,20 @@
 ghost use Rattle.std.specs.Prelude.{◌≡◌, ◌+◌, ◌++◌, IfOk, OnOk, map};
 ghost use Rattle.std.specs.List.{flat_map};
 ghost use Rattle.cx_look_faults.specs.Kept.{kept_faults};
-ghost use Rattle.cx_look_script.specs.Faults.{fault_line, fault_lines, fault_word, faults_text, note_line, place_word, shown_byte, text_at, with_marks};
+ghost use Rattle.cx_script_blocks.specs.Shown.{printable_byte};
+ghost use Rattle.cx_look_script.specs.Faults.{mark_line, fault_lines, fault_word, faults_text, note_line, line_and_column, source_text_at, with_marks};
 
-use cx_base_text::shown_name;
-use cx_ebcdic::to_ebcdic;
+use cx_base::shown_name;
 use cx_look::SourceLines;
 use cx_look_faults::{FaultyLine, Mark, Note, Spot, faults_of, marks_of, notes_of};
-use cx_look_words::{Report, decimal};
+use cx_look_tables::{Report, decimal};
+use cx_script_blocks::printable_byte;
 use cx_source::Text;
 use std::alloc::{AllocError, Global};
 
 /// A source's line by its number, counted from 1; after the last comes the block's end.
-fn text_at(lines: &[Text], number: usize) -> &[u8]
-    ensures { result.now ≡ text_at lines.now number }
+fn source_text_at(lines: &[Text], number: usize) -> &[u8]
+    ensures { result.now ≡ source_text_at lines.now number }
 {
     match lines.get(number.saturating_sub(1)) {
         Some(line) => line.as_slice(),
@@ -22,24 +23,13 @@ fn text_at(lines: &[Text], number: usize) -> &[u8]
     }
 }
 
-/// A byte as it is shown: a period where it has no character.
-fn shown_byte(c: u8) -> u8
-    ensures { result ≡ shown_byte c }
-{
-    if to_ebcdic(char::from(c)).is_some() {
-        c
-    } else {
-        b'.'
-    }
-}
-
 /// A line as it is shown.
 fn shown(alloc: Global, text: &[u8]) -> Result<Vec<u8>, AllocError>
-    ensures { IfOk result (λ found. found.items ≡ map shown_byte text.now) }
+    ensures { IfOk result (λ found. found.items ≡ map printable_byte text.now) }
 {
     let mut found = Vec::new(alloc);
     for c in text {
-        found.push(shown_byte(*c))?;
+        found.push(printable_byte(*c))?;
     }
     Ok(found)
 }
@@ -66,8 +56,8 @@ fn number_in_script(first: usize, line: usize) -> Result<usize, AllocError>
 }
 
 /// Where a part is in the script.
-fn place_word(alloc: Global, source: &SourceLines, spot: Spot) -> Result<Vec<u8>, AllocError>
-    ensures { IfOk result (λ word. word.items ≡ place_word source.now spot) }
+fn line_and_column(alloc: Global, source: &SourceLines, spot: Spot) -> Result<Vec<u8>, AllocError>
+    ensures { IfOk result (λ word. word.items ≡ line_and_column source.now spot) }
 {
     let mut word = decimal(alloc, number_in_script(source.first, spot.line)?)?;
     word.extend_from_slice(b":")?;
@@ -89,12 +79,12 @@ fn fault_word(alloc: Global, mark: &Mark) -> Result<Vec<u8>, AllocError>
 }
 
 /// Adds the line that reports a faulty line.
-fn fault_line(report: &mut Report, source: &SourceLines, mark: &Mark) -> Result<(), AllocError>
-    ensures { OnOk result (report.new ≡ report.old ++ fault_line source.now mark.now) }
+fn mark_line(report: &mut Report, source: &SourceLines, mark: &Mark) -> Result<(), AllocError>
+    ensures { OnOk result (report.new ≡ report.old ++ mark_line source.now mark.now) }
 {
-    let place = place_word(report.alloc(), source, mark.spot)?;
+    let place = line_and_column(report.alloc(), source, mark.spot)?;
     let word = fault_word(report.alloc(), mark)?;
-    let line = text_at(source.lines.as_slice(), mark.spot.line);
+    let line = source_text_at(source.lines.as_slice(), mark.spot.line);
     let shown = shown(report.alloc(), line)?;
     let text = with_marks(report.alloc(), mark.spot, &shown)?;
     report.line(&[&place, &word, &text])
@@ -106,10 +96,10 @@ fn lines_of_faults(
     source: &SourceLines,
     marks: &[Mark],
 ) -> Result<(), AllocError>
-    ensures { OnOk result (report.new ≡ report.old ++ flat_map (fault_line source.now) marks.now) }
+    ensures { OnOk result (report.new ≡ report.old ++ flat_map (mark_line source.now) marks.now) }
 {
     for mark in marks {
-        fault_line(report, source, mark)?;
+        mark_line(report, source, mark)?;
     }
     Ok(())
 }
@@ -146,7 +136,7 @@ fn kept_faults(alloc: Global, source: &SourceLines) -> Result<Vec<FaultyLine>, A
 fn note_line(report: &mut Report, source: &SourceLines, note: &Note) -> Result<(), AllocError>
     ensures { OnOk result (report.new ≡ report.old ++ note_line source.now note.now) }
 {
-    let place = place_word(report.alloc(), source, note.spot)?;
+    let place = line_and_column(report.alloc(), source, note.spot)?;
     let text = shown(report.alloc(), note.text.as_slice())?;
     report.line(&[&place, b"NOTE", &text])
 }

@@ -1,10 +1,10 @@
 //! HELP: the table of lines.
 ghost use Rattle.std.specs.Prelude.{◌≡◌, ◌++◌, IfOk, OnOk};
-ghost use Rattle.cx_look_script.specs.Help.{bad_look_text, form_lines, form_of, help_text};
-ghost use Rattle.cx_look_words.specs.Words.{marked};
+ghost use Rattle.cx_look_script.specs.Help.{bad_look_text, form_lines, help_row, help_text};
+ghost use Rattle.cx_look_tables.specs.Words.{marked};
 
 use cx_look::Subject;
-use cx_look_words::{Report, decimal};
+use cx_look_tables::{Report, decimal};
 use std::alloc::{AllocError, Global};
 
 /// The words in the order of the table.
@@ -35,8 +35,8 @@ const TABLE: [Subject; 23] = [
 ];
 
 /// The line of a word: its form, and what it does.
-fn form_of(subject: Subject) -> &'static [u8]
-    ensures { result.now ≡ form_of subject }
+fn help_row(subject: Subject) -> &'static [u8]
+    ensures { result.now ≡ help_row subject }
 {
     match subject {
         Subject::Run =>
@@ -52,7 +52,8 @@ fn form_of(subject: Subject) -> &'static [u8]
         Subject::Terminals =>
             b"TERMINALS            the clock, next transactions, input that is held, EDF",
         Subject::Command => b"COMMAND term         the command that is due at the terminal",
-        Subject::Ahead => b"AHEAD term [n]       what the terminal's next turn will do",
+        Subject::Ahead =>
+            b"AHEAD term [n]       what the terminal's next turn will do; also AHEAD term AT program line",
         Subject::Task => b"TASK term            the terminal's task, and each of its levels",
         Subject::Field => b"FIELD term name [k]  a field of the current level, or of level k",
         Subject::Fields => b"FIELDS term [k]      all fields of that level",
@@ -79,7 +80,7 @@ fn form_lines(report: &mut Report, subjects: &[Subject]) -> Result<(), AllocErro
     ensures { OnOk result (report.new ≡ report.old ++ form_lines subjects.now) }
 {
     for subject in subjects {
-        report.line(&[form_of(*subject)])?;
+        report.line(&[help_row(*subject)])?;
     }
     Ok(())
 }
@@ -108,6 +109,6 @@ pub(crate) fn bad_look_text(
     let mut report = Report::new(alloc);
     let mut place = decimal(alloc, number)?;
     place.push(b':')?;
-    report.line(&[b"?", b"line", &place, form_of(subject)])?;
+    report.line(&[b"?", b"line", &place, help_row(subject)])?;
     report.marked()
 }

@@ -6,7 +6,7 @@ ghost use Rattle.cx_look_script.specs.Laws.Notes.{NotesRefuseNothing, RefusalsAr
 ghost use Rattle.cx_look_script.specs.Laws.Orders.{OrdersAreReportedOnce, ScriptsAskForEvents};
 ghost use Rattle.cx_look_script.specs.Laws.Scripts.{ActionsStay, ScriptsStay};
 ghost use Rattle.cx_look_script.specs.Laws.Turns.{RunsEndBeforeAbends, RunsEndBeforeLines, RunsTakeTurns, StopsDecide};
-ghost use Rattle.cx_look_script.specs.Laws.Watches.{WatchesChangeNothing, WatchesStay};
+ghost use Rattle.cx_look_script.specs.Laws.Watches.{WatchedTextsDecide, WatchesChangeNothing, WatchesStay};
 
 /// A look changes nothing. Each run has for each of its actions a part, in which an action of `cicsedf` stands for itself, RUN for as
 /// many TURNs as it did, and a look for nothing: the actions of all parts are a run of `cicsedf` from the same state to the same
@@ -28,6 +28,7 @@ pub fn looks_are_reported_once()
 {
     cx_look_tasks::laws::texts_decide();
     cx_look_ahead::laws::the_next_turn_is_shown();
+    cx_look_ahead::laws::turns_reach_it();
 }
 
 /// Where no two terminals share a name, as in every sound region, what is written for a block of ORDERS is a function of the state.
@@ -81,6 +82,14 @@ pub fn watches_change_nothing()
     ensures same { WatchesChangeNothing }
     ensures stay { WatchesStay }
 {}
+
+/// What is written of the bytes that are watched, with the statement that changed one of them last, is a function of the states before and
+/// after.
+pub fn watched_texts_decide()
+    ensures { WatchedTextsDecide }
+{
+    cx_look_ahead::laws::writers_decide();
+}
 
 /// A script of `cicsedf` without a bad line is the same script here, and where nothing is watched its actions do and write the same.
 pub fn scripts_of_cicsedf_stay()

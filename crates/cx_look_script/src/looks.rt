@@ -10,15 +10,12 @@ use crate::performer::Looking;
 use cx_ebcdic::Name4;
 use cx_look::Look;
 use cx_look_abend::{abend_fields_text, abend_storage_text, abend_text};
-use cx_look_ahead::ahead_text;
-use cx_look_command::command_text;
-use cx_look_levels::{field_text, fields_text, program_at, task_text};
+use cx_look_ahead::{SourceLine, ahead_text, at_text};
+use cx_look_levels::{field_text, fields_text, program_at, task_text, where_text};
 use cx_look_storage::{areas_text, storage_text, task_areas_text};
 use cx_look_symbols::{symbol_text, symbols_text};
-use cx_look_tables::{item_text, programs_text, queue_text, queues_text, terminals_text};
-use cx_look_tasks::{resources_text, tasks_text};
-use cx_look_where::where_text;
-use cx_look_words::Report;
+use cx_look_tables::{Report, item_text, programs_text, queue_text, queues_text, terminals_text};
+use cx_look_tasks::{command_text, resources_text, tasks_text};
 use cx_look_xref::xref_text;
 use cx_region::Region;
 use cx_source::Text;
@@ -76,6 +73,10 @@ pub(crate) fn look_lines<S: Store + Drop>(
         Look::Resources => resources_text(alloc, region),
         Look::Command(name) => command_text(alloc, region, name),
         Look::Ahead(name, n) => ahead_text(alloc, &looking.sources, region, name, n as usize),
+        Look::AheadAt(name, program, line) => {
+            let line = SourceLine { program, line };
+            at_text(alloc, &looking.sources, region, name, line)
+        }
         Look::Task(name) => task_text(alloc, &looking.sources, region, name),
         Look::Areas => areas_text(alloc, region),
         Look::AreasOf(name) => task_areas_text(alloc, region, name),

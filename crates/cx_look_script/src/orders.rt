@@ -14,8 +14,8 @@ use crate::performer::Looking;
 use cx_ebcdic::Name4;
 use cx_edf::Debugged;
 use cx_look::{OrdersBlock, Sight};
-use cx_look_orders::{Seen, orders_text, push_lines};
-use cx_look_words::Report;
+use cx_look_orders::{Seen, orders_text};
+use cx_look_tables::Report;
 use cx_orders::Orders;
 use cx_region::Region;
 use cx_script_actions::screen_text;
@@ -100,7 +100,7 @@ fn sights_lines<S: Store + Drop>(
     let mut rest = sights;
     while let Some((sight, later)) = rest.split_first() {
         let shown = sight_lines(alloc, looking, region, sight)?;
-        push_lines(&mut report, &shown)?;
+        report.append(&shown)?;
         rest = later;
     }
     Ok(report)
@@ -123,6 +123,7 @@ impl<'a, S: Store + Drop> Seen<S> for Sights<'a, S> {
     fn shows_decide(&self) {
         cx_look_tasks::laws::texts_decide();
         cx_look_ahead::laws::the_next_turn_is_shown();
+        cx_look_ahead::laws::turns_reach_it();
     }
 }
 

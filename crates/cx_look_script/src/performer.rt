@@ -1,40 +1,37 @@
 //! What a script with looks is performed on.
-ghost use Rattle.std.specs.Prelude.{◌≡◌, [], false, IfOk, MatchBool};
+ghost use Rattle.std.specs.Prelude.{◌≡◌, [], false, IfOk, MatchBool, length};
 ghost use Rattle.cx_edf.specs.Runs.{IsAllowedEdf};
 ghost use Rattle.cx_script_actions.specs.Allowed.{IsAllowedAction};
 ghost use Rattle.cx_script_actions.specs.declared.actions.Action.TheVariants as edf_action;
 ghost use Rattle.cx_look_script.specs.declared.action.WatchLine.TheVariants as watch;
-ghost use Rattle.cx_look_script.specs.Looking.{Acts, LookPerforms, NotedPerforms, RunsTurn, SourcePerforms, TakesOneMore, TakesTurn};
+ghost use Rattle.cx_look_script.specs.Looking.{Acts, LookPerforms, NotedPerforms, RunsTurn, SourcePerforms, TakesOneMore, TakesNotedTurn};
 ghost use Rattle.cx_look_script.specs.Runs.{AppliesAtLooks, run_over};
 ghost use Rattle.cx_look_script.specs.State.{fresh_look_state};
-ghost use Rattle.cx_look_script.specs.Watched.{watch_lines, watched_after};
+ghost use Rattle.cx_look_script.specs.Watched.{ShowsChanges, watch_lines, watched_after};
 ghost use Rattle.cx_look_script.specs.Allowed.{IsAllowedLook};
-ghost use Rattle.cx_look_watch.specs.Watching.{begun, change_line, with_range};
-ghost use Rattle.cx_look_words.specs.Words.{marked};
-ghost use Rattle.std.specs.List.{flat_map};
+ghost use Rattle.cx_look_ahead.specs.Watching.{Effect, begun, with_range};
+ghost use Rattle.cx_look_tables.specs.Words.{marked};
 
 use crate::action::{LookAction, Stop, WatchLine};
 use crate::help::bad_look_text;
 use crate::looks::look_text;
 use crate::orders::orders_written;
-use crate::sources::{has_program, is_defined};
-use crate::turns::{goes_on, still_running, stop_line};
+use crate::sources::{has_program, is_program_defined};
+use crate::turns::{still_running, stop_line, turn_goes_on};
 use crate::watched::{cause_of, field_range, no_range, off};
-use cx_base_lists::List;
+use cx_base::List;
 use cx_ebcdic::{Name4, Name8};
 use cx_edf::{Answer, Debugged, EdfEvent};
 use cx_look_abend::{LastAbends, apply_keeping_abends};
-use cx_look_ahead::Row;
+use cx_look_ahead::{Cause, Done, Kept, Row, Watches, Work, change_lines, work_of};
 use cx_look_symbols::{Sources, statement_places};
-use cx_look_watch::{Cause, Kept, Watches, change_lines};
-use cx_look_words::Report;
+use cx_look_tables::Report;
 use cx_region::Event;
 use cx_script::edf_performer;
 use cx_script_actions::{Action, Performer, answer_text};
 use cx_source::Text;
 use cx_storage::Store;
-use cx_storage_keep::KeepingStore;
-use cx_storage_pages::PagedStore;
+use cx_storage_pages::{KeepingStore, PagedStore};
 use indexmap::IndexMap;
 use std::alloc::{AllocError, Global};
 use std::marker::Model;
@@ -92,7 +89,7 @@ impl<S: Store + Drop> Looking<S> {
         ensures { IfOk result (λ given. AppliesAtLooks self.old event.now given self.new) }
     {
         let answer = apply_keeping_abends(&mut self.state, &mut self.abends, event)?;
-        self.goes_on = goes_on(&self.state, event, &answer);
+        self.goes_on = turn_goes_on(&self.state, event, &answer);
         Ok(answer)
     }
 
@@ -108,7 +105,7 @@ impl<S: Store + Drop> Looking<S> {
 
     /// Does a turn of a terminal.
     fn do_turn(&mut self, alloc: Global, name: Name4) -> Result<Vec<u8>, AllocError>
-        ensures { IfOk result (λ text. TakesTurn self.old name text.items self.new) }
+        ensures { IfOk result (λ text. TakesNotedTurn self.old name text.items self.new) }
     {
         self.do_event(alloc, &EdfEvent::Plain(Event::Turn(name)))
     }
@@ -183,7 +180,7 @@ impl<S: Store + Drop> Looking<S> {
         let places = statement_places(alloc, lines.as_slice())?;
         self.sources.make_room()?;
         let text = self.do_action(alloc, action)?;
-        let is_new = is_defined(self.state.region(), name, was_there);
+        let is_new = is_program_defined(self.state.region(), name, was_there);
         self.sources.keep(name, lines, places, is_new)?;
         Ok(text)
     }
@@ -191,7 +188,7 @@ impl<S: Store + Drop> Looking<S> {
     /// Watches a range more.
     fn watch_range(&mut self, alloc: Global, range: Row) -> Result<Report, AllocError>
         ensures { IfOk result (λ report.
-            (report ≡ begun self.old.watched self.old.edf.region.storage range)
+            (report ≡ begun self.old.watched self.old.edf.region.shared.storage range)
             × (self.new ≡ record self.old { watched = with_range self.old.watched range })) }
     {
         self.watches
@@ -233,12 +230,31 @@ impl<S: Store + Drop> Looking<S> {
         report.marked()
     }
 
-    /// The lines of the ranges whose bytes aren't as they were kept.
-    fn changed(&self, alloc: Global, cause: &Cause, kept: &[Kept]) -> Result<Vec<u8>, AllocError>
-        ensures { IfOk result (λ text.
-            text.items ≡ marked (flat_map (change_line cause.now self.now.edf.region.storage) kept.now)) }
+    /// The lines of the ranges whose bytes aren't as they were kept, after what was done.
+    fn changed(
+        &self,
+        alloc: Global,
+        cause: Cause,
+        work: &Work,
+        kept: &[Kept],
+    ) -> Result<Vec<u8>, AllocError>
+        ensures { let done : Effect = record {
+          by = cause;
+          done = work.now;
+          sources = self.now.sources;
+          programs = self.now.edf.region.shared.programs;
+          storage = self.now.edf.region.shared.storage;
+        } in IfOk result (λ text. ShowsChanges done kept.now text.items) }
     {
-        let report = change_lines(alloc, cause, &self.state.region().shared().store, kept)?;
+        let shared = self.state.region().shared();
+        let done = Done {
+            cause,
+            work,
+            sources: &self.sources,
+            programs: &shared.programs,
+            store: &shared.store,
+        };
+        let report = change_lines(alloc, &done, kept)?;
         report.marked()
     }
 
@@ -259,6 +275,34 @@ impl<S: Store + Drop> Looking<S> {
             LookAction::BadLook(number, subject) => bad_look_text(alloc, number, subject),
         }
     }
+
+    /// Does an action where nothing is watched.
+    #[tactic(auto, using(crate::proofs::WatchLemmas::not_watched))]
+    fn act_unwatched(&mut self, alloc: Global, action: LookAction) -> Result<Vec<u8>, AllocError>
+        requires allowed { IsAllowedLook action }
+        requires unwatched { length self.old.watched ≡ 0 }
+        ensures { IfOk result (λ text. LookPerforms self.old action text.items self.new) }
+    {
+        let text = self.act(alloc, action)?;
+        Ok(text)
+    }
+
+    /// Keeps the bytes that are watched and what a turn is going to do, does the action, and adds a line for each range of which a byte has
+    /// changed.
+    #[tactic(auto, using(crate::proofs::WatchLemmas::is_watched))]
+    fn act_watched(&mut self, alloc: Global, action: LookAction) -> Result<Vec<u8>, AllocError>
+        requires { IsAllowedLook action }
+        ensures { IfOk result (λ text. LookPerforms self.old action text.items self.new) }
+    {
+        let cause = cause_of(&action);
+        let kept = self
+            .watches
+            .kept(alloc, &self.state.region().shared().store)?;
+        let work = work_of(alloc, self.state.region(), &cause)?;
+        let mut text = self.act(alloc, action)?;
+        text.extend_from_slice(&self.changed(alloc, cause, &work, &kept)?)?;
+        Ok(text)
+    }
 }
 
 /// What a script of `cicslook` is performed on.
@@ -278,16 +322,12 @@ impl<S: Store + Drop> Performer for Looking<S> {
 
     ghost refused = { λ _ _ _. Unit {0} };
 
-    /// Keeps the bytes that are watched, does the action, and adds a line for each range of which a byte has changed. Where memory for
-    /// these lines is refused the action has been done, as where it is refused for what is written for the action itself.
-    #[tactic(auto, unfolding(crate::specs::Watched::watched_text, cx_look_watch::specs::Watching::changes))]
+    /// Does the action, and adds a line for each range that is watched and of which a byte has changed. Where memory for these lines is
+    /// refused the action has been done, as where it is refused for what is written for the action itself.
     fn perform(&mut self, alloc: Global, action: LookAction) -> Result<Vec<u8>, AllocError> {
-        let cause = cause_of(&action);
-        let kept = self
-            .watches
-            .kept(alloc, &self.state.region().shared().store)?;
-        let mut text = self.act(alloc, action)?;
-        text.extend_from_slice(&self.changed(alloc, &cause, &kept)?)?;
-        Ok(text)
+        if self.watches.is_empty() {
+            return self.act_unwatched(alloc, action);
+        }
+        self.act_watched(alloc, action)
     }
 }

@@ -14,7 +14,11 @@ pub(crate) fn has_program<S: Store + Drop>(region: &Region<S>, name: Name8) -> b
 }
 
 /// Whether a program was defined that was there before, or wasn't.
-pub(crate) fn is_defined<S: Store + Drop>(region: &Region<S>, name: Name8, was_there: bool) -> bool
+pub(crate) fn is_program_defined<S: Store + Drop>(
+    region: &Region<S>,
+    name: Name8,
+    was_there: bool,
+) -> bool
     ensures { result ≡ (not was_there && is_some (program_of region.now name)) }
 {
     !was_there && has_program(region, name)

@@ -4,15 +4,15 @@ ghost use Rattle.std.specs.Option.{option_map};
 ghost use Rattle.cx_edf.specs.State.{holds};
 ghost use Rattle.cx_look_abend.specs.Abends.{abend_code_in};
 ghost use Rattle.cx_look_ahead.specs.Arrivals.{has_statement};
-ghost use Rattle.cx_look_script.specs.Runs.{IsAbendAhead, IsLineAhead, IsNextAbend, StopsBeforeAbend, StopsBeforeLine, StopsWith, goes_on, is_midway, no_line, still_running, stopped_before, stopped_before_line};
+ghost use Rattle.cx_look_script.specs.Runs.{IsAbendAhead, IsLineAhead, IsNextAbend, StopsBeforeAbend, StopsBeforeLine, StopsWith, turn_goes_on, is_midway, no_line, still_running, stopped_before, stopped_before_line};
 
 use crate::action::Stop;
-use cx_base_text::{decimal, shown, shown_name};
+use cx_base::{decimal, shown, shown_name};
 use cx_ebcdic::Name4;
 use cx_edf::{Answer, Debugged, EdfEvent};
 use cx_look_ahead::{SourceLine, comes_to, has_statement};
 use cx_look_symbols::Sources;
-use cx_look_words::Report;
+use cx_look_tables::Report;
 use cx_region::{Event, Region, Reply, TurnReply};
 use cx_region_snapshot::turn_apart;
 use cx_storage::Store;
@@ -36,12 +36,12 @@ fn is_midway(answer: &Answer) -> bool
 }
 
 /// Whether an event was a turn that one more turn follows.
-pub(crate) fn goes_on<S: Store + Drop>(
+pub(crate) fn turn_goes_on<S: Store + Drop>(
     region: &Debugged<S>,
     event: &EdfEvent,
     answer: &Answer,
 ) -> bool
-    ensures { result ≡ goes_on region.now event.now answer.now }
+    ensures { result ≡ turn_goes_on region.now event.now answer.now }
 {
     match event {
         EdfEvent::Plain(Event::Turn(name)) => {
@@ -182,7 +182,8 @@ fn stop_before_line<S: Store + Drop>(
     name: Name4,
     to: SourceLine,
 ) -> Result<Option<Vec<u8>>, AllocError>
-    ensures { IfOk result (λ line. StopsBeforeLine sources.now state.now name to (option_map (λ text. text.items) line)) }
+    ensures { IfOk result (λ line.
+        StopsBeforeLine sources.now state.now name to (option_map (λ text. text.items) line)) }
 {
     if is_line_ahead(alloc, sources, state, name, to)? {
         Ok(Some(stopped_before_line(alloc, name, to)?))

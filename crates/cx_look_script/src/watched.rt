@@ -1,18 +1,17 @@
 //! WATCH: what is watched, and what is written after an action that changes it.
 ghost use Rattle.std.specs.Prelude.{◌≡◌, ◌∷◌, [], codes, IfOk};
-ghost use Rattle.cx_look_words.specs.Words.{look_line};
+ghost use Rattle.cx_look_tables.specs.Words.{look_line};
 ghost use Rattle.cx_look_script.specs.Watched.{cause_of, cause_of_action, cause_of_event, field_range, no_range, range_of};
 
 use crate::action::LookAction;
 use crate::looks::level_lines;
 use crate::performer::Looking;
-use cx_base_text::shown_name;
+use cx_base::shown_name;
 use cx_ebcdic::{Name4, Name8};
 use cx_edf::EdfEvent;
-use cx_look_ahead::Row;
+use cx_look_ahead::{Cause, Row};
 use cx_look_levels::{Field, field_at, standing_at};
-use cx_look_watch::Cause;
-use cx_look_words::{Report, written_name};
+use cx_look_tables::{Report, written_name};
 use cx_region::Event;
 use cx_script_actions::Action;
 use cx_storage::Store;

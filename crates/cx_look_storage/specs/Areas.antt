@@ -3,10 +3,10 @@ use Rattle.std.specs.Prelude.{ℕ, Bool, ◌==◌, Option, Some, None, List, [],
 use Rattle.std.specs.List.{filter, flat_map}
 use Rattle.cx_storage.specs.Storage.{Storage, areas_of}
 use Rattle.cx_storage.specs.declared.areas.Area.{Area}
-use Rattle.cx_base_text.specs.Texts.{shown_name}
+use Rattle.cx_base.specs.Texts.{shown_name}
 use Rattle.cx_region.specs.State.{RegionState, TerminalState}
 use Rattle.cx_region.specs.Tables.{terminal_of}
-use Rattle.cx_look_words.specs.Words.{look_line, Lines}
+use Rattle.cx_look_tables.specs.Words.{look_line, Lines}
 use Rattle.cx_look_storage.specs.Uses.{area_line}
 
 -- a line for each of some areas, or the words that there is none
@@ -16,7 +16,7 @@ lines_or none region (area ∷ areas) = flat_map (area_line region) (area ∷ ar
 
 -- all areas, the one at the lowest address first
 unfoldable pub areas_text : RegionState → Lines
-areas_text region = lines_or (codes "AREAS" ∷ codes "NONE" ∷ []) region (areas_of region.storage)
+areas_text region = lines_or (codes "AREAS" ∷ codes "NONE" ∷ []) region (areas_of region.shared.storage)
 
 -- those that a terminal's task owns
 abbrev pub is_of : ℕ → Area → Bool
@@ -24,9 +24,9 @@ is_of slot area = area.owner.slot == slot
 
 abbrev pub owned_by : Storage → Option TerminalState → List Area
 owned_by s None = []
-owned_by s (Some terminal) = filter (is_of terminal.slot) (areas_of s)
+owned_by s (Some terminal) = filter (is_of terminal.entry.slot) (areas_of s)
 
 unfoldable pub task_areas_text : RegionState → List ℕ → Lines
 task_areas_text region name =
     lines_or (codes "AREAS" ∷ shown_name name ∷ codes "NONE" ∷ []) region
-    (owned_by region.storage (terminal_of region name))
+    (owned_by region.shared.storage (terminal_of region name))

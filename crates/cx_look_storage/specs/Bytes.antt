@@ -3,12 +3,12 @@ use Rattle.std.specs.Prelude.{ℕ, zero, suc, ◌+◌, ◌-◌, ◌*◌, ◌/◌
 use Rattle.std.specs.List.{filter, flat_map}
 use Rattle.cx_storage.specs.Address.{address_after}
 use Rattle.cx_storage.specs.Storage.{Storage, areas_of}
-use Rattle.cx_base_text.specs.Digits.{digits}
-use Rattle.cx_base_text.specs.Texts.{in_columns, join}
+use Rattle.cx_base.specs.Digits.{digits}
+use Rattle.cx_base.specs.Texts.{in_columns, join}
 use Rattle.cx_edf_display.specs.Displays.{quarters}
 use Rattle.cx_edf_display.specs.Texts.{character_group, hex_group}
 use Rattle.cx_region.specs.State.{RegionState}
-use Rattle.cx_look_words.specs.Words.{look_line, Lines}
+use Rattle.cx_look_tables.specs.Words.{look_line, Lines}
 use Rattle.cx_look_storage.specs.Uses.{is_met, met_line}
 
 -- a row of sixteen bytes, or of as many as are left: its address, its bytes in digits, and in characters, as on a
@@ -31,5 +31,5 @@ rows_text s address n = first_rows s address n ((n + 15) / 16)
 -- the bytes, and a line for each area that has one of them
 unfoldable pub storage_text : RegionState → ℕ → ℕ → Lines
 storage_text region address n =
-    rows_text region.storage address n
-    ++ flat_map (met_line region address) (filter (is_met address n) (areas_of region.storage))
+    rows_text region.shared.storage address n
+    ++ flat_map (met_line region address) (filter (is_met address n) (areas_of region.shared.storage))

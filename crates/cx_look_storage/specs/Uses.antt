@@ -3,8 +3,8 @@ use Rattle.std.specs.Prelude.{ℕ, ◌+◌, ◌-◌, Bool, ◌||◌, nat_lt, ◌
 use Rattle.std.specs.Fmt.{decimal}
 use Rattle.std.specs.List.{find}
 use Rattle.std.specs.Option.{option_and_then}
-use Rattle.cx_base_text.specs.Digits.{digits}
-use Rattle.cx_base_text.specs.Texts.{shown_name}
+use Rattle.cx_base.specs.Digits.{digits}
+use Rattle.cx_base.specs.Texts.{shown_name}
 use Rattle.cx_storage.specs.Address.{distance}
 use Rattle.cx_storage.specs.Storage.{covers}
 use Rattle.cx_storage.specs.declared.areas.Area.{Area}
@@ -15,8 +15,8 @@ use Rattle.cx_program.specs.declared.level.Level.{Level}
 use Rattle.cx_program.specs.Levels.{Levels, all_levels}
 use Rattle.cx_region_state.specs.State.{TaskState}
 use Rattle.cx_region.specs.State.{RegionState, TerminalState}
-use Rattle.cx_look_words.specs.Terminals.{terminal_at}
-use Rattle.cx_look_words.specs.Words.{look_line, Lines}
+use Rattle.cx_look_tables.specs.Owners.{terminal_at}
+use Rattle.cx_look_tables.specs.Words.{look_line, Lines}
 
 -- ---- whose
 -- the region's, or that of a terminal's task
@@ -66,7 +66,7 @@ area_owner region area = owner_name (owner_of region area)
 
 unfoldable pub area_use : RegionState → Area → List ℕ
 area_use region area =
-    use_of area.owner.kind region.programs (option_and_then (λ t. t.1.task) (owner_of region area)) area.start
+    use_of area.owner.kind region.shared.programs (option_and_then (λ t. t.1.task) (owner_of region area)) area.start
 
 -- ---- the line of an area
 unfoldable pub area_line : RegionState → Area → Lines

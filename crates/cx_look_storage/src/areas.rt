@@ -7,9 +7,9 @@ ghost use Rattle.cx_look_storage.specs.Areas.{areas_text, is_of, lines_or, owned
 ghost use Rattle.cx_look_storage.specs.Uses.{area_line};
 
 use crate::uses::area_line;
-use cx_base_text::shown_name;
+use cx_base::shown_name;
 use cx_ebcdic::Name4;
-use cx_look_words::Report;
+use cx_look_tables::Report;
 use cx_region::Region;
 use cx_storage::laws::store_is_sound;
 use cx_storage::{Area, Store};
@@ -44,7 +44,7 @@ fn task_areas<S: Store + Drop>(
     region: &Region<S>,
     name: Name4,
 ) -> Result<Vec<Area>, AllocError>
-    ensures { IfOk result (λ areas. areas.items ≡ owned_by region.now.storage (terminal_of region.now name)) }
+    ensures { IfOk result (λ areas. areas.items ≡ owned_by region.now.shared.storage (terminal_of region.now name)) }
 {
     match region.terminals().get(&name) {
         Some(terminal) => areas_at(

@@ -8,9 +8,9 @@ ghost use Rattle.cx_look_storage.specs.Uses.{is_met, met_line};
 
 use crate::areas::all_areas;
 use crate::uses::{is_met, met_line};
-use cx_base_text::{hexadecimal, in_columns};
+use cx_base::{hexadecimal, in_columns};
 use cx_edf_display::{character_group, hex_group};
-use cx_look_words::Report;
+use cx_look_tables::Report;
 use cx_region::Region;
 use cx_storage::{Area, Store, address_after};
 use std::alloc::{AllocError, Global};
@@ -26,7 +26,7 @@ fn row_line<S: Store + Drop>(
     at: u32,
     count: u32,
 ) -> Result<(), AllocError>
-    ensures { OnOk result (report.new ≡ report.old ++ row_line region.now.storage at count) }
+    ensures { OnOk result (report.new ≡ report.old ++ row_line region.now.shared.storage at count) }
 {
     let place = hexadecimal::<6>(at);
     let a = hex_group(region, at, count, 0);
@@ -48,7 +48,7 @@ fn rows_text<S: Store + Drop>(
     address: u32,
     n: u32,
 ) -> Result<(), AllocError>
-    ensures { OnOk result (report.new ≡ report.old ++ rows_text region.now.storage address n) }
+    ensures { OnOk result (report.new ≡ report.old ++ rows_text region.now.shared.storage address n) }
 {
     let rows = ((u64::from(n) + 15) / 16) as u32;
     for k in 0..rows {
@@ -95,7 +95,7 @@ pub fn met_lines<S: Store + Drop>(
     address: u32,
     n: u32,
 ) -> Result<(), AllocError>
-    ensures { let areas = filter (is_met address n) (areas_of region.now.storage) in
+    ensures { let areas = filter (is_met address n) (areas_of region.now.shared.storage) in
         OnOk result (report.new ≡ report.old ++ flat_map (met_line region.now address) areas) }
 {
     let areas = met_areas(report.alloc(), &region.shared().store, address, n)?;

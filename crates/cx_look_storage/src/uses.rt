@@ -4,10 +4,10 @@ ghost use Rattle.std.specs.Option.{option_copied, option_map};
 ghost use Rattle.cx_storage.specs.Storage.{covers};
 ghost use Rattle.cx_look_storage.specs.Uses.{area_line, area_owner, area_use, fixed_use, is_met, met_line, offset_of, program_at, stg_at, stg_use, task_use, use_of};
 
-use cx_base_text::{hexadecimal, shown_name};
+use cx_base::{hexadecimal, shown_name};
 use cx_ebcdic::{Name4, Name8};
 use cx_load::Loaded;
-use cx_look_words::{Report, terminal_at};
+use cx_look_tables::{Report, terminal_at};
 use cx_program::LevelStack;
 use cx_region::{Region, Task, Terminal};
 use cx_storage::{Area, Kind, Store, address_after};

@@ -1,7 +1,7 @@
 -- The last five digits of a number.
 use Rattle.std.proofs.Common.{◌≡◌, ℕ, refl, arith}
 use Rattle.std.specs.Prelude.{◌%◌, ◌/◌}
-use Rattle.cx_base_text.specs.Digits.{digits}
+use Rattle.cx_base.specs.Digits.{digits}
 
 pub last_five : (n : ℕ) → digits 10 5 (n % 100000) ≡ digits 10 5 n
 unfolding digits

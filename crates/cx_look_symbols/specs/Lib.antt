@@ -10,4 +10,4 @@ pub mod Sources
 pub mod Laws
 pub mod Facts
 pub mod Parts
-pub use Rattle.cx_look_words.specs.Words
+pub use Rattle.cx_look_tables.specs.Words

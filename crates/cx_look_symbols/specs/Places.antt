@@ -3,8 +3,8 @@ use Rattle.std.specs.Prelude.{ℕ, zero, suc, ◌+◌, ◌-◌, Bool, ◌&&◌, 
 use Rattle.std.specs.List.{find}
 use Rattle.std.specs.Option.{option_map_or}
 use Rattle.cx_load.specs.declared.program.Loaded.{Loaded}
-use Rattle.cx_base_text.specs.Digits.{digits}
-use Rattle.cx_base_text.specs.Texts.{shown_name}
+use Rattle.cx_base.specs.Digits.{digits}
+use Rattle.cx_base.specs.Texts.{shown_name}
 use Rattle.cx_look_symbols.specs.Lines.{SourcePlaces, line_in}
 use Rattle.cx_look_symbols.specs.declared.places.Place.{Place}
 use Rattle.cx_look_symbols.specs.declared.places.Spot.{Spot}

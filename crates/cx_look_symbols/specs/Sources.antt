@@ -7,7 +7,7 @@ use Rattle.indexmap.specs.IndexMap.{insert_entry}
 use Rattle.cx_ebcdic.specs.Characters.{code_of}
 use Rattle.cx_ebcdic.specs.Names.{is_name}
 use Rattle.cx_source.specs.Lines.{skip_blanks, trim_blanks}
-use Rattle.cx_base_text.specs.Digits.{digits}
+use Rattle.cx_base.specs.Digits.{digits}
 use Rattle.cx_look_symbols.specs.Lines.{SourcePlaces, line_in}
 use Rattle.cx_look_symbols.specs.Statements.{statement_places}
 use Rattle.cx_look_symbols.specs.declared.places.Spot.{Spot}

@@ -7,13 +7,13 @@ use Rattle.std.specs.Int.{int_rem_euclid}
 use Rattle.std.specs.List.{flat_map}
 use Rattle.std.specs.Map.{lookup}
 use Rattle.std.specs.Ordering.{nat_cmp}
-use Rattle.cx_base_text.specs.Digits.{digits}
+use Rattle.cx_base.specs.Digits.{digits}
 use Rattle.cx_load.specs.declared.program.Loaded.{Loaded}
 use Rattle.cx_asm_expressions.specs.Names.{is_same}
 use Rattle.cx_asm_expressions.specs.declared.values.Value.{Value}
 use Rattle.cx_asm_pass1.specs.Given.{is_in_range}
 use Rattle.cx_asm_pass1.specs.PassState.{is_control}
-use Rattle.cx_look_words.specs.Words.{look_line, or_none, written_name, Lines}
+use Rattle.cx_look_tables.specs.Words.{look_line, or_none, written_name, Lines}
 use Rattle.cx_look_symbols.specs.Symbols.{SourceSymbols, Rows, named_in}
 use Rattle.cx_look_symbols.specs.declared.rows.Symbol.{Symbol}
 

@@ -1,11 +1,10 @@
 //! The line of the statement whose bytes hold an offset.
 ghost use Rattle.std.specs.Prelude.{◌≡◌};
-ghost use Rattle.cx_base_text.specs.Digits.{digits};
+ghost use Rattle.cx_base.specs.Digits.{digits};
 ghost use Rattle.cx_look_symbols.specs.Lines.{holds, line_at, line_in};
 
 use crate::statements::StatementPlace;
-use cx_base_lists::List;
-use cx_base_text::decimal;
+use cx_base::{List, decimal};
 use cx_ebcdic::Name8;
 use indexmap::IndexMap;
 

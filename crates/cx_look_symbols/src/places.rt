@@ -5,7 +5,7 @@ ghost use Rattle.cx_look_symbols.specs.Lines.{line_in};
 ghost use Rattle.cx_look_symbols.specs.Places.{address_word, is_in, line_word, place_of, place_word, spot_before, spot_of, spot_word};
 
 use crate::lines::{SourcePlaces, five_digits, line_in};
-use cx_base_text::{hexadecimal, shown_name};
+use cx_base::{hexadecimal, shown_name};
 use cx_ebcdic::Name8;
 use cx_load::Loaded;
 use indexmap::IndexMap;

@@ -6,7 +6,7 @@ ghost use Rattle.cx_look_symbols.specs.Lines.{line_in};
 use crate::lines::{five_digits, line_in};
 use crate::places::Spot;
 use crate::sources::Sources;
-use cx_base_lists::List;
+use cx_base::List;
 use cx_ebcdic::to_ebcdic;
 use cx_source::{Text, skip_blanks, trim_blanks};
 use std::alloc::{AllocError, Global};

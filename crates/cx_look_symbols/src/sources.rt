@@ -6,7 +6,7 @@ ghost use Rattle.cx_look_symbols.specs.Statements.{statement_places};
 
 use crate::lines::SourcePlaces;
 use crate::statements::StatementPlace;
-use cx_base_lists::List;
+use cx_base::List;
 use cx_ebcdic::Name8;
 use cx_source::Text;
 use indexmap::IndexMap;

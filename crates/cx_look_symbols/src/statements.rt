@@ -12,7 +12,7 @@ use cx_asm::object_length;
 use cx_asm_pass1::{Places, place_all};
 use cx_asm_pass2::{Statement, control_name, placed_lines, stated};
 use cx_asm_pools::capped;
-use cx_base_lists::List;
+use cx_base::List;
 use cx_ebcdic::Name8;
 use cx_source::{Source, Text};
 use std::alloc::{AllocError, Global};

@@ -6,10 +6,10 @@ ghost use Rattle.cx_look_symbols.specs.Texts.{address_in, section_word, symbol_l
 
 use crate::rows::Symbol;
 use cx_asm_expressions::Value;
-use cx_base_text::hexadecimal;
+use cx_base::hexadecimal;
 use cx_ebcdic::Name8;
 use cx_load::Loaded;
-use cx_look_words::{Report, decimal, written_name};
+use cx_look_tables::{Report, decimal, written_name};
 use std::alloc::{AllocError, Global};
 
 /// A value in hexadecimal digits.

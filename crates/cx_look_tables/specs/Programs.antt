@@ -3,10 +3,10 @@ use Rattle.std.specs.Prelude.{ℕ, if◌then◌else◌, List, [], ◌∷◌, ◌
 use Rattle.std.specs.List.{flat_map}
 use Rattle.std.specs.Str.{byte}
 use Rattle.cx_ebcdic.specs.Names.{is_name}
-use Rattle.cx_base_text.specs.Digits.{digits}
-use Rattle.cx_base_text.specs.Texts.{shown_name}
+use Rattle.cx_base.specs.Digits.{digits}
+use Rattle.cx_base.specs.Texts.{shown_name}
 use Rattle.cx_load.specs.declared.program.Loaded.{Loaded}
-use Rattle.cx_look_words.specs.Words.{look_line, none_line, Lines}
+use Rattle.cx_look_tables.specs.Words.{look_line, none_line, Lines}
 
 -- a transaction after a blank, where it begins with the program
 abbrev pub transaction_word : List ℕ → List ℕ × List ℕ → List ℕ

@@ -4,10 +4,10 @@ use Rattle.std.specs.Fmt.{decimal}
 use Rattle.std.specs.List.{flat_map}
 use Rattle.std.specs.Str.{byte}
 use Rattle.cx_ebcdic.specs.Aids.{key_of}
-use Rattle.cx_base_commands.specs.Conditions.{entry_of, handled_conditions}
-use Rattle.cx_base_commands.specs.declared.conditions.Condition.{Condition}
-use Rattle.cx_base_text.specs.Digits.{digits}
-use Rattle.cx_base_text.specs.Texts.{shown_name}
+use Rattle.cx_base.specs.Conditions.{entry_of, handled_conditions}
+use Rattle.cx_base.specs.declared.conditions.Condition.{Condition}
+use Rattle.cx_base.specs.Digits.{digits}
+use Rattle.cx_base.specs.Texts.{shown_name}
 use Rattle.cx_region_state.specs.State.{Input, NextTransaction}
 use Rattle.cx_region.specs.State.{TerminalState}
 use Rattle.cx_edf.specs.Sessions.{SessionState, Sessions, session_in}
@@ -16,7 +16,7 @@ use Rattle.cx_edf.specs.Stops.{names}
 use Rattle.cx_edf.specs.declared.modes.Mode.{Mode}
 use Rattle.cx_edf.specs.declared.modes.Mode.TheVariants as mode
 use Rattle.cx_edf.specs.declared.stop_words.Stops.{Stops}
-use Rattle.cx_look_words.specs.Words.{look_line, none_line, written_bytes, written_name, Lines}
+use Rattle.cx_look_tables.specs.Words.{look_line, none_line, written_bytes, written_name, Lines}
 
 -- the time and the date that tasks attached later find
 unfoldable pub clock_line : ℕ → ℕ → Lines
@@ -61,8 +61,8 @@ edf_word (Some session) = mode_name session.mode ++ stops_word session.stops
 unfoldable pub terminal_line : Sessions → List ℕ × TerminalState → Lines
 terminal_line sessions (name, terminal) =
     look_line
-    (codes "TERMINAL" ∷ shown_name name ∷ codes "NEXT" ∷ next_word terminal.following ∷ codes "HELD"
-    ∷ held_word terminal.input
+    (codes "TERMINAL" ∷ shown_name name ∷ codes "NEXT" ∷ next_word terminal.entry.following ∷ codes "HELD"
+    ∷ held_word terminal.entry.input
     ∷ codes "EDF" ∷ edf_word (session_in sessions name) ∷ [])
 
 abbrev pub terminal_lines : Sessions → List (List ℕ × TerminalState) → Lines

@@ -3,9 +3,8 @@ ghost use Rattle.std.specs.Prelude.{◌≡◌, IfOk};
 ghost use Rattle.cx_look_tables.specs.Programs.{programs_text};
 ghost use Rattle.cx_look_tables.specs.Queues.{item_text, queue_text, queues_text};
 
-use crate::{programs, queues};
+use crate::{Report, programs, queues};
 use cx_ebcdic::Name8;
-use cx_look_words::Report;
 use cx_region::Region;
 use cx_storage::Store;
 use std::alloc::{AllocError, Global};
@@ -14,7 +13,7 @@ use std::alloc::{AllocError, Global};
 ///
 /// An error comes only where memory for the report was refused.
 pub fn queues_text<S: Store + Drop>(alloc: Global, region: &Region<S>) -> Result<Report, AllocError>
-    ensures { IfOk result (λ report. report ≡ queues_text region.now.queues) }
+    ensures { IfOk result (λ report. report ≡ queues_text region.now.shared.queues) }
 {
     let mut report = Report::new(alloc);
     queues::queues_text(&mut report, &region.shared().queues)?;
@@ -29,7 +28,7 @@ pub fn queue_text<S: Store + Drop>(
     region: &Region<S>,
     name: Name8,
 ) -> Result<Report, AllocError>
-    ensures { IfOk result (λ report. report ≡ queue_text region.now.queues name) }
+    ensures { IfOk result (λ report. report ≡ queue_text region.now.shared.queues name) }
 {
     let mut report = Report::new(alloc);
     queues::queue_text(&mut report, &region.shared().queues, name)?;
@@ -45,7 +44,7 @@ pub fn item_text<S: Store + Drop>(
     name: Name8,
     n: usize,
 ) -> Result<Report, AllocError>
-    ensures { IfOk result (λ report. report ≡ item_text region.now.queues name n) }
+    ensures { IfOk result (λ report. report ≡ item_text region.now.shared.queues name n) }
 {
     let mut report = Report::new(alloc);
     queues::item_text(&mut report, &region.shared().queues, name, n)?;
@@ -59,7 +58,7 @@ pub fn programs_text<S: Store + Drop>(
     alloc: Global,
     region: &Region<S>,
 ) -> Result<Report, AllocError>
-    ensures { IfOk result (λ report. report ≡ programs_text region.now.programs region.now.transactions) }
+    ensures { IfOk result (λ report. report ≡ programs_text region.now.shared.programs region.now.transactions) }
 {
     let mut report = Report::new(alloc);
     programs::programs_text(

@@ -1,10 +1,10 @@
 //! Bytes in rows of sixteen.
 ghost use Rattle.std.specs.Prelude.{◌≡◌, ◌*◌, ◌<◌, ◌≤◌, ◌^◌, ◌++◌, IfOk, OnOk, drop, length, take};
-ghost use Rattle.cx_base_text.specs.Digits.{hex_digits};
+ghost use Rattle.cx_base.specs.Digits.{hex_digits};
 ghost use Rattle.cx_look_tables.specs.Queues.{hex_column, row_line, row_of, rows_text};
 
-use cx_base_text::{hexadecimal, in_columns, shown};
-use cx_look_words::{Report, in_apostrophes, spelled};
+use crate::{Report, in_apostrophes, spelled};
+use cx_base::{hexadecimal, in_columns, shown};
 use std::alloc::{AllocError, Global};
 
 /// The bytes of a row.

@@ -6,11 +6,10 @@ ghost use Rattle.cx_edf.specs.State.{EdfState};
 ghost use Rattle.cx_look_tables.specs.Terminals.{bytes_word, clock_line, commarea_word, condition_word, edf_word, held_word, mode_name, next_word, stops_word, terminal_line, terminal_lines, terminals_text};
 
 use crate::rows::first_bytes;
-use cx_base_commands::Condition;
-use cx_base_text::shown_name;
+use crate::{Report, decimal, push_word, written_bytes, written_name};
+use cx_base::{Condition, shown_name};
 use cx_ebcdic::Name4;
 use cx_edf::{Debugged, Mode, Session, Stops};
-use cx_look_words::{Report, decimal, push_word, written_bytes, written_name};
 use cx_region::{Region, Terminal};
 use cx_region_state::{Input, NextTransaction};
 use cx_storage::Store;
@@ -192,8 +191,8 @@ fn terminal_lines<S: Store + Drop>(
 fn clock_line<S: Store + Drop>(report: &mut Report, region: &Region<S>) -> Result<(), AllocError>
     ensures { OnOk result (report.new ≡ report.old ++ clock_line region.now.time region.now.date) }
 {
-    let time = cx_base_text::decimal::<6>(region.time());
-    let date = cx_base_text::decimal::<5>(region.date());
+    let time = cx_base::decimal::<6>(region.time());
+    let date = cx_base::decimal::<5>(region.date());
     report.line(&[b"CLOCK", &time, &date])
 }
 

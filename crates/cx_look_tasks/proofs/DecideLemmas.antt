@@ -2,7 +2,7 @@
 use Rattle.std.proofs.Common.{◌≡◌, ℕ, List, [], ◌∷◌, codes, refl, sym, ap, ◌∙◌}
 use Rattle.std.specs.List.{flat_map}
 use Rattle.cx_region.specs.State.{RegionState, TerminalState}
-use Rattle.cx_look_words.specs.Words.{or_none}
+use Rattle.cx_look_tables.specs.Words.{or_none}
 use Rattle.cx_look_tasks.specs.Activities.{AreActivities}
 use Rattle.cx_look_tasks.specs.Laws.{ActivitiesDecide, ResourcesTextsDecide, TasksTextsDecide, WaitsTextsDecide}
 use Rattle.cx_look_tasks.specs.Tasks.{of_each, resource_lines, task_line, waiting_line}
@@ -35,6 +35,6 @@ waits_texts_decide once region one other p q =
 pub resources_texts_decide : ActivitiesDecide → ResourcesTextsDecide
 resources_texts_decide once region one other p q =
     p.is
-    ∙ ap (λ activities. or_none (codes "RESOURCES") (flat_map (resource_lines region activities) region.resources))
+    ∙ ap (λ activities. or_none (codes "RESOURCES") (flat_map (resource_lines region activities) region.shared.resources))
     (are_once once region region.terminals p.activities q.activities p.are q.are)
     ∙ sym q.is

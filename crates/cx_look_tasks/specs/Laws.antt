@@ -5,7 +5,7 @@ use Rattle.cx_region_task.specs.Laws.Decisions.{is_wait_reply}
 use Rattle.cx_region.specs.State.{RegionState, TerminalState}
 use Rattle.cx_region.specs.Tables.{terminal_of}
 use Rattle.cx_region.specs.Turn.{TakesTurn}
-use Rattle.cx_look_words.specs.Words.{Lines}
+use Rattle.cx_look_tables.specs.Words.{Lines}
 use Rattle.cx_look_tasks.specs.Activities.{IsActivity, is_waiting}
 use Rattle.cx_look_tasks.specs.Tasks.{ResourcesText, TasksText, WaitsText}
 use Rattle.cx_look_tasks.specs.declared.activities.Activity.{Activity}

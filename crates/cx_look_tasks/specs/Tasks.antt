@@ -2,18 +2,18 @@
 use Rattle.std.specs.Prelude.{◌≡◌, ℕ, Bool, false, ◌+◌, List, [], ◌∷◌, ◌++◌, length, codes, Option, Some, None, if◌then◌else◌}
 use Rattle.std.specs.List.{flat_map}
 use Rattle.std.specs.Option.{option_and_then, option_map_or}
-use Rattle.cx_base_commands.specs.declared.commands.Command.{Command}
-use Rattle.cx_base_commands.specs.Commands.{row_of}
+use Rattle.cx_base.specs.declared.commands.Command.{Command}
+use Rattle.cx_base.specs.Commands.{row_of}
 use Rattle.cx_service.specs.Resources.{hold_of, is_resource}
 use Rattle.cx_service.specs.declared.resources.Hold.{Hold}
 use Rattle.cx_service.specs.declared.resources.ResourceName.{ResourceName}
 use Rattle.cx_service.specs.declared.resources.ResourceName.TheVariants as resource
 use Rattle.cx_region_state.specs.State.{TaskState}
 use Rattle.cx_region.specs.State.{RegionState, TerminalState}
-use Rattle.cx_base_text.specs.Digits.{digits}
-use Rattle.cx_base_text.specs.Texts.{shown_name}
-use Rattle.cx_look_words.specs.Terminals.{terminal_at}
-use Rattle.cx_look_words.specs.Words.{look_line, or_none, written_bytes, written_name, Lines}
+use Rattle.cx_base.specs.Digits.{digits}
+use Rattle.cx_base.specs.Texts.{shown_name}
+use Rattle.cx_look_tables.specs.Owners.{terminal_at}
+use Rattle.cx_look_tables.specs.Words.{look_line, or_none, written_bytes, written_name, Lines}
 use Rattle.cx_look_tasks.specs.Activities.{AreActivities, is_waiting}
 use Rattle.cx_look_tasks.specs.declared.activities.Activity.{Activity}
 use Rattle.cx_look_tasks.specs.declared.activities.Activity.TheVariants.{Due, NoTask, Running, Waiting}
@@ -35,7 +35,7 @@ abbrev pub resource_word : Option ResourceName → List ℕ
 resource_word name = option_map_or resource_value name (codes "--")
 
 abbrev pub owner_of : RegionState → Option ResourceName → Option Hold
-owner_of region name = option_and_then (hold_of region.resources) name
+owner_of region name = option_and_then (hold_of region.shared.resources) name
 
 abbrev pub owner_word : RegionState → Option ResourceName → List ℕ
 owner_word region name = option_map_or (λ hold. owner_name region hold.owner) (owner_of region name) (codes "--")
@@ -127,4 +127,4 @@ resource_lines region activities entry =
 pub record ResourcesText (region : RegionState) (lines : Lines) : Type 0 where
   pub activities : List Activity
   pub are : AreActivities region region.terminals activities
-  pub is : lines ≡ or_none (codes "RESOURCES") (flat_map (resource_lines region activities) region.resources)
+  pub is : lines ≡ or_none (codes "RESOURCES") (flat_map (resource_lines region activities) region.shared.resources)

@@ -1,6 +1,6 @@
 //! What a task is doing.
 
-use cx_base_commands::Command;
+use cx_base::Command;
 pub use cx_region_task::Wait;
 
 /// What the task of a terminal is doing.

@@ -8,9 +8,9 @@ ghost use Rattle.cx_look_tasks.specs.Tasks.{ResourcesText, hold_line, of_each, r
 
 use crate::activities::{Activity, Wait};
 use crate::tasks::{activities_in, owner_name, resource_value};
-use cx_base_text::{decimal, shown_name};
+use cx_base::{decimal, shown_name};
 use cx_ebcdic::Name4;
-use cx_look_words::Report;
+use cx_look_tables::Report;
 use cx_region::Region;
 use cx_service::{Hold, ResourceName};
 use cx_storage::Store;
@@ -102,7 +102,7 @@ fn waiter_lines<S: Store + Drop>(
 
 /// The resources that are owned.
 fn holds<S: Store + Drop>(region: &Region<S>) -> &IndexMap<ResourceName, Hold>
-    ensures { result.now.entries ≡ region.now.resources }
+    ensures { result.now.entries ≡ region.now.shared.resources }
 {
     region.shared().enqueues.all()
 }
@@ -130,8 +130,8 @@ fn resource_at<S: Store + Drop>(
     activities: &[Activity],
     index: usize,
 ) -> Result<(), AllocError>
-    ensures { let more = of_one (resource_lines region.now activities.now) (slice_get region.now.resources index) in
-        OnOk result (report.new ≡ report.old ++ more) }
+    ensures { let hold = slice_get region.now.shared.resources index in
+        OnOk result (report.new ≡ report.old ++ of_one (resource_lines region.now activities.now) hold) }
 {
     let Some((name, hold)) = holds(region).get_index(index) else {
         return Ok(());
@@ -145,7 +145,7 @@ fn resource_lines<S: Store + Drop>(
     region: &Region<S>,
     activities: &[Activity],
 ) -> Result<Report, AllocError>
-    ensures { let lines = flat_map (resource_lines region.now activities.now) region.now.resources in
+    ensures { let lines = flat_map (resource_lines region.now activities.now) region.now.shared.resources in
         IfOk result (λ report. report ≡ lines) }
 {
     let mut report = Report::new(alloc);

@@ -13,7 +13,7 @@ use Rattle.std.specs.declared.cmp.Ordering.TheVariants.{Less, Equal, Greater}
 use Rattle.std.proofs.lemmas.Bool.{cases_Bool, cond-true, cond-false, true≢false}
 use Rattle.std.proofs.lemmas.Cmp.{nat_list_eq_equiv}
 use Rattle.indexmap.specs.IndexMap.{insert_entry}
-use Rattle.cx_base_lists.specs.Facts.Tables.{insert_entry_present}
+use Rattle.cx_base.specs.Facts.Tables.{insert_entry_present}
 use Rattle.cx_asm_expressions.specs.Names.{is_same}
 use Rattle.cx_asm_pass2.specs.Statements.{PlacedStatement}
 use Rattle.cx_look_xref.specs.Literals.{uses_literal}

@@ -3,7 +3,7 @@ use Rattle.std.specs.Prelude.{ℕ, ◌+◌, ◌%◌, ◌^◌, ◌==◌, ◌&&◌
 use Rattle.std.specs.Fmt.{decimal}
 use Rattle.std.specs.List.{flat_map, list_any}
 use Rattle.std.specs.Result.{result_ok}
-use Rattle.cx_base_text.specs.Digits.{digits, hex_digits}
+use Rattle.cx_base.specs.Digits.{digits, hex_digits}
 use Rattle.cx_source.specs.declared.source.Source.{Source}
 use Rattle.cx_asm_pools.specs.Pools.{PlacedLiterals}
 use Rattle.cx_asm_pools.specs.declared.closed.Literal.{Literal}
@@ -11,7 +11,7 @@ use Rattle.cx_asm_pass1.specs.PassState.{parts_in}
 use Rattle.cx_asm_pass2.specs.Statements.{PlacedStatement, operation_of, statements_of}
 use Rattle.cx_asm_pass2.specs.Whole.{Whole, whole_of}
 use Rattle.cx_asm.specs.Assembly.{AssemblyParts, assembly_of, last_line}
-use Rattle.cx_look_words.specs.Words.{look_line, or_none, with_blanks, written_name, Lines}
+use Rattle.cx_look_tables.specs.Words.{look_line, or_none, with_blanks, written_name, Lines}
 use Rattle.cx_look_symbols.specs.Symbols.{SourceSymbols, named_of, translated_in}
 use Rattle.cx_look_symbols.specs.Texts.{in_order}
 use Rattle.cx_look_symbols.specs.declared.rows.Symbol.{Symbol}

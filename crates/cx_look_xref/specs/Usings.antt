@@ -1,6 +1,5 @@
 -- The base registers of a source, and the lines in which they are in use (GC33-4010, "USING -- Use Base Address
--- Register", "DROP -- Drop Base
--- Register" and "Cross-Reference").
+-- Register", "DROP -- Drop Base Register" and "Cross-Reference").
 use Rattle.std.specs.Prelude.{ℕ, ◌-◌, Bool, false, ◌||◌, ◌==◌, if◌then◌else◌, Option, Some, List, [], ◌∷◌, drop, length}
 use Rattle.std.specs.List.{filter_map, list_any}
 use Rattle.std.specs.Result.{result_ok}

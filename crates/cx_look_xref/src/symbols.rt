@@ -11,7 +11,7 @@ use crate::references::{Reference, lines_by_name};
 use crate::uses::lines_for;
 use cx_ebcdic::Name8;
 use cx_look_symbols::Symbol;
-use cx_look_words::{Report, decimal, written_name};
+use cx_look_tables::{Report, decimal, written_name};
 use indexmap::IndexMap;
 use std::alloc::AllocError;
 use std::collections::{BTreeMap, BTreeSet};

@@ -4,7 +4,7 @@ ghost use Rattle.std.specs.Prelude.{◌≡◌, IfOk, filter, nat_le, nat_lt};
 ghost use Rattle.cx_orders.specs.Incidents.{incident_of_key, incident_of_turn, with_incident};
 
 use crate::states::{Incident, IncidentAt};
-use cx_base_lists::List;
+use cx_base::List;
 use cx_region::{KeyReply, TurnReply};
 use std::alloc::{AllocError, Global};
 

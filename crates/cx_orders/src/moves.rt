@@ -10,8 +10,8 @@ ghost use Rattle.cx_orders.specs.Moves.{IsFew, KeyComes, Moves, TurnMoves, is_re
 ghost use Rattle.cx_orders.specs.declared.states.OrdersState.{OrdersState as TheState};
 
 use crate::incidents::{incident_of_key, incident_of_turn, with_incident};
-use crate::states::{Incident, KeyLine, OrdersState};
-use cx_base_lists::List;
+use crate::states::{IncidentAt, KeyLine, OrdersState};
+use cx_base::List;
 use cx_ebcdic::Name4;
 use cx_look_tasks::laws::{activities_decide, waits_are_reported};
 use cx_look_tasks::{Activity, Wait, activity};
@@ -121,22 +121,20 @@ impl<S: Store + Drop> Orders<S> {
         key_of(self.keys.as_slice(), asked.name, asked.came)
     }
 
-    /// The state that a move leads to, by the region after it, how many keys came, and what is kept of the move.
+    /// The state that a move leads to, by the region after it, how many keys came, and what is kept of the moves.
     ///
     /// An error comes only where an allocation failed.
     fn moved(
         &self,
         region: &Region<S>,
         from: &OrdersState,
-        number: usize,
         come: List<usize>,
-        incident: Option<Incident>,
+        incidents: List<IncidentAt>,
     ) -> Result<OrdersState, AllocError>
         ensures region { IfOk result (λ to. to.region ≡ region.now) }
         ensures come { IfOk result (λ to. to.come ≡ come) }
-        ensures incidents { IfOk result (λ to. to.incidents ≡ with_incident number incident from.now.incidents) }
+        ensures incidents { IfOk result (λ to. to.incidents ≡ incidents) }
     {
-        let incidents = with_incident(self.alloc, number, incident, from.incidents.as_slice())?;
         let region = RegionSnapshot::take(self.alloc, region, Some(&from.region))?;
         Ok(OrdersState {
             region,
@@ -164,7 +162,9 @@ impl<S: Store + Drop> Orders<S> {
         let reply = region.turn(asked.name)?;
         let come = List::from_slice(self.alloc, from.come.as_slice())?;
         let incident = incident_of_turn(reply);
-        let to = self.moved(region, from, asked.number, come, incident)?;
+        let before = from.incidents.as_slice();
+        let incidents = with_incident(self.alloc, asked.number, incident, before)?;
+        let to = self.moved(region, from, come, incidents)?;
         Ok(to)
     }
 
@@ -187,7 +187,9 @@ impl<S: Store + Drop> Orders<S> {
         let came = asked.came + 1;
         let come = come_with(self.alloc, from.come.as_slice(), asked.number, came)?;
         let incident = incident_of_key(reply);
-        let to = self.moved(region, from, asked.number, come, incident)?;
+        let before = from.incidents.as_slice();
+        let incidents = with_incident(self.alloc, asked.number, incident, before)?;
+        let to = self.moved(region, from, come, incidents)?;
         Ok(to)
     }
 }

@@ -7,7 +7,7 @@ ghost use Rattle.cx_orders.specs.Moves.{IsFew, Moves, begun};
 
 use crate::moves::Orders;
 use crate::states::{KeyLine, OrdersState};
-use cx_base_lists::List;
+use cx_base::List;
 use cx_region::Region;
 use cx_region_snapshot::RegionSnapshot;
 use cx_search::{Outcome, search};

@@ -2,8 +2,7 @@
 
 ghost use Rattle.std.specs.Prelude.{◌≡◌, ◌↔◌, IsTrue};
 
-use cx_base_copies::{Same, are_same_items};
-use cx_base_lists::List;
+use cx_base::{List, Same, are_same_items};
 use cx_code::Bytes;
 use cx_ebcdic::{Aid, Name4};
 use cx_region::KeyReply;

@@ -4,9 +4,9 @@ use Rattle.std.proofs.Common.{ℕ, ◌<◌, List, ◌∷◌, length, get_or, sym
 use Rattle.std.proofs.lemmas.List.{ext_get_or, get_or-set_other, get_or-set_same}
 use Rattle.cx_ebcdic.specs.Characters.{code_of, table}
 use Rattle.cx_ebcdic.specs.Names.{is_name_character, name_code, padded_name}
-use Rattle.cx_base_commands.specs.Conditions.{abend_code_of, handled_conditions, place_of}
-use Rattle.cx_base_commands.specs.declared.conditions.Condition.{Condition}
-use Rattle.cx_base_commands.specs.declared.conditions.Condition.TheVariants.{Normal, Error}
+use Rattle.cx_base.specs.Conditions.{abend_code_of, handled_conditions, place_of}
+use Rattle.cx_base.specs.declared.conditions.Condition.{Condition}
+use Rattle.cx_base.specs.declared.conditions.Condition.TheVariants.{Normal, Error}
 use Rattle.cx_program.specs.declared.entries.Handler.{Handler}
 use Rattle.cx_program.specs.declared.entries.Handler.TheVariants.{NoEntry}
 use Rattle.cx_program.specs.declared.entries.Entries.{Entries}

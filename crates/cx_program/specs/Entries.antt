@@ -1,9 +1,9 @@
 -- What a level's program has asked to be done for each condition, and on an abend
 -- (Application Programmer's Reference Manual, SC33-0077, HANDLE CONDITION, IGNORE CONDITION, HANDLE ABEND).
 use Rattle.std.specs.Prelude.{ℕ, Option, Some, None, ◌∷◌, get_or, length, replicate, slice_set}
-use Rattle.cx_base_commands.specs.Conditions.{handled_conditions, place_of}
-use Rattle.cx_base_commands.specs.declared.conditions.Condition.{Condition}
-use Rattle.cx_base_commands.specs.declared.conditions.Condition.TheVariants.{Normal}
+use Rattle.cx_base.specs.Conditions.{handled_conditions, place_of}
+use Rattle.cx_base.specs.declared.conditions.Condition.{Condition}
+use Rattle.cx_base.specs.declared.conditions.Condition.TheVariants.{Normal}
 use Rattle.cx_program.specs.declared.entries.Handler.{Handler}
 use Rattle.cx_program.specs.declared.entries.Handler.TheVariants.{NoEntry}
 use Rattle.cx_program.specs.declared.entries.Exit.{Exit}

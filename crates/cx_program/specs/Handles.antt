@@ -1,9 +1,9 @@
--- The handles of one level (Application Programmer's Reference Manual, SC33-0077, PUSH HANDLE, POP HANDLE), and the choice
--- for a condition ("Exceptional conditions").
+-- The handles of one level (Application Programmer's Reference Manual, SC33-0077, PUSH HANDLE, POP HANDLE), and the
+-- choice for a condition ("Exceptional conditions").
 use Rattle.std.specs.Prelude.{ℕ, Bool, true, false, if◌then◌else◌, List, [], ◌∷◌, Option, Some, None, unwrap_or}
-use Rattle.cx_base_commands.specs.Conditions.{abend_code_of}
-use Rattle.cx_base_commands.specs.declared.conditions.Condition.{Condition}
-use Rattle.cx_base_commands.specs.declared.conditions.Condition.TheVariants.{Error, Nospace, Nostg, Enqbusy}
+use Rattle.cx_base.specs.Conditions.{abend_code_of}
+use Rattle.cx_base.specs.declared.conditions.Condition.{Condition}
+use Rattle.cx_base.specs.declared.conditions.Condition.TheVariants.{Error, Nospace, Nostg, Enqbusy}
 use Rattle.cx_program.specs.declared.entries.Handler.{Handler}
 use Rattle.cx_program.specs.declared.entries.Handler.TheVariants as entry
 use Rattle.cx_program.specs.declared.entries.Exit.{Exit}

@@ -2,7 +2,7 @@
 ghost use Rattle.std.specs.Prelude.{◌≡◌};
 ghost use Rattle.cx_program.specs.Entries.{entry_for, label_on, turned_off, turned_on, with_entry};
 
-use cx_base_commands::{CONDITIONS, Condition};
+use cx_base::{CONDITIONS, Condition};
 
 /// What is to be done where a command meets a condition.
 ///

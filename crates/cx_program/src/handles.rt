@@ -7,7 +7,7 @@ use crate::choice::Choice;
 use crate::entries::{Exit, Handler, Handling};
 use crate::faults::ProgramFault;
 use arrayvec::ArrayVec;
-use cx_base_commands::Condition;
+use cx_base::Condition;
 use cx_ebcdic::Name4;
 use std::marker::Model;
 use std::mem;

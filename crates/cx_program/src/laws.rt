@@ -1,8 +1,8 @@
 //! What follows from the definitions of entries, of the choice and of the nearest exit.
 ghost use Rattle.std.specs.Prelude.{◌≡◌, ◌≢◌, ◌∷◌, ℕ, List, Option, length, is_some, not};
-ghost use Rattle.cx_base_commands.specs.Conditions.{abend_code_of, handled_conditions};
-ghost use Rattle.cx_base_commands.specs.declared.conditions.Condition.{Condition};
-ghost use Rattle.cx_base_commands.specs.declared.conditions.Condition.TheVariants.{Error, Normal};
+ghost use Rattle.cx_base.specs.Conditions.{abend_code_of, handled_conditions};
+ghost use Rattle.cx_base.specs.declared.conditions.Condition.{Condition};
+ghost use Rattle.cx_base.specs.declared.conditions.Condition.TheVariants.{Error, Normal};
 ghost use Rattle.cx_program.specs.Entries.{entry_for, with_entry};
 ghost use Rattle.cx_program.specs.Handles.{waits};
 ghost use Rattle.cx_program.specs.Levels.{IsNearestExit};

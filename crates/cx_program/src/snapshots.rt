@@ -7,7 +7,7 @@ use crate::handles::{HandleTable, PUSHES};
 use crate::level::Level;
 use crate::stack::{CALLERS, LevelStack};
 use arrayvec::ArrayVec;
-use cx_base_copies::{Same, are_same_items};
+use cx_base::{Same, are_same_items};
 use cx_ebcdic::Name8;
 use std::alloc::{AllocError, Global};
 use std::marker::Model;

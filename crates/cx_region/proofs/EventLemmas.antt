@@ -3,8 +3,7 @@ use Rattle.std.proofs.Common.{◌≡◌, ℕ, Bool, true, false, cond, List, Non
 use Rattle.cx_ebcdic.specs.declared.aids.Aid.{Aid}
 use Rattle.std.specs.declared.alloc.AllocError.{AllocError}
 use Rattle.cx_region.specs.State.{RegionState}
-use Rattle.cx_region.specs.Attach.{input_from}
-use Rattle.cx_region.specs.Parts.Asking.{KeyTakesMemory}
+use Rattle.cx_region.specs.Attach.{KeyTakesMemory, input_from}
 use Rattle.cx_region.specs.Defining.{transaction_fault, terminal_fault}
 use Rattle.cx_region.specs.Events.{Applies, IsDone, MayTakeMemory}
 use Rattle.cx_region.specs.declared.replies.DefineFault.{DefineFault}
@@ -40,7 +39,7 @@ unfolding MayTakeMemory terminal_fault
 terminal_memory old name r h e = none_due (terminal_fault old name) r (λ m. two _ _ m) h e
 
 pub key_memory : (old : RegionState) (name : List ℕ) (aid : Aid) (bytes : List ℕ) → KeyTakesMemory old name (input_from aid bytes).bytes → MayTakeMemory old (event.Key name aid bytes)
-unfolding MayTakeMemory KeyTakesMemory
+unfolding MayTakeMemory
 key_memory old name aid bytes h = h
 
 -- an event whose call was refused memory

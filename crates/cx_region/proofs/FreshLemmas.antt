@@ -12,7 +12,7 @@ unfolding IsLeastPlace CanPlace
 least = ((refl, omega arith, omega arith, tt), λ b can. can.1)
 
 -- in an empty storage the common work area's place is its address
-pub cwa_place : (s : Storage) (start : Option ℕ) → s ≡ [] → IsLeastPlace s 0x001000 0x0011FF 512 start → with_area s start 512 (record { slot = 0; kind = Fixed }) ≡ fresh_region.storage
+pub cwa_place : (s : Storage) (start : Option ℕ) → s ≡ [] → IsLeastPlace s 0x001000 0x0011FF 512 start → with_area s start 512 (record { slot = 0; kind = Fixed }) ≡ fresh_region.shared.storage
 unfolding with_area put_held
 cwa_place s start empty place =
     let place_in : IsLeastPlace [] 0x001000 0x0011FF 512 start = subst (λ (t : Storage). IsLeastPlace t 0x001000 0x0011FF 512 start) empty place in

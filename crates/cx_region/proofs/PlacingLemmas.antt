@@ -10,7 +10,7 @@ use Rattle.cx_region.specs.declared.asking.Start.{Start}
 use Rattle.cx_region.specs.declared.attach.StartFault.{StartFault}
 use Rattle.cx_region.specs.declared.attach.StartFault.TheVariants.{Memory, NoStorage}
 use Rattle.cx_region.specs.Parts.Placing.{IsCopyFault, IsPlaceFault, IsSlotFree, MayBeFaultsOf}
-use Rattle.cx_base_commands.specs.Eib.{eib_len}
+use Rattle.cx_base.specs.Eib.{eib_len}
 use Rattle.cx_region_state.specs.Areas.{IsTaskPlace, first_of_tasks, last_of_tasks, system_owner}
 use Rattle.cx_region.specs.Attach.{HasNoPlaces, IsCopyPlace, with_eib_area, with_kept_area, with_task_areas}
 use Rattle.cx_region.specs.declared.asking.Places.{Places}

@@ -1,8 +1,7 @@
 -- A key of a terminal: a task is attached, or the input is held for the task that is there (Application Programmer's
 -- Reference Manual, SC33-0077, "Terminal Control", "EXEC Interface Block"). The rules are this product's own.
-use Rattle.std.specs.Prelude.{◌≡◌, ℕ, ◌+◌, ◌==◌, Bool, true, false, if◌then◌else◌, List, [], ◌∷◌, length, take, min, position, Option, Some, None, unwrap_or, MatchOption}
+use Rattle.std.specs.Prelude.{◌≡◌, ℕ, ◌+◌, ◌==◌, Bool, true, false, if◌then◌else◌, List, [], length, take, min, position, Option, Some, None, unwrap_or, IsSomeAnd, MatchOption, option_and_then}
 use Rattle.std.specs.Option.{option_map, option_map_or}
-use Rattle.std.specs.Int.{w16, to_be_bytes}
 use Rattle.cx_ebcdic.specs.declared.aids.Aid.{Aid}
 use Rattle.cx_ebcdic.specs.declared.aids.Aid.TheVariants.{Clear, Pa1, Pa2}
 use Rattle.cx_ebcdic.specs.Aids.{key_of}
@@ -11,9 +10,8 @@ use Rattle.cx_storage.specs.declared.areas.Owner.{Owner}
 use Rattle.cx_storage.specs.Storage.{Storage, with_area, after_write}
 use Rattle.cx_load.specs.declared.program.Loaded.{Loaded}
 use Rattle.cx_program.specs.Levels.{highest}
-use Rattle.cx_base_commands.specs.declared.eib.EibField.TheVariants as field
-use Rattle.cx_base_commands.specs.Eib.{eib_len}
-use Rattle.cx_region_call.specs.Eib.{Content, content, packed_decimal, with_fields}
+use Rattle.cx_base.specs.Eib.{eib_len}
+use Rattle.cx_region_state.specs.Eib.{Content, fields_at_attach, with_fields}
 use Rattle.cx_region_state.specs.declared.verdict.NewLevel.{NewLevel}
 use Rattle.cx_region_state.specs.State.{Input, NextTransaction, TaskState}
 use Rattle.cx_region_state.specs.Areas.{IsTaskPlace, entry_level, registers_of, system_owner, with_cap}
@@ -76,7 +74,8 @@ pub record HasNoPlaces (storage : Storage) (owner : Owner) (len stg_len : ℕ) :
 -- of a terminal's task of a program
 abbrev pub HasNoTaskPlaces : RegionState → TerminalState → Loaded → Type 0
 HasNoTaskPlaces region terminal loaded =
-    HasNoPlaces region.storage (system_owner terminal.slot) (length (commarea_kept terminal.following)) loaded.stg_len
+    HasNoPlaces region.shared.storage (system_owner terminal.entry.slot)
+    (length (commarea_kept terminal.entry.following)) loaded.stg_len
 
 -- ---- the task
 -- the level with which a task begins: its program, where that is, the copy of its COMMAREA, and its DFHEISTG
@@ -110,11 +109,15 @@ next_number counter = if counter == 9999999 then 1 else counter + 1
 -- the key
 abbrev pub eib_at_attach : RegionState → List ℕ → List ℕ → ℕ → Aid → List Content
 eib_at_attach region name tran len aid =
-    content field.Time (packed_decimal region.time) ∷ content field.Date (packed_decimal region.date)
-    ∷ content field.Trnid tran
-    ∷ content field.Taskn (packed_decimal (next_number region.counter)) ∷ content field.Trmid name
-    ∷ content field.Calen (to_be_bytes w16 len)
-    ∷ content field.Aid ((key_of aid).code ∷ []) ∷ []
+    fields_at_attach (record {
+      time = region.time;
+      date = region.date;
+      tran = tran;
+      number = next_number region.counter;
+      terminal = name;
+      calen = len;
+      aid = (key_of aid).code;
+    })
 
 -- the bytes of the COMMAREA in its copy, where there is one
 unfoldable pub with_copy : Storage → Option ℕ → List ℕ → Storage
@@ -128,20 +131,21 @@ with_areas_filled storage areas fields commarea level =
 
 -- the terminal when its task starts: the next transaction is cleared, and the whole input is held
 abbrev pub with_task : TerminalState → Input → TaskState → TerminalState
-with_task terminal input task = record terminal { input = Some input; following = None; task = Some task }
+with_task terminal input task =
+    record { entry = record terminal.entry { input = Some input; following = None }; task = Some task }
 
 -- the region with a task attached at a terminal: of this transaction, at the entry of its program
 abbrev pub with_task_attached : RegionState → List ℕ → TerminalState → Input → List ℕ → List ℕ → Loaded → Places
     → RegionState
 with_task_attached region name terminal input tran program loaded areas =
-    let kept = commarea_kept terminal.following in
+    let kept = commarea_kept terminal.entry.following in
     let level = first_level program loaded (length kept) areas in
+    let owner = system_owner terminal.entry.slot in
+    let made = with_task_areas region.shared.storage owner (length kept) loaded.stg_len areas in
+    let fields = eib_at_attach region name tran (length kept) input.aid in
     record (with_terminal region name
     (with_task terminal input (fresh_task tran (next_number region.counter) areas.eib level))) {
-      storage =
-          with_areas_filled
-          (with_task_areas region.storage (system_owner terminal.slot) (length kept) loaded.stg_len areas) areas
-          (eib_at_attach region name tran (length kept) input.aid) kept level;
+      shared = record region.shared { storage = with_areas_filled made areas fields kept level };
       counter = next_number region.counter;
     }
 
@@ -150,8 +154,8 @@ with_task_attached region name terminal input tran program loaded areas =
 pub record AttachesTask (old : RegionState) (name : List ℕ) (terminal : TerminalState) (input : Input)
     (tran program : List ℕ) (loaded : Loaded) (new : RegionState) : Type 0 where
   pub areas : Places
-  pub placed : ArePlaced old.storage (system_owner terminal.slot)
-      (length (commarea_kept terminal.following)) loaded.stg_len areas
+  pub placed : ArePlaced old.shared.storage (system_owner terminal.entry.slot)
+      (length (commarea_kept terminal.entry.following)) loaded.stg_len areas
   pub after : new ≡ with_task_attached old name terminal input tran program loaded areas
 
 -- a task is attached where there are places for its areas; else the answer is NoStorage, and all is as before
@@ -177,8 +181,9 @@ StartsTask old name terminal input tran reply new =
 -- of a terminal with a task: the input is held for it, unless one is held already
 abbrev pub Gives : RegionState → List ℕ → TerminalState → Input → KeyReply → RegionState → Type 0
 Gives old name terminal input reply new =
-    MatchOption terminal.input
-    ((reply ≡ key.Given) × (new ≡ with_terminal old name (record terminal { input = Some input })))
+    MatchOption terminal.entry.input
+    ((reply ≡ key.Given)
+    × (new ≡ with_terminal old name (record terminal { entry = record terminal.entry { input = Some input } })))
     (λ held. OnlyAnswers key.AlreadyHeldInput old reply new)
 
 -- a key of a terminal with its input
@@ -186,5 +191,16 @@ unfoldable pub TakesKey : RegionState → List ℕ → Input → KeyReply → Re
 TakesKey old name input reply new =
     MatchOption (terminal_of old name) (OnlyAnswers key.NoSuchTerminal old reply new) (λ terminal.
     MatchOption terminal.task
-    (StartsTask old name terminal input (transaction_named terminal.following input.bytes) reply new)
+    (StartsTask old name terminal input (transaction_named terminal.entry.following input.bytes) reply new)
     (λ task. Gives old name terminal input reply new))
+
+-- a key may take memory: where it holds an input and none is held, or starts a task, whose transaction's program is
+-- defined and whose areas have places
+unfoldable pub KeyTakesMemory : RegionState → List ℕ → List ℕ → Type 0
+KeyTakesMemory region name bytes =
+    IsSomeAnd (terminal_of region name) (λ terminal.
+    MatchOption terminal.task
+    (IsSomeAnd
+    (option_and_then (program_of region) (transaction_of region (transaction_named terminal.entry.following bytes)))
+    (λ loaded. HasNoTaskPlaces region terminal loaded → ⊥))
+    (λ task. terminal.entry.input ≡ None))

@@ -19,13 +19,16 @@ entry_fault defined count most other =
 
 -- ---- programs
 unfoldable pub program_fault : RegionState → List ℕ → Option DefineFault
-program_fault region name = entry_fault (is_some (program_of region name)) (length region.programs) 64 None
+program_fault region name = entry_fault (is_some (program_of region name)) (length region.shared.programs) 64 None
 
 -- loading it: it is put in storage and is defined; or storage has no place for it, and all is as before
 abbrev pub LoadsProgram : RegionState → List ℕ → Image → Result Loaded DefineFault → RegionState → Type 0
-LoadsProgram old name image (Ok loaded) new = IsLoaded old.storage image loaded new.storage
-    × (new ≡ record old { programs = insert_entry is_name old.programs name loaded; storage = new.storage })
-LoadsProgram old name image (Err NoRoom) new = IsProgramPlace old.storage (length image.text) None × (new ≡ old)
+LoadsProgram old name image (Ok loaded) new =
+    let storage = new.shared.storage in
+    let programs = insert_entry is_name old.shared.programs name loaded in
+    IsLoaded old.shared.storage image loaded storage
+    × (new ≡ record old { shared = record old.shared { storage = storage; programs = programs } })
+LoadsProgram old name image (Err NoRoom) new = IsProgramPlace old.shared.storage (length image.text) None × (new ≡ old)
 LoadsProgram old name image (Err _) new = ⊥
 
 -- a program is refused by its name or the limit, and all is as before; else it is loaded
@@ -63,13 +66,15 @@ DefinesTerminal old name result new =
 abbrev pub fresh_region : RegionState
 fresh_region =
     record {
-      storage = zeros 0x001000 512 (record { slot = 0; kind = Fixed }) ∷ [];
+      shared = record {
+        storage = zeros 0x001000 512 (record { slot = 0; kind = Fixed }) ∷ [];
+        programs = [];
+        queues = [];
+        resources = [];
+      };
       time = 0;
       date = 0;
-      programs = [];
       transactions = [];
       terminals = [];
-      queues = [];
-      resources = [];
       counter = 0;
     }

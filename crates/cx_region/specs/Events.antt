@@ -1,5 +1,5 @@
 -- Events of a region, and runs of them (this product's own).
-use Rattle.std.specs.Prelude.{◌≡◌, ℕ, ◌<◌, ◌≤◌, ◌⊎◌, None, IsSomeAnd, MatchOption, option_and_then, List, [], ◌∷◌, length, take, slice_get, Result, IfOk, OnErr}
+use Rattle.std.specs.Prelude.{◌≡◌, ℕ, ◌<◌, ◌≤◌, ◌⊎◌, None, IsSomeAnd, List, [], ◌∷◌, length, take, slice_get, Result, IfOk, OnErr}
 use Rattle.std.specs.declared.alloc.AllocError.{AllocError}
 use Rattle.cx_region.specs.declared.replies.Event.{Event}
 use Rattle.cx_region.specs.declared.replies.Event.TheVariants as event
@@ -8,9 +8,9 @@ use Rattle.cx_region.specs.declared.replies.Reply.TheVariants as reply
 use Rattle.cx_load.specs.Program.{IsProgramPlace}
 use Rattle.cx_region_task.specs.Turn.{TakesMemory}
 use Rattle.cx_region.specs.State.{RegionState}
-use Rattle.cx_region.specs.Tables.{program_of, terminal_of, transaction_of}
+use Rattle.cx_region.specs.Tables.{terminal_of}
 use Rattle.cx_region.specs.Defining.{DefinesProgram, DefinesTransaction, DefinesTerminal, program_fault, transaction_fault, terminal_fault}
-use Rattle.cx_region.specs.Attach.{HasNoTaskPlaces, TakesKey, input_from, transaction_named}
+use Rattle.cx_region.specs.Attach.{KeyTakesMemory, TakesKey, input_from}
 use Rattle.cx_region.specs.Turn.{TakesTurn, context_of}
 use Rattle.cx_region.specs.Alter.{Alters, IsAllowedChange}
 
@@ -34,21 +34,13 @@ Run old (event ∷ events) (reply ∷ replies) new =
 Run old _ _ new = ⊥
 
 -- An event may take memory: a definition only where no refusal meets it, and a program only where storage has a place
--- for it;
--- a key where it holds an input and none is held, or starts a task, whose transaction's program is defined and whose
--- areas have places; a turn where the terminal's task may take some; a clock and an alteration never.
+-- for it; a turn where the terminal's task may take some; a clock and an alteration never.
 unfoldable pub MayTakeMemory : RegionState → Event → Type 0
 MayTakeMemory region (event.Program name image) =
-    (program_fault region name ≡ None) × (IsProgramPlace region.storage (length image.text) None → ⊥)
+    (program_fault region name ≡ None) × (IsProgramPlace region.shared.storage (length image.text) None → ⊥)
 MayTakeMemory region (event.Transaction tran program) = transaction_fault region tran program ≡ None
 MayTakeMemory region (event.Terminal name) = terminal_fault region name ≡ None
-MayTakeMemory region (event.Key name aid bytes) =
-    IsSomeAnd (terminal_of region name) (λ terminal.
-    let tran = transaction_named terminal.following (input_from aid bytes).bytes in
-    MatchOption terminal.task
-    (IsSomeAnd (option_and_then (program_of region) (transaction_of region tran))
-    (λ loaded. HasNoTaskPlaces region terminal loaded → ⊥))
-    (λ task. terminal.input ≡ None))
+MayTakeMemory region (event.Key name aid bytes) = KeyTakesMemory region name (input_from aid bytes).bytes
 MayTakeMemory region (event.Turn name) =
     IsSomeAnd (terminal_of region name)
     (λ terminal. IsSomeAnd terminal.task (λ task. TakesMemory (context_of region terminal task)))

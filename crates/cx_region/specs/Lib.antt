@@ -11,10 +11,10 @@ pub mod Looking
 pub mod Sound
 pub mod Facts
 pub mod Parts
-pub use Rattle.cx_region_call.specs.Eib
-pub use Rattle.cx_base_commands.specs.Commands
-pub use Rattle.cx_base_commands.specs.Conditions
-pub use Rattle.cx_base_commands.specs.Legal
+pub use Rattle.cx_region_state.specs.Eib
+pub use Rattle.cx_base.specs.Commands
+pub use Rattle.cx_base.specs.Conditions
+pub use Rattle.cx_base.specs.Legal
 pub use Rattle.cx_region_state.specs.Areas
 pub use Rattle.cx_region_state.specs.Replies as TurnReplies
 pub use Rattle.cx_region_state.specs.State as TaskStates

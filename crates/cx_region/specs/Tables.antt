@@ -4,16 +4,16 @@ use Rattle.std.specs.Option.{option_and_then}
 use Rattle.std.specs.Map.{lookup, set_value}
 use Rattle.cx_load.specs.declared.program.Loaded.{Loaded}
 use Rattle.cx_region_state.specs.State.{TaskState, fresh_terminal_entry}
-use Rattle.cx_region.specs.State.{RegionState, TerminalState, terminal_with}
+use Rattle.cx_region.specs.State.{RegionState, TerminalState}
 use Rattle.cx_ebcdic.specs.Names.{is_name}
 
 -- a new terminal: a blank screen, and nothing else
 abbrev pub fresh_terminal : ℕ → TerminalState
-fresh_terminal slot = terminal_with (fresh_terminal_entry slot) None
+fresh_terminal slot = record { entry = fresh_terminal_entry slot; task = None }
 
 -- where the program of a name is
 abbrev pub program_of : RegionState → List ℕ → Option Loaded
-program_of region name = lookup (is_name name) region.programs
+program_of region name = lookup (is_name name) region.shared.programs
 
 -- the program's name of a transaction
 abbrev pub transaction_of : RegionState → List ℕ → Option (List ℕ)

@@ -6,23 +6,17 @@ use Rattle.cx_region_state.specs.Replies.{is_over}
 use Rattle.cx_region_state.specs.State.{TaskContext, TaskState, context}
 use Rattle.cx_region_task.specs.declared.cause.AbendRecord.{AbendRecord}
 use Rattle.cx_region_task.specs.Turn.{HalfTurn, HasAbendRecord}
-use Rattle.cx_region.specs.State.{RegionState, TerminalState, shared_of, terminal_entry_of, terminal_with}
+use Rattle.cx_region.specs.State.{RegionState, TerminalState}
 use Rattle.cx_region.specs.Tables.{terminal_of, with_terminal}
 
 -- what a half-turn of a terminal's task reaches
 abbrev pub context_of : RegionState → TerminalState → TaskState → TaskContext
-context_of region terminal task = context (shared_of region) (terminal_entry_of terminal) task
+context_of region terminal task = context region.shared terminal.entry task
 
--- the region with what was reached put back, and the task that is left: what tasks share and the terminal are as there,
--- all else is as before
+-- the region with what was reached put back, and the task that is left
 abbrev pub put_back : RegionState → List ℕ → TaskContext → Option TaskState → RegionState
 put_back old name reached task =
-    record (with_terminal old name (terminal_with reached.terminal_entry task)) {
-      storage = reached.shared.storage;
-      programs = reached.shared.programs;
-      queues = reached.shared.queues;
-      resources = reached.shared.resources;
-    }
+    record (with_terminal old name (record { entry = reached.terminal_entry; task = task })) { shared = reached.shared }
 
 -- the task that a terminal has after a half-turn: none where it is over
 abbrev pub task_after : TurnReply → TaskState → Option TaskState

@@ -5,9 +5,8 @@ ghost use Rattle.cx_storage.specs.Storage.{with_byte};
 ghost use Rattle.cx_region_state.specs.State.{context};
 ghost use Rattle.cx_region_task.specs.Continuations.{gone_on};
 ghost use Rattle.cx_region.specs.Alter.{Alters, IsAllowedChange, alter_refusal, after_change, change_refusal, ends_task, with_register};
-ghost use Rattle.cx_region.specs.Parts.Altering.{AlteredAt, AlteredIn, HeldAltered};
+ghost use Rattle.cx_region.specs.Parts.Altering.{AlteredAt};
 ghost use Rattle.cx_region.specs.Sound.{IsSound};
-ghost use Rattle.cx_region.specs.State.{terminal_entry_of, terminal_with};
 
 use crate::changes::{AlterReply, Change};
 use crate::looking::byte_of;
@@ -17,7 +16,6 @@ use cx_ebcdic::Name4;
 use cx_region_state::{Shared, Task, TerminalEntry};
 use cx_region_task::end_by_abend;
 use cx_storage::{Store, address_in};
-use indexmap::IndexMap;
 
 /// The refusal of a change of a task, where one is due.
 fn change_refusal<S: Store + Drop>(
@@ -51,12 +49,11 @@ fn task_refusal<S: Store + Drop>(
     shared: &Shared<S>,
     terminal: &Terminal,
 ) -> Option<AlterReply>
-    ensures { let terminal_entry = terminal_entry_of terminal.now in let none = Some AlterReply.NoTask in
-        let held = terminal.now.task in
-        result ≡ option_map_or (λ task. change_refusal change.now (context shared.now terminal_entry task)) held none }
+    ensures { result ≡ option_map_or (λ task. change_refusal change.now (context shared.now terminal.now.entry task))
+        terminal.now.task (Some AlterReply.NoTask) }
 {
     match &terminal.task {
-        Some(task) => change_refusal(change, shared, &terminal.terminal_entry, task),
+        Some(task) => change_refusal(change, shared, &terminal.entry, task),
         None => Some(AlterReply::NoTask),
     }
 }
@@ -112,23 +109,6 @@ fn alter_task<S: Store + Drop>(
     }
 }
 
-/// Changes what a task reaches, where there is one.
-#[tactic(auto, unfolding(crate::specs::Parts::Altering::HeldAltered))]
-fn alter_held<S: Store + Drop>(
-    change: &Change,
-    shared: &mut Shared<S>,
-    terminal_entry: &mut TerminalEntry,
-    held: &mut Option<Task>,
-)
-    requires { IsAllowedChange change.now }
-    ensures { HeldAltered change.now shared.old terminal_entry.old held.old shared.new terminal_entry.new held.new }
-{
-    let Some(task) = held else {
-        return;
-    };
-    alter_task(change, shared, terminal_entry, task);
-}
-
 /// Whether the change ends the task.
 fn ends_task(change: &Change) -> bool
     ensures { result ≡ ends_task change.now }
@@ -140,49 +120,16 @@ fn ends_task(change: &Change) -> bool
 }
 
 /// Changes what a terminal's task reaches, where it has one. A task that it ends is dropped.
-#[tactic(auto, using(crate::proofs::AlterLemmas::altered_on))]
-fn alter_parts<S: Store + Drop>(
-    change: &Change,
-    shared: &mut Shared<S>,
-    terminal_entry: &mut TerminalEntry,
-    held: &mut Option<Task>,
-)
-    requires { IsAllowedChange change.now }
-    ensures { let before = terminal_with terminal_entry.old held.old in
-        AlteredAt change.now shared.old before shared.new (terminal_with terminal_entry.new held.new) }
-{
-    alter_held(change, shared, terminal_entry, held);
-    drop_if(ends_task(change), held);
-}
-
-/// Changes what a terminal's task reaches, where it has one.
+#[tactic(auto, unfolding(crate::specs::Parts::Altering::AlteredAt))]
 fn alter_terminal<S: Store + Drop>(change: &Change, shared: &mut Shared<S>, terminal: &mut Terminal)
     requires { IsAllowedChange change.now }
     ensures { AlteredAt change.now shared.old terminal.old shared.new terminal.new }
 {
-    alter_parts(
-        change,
-        shared,
-        &mut terminal.terminal_entry,
-        &mut terminal.task,
-    );
-}
-
-/// Changes what the task of the terminal of a name reaches, where there is one.
-#[tactic(auto, unfolding(crate::specs::Parts::Altering::AlteredIn))]
-fn alter_in<S: Store + Drop>(
-    change: &Change,
-    shared: &mut Shared<S>,
-    terminals: &mut IndexMap<Name4, Terminal>,
-    name: Name4,
-)
-    requires { IsAllowedChange change.now }
-    ensures { AlteredIn change.now shared.old terminals.old.entries name shared.new terminals.new.entries }
-{
-    let Some(terminal) = terminals.get_mut(&name) else {
+    let Some(task) = &mut terminal.task else {
         return;
     };
-    alter_terminal(change, shared, terminal);
+    alter_task(change, shared, &mut terminal.entry, task);
+    drop_if(ends_task(change), &mut terminal.task);
 }
 
 impl<S: Store + Drop> Region<S> {
@@ -210,7 +157,10 @@ impl<S: Store + Drop> Region<S> {
         if let Some(refusal) = self.alter_refusal(name, &change) {
             return refusal;
         }
-        alter_in(&change, &mut self.shared, &mut self.terminals, name);
+        let Some(terminal) = self.terminals.get_mut(&name) else {
+            return AlterReply::NoSuchTerminal;
+        };
+        alter_terminal(&change, &mut self.shared, terminal);
         services_are_sound(&self.shared);
         AlterReply::Altered
     }

@@ -6,13 +6,13 @@ ghost use Rattle.std.specs.Map.{lookup, set_value};
 ghost use Rattle.cx_ebcdic.specs.Names.{is_name, pad};
 ghost use Rattle.cx_storage.specs.Storage.{IsSound as IsSoundStorage, is_of_other_slot, with_area, with_areas_kept};
 ghost use Rattle.cx_storage.specs.Place.{IsLeastPlace};
-ghost use Rattle.cx_base_commands.specs.Eib.{eib_len};
-ghost use Rattle.cx_region_call.specs.Eib.{fields_at_attach};
+ghost use Rattle.cx_base.specs.Eib.{eib_len};
+ghost use Rattle.cx_region_state.specs.Eib.{fields_at_attach};
 ghost use Rattle.cx_region_state.specs.Areas.{IsSoundProgram, IsTaskPlace, system_owner};
 ghost use Rattle.cx_region_state.specs.State.{TaskState};
 ghost use Rattle.cx_region.specs.Tables.{program_of, terminal_of, transaction_of};
-ghost use Rattle.cx_region.specs.Attach.{ArePlaced, IsCopyPlace, TakesKey, commarea_kept, eib_at_attach, with_areas_filled, first_word, fresh_task, input_from, next_number, sends_data, transaction_named, with_copy, with_task, with_task_areas};
-ghost use Rattle.cx_region.specs.Parts.Asking.{KeyTakesMemory, asked, asked_at, input_asked, level_of, start_asked, start_of, task_of_start};
+ghost use Rattle.cx_region.specs.Attach.{ArePlaced, IsCopyPlace, KeyTakesMemory, TakesKey, commarea_kept, with_areas_filled, first_word, fresh_task, input_from, next_number, sends_data, transaction_named, with_copy, with_task, with_task_areas};
+ghost use Rattle.cx_region.specs.Parts.Asking.{asked, asked_at, input_asked, level_of, start_asked, start_of, task_of_start};
 ghost use Rattle.cx_region.specs.Parts.Placing.{AreFaultsOf, ArePlacesBelow, HasNoPlacesFor, IsCopyFault, IsPlaceFault, IsReadyTask, IsSlotFree, MayBeFaultsOf, input_of};
 ghost use Rattle.cx_region.specs.Events.{MayTakeMemory};
 ghost use Rattle.cx_region.specs.declared.replies.Event.TheVariants as event;
@@ -21,15 +21,14 @@ ghost use Rattle.cx_region.specs.Sound.{IsSound};
 use crate::asking::{Asked, Places, Start};
 use crate::replies::KeyReply;
 use crate::state::{Region, Terminal};
-use cx_base_lists::List;
+use cx_base::List;
 use cx_ebcdic::{Aid, Name4, Name8};
 use cx_exec::Cpu;
 use cx_load::Loaded;
 use cx_program::LevelStack;
-use cx_region_call::StorageSpan;
-use cx_region_call::eib::{InitialEib, begin};
+use cx_region_state::eib::{InitialEib, begin};
 use cx_region_state::{
-    FIRST_OF_TASKS, Input, LAST_OF_TASKS, NewLevel, NextTransaction, Shared, Task,
+    FIRST_OF_TASKS, Input, LAST_OF_TASKS, NewLevel, NextTransaction, Shared, StorageSpan, Task,
 };
 use cx_region_task::{entry_level, entry_registers, put_cap};
 use cx_storage::laws::store_is_sound;
@@ -260,6 +259,15 @@ fn input_of(alloc: Global, aid: Aid, bytes: &[u8]) -> Result<Input, AllocError>
     Ok(Input { aid, bytes })
 }
 
+/// A task that is to be attached, and the key that it begins with.
+#[derive(Drop)]
+struct NewTask<'a> {
+    start: Start,
+    number: u32,
+    aid: Aid,
+    bytes: &'a [u8],
+}
+
 /// A task that is ready to be attached, with the input that it begins with.
 #[derive(Drop)]
 struct Ready {
@@ -270,25 +278,20 @@ struct Ready {
 }
 
 /// Makes a task and its input.
-fn make_ready(
-    alloc: Global,
-    start: &Start,
-    number: u32,
-    places: Places,
-    aid: Aid,
-    bytes: &[u8],
-) -> Result<Ready, AllocError>
+fn make_ready(alloc: Global, new_task: &NewTask<'_>, places: Places) -> Result<Ready, AllocError>
     requires eib { places.eib < 2 ^ 24 }
-    requires entry { start.now.loaded.entry < 2 ^ 24 }
-    requires few { length bytes.now ≤ 1920 }
+    requires entry { new_task.now.start.loaded.entry < 2 ^ 24 }
+    requires few { length new_task.now.bytes.now ≤ 1920 }
     ensures places { IfOk result (λ ready. ready.places ≡ places) }
-    ensures level { IfOk result (λ ready. ready.level ≡ level_of start.now places) }
-    ensures task { IfOk result (λ ready. ready.task ≡ task_of_start start.now number places) }
-    ensures input { IfOk result (λ ready. ready.input ≡ input_of aid bytes.now) }
+    ensures level { IfOk result (λ ready. ready.level ≡ level_of new_task.now.start places) }
+    ensures task { IfOk result (λ ready.
+        ready.task ≡ task_of_start new_task.now.start new_task.now.number places) }
+    ensures input { IfOk result (λ ready. ready.input ≡ input_of new_task.now.aid new_task.now.bytes.now) }
 {
+    let start = &new_task.start;
     let level = level_of(start, &places);
-    let task = fresh_task(alloc, start.tran, number, places.eib, &level)?;
-    let input = input_of(alloc, aid, bytes)?;
+    let task = fresh_task(alloc, start.tran, new_task.number, places.eib, &level)?;
+    let input = input_of(alloc, new_task.aid, new_task.bytes)?;
     Ok(Ready {
         places,
         level,
@@ -302,28 +305,26 @@ fn make_ready(
 fn try_prepare<S: Store>(
     alloc: Global,
     store: &mut S,
-    start: &Start,
-    number: u32,
-    aid: Aid,
-    bytes: &[u8],
+    new_task: &NewTask<'_>,
 ) -> Result<Ready, StartFault>
-    requires program { IsSoundProgram start.now.loaded }
-    requires free { IsSlotFree (S.storage store.old) start.now.slot }
-    requires few { length bytes.now ≤ 1920 }
+    requires program { IsSoundProgram new_task.now.start.loaded }
+    requires free { IsSlotFree (S.storage store.old) new_task.now.start.slot }
+    requires few { length new_task.now.bytes.now ≤ 1920 }
     ensures ready { let before = S.storage store.old in let after = S.storage store.new in
-        let input = input_of aid bytes.now in
-        IfOk result (λ it. IsReadyTask before start.now number input it.places it.level it.task it.input after) }
-    ensures fault { IfErr result (MayBeFaultsOf (S.storage store.old) start.now) }
+        let input = input_of new_task.now.aid new_task.now.bytes.now in
+        let is_ready = IsReadyTask before new_task.now.start new_task.now.number input in
+        IfOk result (λ it. is_ready it.places it.level it.task it.input after) }
+    ensures fault { IfErr result (MayBeFaultsOf (S.storage store.old) new_task.now.start) }
     ensures err { OnErr result (S.storage store.new ≡ S.storage store.old) }
 {
-    let places = match place_task(store, start) {
+    let places = match place_task(store, &new_task.start) {
         Ok(places) => places,
         Err(fault) => return Err(fault),
     };
-    match make_ready(alloc, start, number, places, aid, bytes) {
+    match make_ready(alloc, new_task, places) {
         Ok(ready) => Ok(ready),
         Err(refused) => {
-            store.free_slot(start.slot);
+            store.free_slot(new_task.start.slot);
             Err(StartFault::Memory(refused))
         }
     }
@@ -427,23 +428,21 @@ fn has_places<S: Store>(store: &S, start: &Start) -> bool
 fn prepare_in<S: Store>(
     alloc: Global,
     store: &mut S,
-    start: &Start,
-    number: u32,
-    aid: Aid,
-    bytes: &[u8],
+    new_task: &NewTask<'_>,
 ) -> Result<Ready, StartFault>
-    requires program { IsSoundProgram start.now.loaded }
-    requires free { IsSlotFree (S.storage store.old) start.now.slot }
-    requires few { length bytes.now ≤ 1920 }
+    requires program { IsSoundProgram new_task.now.start.loaded }
+    requires free { IsSlotFree (S.storage store.old) new_task.now.start.slot }
+    requires few { length new_task.now.bytes.now ≤ 1920 }
     ensures ready { let before = S.storage store.old in let after = S.storage store.new in
-        let input = input_of aid bytes.now in
-        IfOk result (λ it. IsReadyTask before start.now number input it.places it.level it.task it.input after) }
-    ensures fault { IfErr result (AreFaultsOf (S.storage store.old) start.now) }
+        let input = input_of new_task.now.aid new_task.now.bytes.now in
+        let is_ready = IsReadyTask before new_task.now.start new_task.now.number input in
+        IfOk result (λ it. is_ready it.places it.level it.task it.input after) }
+    ensures fault { IfErr result (AreFaultsOf (S.storage store.old) new_task.now.start) }
     ensures err { OnErr result (S.storage store.new ≡ S.storage store.old) }
 {
-    match try_prepare(alloc, store, start, number, aid, bytes) {
+    match try_prepare(alloc, store, new_task) {
         Ok(ready) => Ok(ready),
-        Err(StartFault::Memory(refused)) if has_places(store, start) => {
+        Err(StartFault::Memory(refused)) if has_places(store, &new_task.start) => {
             Err(StartFault::Memory(refused))
         }
         Err(_) => Err(StartFault::NoStorage),
@@ -453,22 +452,20 @@ fn prepare_in<S: Store>(
 /// Makes the areas of a task, the task and its input; or nothing.
 fn prepare<S: Store + Drop>(
     shared: &mut Shared<S>,
-    start: &Start,
-    number: u32,
-    aid: Aid,
-    bytes: &[u8],
+    new_task: &NewTask<'_>,
 ) -> Result<Ready, StartFault>
-    requires program { IsSoundProgram start.now.loaded }
-    requires free { IsSlotFree shared.old.storage start.now.slot }
-    requires few { length bytes.now ≤ 1920 }
+    requires program { IsSoundProgram new_task.now.start.loaded }
+    requires free { IsSlotFree shared.old.storage new_task.now.start.slot }
+    requires few { length new_task.now.bytes.now ≤ 1920 }
     ensures ready { let before = shared.old.storage in let after = shared.new.storage in
-        let input = input_of aid bytes.now in
-        IfOk result (λ it. IsReadyTask before start.now number input it.places it.level it.task it.input after) }
+        let input = input_of new_task.now.aid new_task.now.bytes.now in
+        let is_ready = IsReadyTask before new_task.now.start new_task.now.number input in
+        IfOk result (λ it. is_ready it.places it.level it.task it.input after) }
     ensures rest { shared.new ≡ record shared.old { storage = shared.new.storage } }
-    ensures fault { IfErr result (AreFaultsOf shared.old.storage start.now) }
+    ensures fault { IfErr result (AreFaultsOf shared.old.storage new_task.now.start) }
     ensures err { OnErr result (shared.new.storage ≡ shared.old.storage) }
 {
-    prepare_in(shared.alloc, &mut shared.store, start, number, aid, bytes)
+    prepare_in(shared.alloc, &mut shared.store, new_task)
 }
 
 /// Fills the areas of a task that begins.
@@ -506,7 +503,7 @@ fn fill_from<S: Store + Drop>(
         let terminal = lookup (is_name name) terminals.now.entries in
         let after = shared.new.storage in
         MatchOption terminal ⊤
-        (λ it. after ≡ with_areas_filled before places fields (commarea_kept it.following) level) }
+        (λ it. after ≡ with_areas_filled before places fields (commarea_kept it.entry.following) level) }
     ensures rest { shared.new ≡ record shared.old { storage = shared.new.storage } }
     ensures sound { IsSoundStorage shared.new.storage }
 {
@@ -518,7 +515,7 @@ fn fill_from<S: Store + Drop>(
         &mut shared.store,
         &ready.places,
         begun,
-        commarea_kept(&terminal.terminal_entry.following),
+        commarea_kept(&terminal.entry.following),
         &ready.level,
     );
     store_is_sound(&shared.store);
@@ -532,20 +529,21 @@ fn start_at(terminals: &mut IndexMap<Name4, Terminal>, name: Name4, input: Input
     let Some(terminal) = terminals.get_mut(&name) else {
         return;
     };
-    terminal.terminal_entry.input = Some(input);
-    terminal.terminal_entry.following = None;
+    terminal.entry.input = Some(input);
+    terminal.entry.following = None;
     terminal.task = Some(task);
 }
 
 /// Holds an input for a terminal's task.
 fn hold_input_at(terminals: &mut IndexMap<Name4, Terminal>, name: Name4, input: Input)
-    ensures { MatchOption (lookup (is_name name) terminals.old.entries) ⊤ (λ terminal. terminals.new.entries
-        ≡ set_value (is_name name) terminals.old.entries (record terminal { input = Some input })) }
+    ensures { MatchOption (lookup (is_name name) terminals.old.entries) ⊤ (λ terminal.
+        let held = record terminal { entry = record terminal.entry { input = Some input } } in
+        terminals.new.entries ≡ set_value (is_name name) terminals.old.entries held) }
 {
     let Some(terminal) = terminals.get_mut(&name) else {
         return;
     };
-    terminal.terminal_entry.input = Some(input);
+    terminal.entry.input = Some(input);
 }
 
 /// The number of the task after this one.
@@ -559,12 +557,12 @@ fn next_number(counter: u32) -> u32
 impl Terminal {
     /// What a key asks for where the terminal has a task; None where it has none.
     fn asked_of_task(&self) -> Option<Asked>
-        ensures { result ≡ option_map (λ (_ : TaskState). input_asked self.now.input) self.now.task }
+        ensures { result ≡ option_map (λ (_ : TaskState). input_asked self.now.entry.input) self.now.task }
     {
         if self.task.is_none() {
             return None;
         }
-        if self.terminal_entry.input.is_some() {
+        if self.entry.input.is_some() {
             return Some(Asked::Answer(KeyReply::AlreadyHeldInput));
         }
         Some(Asked::Give)
@@ -572,9 +570,9 @@ impl Terminal {
 
     /// The transaction that a key asks for.
     fn transaction_named(&self, bytes: &[u8]) -> Name4
-        ensures { result ≡ transaction_named self.now.following bytes.now }
+        ensures { result ≡ transaction_named self.now.entry.following bytes.now }
     {
-        transaction_named(&self.terminal_entry.following, bytes)
+        transaction_named(&self.entry.following, bytes)
     }
 
     /// A task to be attached.
@@ -582,11 +580,11 @@ impl Terminal {
         ensures { result ≡ start_of self.now tran program loaded }
     {
         Asked::Attach(Start {
-            slot: self.terminal_entry.slot,
+            slot: self.entry.slot,
             tran,
             program,
             loaded,
-            calen: commarea_kept(&self.terminal_entry.following).len() as u16,
+            calen: commarea_kept(&self.entry.following).len() as u16,
         })
     }
 }
@@ -666,7 +664,13 @@ impl<S: Store + Drop> Region<S> {
         ensures sound { IsSound self.new }
     {
         let number = next_number(self.counter);
-        let prepared = prepare(&mut self.shared, start, number, aid, bytes);
+        let new_task = NewTask {
+            start: *start,
+            number,
+            aid,
+            bytes,
+        };
+        let prepared = prepare(&mut self.shared, &new_task);
         let ready = match prepared {
             Ok(ready) => ready,
             Err(StartFault::NoStorage) => return Ok(KeyReply::NoStorage),

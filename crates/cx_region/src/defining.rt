@@ -199,7 +199,7 @@ impl<S: Store + Drop> Region<S> {
 #[tactic(auto, using(crate::proofs::FreshLemmas::cwa_place))]
 fn place_cwa<S: Store>(store: &mut S) -> Result<(), AllocError>
     requires { S.storage store.old ≡ [] }
-    ensures { OnOk result (S.storage store.new ≡ fresh_region.storage) }
+    ensures { OnOk result (S.storage store.new ≡ fresh_region.shared.storage) }
 {
     store.get_area(CWA, CWA_LAST, CWA_LEN, REGION_OWNER)?;
     Ok(())

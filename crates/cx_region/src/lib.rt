@@ -16,8 +16,7 @@ mod turn;
 #[doc(hidden)]
 pub use asking::{Asked, Places, Start};
 pub use changes::{AlterReply, Change};
-pub use cx_region_call::{Call, CallFault, read_call};
-pub use cx_region_state::TurnReply;
+pub use cx_region_state::{Call, CallFault, TurnReply, read_call};
 #[doc(hidden)]
 pub use cx_region_state::{Input, NextTransaction, Shared, Task, TerminalEntry};
 pub use cx_region_task::{AbendRecord, Cause};

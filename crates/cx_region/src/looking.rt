@@ -1,16 +1,15 @@
 //! What can be seen of a region. No call takes memory.
 ghost use Rattle.std.specs.Prelude.{◌≡◌, ◌≢◌, ℕ, None, Some, MatchOption, IsSomeAnd, option_map};
 ghost use Rattle.std.specs.Option.{option_copied};
-ghost use Rattle.cx_base_commands.specs.declared.commands.Command.{Command as TheCommand};
-ghost use Rattle.cx_base_commands.specs.Commands.{row_of};
+ghost use Rattle.cx_base.specs.declared.commands.Command.{Command as TheCommand};
+ghost use Rattle.cx_base.specs.Commands.{row_of};
 ghost use Rattle.cx_storage.specs.Storage.{byte_at};
-ghost use Rattle.cx_region.specs.State.{shared_of, terminal_entry_of};
 ghost use Rattle.cx_region.specs.Tables.{task_of, terminal_of};
 ghost use Rattle.cx_region.specs.Looking.{Shows};
 
 use crate::replies::TaskInfo;
 use crate::state::{Region, Terminal};
-use cx_base_commands::Command;
+use cx_base::Command;
 use cx_ebcdic::{Name4, Name8};
 use cx_exec::Cpu;
 use cx_region_state::{Shared, Task, TerminalEntry};
@@ -52,9 +51,9 @@ impl Terminal {
 
     /// The terminal without its task.
     pub fn terminal_entry(&self) -> &TerminalEntry
-        ensures { result.now ≡ terminal_entry_of self.now }
+        ensures { result.now ≡ self.now.entry }
     {
-        &self.terminal_entry
+        &self.entry
     }
 
     /// Its live task; None where it has none.
@@ -66,16 +65,16 @@ impl Terminal {
 
     /// The screen.
     fn screen(&self) -> &Screen
-        ensures { result.now ≡ self.now.screen }
+        ensures { result.now ≡ self.now.entry.screen }
     {
-        &self.terminal_entry.screen
+        &self.entry.screen
     }
 }
 
 impl<S: Store + Drop> Region<S> {
     /// What tasks share: storage, programs, queues, enqueued resources.
     pub fn shared(&self) -> &Shared<S>
-        ensures { result.now ≡ shared_of self.now }
+        ensures { result.now ≡ self.now.shared }
     {
         &self.shared
     }
@@ -96,7 +95,7 @@ impl<S: Store + Drop> Region<S> {
 
     /// The screen of a terminal; None where there is no such terminal.
     pub fn screen(&self, name: Name4) -> Option<&Screen>
-        ensures { option_copied result ≡ option_map (λ terminal. terminal.screen) (terminal_of self.now name) }
+        ensures { option_copied result ≡ option_map (λ terminal. terminal.entry.screen) (terminal_of self.now name) }
     {
         let terminal = self.terminals.get(&name)?;
         Some(terminal.screen())
@@ -112,7 +111,7 @@ impl<S: Store + Drop> Region<S> {
 
     /// The byte at an address; None where no area has it, and from 2^24 on.
     pub fn byte(&self, address: u32) -> Option<u8>
-        ensures { result ≡ byte_at self.now.storage address }
+        ensures { result ≡ byte_at self.now.shared.storage address }
     {
         byte_of(&self.shared.store, address)
     }

@@ -1,7 +1,6 @@
 //! All that a region keeps, read and put in its place.
 ghost use Rattle.std.specs.Prelude.{◌≡◌};
 ghost use Rattle.cx_region.specs.Sound.{IsSound};
-ghost use Rattle.cx_region.specs.State.{terminal_with};
 
 use crate::state::{Region, Terminal};
 use cx_ebcdic::{Name4, Name8};
@@ -34,27 +33,21 @@ impl<S: Store + Drop> Model for RegionParts<S> {
 
     ghost view = { λ parts.
         record {
-          storage = parts.shared.storage;
+          shared = parts.shared;
           time = parts.time;
           date = parts.date;
-          programs = parts.shared.programs;
           transactions = parts.transactions.entries;
           terminals = parts.terminals.entries;
-          queues = parts.shared.queues;
-          resources = parts.shared.resources;
           counter = parts.counter;
         } };
 }
 
 impl Terminal {
     /// A terminal with this task.
-    pub fn with_task(terminal_entry: TerminalEntry, task: Option<Task>) -> Terminal
-        ensures { result ≡ terminal_with terminal_entry task }
+    pub fn with_task(entry: TerminalEntry, task: Option<Task>) -> Terminal
+        ensures { result ≡ record { entry = entry; task = task } }
     {
-        Terminal {
-            terminal_entry,
-            task,
-        }
+        Terminal { entry, task }
     }
 }
 

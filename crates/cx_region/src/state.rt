@@ -11,7 +11,7 @@ use std::marker::Model;
 /// A terminal with its task, where it has one: its position, its screen, the input held for its task, and what its next key attaches.
 #[derive(Drop)]
 pub struct Terminal {
-    pub(crate) terminal_entry: TerminalEntry,
+    pub(crate) entry: TerminalEntry,
     pub(crate) task: Option<Task>,
 }
 
@@ -20,14 +20,7 @@ impl Model for Terminal {
 
     ghost Value = { TerminalState };
 
-    ghost view = { λ terminal.
-        record {
-          slot = terminal.terminal_entry.slot;
-          screen = terminal.terminal_entry.screen;
-          input = terminal.terminal_entry.input;
-          following = terminal.terminal_entry.following;
-          task = terminal.task;
-        } };
+    ghost view = { λ terminal. record { entry = terminal.entry; task = terminal.task } };
 }
 
 impl Terminal {
@@ -38,7 +31,7 @@ impl Terminal {
         ensures { result ≡ fresh_terminal slot }
     {
         Terminal {
-            terminal_entry: TerminalEntry::new(slot),
+            entry: TerminalEntry::new(slot),
             task: None,
         }
     }
@@ -64,27 +57,21 @@ impl<S: Store + Drop> Model for Region<S> {
 
     ghost view = { λ r.
         record {
-          storage = r.shared.storage;
+          shared = r.shared;
           time = r.time;
           date = r.date;
-          programs = r.shared.programs;
           transactions = r.transactions.entries;
           terminals = r.terminals.entries;
-          queues = r.shared.queues;
-          resources = r.shared.resources;
           counter = r.counter;
         } };
 
     ghost invariant = { λ r.
         IsSound (record {
-          storage = r.shared.storage;
+          shared = r.shared;
           time = r.time;
           date = r.date;
-          programs = r.shared.programs;
           transactions = r.transactions.entries;
           terminals = r.terminals.entries;
-          queues = r.shared.queues;
-          resources = r.shared.resources;
           counter = r.counter;
         }) };
 }

@@ -51,7 +51,7 @@ fn turn_terminal<S: Store + Drop>(
     let Some(task) = &mut terminal.task else {
         return Ok((TurnReply::Idle, None));
     };
-    let (reply, abend_record) = half_turn(shared, &mut terminal.terminal_entry, task)?;
+    let (reply, abend_record) = half_turn(shared, &mut terminal.entry, task)?;
     drop_over(&reply, &mut terminal.task);
     Ok((reply, abend_record))
 }

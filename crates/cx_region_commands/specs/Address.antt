@@ -2,9 +2,9 @@
 --   ADDRESS CWA(pointer, out)
 -- CWA gets the address of the common work area, which all tasks see. Reply: Performed.
 use Rattle.std.specs.Prelude.{[], ◌∷◌}
-use Rattle.cx_base_commands.specs.declared.conditions.Condition.TheVariants.{Normal}
-use Rattle.cx_base_commands.specs.declared.options.OptionName.TheVariants.{Cwa}
-use Rattle.cx_region_call.specs.declared.outputs.OutputValue.TheVariants.{Word}
+use Rattle.cx_base.specs.declared.conditions.Condition.TheVariants.{Normal}
+use Rattle.cx_base.specs.declared.options.OptionName.TheVariants.{Cwa}
+use Rattle.cx_region_state.specs.declared.outputs.OutputValue.TheVariants.{Word}
 use Rattle.cx_region_state.specs.declared.verdict.TaskChange.TheVariants.{Nothing}
 use Rattle.cx_region_state.specs.declared.verdict.Verdict.{Verdict}
 use Rattle.cx_region_state.specs.declared.verdict.Verdict.TheVariants.{Meets}

@@ -1,8 +1,8 @@
 -- How a call is judged: by the row of its command, on the parts that the row names (this product's own).
 use Rattle.std.specs.Prelude.{◌≡◌}
-use Rattle.cx_base_commands.specs.declared.commands.Command.{Command}
-use Rattle.cx_base_commands.specs.declared.commands.Command.TheVariants as command
-use Rattle.cx_region_call.specs.Call.{Call}
+use Rattle.cx_base.specs.declared.commands.Command.{Command}
+use Rattle.cx_base.specs.declared.commands.Command.TheVariants as command
+use Rattle.cx_region_state.specs.Call.{Call}
 use Rattle.cx_region_state.specs.State.{TaskContext}
 use Rattle.cx_region_state.specs.declared.verdict.Verdict.{Verdict}
 use Rattle.cx_region_commands.specs.Abend.{abend_row}
@@ -22,7 +22,7 @@ use Rattle.cx_region_commands.specs.SendText.{send_text_row}
 use Rattle.cx_region_commands.specs.Suspend.{suspend_row}
 use Rattle.cx_region_commands.specs.WriteqTs.{writeq_row}
 use Rattle.cx_region_commands.specs.Xctl.{XctlRow}
-use Rattle.cx_region_call.specs.Inputs.{length_option}
+use Rattle.cx_region_state.specs.Inputs.{length_option}
 
 abbrev pub JudgedBy : Command → Call → TaskContext → Verdict → Type 0
 JudgedBy command.Address call r verdict = verdict ≡ address_row

@@ -4,18 +4,18 @@ use Rattle.std.specs.Option.{option_and_then, option_map}
 use Rattle.std.specs.List.{AllByRecursion}
 use Rattle.std.specs.Map.{lookup}
 use Rattle.cx_ebcdic.specs.Names.{is_name}
-use Rattle.cx_base_commands.specs.declared.conditions.Condition.{Condition}
-use Rattle.cx_base_commands.specs.declared.conditions.Condition.TheVariants.{Normal}
-use Rattle.cx_base_commands.specs.declared.options.OptionName.{OptionName}
-use Rattle.cx_base_commands.specs.declared.options.OptionName.TheVariants.{Commarea, Program}
-use Rattle.cx_base_commands.specs.Arguments.{has_option}
+use Rattle.cx_base.specs.declared.conditions.Condition.{Condition}
+use Rattle.cx_base.specs.declared.conditions.Condition.TheVariants.{Normal}
+use Rattle.cx_base.specs.declared.options.OptionName.{OptionName}
+use Rattle.cx_base.specs.declared.options.OptionName.TheVariants.{Commarea, Program}
+use Rattle.cx_base.specs.Arguments.{has_option}
 use Rattle.cx_storage.specs.Storage.{Storage}
 use Rattle.cx_load.specs.declared.program.Loaded.{Loaded}
-use Rattle.cx_region_call.specs.Call.{Call, place_of}
-use Rattle.cx_region_call.specs.Inputs.{bytes_of, piece_of}
-use Rattle.cx_region_call.specs.declared.inputs.StorageSpan.{StorageSpan}
-use Rattle.cx_region_call.specs.declared.outputs.Output.{Output}
-use Rattle.cx_region_call.specs.declared.outputs.OutputValue.{OutputValue}
+use Rattle.cx_region_state.specs.Call.{Call, place_of}
+use Rattle.cx_region_state.specs.Inputs.{bytes_of, piece_of}
+use Rattle.cx_region_state.specs.declared.inputs.StorageSpan.{StorageSpan}
+use Rattle.cx_region_state.specs.declared.outputs.Output.{Output}
+use Rattle.cx_region_state.specs.declared.outputs.OutputValue.{OutputValue}
 use Rattle.cx_region_state.specs.Areas.{IsSoundProgram, IsTaskPlace}
 use Rattle.cx_region_state.specs.declared.verdict.TaskChange.{TaskChange}
 use Rattle.cx_region_state.specs.declared.verdict.TaskChange.TheVariants.{Nothing}

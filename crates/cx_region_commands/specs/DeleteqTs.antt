@@ -2,11 +2,11 @@
 --   DELETEQ TS QUEUE(name)
 -- QIDERR: no such queue. Else the queue is gone, with its items and the number last read. Reply: Performed.
 use Rattle.std.specs.Prelude.{is_none, if◌then◌else◌}
-use Rattle.cx_base_commands.specs.declared.conditions.Condition.TheVariants.{Qiderr}
-use Rattle.cx_base_commands.specs.declared.options.OptionName.TheVariants.{Queue}
+use Rattle.cx_base.specs.declared.conditions.Condition.TheVariants.{Qiderr}
+use Rattle.cx_base.specs.declared.options.OptionName.TheVariants.{Queue}
 use Rattle.cx_storage.specs.Storage.{Storage}
 use Rattle.cx_service.specs.Queues.{Queues, count_of}
-use Rattle.cx_region_call.specs.Call.{Call}
+use Rattle.cx_region_state.specs.Call.{Call}
 use Rattle.cx_region_state.specs.declared.verdict.TaskChange.TheVariants.{Ends}
 use Rattle.cx_region_state.specs.declared.verdict.Ended.TheVariants.{QueueGone}
 use Rattle.cx_region_state.specs.declared.verdict.Verdict.{Verdict}

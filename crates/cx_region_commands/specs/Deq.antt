@@ -3,9 +3,9 @@
 -- LENGERR: LENGTH is outside 1 to 255. Else, where this task owns the resource, it owns it once less, and at zero the
 -- resource is free; another task's stays. Reply: Performed.
 use Rattle.std.specs.Prelude.{if◌then◌else◌}
-use Rattle.cx_base_commands.specs.declared.conditions.Condition.TheVariants.{Lengerr}
+use Rattle.cx_base.specs.declared.conditions.Condition.TheVariants.{Lengerr}
 use Rattle.cx_storage.specs.Storage.{Storage}
-use Rattle.cx_region_call.specs.Call.{Call}
+use Rattle.cx_region_state.specs.Call.{Call}
 use Rattle.cx_region_state.specs.declared.verdict.TaskChange.TheVariants.{Ends}
 use Rattle.cx_region_state.specs.declared.verdict.Ended.TheVariants.{Dequeues}
 use Rattle.cx_region_state.specs.declared.verdict.Verdict.{Verdict}

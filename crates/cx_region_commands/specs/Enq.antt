@@ -5,15 +5,15 @@
 -- it owns it once more. Reply: Performed.
 use Rattle.std.specs.Prelude.{ℕ, Bool, ◌&&◌, not, Option, if◌then◌else◌, unwrap_or}
 use Rattle.std.specs.Option.{option_map}
-use Rattle.cx_base_commands.specs.declared.conditions.Condition.TheVariants.{Lengerr}
-use Rattle.cx_base_commands.specs.declared.options.OptionName.TheVariants.{Length, Resource}
+use Rattle.cx_base.specs.declared.conditions.Condition.TheVariants.{Lengerr}
+use Rattle.cx_base.specs.declared.options.OptionName.TheVariants.{Length, Resource}
 use Rattle.cx_storage.specs.Storage.{Storage}
 use Rattle.cx_service.specs.declared.resources.ResourceName.{ResourceName}
 use Rattle.cx_service.specs.declared.resources.ResourceName.TheVariants.{Bytes, Address}
 use Rattle.cx_service.specs.ResourceNames.{is_name_length}
 use Rattle.cx_service.specs.Resources.{Resources, enq_fault}
-use Rattle.cx_region_call.specs.Call.{Call, place_of}
-use Rattle.cx_region_call.specs.Inputs.{bytes_of, length_option}
+use Rattle.cx_region_state.specs.Call.{Call, place_of}
+use Rattle.cx_region_state.specs.Inputs.{bytes_of, length_option}
 use Rattle.cx_region_state.specs.declared.verdict.TaskChange.TheVariants.{Makes}
 use Rattle.cx_region_state.specs.declared.verdict.Made.TheVariants.{Enqueues}
 use Rattle.cx_region_state.specs.declared.verdict.Verdict.{Verdict}

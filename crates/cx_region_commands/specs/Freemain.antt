@@ -1,15 +1,16 @@
 -- FREEMAIN (Application Programmer's Reference Manual, SC33-0077, "Storage Control").
 --   FREEMAIN DATA(address)
--- INVREQ: no area that this task got, by GETMAIN or READQ TS SET, starts there. Else the area is freed. Reply: Performed.
+-- INVREQ: no area that this task got, by GETMAIN or READQ TS SET, starts there. Else the area is freed. Reply:
+-- Performed.
 use Rattle.std.specs.Prelude.{ℕ, Bool, true, false, ◌&&◌, ◌==◌, if◌then◌else◌}
 use Rattle.std.specs.Option.{option_map_or}
-use Rattle.cx_base_commands.specs.declared.conditions.Condition.TheVariants.{Invreq}
-use Rattle.cx_base_commands.specs.declared.options.OptionName.TheVariants.{Data}
+use Rattle.cx_base.specs.declared.conditions.Condition.TheVariants.{Invreq}
+use Rattle.cx_base.specs.declared.options.OptionName.TheVariants.{Data}
 use Rattle.cx_storage.specs.declared.areas.Area.{Area}
 use Rattle.cx_storage.specs.declared.areas.Kind.{Kind}
 use Rattle.cx_storage.specs.declared.areas.Kind.TheVariants.{Got}
 use Rattle.cx_storage.specs.Storage.{Storage, area_at}
-use Rattle.cx_region_call.specs.Call.{Call}
+use Rattle.cx_region_state.specs.Call.{Call}
 use Rattle.cx_region_state.specs.declared.verdict.TaskChange.TheVariants.{Ends}
 use Rattle.cx_region_state.specs.declared.verdict.Ended.TheVariants.{Frees}
 use Rattle.cx_region_state.specs.declared.verdict.Verdict.{Verdict}

@@ -1,16 +1,15 @@
 -- GETMAIN (Application Programmer's Reference Manual, SC33-0077, "Storage Control").
 --   GETMAIN SET(pointer, out) LENGTH(halfword without a sign, in) [INITIMG(byte, in)] [NOSUSPEND]
 -- LENGERR: LENGTH is 0 or above 65,520. NOSTG: task storage has no place. Else the task gets an area at the least
--- place, each byte
--- INITIMG or zero; SET gets its address. Reply: Performed.
+-- place, each byte INITIMG or zero; SET gets its address. Reply: Performed.
 use Rattle.std.specs.Prelude.{◌≡◌, ℕ, Bool, ◌&&◌, nat_le, [], ◌∷◌, Option, Some, None, unwrap_or, slice_index, MatchBool}
 use Rattle.std.specs.Option.{option_map_or}
-use Rattle.cx_base_commands.specs.declared.conditions.Condition.TheVariants.{Normal, Lengerr, Nostg}
-use Rattle.cx_base_commands.specs.declared.options.OptionName.TheVariants.{Initimg, Length, Set}
+use Rattle.cx_base.specs.declared.conditions.Condition.TheVariants.{Normal, Lengerr, Nostg}
+use Rattle.cx_base.specs.declared.options.OptionName.TheVariants.{Initimg, Length, Set}
 use Rattle.cx_storage.specs.Storage.{Storage}
-use Rattle.cx_region_call.specs.Call.{Call}
-use Rattle.cx_region_call.specs.Inputs.{bytes_of, halfword_of}
-use Rattle.cx_region_call.specs.declared.outputs.OutputValue.TheVariants.{Word}
+use Rattle.cx_region_state.specs.Call.{Call}
+use Rattle.cx_region_state.specs.Inputs.{bytes_of, halfword_of}
+use Rattle.cx_region_state.specs.declared.outputs.OutputValue.TheVariants.{Word}
 use Rattle.cx_region_state.specs.declared.verdict.TaskChange.TheVariants.{Gets}
 use Rattle.cx_region_state.specs.declared.verdict.Fill.TheVariants.{Byte}
 use Rattle.cx_region_state.specs.declared.verdict.Verdict.{Verdict}

@@ -1,14 +1,14 @@
 -- HANDLE CONDITION, IGNORE CONDITION, PUSH HANDLE, POP HANDLE (Application Programmer's Reference Manual, SC33-0077,
 -- "Exceptional Conditions").
 --   HANDLE CONDITION condition[(label)] ..   IGNORE CONDITION condition ..   PUSH HANDLE   POP HANDLE
--- HANDLE CONDITION: each condition's label takes control; one without a label has no entry any more. IGNORE CONDITION: the
--- program goes on. PUSH HANDLE keeps entries and exit, and begins with none; INVREQ: sixteen are kept. POP HANDLE puts the last
--- kept back; INVREQ: none is kept. All of the current level. Reply: Performed.
+-- HANDLE CONDITION: each condition's label takes control; one without a label has no entry any more. IGNORE CONDITION:
+-- the program goes on. PUSH HANDLE keeps entries and exit, and begins with none; INVREQ: sixteen are kept. POP HANDLE
+-- puts the last kept back; INVREQ: none is kept. All of the current level. Reply: Performed.
 use Rattle.std.specs.Prelude.{List, [], ◌∷◌, length, nat_lt, if◌then◌else◌}
-use Rattle.cx_base_commands.specs.declared.conditions.Condition.TheVariants.{Invreq}
+use Rattle.cx_base.specs.declared.conditions.Condition.TheVariants.{Invreq}
 use Rattle.cx_program.specs.declared.entries.Handling.{Handling}
-use Rattle.cx_region_call.specs.Call.{Call}
-use Rattle.cx_region_call.specs.Listed.{listed_of}
+use Rattle.cx_region_state.specs.Call.{Call}
+use Rattle.cx_region_state.specs.Listed.{listed_of}
 use Rattle.cx_region_state.specs.declared.verdict.TaskChange.TheVariants.{Makes}
 use Rattle.cx_region_state.specs.declared.verdict.Made.TheVariants.{Handles}
 use Rattle.cx_region_state.specs.declared.verdict.Request.{Request}

@@ -21,9 +21,9 @@ pub mod Xctl
 pub mod CommandVerdicts
 pub mod Laws
 pub mod Facts
-pub use Rattle.cx_region_call.specs.Call
-pub use Rattle.cx_region_call.specs.Inputs
-pub use Rattle.cx_region_call.specs.Listed
+pub use Rattle.cx_region_state.specs.Call
+pub use Rattle.cx_region_state.specs.Inputs
+pub use Rattle.cx_region_state.specs.Listed
 pub use Rattle.cx_program.specs.Handles
 pub use Rattle.cx_program.specs.Levels
 pub use Rattle.cx_service.specs.Queues

@@ -3,14 +3,14 @@
 -- LENGERR: LENGTH is negative. PGMIDERR: no such program. A 17th level abends XLVL; no place for DFHEISTG abends XSTG.
 -- Else a level of the program begins; it finds the COMMAREA where the caller has it. Reply: Entered.
 use Rattle.std.specs.Prelude.{◌≡◌, ℕ, List, length, nat_lt, Option, Some, None, MatchOption, MatchBool}
-use Rattle.cx_base_commands.specs.declared.abends.Abend.TheVariants as abend
-use Rattle.cx_base_commands.specs.declared.conditions.Condition.TheVariants.{Lengerr, Pgmiderr}
+use Rattle.cx_base.specs.declared.abends.Abend.TheVariants as abend
+use Rattle.cx_base.specs.declared.conditions.Condition.TheVariants.{Lengerr, Pgmiderr}
 use Rattle.cx_storage.specs.Storage.{Storage}
 use Rattle.cx_load.specs.declared.program.Loaded.{Loaded}
 use Rattle.cx_program.specs.Levels.{Levels}
-use Rattle.cx_region_call.specs.Call.{Call}
-use Rattle.cx_region_call.specs.Inputs.{is_length_negative}
-use Rattle.cx_region_call.specs.declared.inputs.StorageSpan.{StorageSpan}
+use Rattle.cx_region_state.specs.Call.{Call}
+use Rattle.cx_region_state.specs.Inputs.{is_length_negative}
+use Rattle.cx_region_state.specs.declared.inputs.StorageSpan.{StorageSpan}
 use Rattle.cx_region_state.specs.declared.verdict.TaskChange.TheVariants.{Enters}
 use Rattle.cx_region_state.specs.declared.verdict.Verdict.{Verdict}
 use Rattle.cx_region_state.specs.declared.verdict.Verdict.TheVariants.{Refuses}

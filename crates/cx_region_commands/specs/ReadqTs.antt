@@ -5,18 +5,17 @@
 -- LENGERR, with INTO: LENGTH is negative. QIDERR: no such queue. ITEMERR: no such item. NOSTG, with SET: task storage
 -- has no place.
 -- INTO gets the item, at most as many bytes as LENGTH says; LENGERR: the item is longer. SET gets the address of a
--- fresh area of the
--- task with the item. LENGTH gets the item's length, NUMITEMS the number of the queue's items. The item, ITEM's or else
--- the one after the item last read by any task, is the one last read then. Reply: Performed.
+-- fresh area of the task with the item. LENGTH gets the item's length, NUMITEMS the number of the queue's items. The
+-- item, ITEM's or else the one after the item last read by any task, is the one last read then. Reply: Performed.
 use Rattle.std.specs.Prelude.{◌≡◌, ℕ, ◌&&◌, nat_le, List, [], ◌∷◌, Option, Some, None, unwrap_or, if◌then◌else◌, MatchBool}
-use Rattle.cx_base_commands.specs.declared.conditions.Condition.TheVariants.{Normal, Lengerr, Nostg, Qiderr}
-use Rattle.cx_base_commands.specs.declared.options.OptionName.TheVariants as option
+use Rattle.cx_base.specs.declared.conditions.Condition.TheVariants.{Normal, Lengerr, Nostg, Qiderr}
+use Rattle.cx_base.specs.declared.options.OptionName.TheVariants as option
 use Rattle.cx_storage.specs.Storage.{Storage}
 use Rattle.cx_service.specs.declared.faults.ServiceFault.{ServiceFault}
 use Rattle.cx_service.specs.Queues.{Queues, count_of, item_len_of, next_number, read_fault}
-use Rattle.cx_region_call.specs.Call.{Call}
-use Rattle.cx_region_call.specs.Inputs.{halfword_of, is_length_negative, length_option}
-use Rattle.cx_region_call.specs.declared.outputs.OutputValue.TheVariants.{Half, Text, Word}
+use Rattle.cx_region_state.specs.Call.{Call}
+use Rattle.cx_region_state.specs.Inputs.{halfword_of, is_length_negative, length_option}
+use Rattle.cx_region_state.specs.declared.outputs.OutputValue.TheVariants.{Half, Text, Word}
 use Rattle.cx_region_state.specs.declared.verdict.TaskChange.TheVariants.{Ends, Gets}
 use Rattle.cx_region_state.specs.declared.verdict.Ended.TheVariants.{ReadOf}
 use Rattle.cx_region_state.specs.declared.verdict.Fill.TheVariants.{Item}

@@ -1,11 +1,12 @@
 -- RECEIVE (Application Programmer's Reference Manual, SC33-0077, "Terminal Control").
 --   RECEIVE INTO(bytes, out) LENGTH(halfword, in and out)
--- Without held input the command waits. Else INTO gets the input, at most as many bytes as LENGTH says (none where it is
--- negative), LENGTH its length, EIBAID its key, and the input is gone. LENGERR: the input is longer. Reply: Performed.
+-- Without held input the command waits. Else INTO gets the input, at most as many bytes as LENGTH says (none where it
+-- is negative), LENGTH its length, EIBAID its key, and the input is gone. LENGERR: the input is longer. Reply:
+-- Performed.
 use Rattle.std.specs.Prelude.{ℕ, [], ◌∷◌, length, nat_le, Option, Some, None, if◌then◌else◌}
-use Rattle.cx_base_commands.specs.declared.conditions.Condition.TheVariants.{Normal, Lengerr}
-use Rattle.cx_base_commands.specs.declared.options.OptionName.TheVariants.{Into, Length}
-use Rattle.cx_region_call.specs.declared.outputs.OutputValue.TheVariants.{Text, Half}
+use Rattle.cx_base.specs.declared.conditions.Condition.TheVariants.{Normal, Lengerr}
+use Rattle.cx_base.specs.declared.options.OptionName.TheVariants.{Into, Length}
+use Rattle.cx_region_state.specs.declared.outputs.OutputValue.TheVariants.{Text, Half}
 use Rattle.cx_region_state.specs.State.{Input}
 use Rattle.cx_region_state.specs.declared.verdict.TaskChange.TheVariants.{Ends}
 use Rattle.cx_region_state.specs.declared.verdict.Ended.TheVariants.{TakesInput}

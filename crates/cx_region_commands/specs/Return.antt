@@ -6,12 +6,12 @@
 -- TRANSID and a copy of the COMMAREA are kept for the terminal. Reply: Ended.
 use Rattle.std.specs.Prelude.{◌&&◌, ◌||◌, not, List, [], ◌∷◌, Option, if◌then◌else◌}
 use Rattle.std.specs.Option.{option_map}
-use Rattle.cx_base_commands.specs.declared.conditions.Condition.TheVariants.{Invreq, Lengerr}
-use Rattle.cx_base_commands.specs.declared.options.OptionName.TheVariants.{Commarea, Transid}
+use Rattle.cx_base.specs.declared.conditions.Condition.TheVariants.{Invreq, Lengerr}
+use Rattle.cx_base.specs.declared.options.OptionName.TheVariants.{Commarea, Transid}
 use Rattle.cx_storage.specs.Storage.{Storage}
 use Rattle.cx_program.specs.declared.level.Level.{Level}
-use Rattle.cx_region_call.specs.Call.{Call}
-use Rattle.cx_region_call.specs.Inputs.{bytes_of, is_length_negative}
+use Rattle.cx_region_state.specs.Call.{Call}
+use Rattle.cx_region_state.specs.Inputs.{bytes_of, is_length_negative}
 use Rattle.cx_region_state.specs.declared.verdict.TaskChange.TheVariants.{LevelEnds, TaskEnds}
 use Rattle.cx_region_state.specs.declared.verdict.Next.{Next}
 use Rattle.cx_region_state.specs.declared.verdict.Verdict.{Verdict}

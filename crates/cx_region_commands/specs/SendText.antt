@@ -1,13 +1,13 @@
 -- SEND TEXT (Application Programmer's Reference Manual, SC33-0077, "Basic Mapping Support").
 --   SEND TEXT FROM(bytes, in) LENGTH(halfword, in) [ERASE] [FREEKB]
--- LENGERR: LENGTH is negative. Else the text's lines replace the screen's lines from the top; ERASE blanks the screen first;
--- FREEKB has no effect. Reply: Performed.
+-- LENGERR: LENGTH is negative. Else the text's lines replace the screen's lines from the top; ERASE blanks the screen
+-- first; FREEKB has no effect. Reply: Performed.
 use Rattle.std.specs.Prelude.{if◌then◌else◌}
-use Rattle.cx_base_commands.specs.declared.conditions.Condition.TheVariants.{Lengerr}
-use Rattle.cx_base_commands.specs.declared.options.OptionName.TheVariants.{Erase, From}
+use Rattle.cx_base.specs.declared.conditions.Condition.TheVariants.{Lengerr}
+use Rattle.cx_base.specs.declared.options.OptionName.TheVariants.{Erase, From}
 use Rattle.cx_storage.specs.Storage.{Storage}
-use Rattle.cx_region_call.specs.Call.{Call}
-use Rattle.cx_region_call.specs.Inputs.{is_length_negative}
+use Rattle.cx_region_state.specs.Call.{Call}
+use Rattle.cx_region_state.specs.Inputs.{is_length_negative}
 use Rattle.cx_region_state.specs.declared.verdict.TaskChange.TheVariants.{Makes}
 use Rattle.cx_region_state.specs.declared.verdict.Made.TheVariants.{Shows}
 use Rattle.cx_region_state.specs.declared.verdict.Verdict.{Verdict}

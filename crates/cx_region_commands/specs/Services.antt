@@ -1,6 +1,6 @@
 -- The condition that a service would meet, as a command's (this product's own).
 use Rattle.std.specs.Prelude.{Option, Some}
-use Rattle.cx_base_commands.specs.declared.conditions.Condition.TheVariants as condition
+use Rattle.cx_base.specs.declared.conditions.Condition.TheVariants as condition
 use Rattle.cx_service.specs.declared.faults.ServiceFault.{ServiceFault}
 use Rattle.cx_service.specs.declared.faults.ServiceFault.TheVariants as fault
 use Rattle.cx_region_state.specs.declared.verdict.Verdict.{Verdict}

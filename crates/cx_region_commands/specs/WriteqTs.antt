@@ -1,17 +1,17 @@
 -- WRITEQ TS (Application Programmer's Reference Manual, SC33-0077, "Temporary Storage Control").
 --   WRITEQ TS QUEUE(name) FROM(bytes, in) LENGTH(halfword, in) [ITEM(halfword, out; with REWRITE in) [REWRITE]]
 --   [MAIN | AUXILIARY] [NOSUSPEND]
--- LENGERR: LENGTH is below 1. With REWRITE QIDERR: no such queue; ITEMERR: no such item; without it ITEMERR: the queue is full.
--- NOSPACE: one queue too many, or too much data. Else the item goes last and ITEM gets its number, or it replaces item
--- ITEM. MAIN and AUXILIARY have the same effect. Reply: Performed.
+-- LENGERR: LENGTH is below 1. With REWRITE QIDERR: no such queue; ITEMERR: no such item; without it ITEMERR: the queue
+-- is full. NOSPACE: one queue too many, or too much data. Else the item goes last and ITEM gets its number, or it
+-- replaces item ITEM. MAIN and AUXILIARY have the same effect. Reply: Performed.
 use Rattle.std.specs.Prelude.{ℕ, ◌+◌, [], ◌∷◌, unwrap_or, if◌then◌else◌}
-use Rattle.cx_base_commands.specs.declared.conditions.Condition.TheVariants.{Normal}
-use Rattle.cx_base_commands.specs.declared.options.OptionName.TheVariants.{From, Item, Queue, Rewrite}
+use Rattle.cx_base.specs.declared.conditions.Condition.TheVariants.{Normal}
+use Rattle.cx_base.specs.declared.options.OptionName.TheVariants.{From, Item, Queue, Rewrite}
 use Rattle.cx_storage.specs.Storage.{Storage}
 use Rattle.cx_service.specs.Queues.{Queues, count_of, rewrite_fault, write_fault}
-use Rattle.cx_region_call.specs.Call.{Call}
-use Rattle.cx_region_call.specs.Inputs.{halfword_of}
-use Rattle.cx_region_call.specs.declared.outputs.OutputValue.TheVariants.{Half}
+use Rattle.cx_region_state.specs.Call.{Call}
+use Rattle.cx_region_state.specs.Inputs.{halfword_of}
+use Rattle.cx_region_state.specs.declared.outputs.OutputValue.TheVariants.{Half}
 use Rattle.cx_region_state.specs.declared.verdict.TaskChange.TheVariants.{Makes}
 use Rattle.cx_region_state.specs.declared.verdict.Made.TheVariants.{ItemAt, ItemLast}
 use Rattle.cx_region_state.specs.declared.verdict.Verdict.{Verdict}

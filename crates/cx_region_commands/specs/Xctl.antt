@@ -1,18 +1,17 @@
 -- XCTL (Application Programmer's Reference Manual, SC33-0077, "Program Control").
 --   XCTL PROGRAM(name) [COMMAREA(bytes, in) LENGTH(halfword, in)]
 -- LENGERR: LENGTH is negative. PGMIDERR: no such program. The COMMAREA's copy gets a place (none where it has no
--- bytes), and
--- then the new DFHEISTG, with the copy and the old DFHEISTG still there: where either has none, abend XSTG. Else the
--- current level begins anew with that program. Reply: Entered.
+-- bytes), and then the new DFHEISTG, with the copy and the old DFHEISTG still there: where either has none, abend XSTG.
+-- Else the current level begins anew with that program. Reply: Entered.
 use Rattle.std.specs.Prelude.{◌≡◌, ℕ, List, Option, Some, None, MatchOption, MatchBool}
 use Rattle.std.specs.Option.{option_map}
-use Rattle.cx_base_commands.specs.declared.abends.Abend.TheVariants as abend
-use Rattle.cx_base_commands.specs.declared.conditions.Condition.TheVariants.{Lengerr, Pgmiderr}
+use Rattle.cx_base.specs.declared.abends.Abend.TheVariants as abend
+use Rattle.cx_base.specs.declared.conditions.Condition.TheVariants.{Lengerr, Pgmiderr}
 use Rattle.cx_storage.specs.Storage.{Storage}
 use Rattle.cx_load.specs.declared.program.Loaded.{Loaded}
-use Rattle.cx_region_call.specs.Call.{Call}
-use Rattle.cx_region_call.specs.Inputs.{is_length_negative}
-use Rattle.cx_region_call.specs.declared.inputs.StorageSpan.{StorageSpan}
+use Rattle.cx_region_state.specs.Call.{Call}
+use Rattle.cx_region_state.specs.Inputs.{is_length_negative}
+use Rattle.cx_region_state.specs.declared.inputs.StorageSpan.{StorageSpan}
 use Rattle.cx_region_state.specs.Areas.{IsTaskPlace, with_copy_area}
 use Rattle.cx_region_state.specs.declared.verdict.TaskChange.TheVariants.{Replaces}
 use Rattle.cx_region_state.specs.declared.verdict.Copying.{Copying}

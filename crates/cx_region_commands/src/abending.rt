@@ -3,9 +3,8 @@ ghost use Rattle.std.specs.Prelude.{◌≡◌};
 ghost use Rattle.cx_region_commands.specs.Abend.{abend_row};
 
 use crate::common::does;
-use cx_base_commands::{Abend, OptionName};
-use cx_region_call::{Call, name4};
-use cx_region_state::{TaskChange, Verdict};
+use cx_base::{Abend, OptionName};
+use cx_region_state::{Call, TaskChange, Verdict, name4};
 use cx_storage::Store;
 
 /// How an ABEND is judged.

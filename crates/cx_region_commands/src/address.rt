@@ -2,9 +2,8 @@
 ghost use Rattle.std.specs.Prelude.{◌≡◌};
 ghost use Rattle.cx_region_commands.specs.Address.{address_row};
 
-use cx_base_commands::{Condition, OptionName};
-use cx_region_call::{OutputValue, Outputs};
-use cx_region_state::{TaskChange, Verdict};
+use cx_base::{Condition, OptionName};
+use cx_region_state::{OutputValue, Outputs, TaskChange, Verdict};
 
 /// The address of the common work area.
 const COMMON_WORK_AREA: u32 = 0x1000;

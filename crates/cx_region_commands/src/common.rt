@@ -3,11 +3,13 @@ ghost use Rattle.std.specs.Prelude.{◌≡◌, ◌<◌, ◌≤◌, ◌+◌, ◌^
 ghost use Rattle.cx_region_state.specs.Areas.{IsSoundProgram, IsTaskPlace, first_of_tasks};
 ghost use Rattle.cx_region_commands.specs.Common.{AreSoundPrograms, commarea_of, does, name_at, named_program, new_level, condition_alone, piece_at, place_at, program_of};
 
-use cx_base_commands::{Condition, OptionName};
+use cx_base::{Condition, OptionName};
 use cx_ebcdic::Name8;
 use cx_load::Loaded;
-use cx_region_call::{Call, Outputs, StorageSpan, name8, piece_of};
-use cx_region_state::{FIRST_OF_TASKS, LAST_OF_TASKS, NewLevel, TaskChange, Verdict};
+use cx_region_state::{
+    Call, FIRST_OF_TASKS, LAST_OF_TASKS, NewLevel, Outputs, StorageSpan, TaskChange, Verdict,
+    name8, piece_of,
+};
 use cx_storage::Store;
 use indexmap::IndexMap;
 

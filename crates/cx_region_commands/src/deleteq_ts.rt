@@ -3,9 +3,8 @@ ghost use Rattle.std.specs.Prelude.{◌≡◌};
 ghost use Rattle.cx_region_commands.specs.DeleteqTs.{deleteq_row};
 
 use crate::common::{condition_alone, does, name_at};
-use cx_base_commands::{Condition, OptionName};
-use cx_region_call::Call;
-use cx_region_state::{Ended, TaskChange, Verdict};
+use cx_base::{Condition, OptionName};
+use cx_region_state::{Call, Ended, TaskChange, Verdict};
 use cx_service::Queues;
 use cx_storage::Store;
 

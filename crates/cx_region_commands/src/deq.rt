@@ -4,9 +4,8 @@ ghost use Rattle.cx_region_commands.specs.Deq.{deq_row};
 
 use crate::common::{condition_alone, does};
 use crate::enq::{is_wrong_length, resource_at};
-use cx_base_commands::Condition;
-use cx_region_call::Call;
-use cx_region_state::{Ended, TaskChange, Verdict};
+use cx_base::Condition;
+use cx_region_state::{Call, Ended, TaskChange, Verdict};
 use cx_storage::Store;
 
 /// How a DEQ is judged.

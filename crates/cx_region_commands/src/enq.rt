@@ -4,9 +4,8 @@ ghost use Rattle.cx_region_commands.specs.Enq.{enq_row, is_wrong_length, resourc
 
 use crate::common::{condition_alone, does};
 use crate::services::fault_or_verdict;
-use cx_base_commands::{Condition, OptionName};
-use cx_region_call::{Call, length_option, read_argument};
-use cx_region_state::{Made, TaskChange, Verdict};
+use cx_base::{Condition, OptionName};
+use cx_region_state::{Call, Made, TaskChange, Verdict, length_option, read_argument};
 use cx_service::{Enqueues, ResourceName};
 use cx_storage::Store;
 

@@ -3,9 +3,8 @@ ghost use Rattle.std.specs.Prelude.{◌≡◌};
 ghost use Rattle.cx_region_commands.specs.Freemain.{freemain_row, is_got_by};
 
 use crate::common::{condition_alone, does, place_at};
-use cx_base_commands::{Condition, OptionName};
-use cx_region_call::Call;
-use cx_region_state::{Ended, TaskChange, Verdict};
+use cx_base::{Condition, OptionName};
+use cx_region_state::{Call, Ended, TaskChange, Verdict};
 use cx_storage::{Area, Kind, Store};
 
 /// Whether the task of this slot got the area.

@@ -4,9 +4,10 @@ ghost use Rattle.cx_region_commands.specs.Common.{AtPlace};
 ghost use Rattle.cx_region_commands.specs.Getmain.{GetmainRow, asked_len, fill_byte, gets, is_area_length};
 
 use crate::common::{condition_alone, task_place};
-use cx_base_commands::{Condition, OptionName};
-use cx_region_call::{Call, OutputValue, Outputs, halfword, read_argument};
-use cx_region_state::{Fill, Got, TaskChange, Verdict};
+use cx_base::{Condition, OptionName};
+use cx_region_state::{
+    Call, Fill, Got, OutputValue, Outputs, TaskChange, Verdict, halfword, read_argument,
+};
 use cx_storage::Store;
 
 /// The most bytes of an area.

@@ -4,9 +4,8 @@ ghost use Rattle.std.specs.Option.{option_map_or};
 ghost use Rattle.cx_region_commands.specs.HandleAbend.{handle_abend_row};
 
 use crate::handling::asks;
-use cx_base_commands::OptionName;
-use cx_region_call::Call;
-use cx_region_state::{Request, Verdict};
+use cx_base::OptionName;
+use cx_region_state::{Call, Request, Verdict};
 
 /// What is asked of the exit.
 fn exit_asked(label: Option<u32>, cancels: bool) -> Request

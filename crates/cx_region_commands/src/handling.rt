@@ -3,10 +3,9 @@ ghost use Rattle.std.specs.Prelude.{◌≡◌};
 ghost use Rattle.cx_region_commands.specs.Handling.{asks, handle_row, ignore_row, pop_row, push_row};
 
 use crate::common::{condition_alone, does};
-use cx_base_commands::Condition;
+use cx_base::Condition;
 use cx_program::HandleTable;
-use cx_region_call::Call;
-use cx_region_state::{Made, Request, TaskChange, Verdict};
+use cx_region_state::{Call, Made, Request, TaskChange, Verdict};
 
 /// The current level is asked to handle conditions so.
 pub(crate) fn asks(request: Request) -> Verdict

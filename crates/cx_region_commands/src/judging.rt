@@ -20,9 +20,8 @@ use crate::send_text::judge_send_text;
 use crate::suspend::judge_suspend;
 use crate::writeq_ts::judge_writeq_ts;
 use crate::xctl::judge_xctl;
-use cx_base_commands::Command;
-use cx_region_call::{Call, length_option};
-use cx_region_state::{Shared, Task, TerminalEntry, Verdict};
+use cx_base::Command;
+use cx_region_state::{Call, Shared, Task, TerminalEntry, Verdict, length_option};
 use cx_storage::Store;
 
 /// How a call is judged, before anything changes: by the row of its command. It takes no memory.

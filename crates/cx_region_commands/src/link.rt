@@ -7,12 +7,11 @@ ghost use Rattle.cx_region_commands.specs.Link.{LinkRow, Links, enters};
 use crate::common::{
     Called, commarea_of, condition_alone, does, named_program, new_level, task_place,
 };
-use cx_base_commands::{Abend, Condition};
+use cx_base::{Abend, Condition};
 use cx_ebcdic::Name8;
 use cx_load::Loaded;
 use cx_program::LevelStack;
-use cx_region_call::{Call, StorageSpan, is_length_negative};
-use cx_region_state::{TaskChange, Verdict};
+use cx_region_state::{Call, StorageSpan, TaskChange, Verdict, is_length_negative};
 use cx_storage::Store;
 use indexmap::IndexMap;
 

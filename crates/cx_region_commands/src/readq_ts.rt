@@ -6,10 +6,12 @@ ghost use Rattle.cx_region_commands.specs.ReadqTs.{Reads, ReadsItem, ReadqRow, i
 
 use crate::common::{condition_alone, name_at, task_place};
 use crate::services::fault_or_verdict;
-use cx_base_commands::{Condition, OptionName};
+use cx_base::{Condition, OptionName};
 use cx_ebcdic::Name8;
-use cx_region_call::{Call, OutputValue, Outputs, halfword, is_length_negative, length_option};
-use cx_region_state::{Ended, Fill, Got, TaskChange, Verdict};
+use cx_region_state::{
+    Call, Ended, Fill, Got, OutputValue, Outputs, TaskChange, Verdict, halfword,
+    is_length_negative, length_option,
+};
 use cx_service::{Queues, ServiceFault};
 use cx_storage::Store;
 

@@ -2,9 +2,8 @@
 ghost use Rattle.std.specs.Prelude.{◌≡◌};
 ghost use Rattle.cx_region_commands.specs.Receive.{receive_row};
 
-use cx_base_commands::{Condition, OptionName};
-use cx_region_call::{OutputValue, Outputs};
-use cx_region_state::{Ended, Input, TaskChange, Verdict};
+use cx_base::{Condition, OptionName};
+use cx_region_state::{Ended, Input, OutputValue, Outputs, TaskChange, Verdict};
 
 /// How a RECEIVE is judged, by the held input and the number of bytes that LENGTH says.
 #[tactic(auto, unfolding(crate::specs::Receive::receive_row))]

@@ -4,10 +4,9 @@ ghost use Rattle.cx_region_commands.specs.Return.{highest_return, next_of, retur
 ghost use Rattle.cx_region_commands.specs.Common.{does, has, condition_alone};
 
 use crate::common::{commarea_of, condition_alone, does};
-use cx_base_commands::{Condition, OptionName};
+use cx_base::{Condition, OptionName};
 use cx_program::LevelStack;
-use cx_region_call::{Call, is_length_negative, name4};
-use cx_region_state::{Next, TaskChange, Verdict};
+use cx_region_state::{Call, Next, TaskChange, Verdict, is_length_negative, name4};
 use cx_storage::Store;
 
 /// What the terminal's next key attaches.

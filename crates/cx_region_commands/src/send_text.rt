@@ -3,9 +3,8 @@ ghost use Rattle.std.specs.Prelude.{◌≡◌};
 ghost use Rattle.cx_region_commands.specs.SendText.{send_text_row};
 
 use crate::common::{condition_alone, does, piece_at};
-use cx_base_commands::{Condition, OptionName};
-use cx_region_call::{Call, is_length_negative};
-use cx_region_state::{Made, TaskChange, Verdict};
+use cx_base::{Condition, OptionName};
+use cx_region_state::{Call, Made, TaskChange, Verdict, is_length_negative};
 use cx_storage::Store;
 
 /// How a SEND TEXT is judged.

@@ -4,7 +4,7 @@ ghost use Rattle.std.specs.Result.{result_err};
 ghost use Rattle.cx_region_commands.specs.Services.{fault_or_verdict};
 
 use crate::common::condition_alone;
-use cx_base_commands::Condition;
+use cx_base::Condition;
 use cx_region_state::Verdict;
 use cx_service::ServiceFault;
 

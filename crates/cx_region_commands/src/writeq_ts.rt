@@ -7,10 +7,11 @@ ghost use Rattle.cx_service.specs.Queues.{count_of, rewrite_fault, write_fault};
 
 use crate::common::{does, name_at, piece_at};
 use crate::services::fault_or_verdict;
-use cx_base_commands::{Condition, OptionName};
+use cx_base::{Condition, OptionName};
 use cx_ebcdic::Name8;
-use cx_region_call::{Call, OutputValue, Outputs, StorageSpan, halfword};
-use cx_region_state::{Made, TaskChange, Verdict};
+use cx_region_state::{
+    Call, Made, OutputValue, Outputs, StorageSpan, TaskChange, Verdict, halfword,
+};
 use cx_service::Queues;
 use cx_storage::Store;
 

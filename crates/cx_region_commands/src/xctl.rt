@@ -7,11 +7,12 @@ ghost use Rattle.cx_region_commands.specs.Xctl.{Copies, Transfers, XctlRow, Xctl
 use crate::common::{
     Called, commarea_of, condition_alone, does, named_program, new_level, task_place,
 };
-use cx_base_commands::{Abend, Condition};
+use cx_base::{Abend, Condition};
 use cx_ebcdic::Name8;
 use cx_load::Loaded;
-use cx_region_call::{Call, StorageSpan, is_length_negative};
-use cx_region_state::{Copying, LAST_OF_TASKS, TaskChange, Verdict};
+use cx_region_state::{
+    Call, Copying, LAST_OF_TASKS, StorageSpan, TaskChange, Verdict, is_length_negative,
+};
 use cx_storage::Store;
 use indexmap::IndexMap;
 

@@ -82,7 +82,7 @@ live_keeps : (change : Change) (old : RegionState) (name : List ℕ) (t : Termin
 unfolding after_change
 live_keeps (Register r v) old name t task on = record { areas = refl; bytes = λ x other. refl; resources = refl }
 live_keeps (Byte a v) old name t task on =
-    record { areas = areas_after_set old.storage a v; bytes = byte_elsewhere old.storage a v; resources = refl }
+    record { areas = areas_after_set old.shared.storage a v; bytes = byte_elsewhere old.shared.storage a v; resources = refl }
 live_keeps Nop old name t task on = record { areas = refl; bytes = λ x other. refl; resources = refl }
 live_keeps Abend old name t task on = absurd (true≢false on)
 
@@ -105,12 +105,12 @@ unfolding after_change
 abends_keep_others old name reply new h =
     by_way (AlterKeepsOthers old name) old name Abend reply new (record {
       stays = record {
-        areas = same_at (terminal_of old name) old.storage (λ t. with_areas_kept (is_of_other_slot t.slot) old.storage);
-        resources = same_at (terminal_of old name) old.resources (λ t. without_owner old.resources t.slot);
+        areas = same_at (terminal_of old name) old.shared.storage (λ t. with_areas_kept (is_of_other_slot t.entry.slot) old.shared.storage);
+        resources = same_at (terminal_of old name) old.shared.resources (λ t. without_owner old.shared.resources t.entry.slot);
       };
       changes = λ t task there. record {
-        areas = at_terminal _ _ (terminal_of old name) t there (kept_twice (is_of_other_slot t.slot) old.storage);
-        resources = at_terminal _ _ (terminal_of old name) t there (released_twice old.resources t.slot);
+        areas = at_terminal _ _ (terminal_of old name) t there (kept_twice (is_of_other_slot t.entry.slot) old.shared.storage);
+        resources = at_terminal _ _ (terminal_of old name) t there (released_twice old.shared.resources t.entry.slot);
       };
     }) h
 

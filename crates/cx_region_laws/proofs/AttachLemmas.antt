@@ -4,10 +4,10 @@ use Rattle.std.specs.Prelude.{◌==◌, MatchOption}
 use Rattle.std.specs.Option.{option_and_then, option_map, option_map_or}
 use Rattle.std.specs.Int.{w16, w32, to_be_bytes}
 use Rattle.std.proofs.lemmas.Option.{same_Some}
-use Rattle.cx_base_commands.specs.declared.eib.EibField.TheVariants as field
-use Rattle.cx_base_commands.specs.Eib.{eib_field, eib_len}
-use Rattle.cx_base_lists.specs.Facts.Lookups.{lookup-set_value-same}
-use Rattle.cx_base_lists.specs.Facts.Tables.{found_meets}
+use Rattle.cx_base.specs.declared.eib.EibField.TheVariants as field
+use Rattle.cx_base.specs.Eib.{eib_field, eib_len}
+use Rattle.cx_base.specs.Facts.Lookups.{lookup-set_value-same}
+use Rattle.cx_base.specs.Facts.Tables.{found_meets}
 use Rattle.cx_ebcdic.specs.Aids.{key_of}
 use Rattle.cx_ebcdic.specs.Facts.Names.{is_name-laws}
 use Rattle.cx_ebcdic.specs.Names.{is_name}
@@ -21,8 +21,8 @@ use Rattle.cx_storage.specs.Facts.Sound.{sound_with_area}
 use Rattle.cx_storage.specs.Facts.Spans.{span_at, span_first, span_from, span_has}
 use Rattle.cx_storage.specs.Facts.Writes.{span_after_write}
 use Rattle.cx_storage.specs.Word.{word_at}
-use Rattle.cx_region_call.specs.Eib.{Content, content, packed_decimal, with_field, with_fields}
-use Rattle.cx_region_call.specs.declared.inputs.StorageSpan.{StorageSpan}
+use Rattle.cx_region_state.specs.Eib.{Content, content, packed_decimal, with_field, with_fields}
+use Rattle.cx_region_state.specs.declared.inputs.StorageSpan.{StorageSpan}
 use Rattle.cx_region_state.specs.declared.verdict.NewLevel.{NewLevel}
 use Rattle.cx_region_state.specs.Areas.{IsSoundProgram, entry_level, first_of_tasks, last_of_tasks, length_or_zero, system_owner, with_cap}
 use Rattle.cx_region_state.specs.Facts.Areas.{area_put}
@@ -56,16 +56,16 @@ unfolding TakesKey
 attached old new name input terminal takes there = by_task terminal.task (by_terminal (terminal_of old name) there takes)
   where
     tran : List ℕ
-    tran = transaction_named terminal.following input.bytes
+    tran = transaction_named terminal.entry.following input.bytes
 
     by_terminal : (o : Option TerminalState) → o ≡ Some terminal
         → MatchOption o (OnlyAnswers key.NoSuchTerminal old key.Attached new) (λ terminal.
-        MatchOption terminal.task (StartsTask old name terminal input (transaction_named terminal.following input.bytes) key.Attached new) (λ task. Gives old name terminal input key.Attached new))
+        MatchOption terminal.task (StartsTask old name terminal input (transaction_named terminal.entry.following input.bytes) key.Attached new) (λ task. Gives old name terminal input key.Attached new))
         → MatchOption terminal.task (StartsTask old name terminal input tran key.Attached new) (λ task. Gives old name terminal input key.Attached new)
     by_terminal None e it = cc
     by_terminal (Some found) e it =
         let same : found ≡ terminal = same_Some found terminal e in
-        subst (λ (t : TerminalState). MatchOption t.task (StartsTask old name t input (transaction_named t.following input.bytes) key.Attached new) (λ task. Gives old name t input key.Attached new)) same it
+        subst (λ (t : TerminalState). MatchOption t.task (StartsTask old name t input (transaction_named t.entry.following input.bytes) key.Attached new) (λ task. Gives old name t input key.Attached new)) same it
 
     by_program : (program : List ℕ) (o : Option Loaded) → program_of old program ≡ o
         → MatchOption o (OnlyAnswers key.NoSuchTransaction old key.Attached new) (λ loaded. Attaches old name terminal input tran program loaded key.Attached new) → IsAttached old name terminal input new
@@ -79,9 +79,9 @@ attached old new name input terminal takes there = by_task terminal.task (by_ter
     by_transaction (Some program) it = by_program program (program_of old program) refl it
 
     by_input : Gives old name terminal input key.Attached new → IsAttached old name terminal input new
-    by_input it = go terminal.input it
+    by_input it = go terminal.entry.input it
       where
-        go : (o : Option Input) → MatchOption o ((key.Attached ≡ key.Given) × (new ≡ with_terminal old name (record terminal { input = Some input }))) (λ held. OnlyAnswers key.AlreadyHeldInput old key.Attached new)
+        go : (o : Option Input) → MatchOption o ((key.Attached ≡ key.Given) × (new ≡ with_terminal old name (record terminal { entry = record terminal.entry { input = Some input } }))) (λ held. OnlyAnswers key.AlreadyHeldInput old key.Attached new)
             → IsAttached old name terminal input new
         go None it = let never : key.Attached ≡ key.Given = it.0 in cc
         go (Some held) it = let never : key.Attached ≡ key.AlreadyHeldInput = it.0 in cc
@@ -169,9 +169,9 @@ record IsFilled (s z : Storage) (eib : ℕ) (level : NewLevel) (kept : List ℕ)
   there : span z (cap_of level) (length kept) ≡ Some kept
   none : kept ≡ [] → cap_of level ≡ 0
 
-filled : (old : RegionState) (name tran program : List ℕ) (input : Input) (loaded : Loaded) (areas : Places) (slot : ℕ) (kept : List ℕ) → IsSoundStorage old.storage → IsSoundProgram loaded
-    → ArePlaced old.storage (system_owner slot) (length kept) loaded.stg_len areas
-    → IsFilled old.storage (with_areas_filled (with_task_areas old.storage (system_owner slot) (length kept) loaded.stg_len areas) areas (eib_at_attach old name tran (length kept) input.aid) kept
+filled : (old : RegionState) (name tran program : List ℕ) (input : Input) (loaded : Loaded) (areas : Places) (slot : ℕ) (kept : List ℕ) → IsSoundStorage old.shared.storage → IsSoundProgram loaded
+    → ArePlaced old.shared.storage (system_owner slot) (length kept) loaded.stg_len areas
+    → IsFilled old.shared.storage (with_areas_filled (with_task_areas old.shared.storage (system_owner slot) (length kept) loaded.stg_len areas) areas (eib_at_attach old name tran (length kept) input.aid) kept
     (first_level program loaded (length kept) areas)) areas.eib (first_level program loaded (length kept) areas) kept
 unfolding with_areas_filled IsLeastPlace span
 filled old name tran program input loaded areas slot kept ok sound placed =
@@ -205,13 +205,13 @@ filled old name tran program input loaded areas slot kept ok sound placed =
     fields = eib_at_attach old name tran len input.aid
 
     one : Storage
-    one = with_eib_area old.storage owner eib
+    one = with_eib_area old.shared.storage owner eib
 
     two : Storage
-    two = with_kept_area old.storage owner len eib areas.commarea
+    two = with_kept_area old.shared.storage owner len eib areas.commarea
 
     three : Storage
-    three = with_task_areas old.storage owner len loaded.stg_len areas
+    three = with_task_areas old.shared.storage owner len loaded.stg_len areas
 
     fields_in : Storage
     fields_in = with_fields three eib fields
@@ -226,13 +226,13 @@ filled old name tran program input loaded areas slot kept ok sound placed =
     long = sound.stg_low
 
     ends : eib + eib_len ≤ 2 ^ 24
-    ends = placed_ends old.storage eib_len eib placed.eib
+    ends = placed_ends old.shared.storage eib_len eib placed.eib
 
     stg_ends : areas.stg + loaded.stg_len ≤ 2 ^ 24
     stg_ends = placed_ends two loaded.stg_len areas.stg placed.stg
 
     ok1 : IsSoundStorage one
-    ok1 = sound_with_area old.storage 0x200000 0xFFFFFF eib_len (Some eib) owner ok (omega arith) (omega arith) placed.eib
+    ok1 = sound_with_area old.shared.storage 0x200000 0xFFFFFF eib_len (Some eib) owner ok (omega arith) (omega arith) placed.eib
 
     ok2 : IsSoundStorage two
     ok2 = copy_sound one owner len areas.commarea ok1 placed.commarea
@@ -243,7 +243,7 @@ filled old name tran program input loaded areas slot kept ok sound placed =
     there1 : IsEibThere one eib
     there1 x from to =
         span_first one x 1
-        (area_span one eib (area_from eib eib_len owner) x 1 ok1 (area_put old.storage first_of_tasks last_of_tasks eib_len eib owner ok (omega arith) placed.eib.0) from (omega (arith, to))) (omega arith)
+        (area_span one eib (area_from eib eib_len owner) x 1 ok1 (area_put old.shared.storage first_of_tasks last_of_tasks eib_len eib owner ok (omega arith) placed.eib.0) from (omega (arith, to))) (omega arith)
 
     there3 : IsEibThere three eib
     there3 x from to = area_present two areas.stg loaded.stg_len owner x (copy_present one owner len areas.commarea x (there1 x from to))
@@ -290,7 +290,7 @@ filled old name tran program input loaded areas slot kept ok sound placed =
 
 -- the program finds it, and EIBCALEN is its level's
 record HasBegun (new : RegionState) (task : TaskState) (kept : List ℕ) : Type 0 where
-  finds : FindsCommarea new.storage task kept
+  finds : FindsCommarea new.shared.storage task kept
   calen : task.levels.current.calen ≡ length kept
 
 task_calen : (level : NewLevel) (eib : ℕ) (tran : List ℕ) (number : ℕ) → (fresh_task tran number eib level).levels.current.calen ≡ length_or_zero level.commarea
@@ -302,21 +302,21 @@ copy_long s len None placed = sym placed
 copy_long s len (Some place) placed = refl
 
 has_begun : (old new : RegionState) (name : List ℕ) (input : Input) (terminal : TerminalState) (task : TaskState) → IsSound old → TakesKey old name input key.Attached new
-    → terminal_of old name ≡ Some terminal → task_of new name ≡ Some task → HasBegun new task (commarea_kept terminal.following)
+    → terminal_of old name ≡ Some terminal → task_of new name ≡ Some task → HasBegun new task (commarea_kept terminal.entry.following)
 has_begun old new name input terminal task ok takes there given =
     let it = attached old new name input terminal takes there in
-    let kept = commarea_kept terminal.following in
-    let sound : IsSoundProgram it.loaded = found_meets IsSoundProgram (is_name it.program) old.programs it.loaded ok.programs_sound it.found in
+    let kept = commarea_kept terminal.entry.following in
+    let sound : IsSoundProgram it.loaded = found_meets IsSoundProgram (is_name it.program) old.shared.programs it.loaded ok.programs_sound it.found in
     let areas = it.attaches.areas in
     let level = first_level it.program it.loaded (length kept) areas in
     let made = fresh_task it.tran (next_number old.counter) areas.eib level in
-    let stores = filled old name it.tran it.program input it.loaded areas terminal.slot kept ok.storage sound it.attaches.placed in
+    let stores = filled old name it.tran it.program input it.loaded areas terminal.entry.slot kept ok.storage sound it.attaches.placed in
     let put : terminal_of new name ≡ Some (with_task terminal input made) =
     ap (λ (r : RegionState). terminal_of r name) it.attaches.after
     ∙ lookup-set_value-same is_name is_name-laws old.terminals name terminal (with_task terminal input made) there in
     let is : task ≡ made = same_Some task made (sym given ∙ task_new old name terminal (with_task terminal input made) made (terminal_of new name) put refl) in
-    let storage = ap (λ (r : RegionState). r.storage) it.attaches.after in
-    let z = with_areas_filled (with_task_areas old.storage (system_owner terminal.slot) (length kept) it.loaded.stg_len areas) areas (eib_at_attach old name it.tran (length kept) input.aid) kept level in
+    let storage = ap (λ (r : RegionState). r.shared.storage) it.attaches.after in
+    let z = with_areas_filled (with_task_areas old.shared.storage (system_owner terminal.entry.slot) (length kept) it.loaded.stg_len areas) areas (eib_at_attach old name it.tran (length kept) input.aid) kept level in
     let finds : FindsCommarea z made kept = record {
       calen = ap (λ (n : ℕ). field_at z n field.Calen) (task_eib level areas.eib it.tran (next_number old.counter)) ∙ stores.calen;
       place = cap_of level;
@@ -328,7 +328,7 @@ has_begun old new name input terminal task ok takes there given =
       finds = subst (λ (s : Storage). FindsCommarea s task kept) (sym storage) (subst (λ (t : TaskState). FindsCommarea z t kept) (sym is) finds);
       calen =
           ap (λ (t : TaskState). t.levels.current.calen) is ∙ task_calen level areas.eib it.tran (next_number old.counter)
-          ∙ copy_long (with_eib_area old.storage (system_owner terminal.slot) areas.eib) (length kept) areas.commarea it.attaches.placed.commarea;
+          ∙ copy_long (with_eib_area old.shared.storage (system_owner terminal.entry.slot) areas.eib) (length kept) areas.commarea it.attaches.placed.commarea;
     }
 
 pub attached_find_commareas : AttachedFindCommareas

@@ -4,21 +4,21 @@ use Rattle.std.specs.Prelude.{◌⊎◌}
 use Rattle.std.specs.Option.{option_map}
 use Rattle.std.specs.Int.{w16, to_be_bytes}
 use Rattle.std.proofs.lemmas.Bool.{cases_Bool, lt-ltb, ltb-false, true≢false}
-use Rattle.cx_base_commands.specs.declared.conditions.Condition.{Condition}
-use Rattle.cx_base_commands.specs.declared.conditions.Condition.TheVariants.{Normal}
-use Rattle.cx_base_commands.specs.declared.eib.EibField.{EibField}
-use Rattle.cx_base_commands.specs.declared.eib.EibField.TheVariants.{Calen, Fn, Rcode, Resp, Rsrce}
-use Rattle.cx_base_commands.specs.Eib.{eib_field, eib_len}
+use Rattle.cx_base.specs.declared.conditions.Condition.{Condition}
+use Rattle.cx_base.specs.declared.conditions.Condition.TheVariants.{Normal}
+use Rattle.cx_base.specs.declared.eib.EibField.{EibField}
+use Rattle.cx_base.specs.declared.eib.EibField.TheVariants.{Calen, Fn, Rcode, Resp, Rsrce}
+use Rattle.cx_base.specs.Eib.{eib_field, eib_len}
 use Rattle.cx_program.specs.declared.level.Level.{Level}
 use Rattle.cx_program.specs.Levels.{Levels}
 use Rattle.cx_storage.specs.Address.{address_after, distance}
 use Rattle.cx_storage.specs.Storage.{Storage, area_from, areas_of, byte_at, span, with_areas_kept, IsSound as IsSoundStorage}
 use Rattle.cx_storage.specs.Facts.Areas.{area_of_areas}
 use Rattle.cx_storage.specs.Facts.Writes.{present_after_write}
-use Rattle.cx_region_call.specs.declared.outputs.Output.{Output}
-use Rattle.cx_region_call.specs.Call.{Call, resp_place}
-use Rattle.cx_region_call.specs.Eib.{with_calen, with_field}
-use Rattle.cx_region_call.specs.Laws.Calls.{CallIsRead}
+use Rattle.cx_region_state.specs.declared.outputs.Output.{Output}
+use Rattle.cx_region_state.specs.Call.{Call, resp_place}
+use Rattle.cx_region_state.specs.Eib.{with_calen, with_field}
+use Rattle.cx_region_state.specs.Laws.Calls.{CallIsRead}
 use Rattle.cx_region_commands.specs.Facts.Fits.{judged_fits}
 use Rattle.cx_region_state.specs.Areas.{IsAreaOf, entry_level, system_owner}
 use Rattle.cx_region_state.specs.declared.replies.TurnReply.{TurnReply}

@@ -4,16 +4,16 @@ use Rattle.std.specs.Prelude.{◌||◌, ◌⊎◌, MatchBool}
 use Rattle.std.specs.Option.{option_map}
 use Rattle.std.specs.List.{list_any}
 use Rattle.std.proofs.lemmas.Bool.{cases_Bool}
-use Rattle.cx_base_commands.specs.Abends.{abend_code}
-use Rattle.cx_base_commands.specs.declared.conditions.Condition.{Condition}
-use Rattle.cx_base_commands.specs.Eib.{eib_len}
+use Rattle.cx_base.specs.Abends.{abend_code}
+use Rattle.cx_base.specs.declared.conditions.Condition.{Condition}
+use Rattle.cx_base.specs.Eib.{eib_len}
 use Rattle.cx_storage.specs.Address.{address_in}
 use Rattle.cx_storage.specs.Storage.{Storage, area_from, areas_of, byte_at, IsSound as IsSoundStorage}
 use Rattle.cx_service.specs.Queues.{AreSoundQueues}
-use Rattle.cx_region_call.specs.Answer.{resource_of}
-use Rattle.cx_region_call.specs.declared.outputs.Output.{Output}
-use Rattle.cx_region_call.specs.Call.{Call, resp_place}
-use Rattle.cx_region_call.specs.Laws.Calls.{CallIsRead, IsCallAt, list_word}
+use Rattle.cx_region_state.specs.Answer.{resource_of}
+use Rattle.cx_region_state.specs.declared.outputs.Output.{Output}
+use Rattle.cx_region_state.specs.Call.{Call, resp_place}
+use Rattle.cx_region_state.specs.Laws.Calls.{CallIsRead, IsCallAt, list_word}
 use Rattle.cx_region_commands.specs.Common.{AreSoundPrograms}
 use Rattle.cx_region_commands.specs.Facts.Fits.{judged_fits}
 use Rattle.cx_region_state.specs.declared.replies.TurnReply.{TurnReply}

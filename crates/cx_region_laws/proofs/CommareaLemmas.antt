@@ -5,13 +5,13 @@ use Rattle.std.specs.Option.{option_map, option_map_or}
 use Rattle.std.specs.Int.{w16, w32, to_be_bytes}
 use Rattle.std.proofs.lemmas.Bool.{cases_Bool, ltb-true, ne_eqb, true≢false}
 use Rattle.std.proofs.lemmas.Option.{none-some, same_Some}
-use Rattle.cx_base_commands.specs.declared.commands.Command.{Command}
-use Rattle.cx_base_commands.specs.declared.commands.Command.TheVariants as command
-use Rattle.cx_base_commands.specs.declared.conditions.Condition.{Condition}
-use Rattle.cx_base_commands.specs.declared.conditions.Condition.TheVariants.{Normal}
-use Rattle.cx_base_commands.specs.declared.eib.EibField.TheVariants.{Calen}
-use Rattle.cx_base_commands.specs.declared.options.OptionName.TheVariants as option
-use Rattle.cx_base_commands.specs.Eib.{eib_len}
+use Rattle.cx_base.specs.declared.commands.Command.{Command}
+use Rattle.cx_base.specs.declared.commands.Command.TheVariants as command
+use Rattle.cx_base.specs.declared.conditions.Condition.{Condition}
+use Rattle.cx_base.specs.declared.conditions.Condition.TheVariants.{Normal}
+use Rattle.cx_base.specs.declared.eib.EibField.TheVariants.{Calen}
+use Rattle.cx_base.specs.declared.options.OptionName.TheVariants as option
+use Rattle.cx_base.specs.Eib.{eib_len}
 use Rattle.cx_program.specs.declared.level.Level.{Level}
 use Rattle.cx_storage.specs.Address.{address_after, address_in, distance}
 use Rattle.cx_storage.specs.Storage.{Storage, after_write, area_at, area_from, areas_of, byte_at, span, starts_elsewhere, with_area, with_areas_kept, AreOrdered, IsSound as IsSoundStorage}
@@ -21,15 +21,15 @@ use Rattle.cx_storage.specs.Facts.Areas.{area_bounds, area_of_areas, area_span}
 use Rattle.cx_storage.specs.Facts.Sound.{sound_with_area}
 use Rattle.cx_storage.specs.Facts.Spans.{span_at, span_from, span_has}
 use Rattle.cx_storage.specs.Facts.Writes.{areas_after_write, span_after_write, span_present_after_write}
-use Rattle.cx_region_call.specs.declared.call.CallFault.{CallFault}
-use Rattle.cx_region_call.specs.declared.inputs.StorageSpan.{StorageSpan}
-use Rattle.cx_region_call.specs.declared.outputs.Output.{Output}
-use Rattle.cx_region_call.specs.Answer.{with_answer}
-use Rattle.cx_region_call.specs.Call.{Call, call_of, place_of, resp_place}
-use Rattle.cx_region_call.specs.Facts.Inputs.{place_below}
-use Rattle.cx_region_call.specs.Inputs.{are_inputs_there, length_option}
-use Rattle.cx_region_call.specs.Laws.Calls.{CallIsRead}
-use Rattle.cx_region_call.specs.Outputs.{put_out}
+use Rattle.cx_region_state.specs.declared.call.CallFault.{CallFault}
+use Rattle.cx_region_state.specs.declared.inputs.StorageSpan.{StorageSpan}
+use Rattle.cx_region_state.specs.declared.outputs.Output.{Output}
+use Rattle.cx_region_state.specs.Answer.{with_answer}
+use Rattle.cx_region_state.specs.Call.{Call, call_of, place_of, resp_place}
+use Rattle.cx_region_state.specs.Facts.Inputs.{place_below}
+use Rattle.cx_region_state.specs.Inputs.{are_inputs_there, length_option}
+use Rattle.cx_region_state.specs.Laws.Calls.{CallIsRead}
+use Rattle.cx_region_state.specs.Outputs.{put_out}
 use Rattle.cx_region_commands.specs.Common.{commarea_of, new_level}
 use Rattle.cx_region_state.specs.Areas.{IsAreaOf, IsTaskPlace, bytes_in, entry_level, first_of_tasks, last_of_tasks, length_or_zero, system_owner, with_cap, with_copied, with_copy_area, with_stg_area}
 use Rattle.cx_region_state.specs.Facts.Areas.{area_kept_any, area_kept_get, area_put, none_there}

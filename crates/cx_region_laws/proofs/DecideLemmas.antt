@@ -26,7 +26,7 @@ use Rattle.cx_region.specs.State.{RegionState, TerminalState}
 use Rattle.cx_region_state.specs.State.{Input, TaskContext, TaskState}
 use Rattle.cx_region.specs.Tables.{fresh_terminal, program_of, terminal_of, transaction_of, with_terminal}
 use Rattle.cx_region.specs.Defining.{DefinesProgram, DefinesTerminal, DefinesTransaction, LoadsProgram, program_fault, terminal_fault, transaction_fault}
-use Rattle.cx_base_commands.specs.Eib.{eib_len}
+use Rattle.cx_base.specs.Eib.{eib_len}
 use Rattle.cx_region.specs.Attach.{ArePlaced, AttachesTask, Attaches, Gives, HasNoPlaces, IsCopyPlace, TakesKey, OnlyAnswers, StartsTask, with_task_attached, commarea_kept, input_from, transaction_named, with_eib_area, with_kept_area}
 use Rattle.cx_region.specs.declared.asking.Places.{Places}
 use Rattle.cx_region_state.specs.Areas.{IsTaskPlace, first_of_tasks, last_of_tasks, system_owner}
@@ -50,7 +50,7 @@ abbrev Alike : {A : Type 0} → A → A → RegionState → RegionState → Type
 Alike r s a b = (r ≡ s) × (a ≡ b)
 
 refused_load : (old : RegionState) (name : List ℕ) (image : Image) (fault : DefineFault) (new : RegionState) → LoadsProgram old name image (Err fault) new
-    → (fault ≡ NoRoom) × IsProgramPlace old.storage (length image.text) None × (new ≡ old)
+    → (fault ≡ NoRoom) × IsProgramPlace old.shared.storage (length image.text) None × (new ≡ old)
 refused_load old name image NoRoom new h = (refl, h.0, h.1)
 refused_load old name image _ new h = absurd h
 
@@ -61,15 +61,15 @@ no_place_too storage len at place none =
 loads_decide : LoadingDecides → (old : RegionState) (name : List ℕ) (image : Image) (r s : Result Loaded DefineFault) (a b : RegionState)
     → LoadsProgram old name image r a → LoadsProgram old name image s b → Alike r s a b
 loads_decide loading old name image (Ok one) (Ok other) a b h k =
-    let same = loading old.storage a.storage b.storage image one other h.0 k.0 in (
+    let same = loading old.shared.storage a.shared.storage b.shared.storage image one other h.0 k.0 in (
       ap Ok same.0,
-      h.1 ∙ ap (λ (l : Loaded). record old { programs = insert_entry is_name old.programs name l; storage = a.storage }) same.0
-          ∙ ap (λ (s : Storage). record old { programs = insert_entry is_name old.programs name other; storage = s }) same.1 ∙ sym k.1,
+      h.1 ∙ ap (λ (l : Loaded). record old { shared = record old.shared { programs = insert_entry is_name old.shared.programs name l; storage = a.shared.storage } }) same.0
+          ∙ ap (λ (s : Storage). record old { shared = record old.shared { programs = insert_entry is_name old.shared.programs name other; storage = s } }) same.1 ∙ sym k.1,
     )
 loads_decide loading old name image (Ok one) (Err fault) a b h k =
-    absurd (no_place_too old.storage (length image.text) one.at h.0.place (refused_load old name image fault b k).1)
+    absurd (no_place_too old.shared.storage (length image.text) one.at h.0.place (refused_load old name image fault b k).1)
 loads_decide loading old name image (Err fault) (Ok other) a b h k =
-    absurd (no_place_too old.storage (length image.text) other.at k.0.place (refused_load old name image fault a h).1)
+    absurd (no_place_too old.shared.storage (length image.text) other.at k.0.place (refused_load old name image fault a h).1)
 loads_decide loading old name image (Err fault) (Err also) a b h k =
     let one = refused_load old name image fault a h in
     let two = refused_load old name image also b k in
@@ -131,7 +131,7 @@ places_decide storage owner len stg_len p q h k =
 abbrev Answered : RegionState → List ℕ → TerminalState → Input → List ℕ → List ℕ → Loaded → KeyReply → RegionState → Type 0
 Answered old name terminal input tran program loaded answer new =
     ((answer ≡ key.Attached) × AttachesTask old name terminal input tran program loaded new)
-    ⊎ ((answer ≡ key.NoStorage) × HasNoPlaces old.storage (system_owner terminal.slot) (length (commarea_kept terminal.following)) loaded.stg_len × (new ≡ old))
+    ⊎ ((answer ≡ key.NoStorage) × HasNoPlaces old.shared.storage (system_owner terminal.entry.slot) (length (commarea_kept terminal.entry.following)) loaded.stg_len × (new ≡ old))
 
 attach_answers : (old : RegionState) (name : List ℕ) (terminal : TerminalState) (input : Input) (tran program : List ℕ) (loaded : Loaded) (answer : KeyReply) (new : RegionState)
     → Attaches old name terminal input tran program loaded answer new → Answered old name terminal input tran program loaded answer new
@@ -145,7 +145,7 @@ attach_decides old name terminal input tran program loaded r s a b h k =
     elim (attach_answers old name terminal input tran program loaded r a h) [
       | inl one ↦ elim (attach_answers old name terminal input tran program loaded s b k) [
         | inl two ↦
-            let same = places_decide old.storage (system_owner terminal.slot) (length (commarea_kept terminal.following)) loaded.stg_len one.1.areas two.1.areas one.1.placed two.1.placed in
+            let same = places_decide old.shared.storage (system_owner terminal.entry.slot) (length (commarea_kept terminal.entry.following)) loaded.stg_len one.1.areas two.1.areas one.1.placed two.1.placed in
             (one.0 ∙ sym two.0, one.1.after ∙ ap (λ (p : Places). with_task_attached old name terminal input tran program loaded p) same ∙ sym two.1.after)
         | inr two ↦ absurd (two.1.none one.1.areas one.1.placed)
       ]
@@ -174,25 +174,25 @@ key_decides old name input r s a b h k = at_terminal (terminal_of old name) h k
     at_tran t tran (Some program) one two = at_program t tran program (program_of old program) one two
 
     at_input : (t : TerminalState) (o : Option Input)
-        → MatchOption o ((r ≡ key.Given) × (a ≡ with_terminal old name (record t { input = Some input }))) (λ held. OnlyAnswers key.AlreadyHeldInput old r a)
-        → MatchOption o ((s ≡ key.Given) × (b ≡ with_terminal old name (record t { input = Some input }))) (λ held. OnlyAnswers key.AlreadyHeldInput old s b) → Alike r s a b
+        → MatchOption o ((r ≡ key.Given) × (a ≡ with_terminal old name (record t { entry = record t.entry { input = Some input } }))) (λ held. OnlyAnswers key.AlreadyHeldInput old r a)
+        → MatchOption o ((s ≡ key.Given) × (b ≡ with_terminal old name (record t { entry = record t.entry { input = Some input } }))) (λ held. OnlyAnswers key.AlreadyHeldInput old s b) → Alike r s a b
     at_input t None one two = same_answers r s key.Given a b _ one two
     at_input t (Some held) one two = same_answers r s key.AlreadyHeldInput a b old one two
 
     at_task : (t : TerminalState) (tran : List ℕ) (o : Option TaskState)
         → MatchOption o (MatchOption (transaction_of old tran) (OnlyAnswers key.NoSuchTransaction old r a) (λ program. MatchOption (program_of old program) (OnlyAnswers key.NoSuchTransaction old r a) (λ loaded. Attaches old name t input tran program loaded r a)))
-        (λ task. MatchOption t.input ((r ≡ key.Given) × (a ≡ with_terminal old name (record t { input = Some input }))) (λ held. OnlyAnswers key.AlreadyHeldInput old r a))
+        (λ task. MatchOption t.entry.input ((r ≡ key.Given) × (a ≡ with_terminal old name (record t { entry = record t.entry { input = Some input } }))) (λ held. OnlyAnswers key.AlreadyHeldInput old r a))
         → MatchOption o (MatchOption (transaction_of old tran) (OnlyAnswers key.NoSuchTransaction old s b) (λ program. MatchOption (program_of old program) (OnlyAnswers key.NoSuchTransaction old s b) (λ loaded. Attaches old name t input tran program loaded s b)))
-        (λ task. MatchOption t.input ((s ≡ key.Given) × (b ≡ with_terminal old name (record t { input = Some input }))) (λ held. OnlyAnswers key.AlreadyHeldInput old s b))
+        (λ task. MatchOption t.entry.input ((s ≡ key.Given) × (b ≡ with_terminal old name (record t { entry = record t.entry { input = Some input } }))) (λ held. OnlyAnswers key.AlreadyHeldInput old s b))
         → Alike r s a b
     at_task t tran None one two = at_tran t tran (transaction_of old tran) one two
-    at_task t tran (Some task) one two = at_input t t.input one two
+    at_task t tran (Some task) one two = at_input t t.entry.input one two
 
     at_terminal : (o : Option TerminalState)
-        → MatchOption o (OnlyAnswers key.NoSuchTerminal old r a) (λ t. MatchOption t.task (StartsTask old name t input (transaction_named t.following input.bytes) r a) (λ task. Gives old name t input r a))
-        → MatchOption o (OnlyAnswers key.NoSuchTerminal old s b) (λ t. MatchOption t.task (StartsTask old name t input (transaction_named t.following input.bytes) s b) (λ task. Gives old name t input s b)) → Alike r s a b
+        → MatchOption o (OnlyAnswers key.NoSuchTerminal old r a) (λ t. MatchOption t.task (StartsTask old name t input (transaction_named t.entry.following input.bytes) r a) (λ task. Gives old name t input r a))
+        → MatchOption o (OnlyAnswers key.NoSuchTerminal old s b) (λ t. MatchOption t.task (StartsTask old name t input (transaction_named t.entry.following input.bytes) s b) (λ task. Gives old name t input s b)) → Alike r s a b
     at_terminal None one two = same_answers r s key.NoSuchTerminal a b old one two
-    at_terminal (Some t) one two = at_task t (transaction_named t.following input.bytes) t.task one two
+    at_terminal (Some t) one two = at_task t (transaction_named t.entry.following input.bytes) t.task one two
 
 -- ---- turns
 task_turn_decides : HalfTurnsDecide → (old : RegionState) (name : List ℕ) (terminal : TerminalState) (task : TaskState)

@@ -1,9 +1,9 @@
 -- Where a command is due the current level keeps registers and code.
 use Rattle.std.proofs.Common.{◌≡◌, ◌<◌, Bool, true, false, List, [], ◌∷◌, length, Option, Some, None, refl, sym, ◌∙◌, ap, subst, arith}
 use Rattle.std.specs.Prelude.{MatchBool, ℕ}
-use Rattle.cx_base_commands.specs.Abends.{abend_code}
-use Rattle.cx_base_commands.specs.declared.abends.Abend.TheVariants as abend
-use Rattle.cx_base_commands.specs.declared.conditions.Condition.{Condition}
+use Rattle.cx_base.specs.Abends.{abend_code}
+use Rattle.cx_base.specs.declared.abends.Abend.TheVariants as abend
+use Rattle.cx_base.specs.declared.conditions.Condition.{Condition}
 use Rattle.cx_exec.specs.declared.machine.Halt.{Halt}
 use Rattle.cx_exec.specs.declared.machine.Halt.TheVariants as halt
 use Rattle.cx_program.specs.declared.level.Level.{Level}

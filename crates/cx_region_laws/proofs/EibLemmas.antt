@@ -4,19 +4,19 @@ use Rattle.std.specs.Prelude.{◌⊎◌}
 use Rattle.std.specs.Option.{option_map}
 use Rattle.std.specs.Int.{w16, w32, to_be_bytes}
 use Rattle.std.proofs.lemmas.Bool.{lt-ltb}
-use Rattle.cx_base_commands.specs.Eib.{eib_field, eib_len}
-use Rattle.cx_base_commands.specs.declared.eib.EibField.{EibField}
-use Rattle.cx_base_commands.specs.declared.eib.EibField.TheVariants.{Aid, Calen, Fn, Rcode, Resp, Rsrce}
+use Rattle.cx_base.specs.Eib.{eib_field, eib_len}
+use Rattle.cx_base.specs.declared.eib.EibField.{EibField}
+use Rattle.cx_base.specs.declared.eib.EibField.TheVariants.{Aid, Calen, Fn, Rcode, Resp, Rsrce}
 use Rattle.cx_storage.specs.Address.{address_after}
 use Rattle.cx_storage.specs.Storage.{Storage, after_write, areas_of, byte_at, span}
 use Rattle.cx_storage.specs.Facts.Spans.{span_inside}
 use Rattle.cx_storage.specs.Facts.Writes.{areas_after_write, present_after_write, span_after_write}
-use Rattle.cx_region_call.specs.declared.answer.Answer.{Answer}
-use Rattle.cx_region_call.specs.declared.outputs.Output.{Output}
-use Rattle.cx_region_call.specs.Answer.{with_answer, with_eib, with_set}
-use Rattle.cx_region_call.specs.Call.{Call, place_of, resp_place}
-use Rattle.cx_region_call.specs.Eib.{content, with_calen, with_field}
-use Rattle.cx_region_call.specs.Outputs.{bytes_from, put_out, with_output}
+use Rattle.cx_region_state.specs.declared.answer.Answer.{Answer}
+use Rattle.cx_region_state.specs.declared.outputs.Output.{Output}
+use Rattle.cx_region_state.specs.Answer.{with_answer, with_eib, with_set}
+use Rattle.cx_region_state.specs.Call.{Call, place_of, resp_place}
+use Rattle.cx_region_state.specs.Eib.{content, with_calen, with_field}
+use Rattle.cx_region_state.specs.Outputs.{bytes_from, put_out, with_output}
 use Rattle.cx_region_laws.specs.Laws.Bytes.{is_among}
 use Rattle.cx_region_laws.specs.Laws.Reports.{field_at}
 use Rattle.cx_region_laws.proofs.StandLemmas.{place_elsewhere, write_elsewhere}

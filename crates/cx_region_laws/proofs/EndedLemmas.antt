@@ -1,8 +1,8 @@
 -- What a command's ends leave of the areas of others: an area freed, levels ended, the way of the task.
 use Rattle.std.proofs.Common.{◌≡◌, ℕ, zero, suc, Bool, Option, Some, None, List, [], ◌∷◌, refl, sym, ◌∙◌, ap, subst, ◌-◌, length}
 use Rattle.std.specs.List.{AllByRecursion}
-use Rattle.cx_base_commands.specs.declared.conditions.Condition.{Condition}
-use Rattle.cx_base_commands.specs.Eib.{eib_len}
+use Rattle.cx_base.specs.declared.conditions.Condition.{Condition}
+use Rattle.cx_base.specs.Eib.{eib_len}
 use Rattle.cx_storage.specs.Address.{address_in}
 use Rattle.cx_storage.specs.Storage.{Storage}
 use Rattle.cx_program.specs.declared.level.Level.{Level}

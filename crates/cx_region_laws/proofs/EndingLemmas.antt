@@ -5,8 +5,8 @@ use Rattle.std.specs.List.{AllByRecursion}
 use Rattle.std.proofs.lemmas.Bool.{cases_Bool, true≢false}
 use Rattle.std.proofs.lemmas.Bool.Decides.{leb_tells}
 use Rattle.std.proofs.lemmas.Option.{none-some, same_Some, slice_get_past}
-use Rattle.cx_base_commands.specs.declared.conditions.Condition.{Condition}
-use Rattle.cx_base_commands.specs.Eib.{eib_len}
+use Rattle.cx_base.specs.declared.conditions.Condition.{Condition}
+use Rattle.cx_base.specs.Eib.{eib_len}
 use Rattle.cx_storage.specs.declared.areas.Owner.{Owner}
 use Rattle.cx_storage.specs.Storage.{Held, Storage, end_of}
 use Rattle.cx_storage.specs.Place.{CanPlace, IsLeastPlace, Misses}
@@ -246,9 +246,9 @@ module _ (storage : Storage) (owner : Owner) (len stg_len : ℕ) where
 pub attaches_somehow : (old : RegionState) (name : List ℕ) (terminal : TerminalState) (input : Input) (tran program : List ℕ) (loaded : Loaded)
     → Answered (Attaches old name terminal input tran program loaded)
 attaches_somehow old name terminal input tran program loaded =
-    go (places old.storage (system_owner terminal.slot) (length (commarea_kept terminal.following)) loaded.stg_len)
+    go (places old.shared.storage (system_owner terminal.entry.slot) (length (commarea_kept terminal.entry.following)) loaded.stg_len)
   where
-    go : PlacesOrNone old.storage (system_owner terminal.slot) (length (commarea_kept terminal.following)) loaded.stg_len
+    go : PlacesOrNone old.shared.storage (system_owner terminal.entry.slot) (length (commarea_kept terminal.entry.following)) loaded.stg_len
         → Answered (Attaches old name terminal input tran program loaded)
     go (inl found) = (key.Attached, with_task_attached old name terminal input tran program loaded found.0, record { areas = found.0; placed = found.1; after = refl })
     go (inr none) = (key.NoStorage, old, (none, refl))

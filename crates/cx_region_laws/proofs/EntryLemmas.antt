@@ -4,17 +4,17 @@ use Rattle.std.specs.Prelude.{◌⊎◌, ◌&&◌, ◌||◌, not, nat_lt, MatchO
 use Rattle.std.specs.Option.{option_map, option_map_or}
 use Rattle.std.proofs.lemmas.Bool.{cases_Bool, cases_lt, ne_eqb}
 use Rattle.std.proofs.lemmas.Option.{same_Some}
-use Rattle.cx_base_commands.specs.declared.abends.Abend.TheVariants as abend
-use Rattle.cx_base_commands.specs.declared.commands.Command.{Command}
-use Rattle.cx_base_commands.specs.declared.commands.Command.TheVariants as command
-use Rattle.cx_base_commands.specs.declared.conditions.Condition.TheVariants.{Lengerr, Pgmiderr}
-use Rattle.cx_base_commands.specs.declared.options.OptionName.TheVariants as option
+use Rattle.cx_base.specs.declared.abends.Abend.TheVariants as abend
+use Rattle.cx_base.specs.declared.commands.Command.{Command}
+use Rattle.cx_base.specs.declared.commands.Command.TheVariants as command
+use Rattle.cx_base.specs.declared.conditions.Condition.TheVariants.{Lengerr, Pgmiderr}
+use Rattle.cx_base.specs.declared.options.OptionName.TheVariants as option
 use Rattle.cx_program.specs.declared.level.Level.{Level}
 use Rattle.cx_storage.specs.Storage.{Storage, span}
 use Rattle.cx_storage.specs.Facts.Spans.{span_length}
-use Rattle.cx_region_call.specs.declared.inputs.StorageSpan.{StorageSpan}
-use Rattle.cx_region_call.specs.Call.{Call, place_of}
-use Rattle.cx_region_call.specs.Inputs.{is_length_negative, length_option, piece_of}
+use Rattle.cx_region_state.specs.declared.inputs.StorageSpan.{StorageSpan}
+use Rattle.cx_region_state.specs.Call.{Call, place_of}
+use Rattle.cx_region_state.specs.Inputs.{is_length_negative, length_option, piece_of}
 use Rattle.cx_region_state.specs.State.{TaskContext}
 use Rattle.cx_region_state.specs.declared.verdict.Copying.{Copying}
 use Rattle.cx_region_state.specs.declared.verdict.TaskChange.{TaskChange}

@@ -13,7 +13,7 @@ use Rattle.cx_program.specs.declared.entries.Exit.TheVariants.{NoExit, Off, On}
 use Rattle.cx_program.specs.declared.level.Level.{Level}
 use Rattle.cx_program.specs.Entries.{label_on, turned_off}
 use Rattle.cx_program.specs.Levels.{IsNearestExit, all_levels, has_exit, has_exit_at}
-use Rattle.cx_region_call.specs.Eib.{with_calen, with_field}
+use Rattle.cx_region_state.specs.Eib.{with_calen, with_field}
 use Rattle.cx_region_state.specs.declared.replies.TurnReply.TheVariants as turn
 use Rattle.cx_region_state.specs.Facts.Areas.{area_written}
 use Rattle.cx_region_task.specs.Abends.{AbendsAt, IsExit, Unwound, exit_storage, exit_taken, exit_task, unwound, with_exit_off, without_stg}

@@ -17,7 +17,7 @@ use Rattle.cx_region_state.specs.declared.replies.TurnReply.{TurnReply}
 use Rattle.cx_region_state.specs.declared.replies.TurnReply.TheVariants as turn
 use Rattle.cx_region_state.specs.State.{Input, TaskContext, TaskState}
 use Rattle.cx_service.specs.Resources.{without_owner}
-use Rattle.cx_base_lists.specs.Facts.Tables.{found_meets}
+use Rattle.cx_base.specs.Facts.Tables.{found_meets}
 use Rattle.cx_region_task.specs.Turn.{HalfTurn}
 use Rattle.cx_region_task.specs.Laws.HalfTurns.{HalfTurnKeeps, HalfTurnStays, HalfTurnsKeep, HalfTurnsStay, WaitsLeave, is_of_task, others_areas}
 use Rattle.cx_region.specs.Sound.{IsSoundTerminal}
@@ -102,11 +102,11 @@ turned_keeps law old name reply new h = at_terminal (terminal_of old name) h
 others_nothing : (old : RegionState) (name : List ℕ) (new : RegionState) → new ≡ old → TurnKeepsOthers old name new
 others_nothing old name new same = subst (λ (r : RegionState). TurnKeepsOthers old name r) (sym same) whole
   where
-    areas_same : (o : Option TerminalState) → MatchOption o (old.storage ≡ old.storage) (λ terminal. others_areas terminal.slot old.storage ≡ others_areas terminal.slot old.storage)
+    areas_same : (o : Option TerminalState) → MatchOption o (old.shared.storage ≡ old.shared.storage) (λ terminal. others_areas terminal.entry.slot old.shared.storage ≡ others_areas terminal.entry.slot old.shared.storage)
     areas_same None = refl
     areas_same (Some terminal) = refl
 
-    resources_same : (o : Option TerminalState) → MatchOption o (old.resources ≡ old.resources) (λ terminal. without_owner old.resources terminal.slot ≡ without_owner old.resources terminal.slot)
+    resources_same : (o : Option TerminalState) → MatchOption o (old.shared.resources ≡ old.shared.resources) (λ terminal. without_owner old.shared.resources terminal.entry.slot ≡ without_owner old.shared.resources terminal.entry.slot)
     resources_same None = refl
     resources_same (Some terminal) = refl
 
@@ -116,8 +116,8 @@ others_nothing old name new same = subst (λ (r : RegionState). TurnKeepsOthers 
 others_kept : (old : RegionState) (name : List ℕ) (terminal : TerminalState) (task : TaskState) (reply : TurnReply) (after : TaskContext) → terminal_of old name ≡ Some terminal
     → HalfTurnKeeps (context_of old terminal task) reply after → TurnKeepsOthers old name (put_back old name after (task_after reply after.task))
 others_kept old name terminal task reply after there keeps = record {
-  areas = of_some _ (λ t. others_areas t.slot after.shared.storage ≡ others_areas t.slot old.storage) (terminal_of old name) terminal there keeps.areas;
-  resources = of_some _ (λ t. without_owner after.shared.resources t.slot ≡ without_owner old.resources t.slot) (terminal_of old name) terminal there keeps.resources;
+  areas = of_some _ (λ t. others_areas t.entry.slot after.shared.storage ≡ others_areas t.entry.slot old.shared.storage) (terminal_of old name) terminal there keeps.areas;
+  resources = of_some _ (λ t. without_owner after.shared.resources t.entry.slot ≡ without_owner old.shared.resources t.entry.slot) (terminal_of old name) terminal there keeps.resources;
 }
 
 pub turned_keeps_others : HalfTurnsKeep → TurnsKeepOthers
@@ -126,7 +126,7 @@ turned_keeps_others law old name reply new ok h = at_terminal (terminal_of old n
   where
     turned : (terminal : TerminalState) (task : TaskState) → terminal_of old name ≡ Some terminal → terminal.task ≡ Some task → TaskTakesTurn old name terminal task reply new → TurnKeepsOthers old name new
     turned terminal task there at h =
-        let own = task_of_terminal old.storage terminal task at (found_meets (IsSoundTerminal old.storage) (is_name name) old.terminals terminal ok.tasks there) in
+        let own = task_of_terminal old.shared.storage terminal task at (found_meets (IsSoundTerminal old.shared.storage) (is_name name) old.terminals terminal ok.tasks there) in
         let keeps = law (context_of old terminal task) h.reached reply ok.storage ok.programs_sound ok.queues_sound own h.half_turn in
         subst (λ (r : RegionState). TurnKeepsOthers old name r) (sym h.after) (others_kept old name terminal task reply h.reached there keeps)
 
@@ -285,16 +285,16 @@ by_way P old name input reply new each h = at_terminal (terminal_of old name) h
     at_tran terminal tran (Some program) h = at_program terminal tran program (program_of old program) h
 
     at_input : (terminal : TerminalState) (o : Option Input)
-        → MatchOption o ((reply ≡ key.Given) × (new ≡ with_terminal old name (record terminal { input = Some input }))) (λ held. OnlyAnswers key.AlreadyHeldInput old reply new) → P reply new
-    at_input terminal None h = each.gives (record terminal { input = Some input }) reply new h.0 h.1
+        → MatchOption o ((reply ≡ key.Given) × (new ≡ with_terminal old name (record terminal { entry = record terminal.entry { input = Some input } }))) (λ held. OnlyAnswers key.AlreadyHeldInput old reply new) → P reply new
+    at_input terminal None h = each.gives (record terminal { entry = record terminal.entry { input = Some input } }) reply new h.0 h.1
     at_input terminal (Some held) h = each.nowhere key.AlreadyHeldInput reply new refl h
 
     at_task : (terminal : TerminalState) (o : Option TaskState)
-        → MatchOption o (StartsTask old name terminal input (transaction_named terminal.following input.bytes) reply new) (λ task. Gives old name terminal input reply new) → P reply new
-    at_task terminal None h = at_tran terminal (transaction_named terminal.following input.bytes) (transaction_of old (transaction_named terminal.following input.bytes)) h
-    at_task terminal (Some task) h = at_input terminal terminal.input h
+        → MatchOption o (StartsTask old name terminal input (transaction_named terminal.entry.following input.bytes) reply new) (λ task. Gives old name terminal input reply new) → P reply new
+    at_task terminal None h = at_tran terminal (transaction_named terminal.entry.following input.bytes) (transaction_of old (transaction_named terminal.entry.following input.bytes)) h
+    at_task terminal (Some task) h = at_input terminal terminal.entry.input h
 
-    at_terminal : (o : Option TerminalState) → MatchOption o (OnlyAnswers key.NoSuchTerminal old reply new) (λ terminal. MatchOption terminal.task (StartsTask old name terminal input (transaction_named terminal.following input.bytes) reply new) (λ task. Gives old name terminal input reply new)) → P reply new
+    at_terminal : (o : Option TerminalState) → MatchOption o (OnlyAnswers key.NoSuchTerminal old reply new) (λ terminal. MatchOption terminal.task (StartsTask old name terminal input (transaction_named terminal.entry.following input.bytes) reply new) (λ task. Gives old name terminal input reply new)) → P reply new
     at_terminal None h = each.nowhere key.NoSuchTerminal reply new refl h
     at_terminal (Some terminal) h = at_task terminal terminal.task h
 

@@ -2,16 +2,16 @@
 use Rattle.std.proofs.Common.{◌≡◌, Bool, true, false, List, [], ◌∷◌, refl, sym, ◌∙◌, ap, subst, inl, inr}
 use Rattle.std.specs.Prelude.{◌&&◌, ◌||◌, not, if◌then◌else◌}
 use Rattle.std.proofs.lemmas.Bool.{cases_Bool, true≢false}
-use Rattle.cx_base_commands.specs.declared.commands.Command.{Command}
-use Rattle.cx_base_commands.specs.declared.commands.Command.TheVariants as command
-use Rattle.cx_base_commands.specs.declared.conditions.Condition.{Condition}
-use Rattle.cx_base_commands.specs.declared.conditions.Condition.TheVariants.{Invreq}
-use Rattle.cx_base_commands.specs.declared.options.OptionName.TheVariants as option
+use Rattle.cx_base.specs.declared.commands.Command.{Command}
+use Rattle.cx_base.specs.declared.commands.Command.TheVariants as command
+use Rattle.cx_base.specs.declared.conditions.Condition.{Condition}
+use Rattle.cx_base.specs.declared.conditions.Condition.TheVariants.{Invreq}
+use Rattle.cx_base.specs.declared.options.OptionName.TheVariants as option
 use Rattle.cx_program.specs.declared.entries.Handling.{Handling}
 use Rattle.cx_program.specs.declared.level.Level.{Level}
-use Rattle.cx_region_call.specs.declared.outputs.Output.{Output}
-use Rattle.cx_region_call.specs.Call.{Call}
-use Rattle.cx_region_call.specs.Inputs.{is_length_negative}
+use Rattle.cx_region_state.specs.declared.outputs.Output.{Output}
+use Rattle.cx_region_state.specs.Call.{Call}
+use Rattle.cx_region_state.specs.Inputs.{is_length_negative}
 use Rattle.cx_region_state.specs.declared.verdict.TaskChange.{TaskChange}
 use Rattle.cx_region_state.specs.declared.verdict.TaskChange.TheVariants.{Nothing, Makes, Ends, Gets, Enters, Replaces, LevelEnds, TaskEnds, AbendsWith}
 use Rattle.cx_region_state.specs.declared.verdict.Ended.{Ended}

@@ -3,13 +3,13 @@ use Rattle.std.proofs.Common.{◌≡◌, ℕ, Bool, true, false, Option, Some, N
 use Rattle.std.specs.Prelude.{◌⊎◌, MatchBool, if◌then◌else◌}
 use Rattle.std.proofs.lemmas.Bool.{cases_Bool, true≢false}
 use Rattle.std.proofs.lemmas.Option.{same_Some}
-use Rattle.cx_base_commands.specs.Abends.{abend_code}
-use Rattle.cx_base_commands.specs.declared.abends.Abend.TheVariants as abend
-use Rattle.cx_base_commands.specs.declared.commands.Command.TheVariants as command
-use Rattle.cx_base_commands.specs.declared.conditions.Condition.{Condition}
-use Rattle.cx_base_commands.specs.declared.conditions.Condition.TheVariants.{Normal}
-use Rattle.cx_base_commands.specs.Commands.{row_of}
-use Rattle.cx_base_commands.specs.Conditions.{entry_of}
+use Rattle.cx_base.specs.Abends.{abend_code}
+use Rattle.cx_base.specs.declared.abends.Abend.TheVariants as abend
+use Rattle.cx_base.specs.declared.commands.Command.TheVariants as command
+use Rattle.cx_base.specs.declared.conditions.Condition.{Condition}
+use Rattle.cx_base.specs.declared.conditions.Condition.TheVariants.{Normal}
+use Rattle.cx_base.specs.Commands.{row_of}
+use Rattle.cx_base.specs.Conditions.{entry_of}
 use Rattle.cx_exec.specs.declared.machine.Halt.{Halt}
 use Rattle.cx_exec.specs.declared.machine.Halt.TheVariants as halt
 use Rattle.cx_program.specs.declared.choice.Choice.{Choice}
@@ -17,8 +17,8 @@ use Rattle.cx_program.specs.declared.choice.Choice.TheVariants as choice
 use Rattle.cx_program.specs.declared.level.Level.{Level}
 use Rattle.cx_storage.specs.Address.{address_in}
 use Rattle.cx_storage.specs.Storage.{starts_elsewhere}
-use Rattle.cx_region_call.specs.declared.outputs.Output.{Output}
-use Rattle.cx_region_call.specs.Call.{Call}
+use Rattle.cx_region_state.specs.declared.outputs.Output.{Output}
+use Rattle.cx_region_state.specs.Call.{Call}
 use Rattle.cx_region_state.specs.State.{TaskContext}
 use Rattle.cx_region_state.specs.declared.replies.TurnReply.{TurnReply}
 use Rattle.cx_region_state.specs.declared.replies.TurnReply.TheVariants as turn

@@ -4,19 +4,19 @@ use Rattle.std.specs.Prelude.{MatchBool, MatchOption, MatchResult, Result, Ok, E
 use Rattle.indexmap.specs.IndexMap.{insert_entry}
 use Rattle.cx_ebcdic.specs.Names.{is_name}
 use Rattle.cx_code.specs.declared.image.Image.{Image}
-use Rattle.cx_base_commands.specs.declared.abends.Abend.TheVariants as abend
-use Rattle.cx_base_commands.specs.declared.commands.Command.{Command}
-use Rattle.cx_base_commands.specs.declared.commands.Command.TheVariants as command
-use Rattle.cx_base_commands.specs.declared.options.OptionName.TheVariants as option
-use Rattle.cx_base_commands.specs.Abends.{abend_code}
+use Rattle.cx_base.specs.declared.abends.Abend.TheVariants as abend
+use Rattle.cx_base.specs.declared.commands.Command.{Command}
+use Rattle.cx_base.specs.declared.commands.Command.TheVariants as command
+use Rattle.cx_base.specs.declared.options.OptionName.TheVariants as option
+use Rattle.cx_base.specs.Abends.{abend_code}
 use Rattle.cx_exec.specs.declared.machine.Halt.{Halt}
 use Rattle.cx_exec.specs.declared.machine.Halt.TheVariants as halt
 use Rattle.cx_load.specs.Fault.{IsFit}
 use Rattle.cx_load.specs.declared.program.Loaded.{Loaded}
 use Rattle.cx_load.specs.Program.{IsProgramPlace, first_of_programs, last_of_programs}
 use Rattle.cx_program.specs.Levels.{Levels}
-use Rattle.cx_region_call.specs.Call.{Call, call_of}
-use Rattle.cx_region_call.specs.Inputs.{are_inputs_there}
+use Rattle.cx_region_state.specs.Call.{Call, call_of}
+use Rattle.cx_region_state.specs.Inputs.{are_inputs_there}
 use Rattle.cx_service.specs.Lines.{AreLinesOf}
 use Rattle.cx_storage.specs.Storage.{Storage}
 use Rattle.cx_region_commands.specs.CommandVerdicts.{HasVerdict, JudgedBy}
@@ -27,9 +27,9 @@ use Rattle.cx_region_commands.specs.ReadqTs.{ReadqRow, Reads, ReadsItem, item_as
 use Rattle.cx_region_commands.specs.Xctl.{Copies, Transfers, XctlRow, XctlTo, copying_to, replaces}
 use Rattle.cx_region_commands.specs.declared.common.Called.{Called}
 use Rattle.cx_region_commands.specs.declared.readq_ts.Reading.{Reading}
-use Rattle.cx_region_call.specs.Inputs.{is_length_negative}
-use Rattle.cx_region_call.specs.declared.call.CallFault.{CallFault}
-use Rattle.cx_region_call.specs.declared.inputs.StorageSpan.{StorageSpan}
+use Rattle.cx_region_state.specs.Inputs.{is_length_negative}
+use Rattle.cx_region_state.specs.declared.call.CallFault.{CallFault}
+use Rattle.cx_region_state.specs.declared.inputs.StorageSpan.{StorageSpan}
 use Rattle.cx_region_state.specs.Areas.{bytes_in, first_of_tasks, last_of_tasks, with_copy_area}
 use Rattle.cx_region_state.specs.State.{Input, TaskContext, TaskState}
 use Rattle.cx_region_state.specs.declared.replies.TurnReply.{TurnReply}
@@ -249,13 +249,13 @@ starts old name terminal input tran =
     (λ program. optional_key _ _ (program_of old program) (only_answers key.NoSuchTransaction old) (λ loaded. attaches_somehow old name terminal input tran program loaded))
 
 gives : (old : RegionState) (name : List ℕ) (terminal : TerminalState) (input : Input) → Answered (Gives old name terminal input)
-gives old name terminal input = optional_key _ _ terminal.input (key.Given, _, (refl, refl)) (λ held. only_answers key.AlreadyHeldInput old)
+gives old name terminal input = optional_key _ _ terminal.entry.input (key.Given, _, (refl, refl)) (λ held. only_answers key.AlreadyHeldInput old)
 
 takes_key : (old : RegionState) (name : List ℕ) (input : Input) → Answered (TakesKey old name input)
 unfolding TakesKey
 takes_key old name input =
     optional_key _ _ (terminal_of old name) (only_answers key.NoSuchTerminal old)
-    (λ terminal. optional_key _ _ terminal.task (starts old name terminal input (transaction_named terminal.following input.bytes)) (λ task. gives old name terminal input))
+    (λ terminal. optional_key _ _ terminal.task (starts old name terminal input (transaction_named terminal.entry.following input.bytes)) (λ task. gives old name terminal input))
 
 abbrev TurnEnds : (TurnReply → RegionState → Type 0) → Type 0
 TurnEnds P = (reply : TurnReply) × (new : RegionState) × P reply new
@@ -294,13 +294,13 @@ by_fault P None old defined = defined
 by_fault P (Some fault) old defined = (Err fault, old, (refl, refl))
 
 loads : ImagesAreLoaded → (old : RegionState) (name : List ℕ) (image : Image) → IsFit image → Defined (LoadsProgram old name image)
-loads loading old name image fit = go (found_place old.storage first_of_programs last_of_programs (length image.text))
+loads loading old name image fit = go (found_place old.shared.storage first_of_programs last_of_programs (length image.text))
   where
-    go : (place : Option ℕ) × IsProgramPlace old.storage (length image.text) place → Defined (LoadsProgram old name image)
+    go : (place : Option ℕ) × IsProgramPlace old.shared.storage (length image.text) place → Defined (LoadsProgram old name image)
     go (None, none) = (Err NoRoom, old, (none, refl))
     go (Some at, place) =
-        let done = loading old.storage image at fit place in
-        (Ok done.0, record old { programs = insert_entry is_name old.programs name done.0; storage = done.1 }, (done.2, refl))
+        let done = loading old.shared.storage image at fit place in
+        (Ok done.0, record old { shared = record old.shared { programs = insert_entry is_name old.shared.programs name done.0; storage = done.1 } }, (done.2, refl))
 
 pub events_have_outcomes : ImagesAreLoaded → HalfTurnsHaveEnds → EventsHaveOutcomes
 unfolding Applies DefinesProgram DefinesTransaction DefinesTerminal

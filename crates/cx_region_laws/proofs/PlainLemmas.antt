@@ -4,12 +4,12 @@ use Rattle.std.specs.Prelude.{◌&&◌, ◌||◌, ◌⊎◌, is_none, not, Match
 use Rattle.std.specs.Option.{option_map_or}
 use Rattle.std.specs.List.{AllByRecursion}
 use Rattle.std.proofs.lemmas.Bool.{cases_Bool, ltb-true}
-use Rattle.cx_base_commands.specs.declared.abends.Abend.TheVariants as abend
-use Rattle.cx_base_commands.specs.declared.commands.Command.{Command}
-use Rattle.cx_base_commands.specs.declared.commands.Command.TheVariants as command
-use Rattle.cx_base_commands.specs.declared.conditions.Condition.TheVariants.{Invreq, Lengerr, Qiderr}
-use Rattle.cx_base_commands.specs.declared.options.OptionName.TheVariants as option
-use Rattle.cx_base_commands.specs.Arguments.{bytes_of_length}
+use Rattle.cx_base.specs.declared.abends.Abend.TheVariants as abend
+use Rattle.cx_base.specs.declared.commands.Command.{Command}
+use Rattle.cx_base.specs.declared.commands.Command.TheVariants as command
+use Rattle.cx_base.specs.declared.conditions.Condition.TheVariants.{Invreq, Lengerr, Qiderr}
+use Rattle.cx_base.specs.declared.options.OptionName.TheVariants as option
+use Rattle.cx_base.specs.Arguments.{bytes_of_length}
 use Rattle.cx_storage.specs.Storage.{Storage, area_at}
 use Rattle.cx_program.specs.declared.entries.Handling.{Handling}
 use Rattle.cx_program.specs.declared.level.Level.{Level}
@@ -17,12 +17,12 @@ use Rattle.cx_service.specs.declared.faults.ServiceFault.{ServiceFault}
 use Rattle.cx_service.specs.declared.faults.ServiceFault.TheVariants as fault
 use Rattle.cx_service.specs.Queues.{Queues, count_of, read_fault, rewrite_fault, write_fault}
 use Rattle.cx_service.specs.Resources.{enq_fault}
-use Rattle.cx_region_call.specs.Call.{Call}
-use Rattle.cx_region_call.specs.declared.inputs.StorageSpan.{StorageSpan}
-use Rattle.cx_region_call.specs.declared.outputs.Output.{Output}
-use Rattle.cx_region_call.specs.declared.outputs.OutputValue.{OutputValue}
-use Rattle.cx_region_call.specs.declared.outputs.OutputValue.TheVariants.{Half, Text, Word}
-use Rattle.cx_region_call.specs.Inputs.{halfword_of, is_length_negative, length_option}
+use Rattle.cx_region_state.specs.Call.{Call}
+use Rattle.cx_region_state.specs.declared.inputs.StorageSpan.{StorageSpan}
+use Rattle.cx_region_state.specs.declared.outputs.Output.{Output}
+use Rattle.cx_region_state.specs.declared.outputs.OutputValue.{OutputValue}
+use Rattle.cx_region_state.specs.declared.outputs.OutputValue.TheVariants.{Half, Text, Word}
+use Rattle.cx_region_state.specs.Inputs.{halfword_of, is_length_negative, length_option}
 use Rattle.cx_region_state.specs.Areas.{IsTaskPlace}
 use Rattle.cx_region_state.specs.State.{Input, TaskContext}
 use Rattle.cx_region_state.specs.declared.verdict.TaskChange.{TaskChange}

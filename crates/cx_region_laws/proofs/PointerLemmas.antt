@@ -2,20 +2,20 @@
 use Rattle.std.proofs.Common.{◌≡◌, ℕ, ◌^◌, ◌<◌, Bool, true, false, Option, Some, None, List, [], ◌∷◌, ◌++◌, length, slice_index, refl, sym, ◌∙◌, ap, subst, arith, inl, inr}
 use Rattle.std.specs.Prelude.{◌||◌, Ok, MatchBool}
 use Rattle.std.specs.List.{list_any}
-use Rattle.cx_base_commands.specs.Abends.{abend_code}
-use Rattle.cx_base_commands.specs.declared.abends.Abend.TheVariants as abend
-use Rattle.cx_base_commands.specs.declared.conditions.Condition.{Condition}
-use Rattle.cx_base_commands.specs.Eib.{eib_len}
+use Rattle.cx_base.specs.Abends.{abend_code}
+use Rattle.cx_base.specs.declared.abends.Abend.TheVariants as abend
+use Rattle.cx_base.specs.declared.conditions.Condition.{Condition}
+use Rattle.cx_base.specs.Eib.{eib_len}
 use Rattle.cx_exec.specs.declared.machine.Halt.{Halt}
 use Rattle.cx_exec.specs.declared.machine.Halt.TheVariants as halt
 use Rattle.cx_storage.specs.Address.{address_in, address_after}
 use Rattle.cx_storage.specs.Storage.{Storage, byte_at, with_area}
-use Rattle.cx_region_call.specs.declared.outputs.Output.{Output}
-use Rattle.cx_region_call.specs.declared.outputs.OutputValue.TheVariants.{Word}
-use Rattle.cx_region_call.specs.Call.{Call, call_of, resp_place}
-use Rattle.cx_region_call.specs.Facts.Inputs.{place_below}
-use Rattle.cx_region_call.specs.Laws.Calls.{CallIsRead}
-use Rattle.cx_region_call.specs.Outputs.{bytes_from, can_put, put_out}
+use Rattle.cx_region_state.specs.declared.outputs.Output.{Output}
+use Rattle.cx_region_state.specs.declared.outputs.OutputValue.TheVariants.{Word}
+use Rattle.cx_region_state.specs.Call.{Call, call_of, resp_place}
+use Rattle.cx_region_state.specs.Facts.Inputs.{place_below}
+use Rattle.cx_region_state.specs.Laws.Calls.{CallIsRead}
+use Rattle.cx_region_state.specs.Outputs.{bytes_from, can_put, put_out}
 use Rattle.cx_region_commands.specs.Common.{output as output_of}
 use Rattle.cx_region_commands.specs.CommandVerdicts.{HasVerdict}
 use Rattle.cx_region_state.specs.declared.replies.TurnReply.TheVariants as turn

@@ -2,21 +2,21 @@
 use Rattle.std.proofs.Common.{◌≡◌, ℕ, ◌+◌, ◌^◌, ◌<◌, ◌≤◌, true, false, Option, Some, None, is_some, List, [], ◌∷◌, slice_index, refl, sym, ◌∙◌, ap, subst, arith}
 use Rattle.std.specs.Prelude.{Ok}
 use Rattle.std.specs.Int.{w16, w32, to_be_bytes}
-use Rattle.cx_base_commands.specs.declared.conditions.Condition.{Condition}
-use Rattle.cx_base_commands.specs.declared.eib.EibField.{EibField}
-use Rattle.cx_base_commands.specs.declared.eib.EibField.TheVariants.{Calen, Fn, Rcode, Resp, Rsrce}
-use Rattle.cx_base_commands.specs.Eib.{eib_field, eib_len}
+use Rattle.cx_base.specs.declared.conditions.Condition.{Condition}
+use Rattle.cx_base.specs.declared.eib.EibField.{EibField}
+use Rattle.cx_base.specs.declared.eib.EibField.TheVariants.{Calen, Fn, Rcode, Resp, Rsrce}
+use Rattle.cx_base.specs.Eib.{eib_field, eib_len}
 use Rattle.cx_storage.specs.Address.{address_after}
 use Rattle.cx_storage.specs.Storage.{Storage, after_write, area_from, byte_at, span, AreOrdered, IsSound as IsSoundStorage}
 use Rattle.cx_storage.specs.Facts.Areas.{area_bounds, area_span}
 use Rattle.cx_storage.specs.Facts.Spans.{span_at, span_first, span_from, span_length}
 use Rattle.cx_storage.specs.Facts.Writes.{span_present_after_write}
-use Rattle.cx_region_call.specs.declared.answer.Answer.{Answer}
-use Rattle.cx_region_call.specs.declared.outputs.Output.{Output}
-use Rattle.cx_region_call.specs.Answer.{resource_of, with_answer, with_eib}
-use Rattle.cx_region_call.specs.Call.{Call, call_of, place_of, resp_place}
-use Rattle.cx_region_call.specs.Laws.Calls.{CallIsRead}
-use Rattle.cx_region_call.specs.Outputs.{bytes_from, put_out, with_output}
+use Rattle.cx_region_state.specs.declared.answer.Answer.{Answer}
+use Rattle.cx_region_state.specs.declared.outputs.Output.{Output}
+use Rattle.cx_region_state.specs.Answer.{resource_of, with_answer, with_eib}
+use Rattle.cx_region_state.specs.Call.{Call, call_of, place_of, resp_place}
+use Rattle.cx_region_state.specs.Laws.Calls.{CallIsRead}
+use Rattle.cx_region_state.specs.Outputs.{bytes_from, put_out, with_output}
 use Rattle.cx_region_commands.specs.CommandVerdicts.{HasVerdict}
 use Rattle.cx_region_commands.specs.Facts.Fits.{judged_fits}
 use Rattle.cx_region_state.specs.Areas.{IsAreaOf, system_owner}

@@ -3,9 +3,9 @@ use Rattle.std.proofs.Common.{◌≡◌, ℕ, Bool, true, false, nat_lt, List, [
 use Rattle.std.specs.Prelude.{◌&&◌, is_none, MatchOption}
 use Rattle.std.specs.Option.{option_map_or}
 use Rattle.std.proofs.lemmas.Bool.{cases_Bool, true≢false}
-use Rattle.cx_base_commands.specs.declared.conditions.Condition.TheVariants.{Invreq, Lengerr, Pgmiderr, Qiderr}
-use Rattle.cx_base_commands.specs.declared.abends.Abend.TheVariants as abend
-use Rattle.cx_base_commands.specs.declared.options.OptionName.TheVariants as option
+use Rattle.cx_base.specs.declared.conditions.Condition.TheVariants.{Invreq, Lengerr, Pgmiderr, Qiderr}
+use Rattle.cx_base.specs.declared.abends.Abend.TheVariants as abend
+use Rattle.cx_base.specs.declared.options.OptionName.TheVariants as option
 use Rattle.cx_storage.specs.Storage.{Storage, area_at}
 use Rattle.cx_program.specs.declared.entries.Handling.{Handling}
 use Rattle.cx_service.specs.declared.faults.ServiceFault.{ServiceFault}
@@ -13,9 +13,9 @@ use Rattle.cx_service.specs.declared.faults.ServiceFault.TheVariants as fault
 use Rattle.cx_service.specs.declared.resources.ResourceName.{ResourceName}
 use Rattle.cx_service.specs.Queues.{Queues, count_of, read_fault, rewrite_fault, write_fault}
 use Rattle.cx_service.specs.Resources.{enq_fault}
-use Rattle.cx_region_call.specs.Call.{Call}
-use Rattle.cx_region_call.specs.Inputs.{is_length_negative, length_option}
-use Rattle.cx_region_call.specs.declared.inputs.StorageSpan.{StorageSpan}
+use Rattle.cx_region_state.specs.Call.{Call}
+use Rattle.cx_region_state.specs.Inputs.{is_length_negative, length_option}
+use Rattle.cx_region_state.specs.declared.inputs.StorageSpan.{StorageSpan}
 use Rattle.cx_region_state.specs.State.{Input, TaskContext}
 use Rattle.cx_region_state.specs.declared.verdict.TaskChange.{TaskChange}
 use Rattle.cx_region_state.specs.declared.verdict.TaskChange.TheVariants.{Nothing, Makes, Ends, Gets, Enters, Replaces}

@@ -4,11 +4,11 @@ use Rattle.cx_program.specs.declared.entries.Handler.TheVariants.{Label, NoEntry
 use Rattle.std.specs.Option.{option_map_or}
 use Rattle.std.specs.Prelude.{MatchBool, unwrap_or}
 use Rattle.std.proofs.lemmas.List.{length-drop}
-use Rattle.cx_base_commands.specs.Abends.{abend_code}
-use Rattle.cx_base_commands.specs.declared.abends.Abend.TheVariants as abend
+use Rattle.cx_base.specs.Abends.{abend_code}
+use Rattle.cx_base.specs.declared.abends.Abend.TheVariants as abend
 use Rattle.cx_exec.specs.declared.machine.Halt.{Halt}
 use Rattle.cx_exec.specs.declared.machine.Halt.TheVariants as halt
-use Rattle.cx_region_call.specs.declared.listed.Listed.{Listed}
+use Rattle.cx_region_state.specs.declared.listed.Listed.{Listed}
 use Rattle.cx_program.specs.declared.entries.Handling.{Handling}
 use Rattle.cx_program.specs.declared.level.Level.{Level}
 use Rattle.cx_program.specs.Handles.{Handles, after_pop, put_entry}

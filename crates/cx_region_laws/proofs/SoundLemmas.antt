@@ -9,7 +9,7 @@ use Rattle.cx_load.specs.declared.program.Loaded.{Loaded}
 use Rattle.cx_load.specs.Fault.{IsFit}
 use Rattle.cx_load.specs.Facts.Faults.{facts_of_fit}
 use Rattle.cx_region_state.specs.State.{Input, TaskState}
-use Rattle.cx_base_lists.specs.Facts.Tables.{distinct-insert_entry}
+use Rattle.cx_base.specs.Facts.Tables.{distinct-insert_entry}
 use Rattle.cx_region_task.specs.Laws.HalfTurns.{HalfTurnsKeep}
 use Rattle.cx_region.specs.declared.changes.AlterReply.{AlterReply}
 use Rattle.cx_region.specs.declared.changes.AlterReply.TheVariants as alter
@@ -44,8 +44,8 @@ program_kept old new name image result ok fit parts h = by_fault (program_fault 
     loads : (answer : Result Loaded DefineFault) → program_fault old name ≡ None → LoadsProgram old name image answer new → IsSound new
     loads (Ok loaded) free h =
         subst IsSound (sym h.1)
-        (sound_program old name image loaded new.storage (insert_entry is_name old.programs name loaded) ok parts.storage (facts_of_fit image fit).nonempty
-        (sound_loaded old.storage new.storage image loaded fit h.0) free h.0 refl (distinct-insert_entry is_name is_name-laws old.programs name loaded ok.programs_distinct))
+        (sound_program old name image loaded new.shared.storage (insert_entry is_name old.shared.programs name loaded) ok parts.storage (facts_of_fit image fit).nonempty
+        (sound_loaded old.shared.storage new.shared.storage image loaded fit h.0) free h.0 refl (distinct-insert_entry is_name is_name-laws old.shared.programs name loaded ok.programs_distinct))
     loads (Err NoRoom) free h = subst IsSound (sym h.1) ok
     loads (Err _) free h = absurd h
 
@@ -103,23 +103,23 @@ clock_kept old time date ok first second =
 
 -- ---- keys
 abbrev started : TerminalState → List ℕ → List ℕ → Loaded → Start
-started t tran program loaded = record { slot = t.slot; tran = tran; program = program; loaded = loaded; calen = length (commarea_kept t.following) }
+started t tran program loaded = record { slot = t.entry.slot; tran = tran; program = program; loaded = loaded; calen = length (commarea_kept t.entry.following) }
 
 attach_kept : (old new : RegionState) (name : List ℕ) (t : TerminalState) (input : Input) (program : List ℕ) (loaded : Loaded) (reply : KeyReply) → IsSound old → ArePartsSound new
-    → terminal_of old name ≡ Some t → t.task ≡ None → transaction_of old (transaction_named t.following input.bytes) ≡ Some program → program_of old program ≡ Some loaded
-    → Attaches old name t input (transaction_named t.following input.bytes) program loaded reply new → IsSound new
+    → terminal_of old name ≡ Some t → t.task ≡ None → transaction_of old (transaction_named t.entry.following input.bytes) ≡ Some program → program_of old program ≡ Some loaded
+    → Attaches old name t input (transaction_named t.entry.following input.bytes) program loaded reply new → IsSound new
 attach_kept old new name t input program loaded key.Attached ok parts there idle defined found h =
-    let tran = transaction_named t.following input.bytes in
-    let kept = commarea_kept t.following in
+    let tran = transaction_named t.entry.following input.bytes in
+    let kept = commarea_kept t.entry.following in
     let start = started t tran program loaded in
     let starting : Starting old name input.bytes start =
     record { terminal = t; there = there; idle = idle; slot = refl; tran = refl; defined = defined; program = found; calen = refl } in
-    let storage_is : new.storage ≡ (with_task_attached old name t input tran program loaded h.areas).storage = ap (λ (r : RegionState). r.storage) h.after in
+    let storage_is : new.shared.storage ≡ (with_task_attached old name t input tran program loaded h.areas).shared.storage = ap (λ (r : RegionState). r.shared.storage) h.after in
     let ts = set_value (is_name name) old.terminals (with_task t input (task_of_start start (next_number old.counter) h.areas)) in
-    let sound : IsSound (record old { storage = new.storage; terminals = ts; counter = next_number old.counter }) =
-    sound_attached old name input.bytes start input h.areas (eib_at_attach old name tran (length kept) input.aid) kept (level_of start h.areas) new.storage ts
+    let sound : IsSound (record old { shared = record old.shared { storage = new.shared.storage }; terminals = ts; counter = next_number old.counter }) =
+    sound_attached old name input.bytes start input h.areas (eib_at_attach old name tran (length kept) input.aid) kept (level_of start h.areas) new.shared.storage ts
     ok starting parts.storage h.placed storage_is refl in
-    subst IsSound (sym (h.after ∙ (λ i. record old { storage = sym storage_is i; terminals = ts; counter = next_number old.counter }))) sound
+    subst IsSound (sym (h.after ∙ (λ i. record old { shared = record old.shared { storage = sym storage_is i }; terminals = ts; counter = next_number old.counter }))) sound
 attach_kept old new name t input program loaded key.NoStorage ok parts there idle defined found h = subst IsSound (sym h.1) ok
 attach_kept old new name t input program loaded _ ok parts there idle defined found h = absurd h
 
@@ -131,30 +131,30 @@ key_kept old new name input reply ok parts h = at_terminal (terminal_of old name
     only due h = subst IsSound (sym h.1) ok
 
     at_program : (t : TerminalState) (program : List ℕ) (o : Option Loaded) → program_of old program ≡ o → terminal_of old name ≡ Some t → t.task ≡ None
-        → transaction_of old (transaction_named t.following input.bytes) ≡ Some program
-        → MatchOption o (OnlyAnswers key.NoSuchTransaction old reply new) (λ loaded. Attaches old name t input (transaction_named t.following input.bytes) program loaded reply new) → IsSound new
+        → transaction_of old (transaction_named t.entry.following input.bytes) ≡ Some program
+        → MatchOption o (OnlyAnswers key.NoSuchTransaction old reply new) (λ loaded. Attaches old name t input (transaction_named t.entry.following input.bytes) program loaded reply new) → IsSound new
     at_program t program None found there idle defined h = only key.NoSuchTransaction h
     at_program t program (Some loaded) found there idle defined h = attach_kept old new name t input program loaded reply ok parts there idle defined found h
 
-    at_tran : (t : TerminalState) (o : Option (List ℕ)) → transaction_of old (transaction_named t.following input.bytes) ≡ o → terminal_of old name ≡ Some t → t.task ≡ None
+    at_tran : (t : TerminalState) (o : Option (List ℕ)) → transaction_of old (transaction_named t.entry.following input.bytes) ≡ o → terminal_of old name ≡ Some t → t.task ≡ None
         → MatchOption o (OnlyAnswers key.NoSuchTransaction old reply new) (λ program.
-        MatchOption (program_of old program) (OnlyAnswers key.NoSuchTransaction old reply new) (λ loaded. Attaches old name t input (transaction_named t.following input.bytes) program loaded reply new)) → IsSound new
+        MatchOption (program_of old program) (OnlyAnswers key.NoSuchTransaction old reply new) (λ loaded. Attaches old name t input (transaction_named t.entry.following input.bytes) program loaded reply new)) → IsSound new
     at_tran t None defined there idle h = only key.NoSuchTransaction h
     at_tran t (Some program) defined there idle h = at_program t program (program_of old program) refl there idle defined h
 
-    at_input : (t : TerminalState) (task : TaskState) (o : Option Input) → t.input ≡ o → terminal_of old name ≡ Some t → t.task ≡ Some task
-        → MatchOption o ((reply ≡ key.Given) × (new ≡ with_terminal old name (record t { input = Some input }))) (λ held. OnlyAnswers key.AlreadyHeldInput old reply new) → IsSound new
+    at_input : (t : TerminalState) (task : TaskState) (o : Option Input) → t.entry.input ≡ o → terminal_of old name ≡ Some t → t.task ≡ Some task
+        → MatchOption o ((reply ≡ key.Given) × (new ≡ with_terminal old name (record t { entry = record t.entry { input = Some input } }))) (λ held. OnlyAnswers key.AlreadyHeldInput old reply new) → IsSound new
     at_input t task None none there live h =
         let giving : Giving old name = record { terminal = t; there = there; task = task; live = live; none = none } in
-        subst IsSound (sym h.1) (sound_given old name input (set_value (is_name name) old.terminals (record t { input = Some input })) ok giving refl)
+        subst IsSound (sym h.1) (sound_given old name input (set_value (is_name name) old.terminals (record t { entry = record t.entry { input = Some input } })) ok giving refl)
     at_input t task (Some held) is there live h = only key.AlreadyHeldInput h
 
     at_task : (t : TerminalState) (o : Option TaskState) → t.task ≡ o → terminal_of old name ≡ Some t
-        → MatchOption o (StartsTask old name t input (transaction_named t.following input.bytes) reply new) (λ task. Gives old name t input reply new) → IsSound new
-    at_task t None idle there h = at_tran t (transaction_of old (transaction_named t.following input.bytes)) refl there idle h
-    at_task t (Some task) live there h = at_input t task t.input refl there live h
+        → MatchOption o (StartsTask old name t input (transaction_named t.entry.following input.bytes) reply new) (λ task. Gives old name t input reply new) → IsSound new
+    at_task t None idle there h = at_tran t (transaction_of old (transaction_named t.entry.following input.bytes)) refl there idle h
+    at_task t (Some task) live there h = at_input t task t.entry.input refl there live h
 
-    at_terminal : (o : Option TerminalState) → terminal_of old name ≡ o → MatchOption o (OnlyAnswers key.NoSuchTerminal old reply new) (λ t. MatchOption t.task (StartsTask old name t input (transaction_named t.following input.bytes) reply new) (λ task. Gives old name t input reply new)) → IsSound new
+    at_terminal : (o : Option TerminalState) → terminal_of old name ≡ o → MatchOption o (OnlyAnswers key.NoSuchTerminal old reply new) (λ t. MatchOption t.task (StartsTask old name t input (transaction_named t.entry.following input.bytes) reply new) (λ task. Gives old name t input reply new)) → IsSound new
     at_terminal None there h = only key.NoSuchTerminal h
     at_terminal (Some t) there h = at_task t t.task refl there h
 

@@ -8,9 +8,9 @@ use Rattle.std.specs.Int.{w16, w32, to_be_bytes}
 use Rattle.std.proofs.lemmas.Bool.{cases_Bool, ltb-false, true≢false}
 use Rattle.std.proofs.lemmas.List.{length-replicate}
 use Rattle.std.proofs.lemmas.Option.{get_or_from_slice_get, slice_get-get_or}
-use Rattle.cx_base_commands.specs.Eib.{eib_field, eib_len}
-use Rattle.cx_base_commands.specs.declared.eib.EibField.{EibField}
-use Rattle.cx_base_commands.specs.declared.eib.EibField.TheVariants.{Aid, Calen, Fn, Rcode, Resp, Rsrce}
+use Rattle.cx_base.specs.Eib.{eib_field, eib_len}
+use Rattle.cx_base.specs.declared.eib.EibField.{EibField}
+use Rattle.cx_base.specs.declared.eib.EibField.TheVariants.{Aid, Calen, Fn, Rcode, Resp, Rsrce}
 use Rattle.cx_storage.specs.declared.areas.Owner.{Owner}
 use Rattle.cx_storage.specs.Address.{address_after, distance}
 use Rattle.cx_storage.specs.Storage.{Held, Storage, area_from, byte_at, covers, put_held, span, with_area, after_write, zeros}
@@ -18,15 +18,15 @@ use Rattle.cx_storage.specs.Word.{word_at}
 use Rattle.cx_storage.specs.Facts.Sound.{covers_cases}
 use Rattle.cx_storage.specs.Facts.Spans.{span_at, span_from}
 use Rattle.cx_storage.specs.Facts.Writes.{present_after_write, span_after_write, span_present_after_write, written_none, written_whole}
-use Rattle.cx_region_call.specs.declared.answer.Answer.{Answer}
-use Rattle.cx_region_call.specs.declared.outputs.Output.{Output}
-use Rattle.cx_region_call.specs.declared.outputs.OutputValue.{OutputValue}
-use Rattle.cx_region_call.specs.declared.outputs.OutputValue.TheVariants.{Half, Text, Word}
-use Rattle.cx_region_call.specs.Answer.{with_answer, with_eib, with_set}
-use Rattle.cx_region_call.specs.Call.{Call, place_of, resp_place}
-use Rattle.cx_region_call.specs.Eib.{Content, content, with_calen, with_field}
-use Rattle.cx_region_call.specs.Outputs.{bytes_from, can_put, is_room, put_out, with_output}
-use Rattle.cx_region_call.specs.Facts.Inputs.{place_below}
+use Rattle.cx_region_state.specs.declared.answer.Answer.{Answer}
+use Rattle.cx_region_state.specs.declared.outputs.Output.{Output}
+use Rattle.cx_region_state.specs.declared.outputs.OutputValue.{OutputValue}
+use Rattle.cx_region_state.specs.declared.outputs.OutputValue.TheVariants.{Half, Text, Word}
+use Rattle.cx_region_state.specs.Answer.{with_answer, with_eib, with_set}
+use Rattle.cx_region_state.specs.Call.{Call, place_of, resp_place}
+use Rattle.cx_region_state.specs.Eib.{Content, content, with_calen, with_field}
+use Rattle.cx_region_state.specs.Outputs.{bytes_from, can_put, is_room, put_out, with_output}
+use Rattle.cx_region_state.specs.Facts.Inputs.{place_below}
 use Rattle.cx_region_laws.specs.Laws.Bytes.{is_among, is_in_output}
 use Rattle.cx_region_laws.proofs.OthersLemmas.{bytes_elsewhere}
 use Rattle.cx_region_laws.proofs.PlainLemmas.{AreShort, IsShort}

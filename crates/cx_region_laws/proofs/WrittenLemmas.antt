@@ -4,21 +4,21 @@ use Rattle.std.specs.Prelude.{◌||◌, if◌then◌else◌}
 use Rattle.std.specs.Option.{option_and_then, option_map, option_or}
 use Rattle.std.specs.List.{AllByRecursion, list_any}
 use Rattle.std.specs.Int.{w16, w32, to_be_bytes}
-use Rattle.cx_base_commands.specs.Eib.{eib_field, eib_len}
-use Rattle.cx_base_commands.specs.declared.eib.EibField.{EibField}
-use Rattle.cx_base_commands.specs.declared.eib.EibField.TheVariants.{Aid, Calen, Fn, Rcode, Resp, Rsrce}
-use Rattle.cx_base_commands.specs.declared.options.OptionName.{OptionName}
-use Rattle.cx_base_commands.specs.declared.options.OptionName.TheVariants.{Program, Queue}
+use Rattle.cx_base.specs.Eib.{eib_field, eib_len}
+use Rattle.cx_base.specs.declared.eib.EibField.{EibField}
+use Rattle.cx_base.specs.declared.eib.EibField.TheVariants.{Aid, Calen, Fn, Rcode, Resp, Rsrce}
+use Rattle.cx_base.specs.declared.options.OptionName.{OptionName}
+use Rattle.cx_base.specs.declared.options.OptionName.TheVariants.{Program, Queue}
 use Rattle.cx_storage.specs.Storage.{Storage, span}
 use Rattle.cx_storage.specs.Facts.Spans.{span_length}
-use Rattle.cx_region_call.specs.declared.answer.Answer.{Answer}
-use Rattle.cx_region_call.specs.declared.outputs.Output.{Output}
-use Rattle.cx_region_call.specs.Answer.{with_answer, resource_of, with_eib, with_set}
-use Rattle.cx_region_call.specs.Call.{Call, has_resp, place_of, resp_place}
-use Rattle.cx_region_call.specs.Eib.{Content, content, with_calen, with_field}
-use Rattle.cx_region_call.specs.Inputs.{bytes_of}
-use Rattle.cx_region_call.specs.Outputs.{bytes_from, put_out, with_output}
-use Rattle.cx_region_call.specs.Facts.Inputs.{place_below}
+use Rattle.cx_region_state.specs.declared.answer.Answer.{Answer}
+use Rattle.cx_region_state.specs.declared.outputs.Output.{Output}
+use Rattle.cx_region_state.specs.Answer.{with_answer, resource_of, with_eib, with_set}
+use Rattle.cx_region_state.specs.Call.{Call, has_resp, place_of, resp_place}
+use Rattle.cx_region_state.specs.Eib.{Content, content, with_calen, with_field}
+use Rattle.cx_region_state.specs.Inputs.{bytes_of}
+use Rattle.cx_region_state.specs.Outputs.{bytes_from, put_out, with_output}
+use Rattle.cx_region_state.specs.Facts.Inputs.{place_below}
 use Rattle.cx_region_laws.specs.Laws.Bytes.{is_among, is_in_output, others_storage}
 use Rattle.cx_region_laws.proofs.OthersLemmas.{Left, left_on, left_same, left_write}
 use Rattle.cx_region_laws.proofs.AppliedLemmas.{Own, own_same, write_in}

@@ -17,7 +17,7 @@ ghost use Rattle.cx_region_laws.specs.Laws.TaskMemory.{OnlyTheseTakeMemory};
 pub fn commands_leave_others()
     ensures { CommandsLeaveOthers }
 {
-    cx_region_call::laws::call_is_read();
+    cx_region_state::laws::call_is_read();
 }
 
 /// Where a program goes on after its command, it does so at the address in R14, with the registers and the code that it
@@ -27,7 +27,7 @@ pub fn a_pointer_stays()
     ensures program { ProgramsGoOn }
     ensures outputs { OutputsStay }
 {
-    cx_region_call::laws::call_is_read();
+    cx_region_state::laws::call_is_read();
 }
 
 /// A command that is performed reports itself: EIBFN is its function value, EIBRCODE and EIBRESP have the number of the
@@ -38,7 +38,7 @@ pub fn a_command_reports_itself()
     ensures performed { CommandsReport }
     ensures exits { ExitsFindReports }
 {
-    cx_region_call::laws::call_is_read();
+    cx_region_state::laws::call_is_read();
     cx_region_task::laws::half_turns_keep();
 }
 
@@ -47,7 +47,7 @@ pub fn eibcalen_is_the_current_levels()
     ensures turned { CalenIsTheLevels }
     ensures attached { AttachedCalenIsTheLevels }
 {
-    cx_region_call::laws::call_is_read();
+    cx_region_state::laws::call_is_read();
     cx_region_task::laws::half_turns_keep();
 }
 
@@ -57,7 +57,7 @@ pub fn an_entered_program_finds_its_commarea()
     ensures entered { EnteredFindCommareas }
     ensures attached { AttachedFindCommareas }
 {
-    cx_region_call::laws::call_is_read();
+    cx_region_state::laws::call_is_read();
     cx_region_task::laws::half_turns_keep();
 }
 

@@ -1,6 +1,7 @@
--- The hash of a region (this product's own): any function of its state will do, and it is made of what tasks change most.
+-- The hash of a region (this product's own): any function of its state will do, and it is made of what tasks change
+-- most.
 use Rattle.std.specs.Prelude.{ℕ, fold, length, Option, Some, None}
-use Rattle.cx_base_hash.specs.Hash.{hash_with, hash_of}
+use Rattle.cx_base.specs.Hash.{hash_with, hash_of}
 use Rattle.cx_storage_snapshot.specs.Hash.{storage_hash}
 use Rattle.cx_region_state.specs.State.{TaskState}
 use Rattle.cx_region.specs.State.{RegionState}
@@ -14,5 +15,5 @@ hash_with_task hash (Some task) = hash_with (hash_of hash task.regs) task.next
 unfoldable pub region_hash : RegionState → ℕ
 region_hash region =
     fold (λ hash entry. hash_with hash (length entry.1.items))
-    (fold (λ hash entry. hash_with_task hash entry.1.task) (storage_hash region.storage) region.terminals)
-    region.queues
+    (fold (λ hash entry. hash_with_task hash entry.1.task) (storage_hash region.shared.storage) region.terminals)
+    region.shared.queues

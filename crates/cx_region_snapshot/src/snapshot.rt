@@ -2,16 +2,14 @@
 ghost use Rattle.std.specs.Prelude.{◌≡◌, ◌↔◌, IsTrue, IfOk, OnOk, OnErr, ◌+◌, ◌<◌, [], fold, length, take};
 ghost use Rattle.std.specs.List.{IsDistinct};
 ghost use Rattle.std.specs.Map.{keys_of};
-ghost use Rattle.cx_base_hash.specs.Hash.{hash_with};
+ghost use Rattle.cx_base.specs.Hash.{hash_with};
 ghost use Rattle.cx_ebcdic.specs.Names.{is_name};
-ghost use Rattle.cx_region.specs.State.{shared_of};
 ghost use Rattle.cx_region_snapshot.specs.Hash.{region_hash, hash_with_task};
 
 use crate::terminal::TerminalSnapshot;
-use cx_base_copies::{
-    Replica, Same, are_same_items, are_same_tables, replica_of_table, share_replica,
+use cx_base::{
+    Replica, Same, are_same_items, are_same_tables, hash_with, replica_of_table, share_replica,
 };
-use cx_base_hash::hash_with;
 use cx_ebcdic::{Name4, Name8};
 use cx_load::Loaded;
 use cx_region::{Region, RegionParts, Shared, Terminal};
@@ -51,27 +49,31 @@ impl Model for RegionSnapshot {
 
     ghost view = { λ r.
         record {
-          storage = r.storage;
+          shared = record {
+            storage = r.storage;
+            programs = r.defined.value.programs.entries;
+            queues = r.queues.value;
+            resources = r.resources.value;
+          };
           time = r.time;
           date = r.date;
-          programs = r.defined.value.programs.entries;
           transactions = r.defined.value.transactions.entries;
           terminals = r.terminals.items;
-          queues = r.queues.value;
-          resources = r.resources.value;
           counter = r.counter;
         } };
 
     ghost invariant = { λ r.
         IsSound (record {
-          storage = r.storage;
+          shared = record {
+            storage = r.storage;
+            programs = r.defined.value.programs.entries;
+            queues = r.queues.value;
+            resources = r.resources.value;
+          };
           time = r.time;
           date = r.date;
-          programs = r.defined.value.programs.entries;
           transactions = r.defined.value.transactions.entries;
           terminals = r.terminals.items;
-          queues = r.queues.value;
-          resources = r.resources.value;
           counter = r.counter;
         }) };
 }
@@ -203,7 +205,7 @@ impl RegionSnapshot {
 
     /// What tasks share, as it was, in memory from where a region takes its own.
     fn shared_like<S: Store + Drop>(&self, shared: &Shared<S>) -> Result<Shared<S>, AllocError>
-        ensures { IfOk result (λ made. made ≡ shared_of self.now) }
+        ensures { IfOk result (λ made. made ≡ self.now.shared) }
     {
         let alloc = shared.alloc;
         Ok(Shared {

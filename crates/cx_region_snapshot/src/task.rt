@@ -1,9 +1,8 @@
 //! A task, kept apart from its region.
 ghost use Rattle.std.specs.Prelude.{◌≡◌, ◌↔◌, IsTrue, IfOk};
-ghost use Rattle.cx_base_hash.specs.Hash.{hash_with, hash_of};
+ghost use Rattle.cx_base.specs.Hash.{hash_with, hash_of};
 
-use cx_base_copies::Same;
-use cx_base_hash::{hash_of_words, hash_with};
+use cx_base::{Same, hash_of_words, hash_with};
 use cx_ebcdic::Name4;
 use cx_exec::Cpu;
 use cx_program::LevelsSnapshot;

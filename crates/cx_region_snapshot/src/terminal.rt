@@ -4,8 +4,7 @@ ghost use Rattle.std.specs.Option.{option_copied};
 ghost use Rattle.cx_region_snapshot.specs.Hash.{hash_with_task};
 
 use crate::task::TaskSnapshot;
-use cx_base_copies::{Replica, Same, share, share_replica};
-use cx_base_hash::hash_with;
+use cx_base::{Replica, Same, hash_with, share, share_replica};
 use cx_ebcdic::Name4;
 use cx_region::{Input, NextTransaction, Task, Terminal, TerminalEntry};
 use cx_service::Screen;
@@ -33,10 +32,12 @@ impl Model for TerminalSnapshot {
     ghost view = { λ terminal. (
       terminal.name,
       record {
-        slot = terminal.slot;
-        screen = terminal.screen.value;
-        input = terminal.input.value;
-        following = terminal.following.value;
+        entry = record {
+          slot = terminal.slot;
+          screen = terminal.screen.value;
+          input = terminal.input.value;
+          following = terminal.following.value;
+        };
         task = terminal.task.value;
       },
     ) };

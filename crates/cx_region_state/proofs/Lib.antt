@@ -1,0 +1,5 @@
+pub mod CallLemmas
+pub mod CallLawLemmas
+pub mod ListedLemmas
+pub mod ListedLawLemmas
+pub mod OutputLemmas

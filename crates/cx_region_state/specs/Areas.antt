@@ -3,8 +3,8 @@
 use Rattle.std.specs.Prelude.{◌≡◌, ℕ, ◌≤◌, ◌<◌, ◌^◌, List, [], ◌∷◌, Option, Some, None, unwrap_or}
 use Rattle.std.specs.Option.{option_map_or}
 use Rattle.std.specs.Int.{w32, to_be_bytes}
-use Rattle.cx_base_commands.specs.declared.eistg.EistgField.TheVariants.{Eicap}
-use Rattle.cx_base_commands.specs.Eistg.{eistg_field}
+use Rattle.cx_base.specs.declared.eistg.EistgField.TheVariants.{Eicap}
+use Rattle.cx_base.specs.Eistg.{eistg_field}
 use Rattle.cx_storage.specs.declared.areas.Owner.{Owner}
 use Rattle.cx_storage.specs.declared.areas.Kind.TheVariants.{Got, System}
 use Rattle.cx_storage.specs.Storage.{Storage, area_at, area_from, with_area, after_write}
@@ -13,8 +13,8 @@ use Rattle.cx_storage.specs.Place.{IsLeastPlace}
 use Rattle.cx_load.specs.declared.program.Loaded.{Loaded}
 use Rattle.cx_program.specs.declared.level.Level.{Level}
 use Rattle.cx_program.specs.Handles.{no_handles}
-use Rattle.cx_region_call.specs.declared.inputs.StorageSpan.{StorageSpan}
-use Rattle.cx_region_call.specs.Inputs.{piece_bytes}
+use Rattle.cx_region_state.specs.declared.inputs.StorageSpan.{StorageSpan}
+use Rattle.cx_region_state.specs.Inputs.{piece_bytes}
 use Rattle.cx_region_state.specs.declared.verdict.Copying.{Copying}
 use Rattle.cx_region_state.specs.declared.verdict.NewLevel.{NewLevel}
 

@@ -1,12 +1,23 @@
 -- The definitions, in reading order.
+pub mod Call
+pub mod Listed
+pub mod Inputs
+pub mod Outputs
+pub mod Eib
+pub mod Answer
+pub mod Laws
+pub mod Facts
+pub use Rattle.cx_base.specs.Commands
+pub use Rattle.cx_base.specs.Conditions
+pub use Rattle.cx_base.specs.Legal
+pub use Rattle.cx_storage.specs.Storage
+pub use Rattle.cx_storage.specs.Word
 pub mod State
 pub mod Replies
 pub mod Areas
 pub mod Verdicts
-pub mod Facts
 pub mod Parts
-pub use Rattle.cx_region_call.specs.Inputs
-pub use Rattle.cx_base_commands.specs.Eistg
+pub use Rattle.cx_region_state.specs.Inputs
+pub use Rattle.cx_base.specs.Eistg
 pub use Rattle.cx_storage.specs.Address
 pub use Rattle.cx_storage.specs.Place
-pub use Rattle.cx_storage.specs.Storage

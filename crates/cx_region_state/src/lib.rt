@@ -1,11 +1,28 @@
+//! A command's argument list read as a call; what the command reads and writes there, and what it reports in the
+//! EXEC interface block.
 //! What a half-turn of a task can reach, and how a command is judged, as data.
 #![tactic(auto)]
 
+mod answer;
+mod call;
+pub mod eib;
+mod inputs;
+pub mod laws;
+mod listed;
+mod outputs;
 mod replicas;
 mod replies;
 mod state;
 mod verdict;
 
+pub use answer::{Answer, put_answer, resource};
+pub use call::{Call, CallFault, read_call};
+pub use inputs::{
+    StorageSpan, are_inputs_there, halfword, is_length_negative, length_option, name4, name8,
+    piece_of, read_argument, signed_halfword,
+};
+pub use listed::{Listed, ListedConditions};
+pub use outputs::{Output, OutputValue, Outputs, can_put, put_outputs};
 pub use replies::TurnReply;
 pub use state::{Input, NextTransaction, Shared, Task, TerminalEntry};
 pub use verdict::{

@@ -2,7 +2,7 @@
 ghost use Rattle.std.specs.Prelude.{◌≡◌, ◌↔◌, IsTrue, IfOk};
 
 use crate::state::{Input, NextTransaction};
-use cx_base_copies::{Replica, Same};
+use cx_base::{Replica, Same};
 use std::alloc::{AllocError, Global};
 
 impl Same for Input {

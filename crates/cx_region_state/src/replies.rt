@@ -2,7 +2,7 @@
 ghost use Rattle.std.specs.Prelude.{◌≡◌};
 ghost use Rattle.cx_region_state.specs.Replies.{is_over, turn_reply_name};
 
-use cx_base_commands::Condition;
+use cx_base::Condition;
 use cx_ebcdic::Name4;
 
 /// What a turn is answered.

@@ -1,7 +1,7 @@
 //! What tasks share, a terminal without its task, and a task.
 ghost use Rattle.std.specs.Prelude.{◌≡◌, ◌≤◌};
 
-use cx_base_lists::List;
+use cx_base::List;
 use cx_ebcdic::{Aid, Name4, Name8};
 use cx_exec::Cpu;
 use cx_load::Loaded;

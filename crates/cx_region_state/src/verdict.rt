@@ -1,8 +1,8 @@
 //! How a command is judged, as data, before anything changes.
-use cx_base_commands::{Abend, Condition};
+use crate::{ListedConditions, Outputs, StorageSpan};
+use cx_base::{Abend, Condition};
 use cx_ebcdic::{Name4, Name8};
 use cx_load::Loaded;
-use cx_region_call::{ListedConditions, Outputs, StorageSpan};
 use cx_service::ResourceName;
 
 /// The first address of the range in which the areas of tasks lie.

@@ -1,13 +1,13 @@
 -- Why a half-turn leads to an abend is determined, and explains its reply.
 use Rattle.std.proofs.Common.{◌≡◌, ℕ, Bool, true, false, Option, Some, None, List, refl, sym, ◌∙◌, subst}
-use Rattle.cx_base_commands.specs.declared.conditions.Condition.TheVariants.{Error}
+use Rattle.cx_base.specs.declared.conditions.Condition.TheVariants.{Error}
 use Rattle.cx_program.specs.Entries.{entry_for}
 use Rattle.std.specs.Prelude.{MatchBool, if◌then◌else◌, ⊤, ◌||◌, is_some}
 use Rattle.std.specs.Option.{option_map}
-use Rattle.cx_base_commands.specs.Abends.{abend_code}
-use Rattle.cx_base_commands.specs.declared.abends.Abend.TheVariants as abend
-use Rattle.cx_base_commands.specs.declared.commands.Command.{Command}
-use Rattle.cx_base_commands.specs.declared.conditions.Condition.{Condition}
+use Rattle.cx_base.specs.Abends.{abend_code}
+use Rattle.cx_base.specs.declared.abends.Abend.TheVariants as abend
+use Rattle.cx_base.specs.declared.commands.Command.{Command}
+use Rattle.cx_base.specs.declared.conditions.Condition.{Condition}
 use Rattle.cx_exec.specs.declared.machine.Halt.{Halt}
 use Rattle.cx_exec.specs.declared.machine.Halt.TheVariants as halt
 use Rattle.cx_exec.specs.Machine.{Machine}
@@ -19,9 +19,9 @@ use Rattle.cx_program.specs.declared.entries.Entries.{Entries}
 use Rattle.cx_program.specs.declared.entries.Handler.{Handler}
 use Rattle.cx_program.specs.declared.entries.Handler.TheVariants as entry
 use Rattle.cx_program.specs.Handles.{abend_code as condition_code, choice as choice_by, choice_by_entry, waits}
-use Rattle.cx_base_commands.specs.Arguments.{has_option}
-use Rattle.cx_base_commands.specs.declared.options.OptionName.TheVariants.{Nosuspend}
-use Rattle.cx_region_call.specs.Call.{Call, has_nohandle, resp_place}
+use Rattle.cx_base.specs.Arguments.{has_option}
+use Rattle.cx_base.specs.declared.options.OptionName.TheVariants.{Nosuspend}
+use Rattle.cx_region_state.specs.Call.{Call, has_nohandle, resp_place}
 use Rattle.cx_region_commands.specs.Laws.Rows.{JudgedOnce}
 use Rattle.cx_region_state.specs.declared.replies.TurnReply.{TurnReply}
 use Rattle.cx_region_state.specs.declared.verdict.TaskChange.{TaskChange}

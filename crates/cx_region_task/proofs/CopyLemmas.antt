@@ -3,8 +3,8 @@ use Rattle.std.proofs.Common.{◌≡◌, ◌<◌, ◌≤◌, ◌^◌, ℕ, List,
 use Rattle.std.specs.Prelude.{MatchOption, IsTrue, ⊤}
 use Rattle.cx_storage.specs.Storage.{Storage, IsSound}
 use Rattle.cx_storage.specs.Facts.Spans.{span_length}
-use Rattle.cx_region_call.specs.declared.inputs.StorageSpan.{StorageSpan}
-use Rattle.cx_region_call.specs.Inputs.{piece_bytes}
+use Rattle.cx_region_state.specs.declared.inputs.StorageSpan.{StorageSpan}
+use Rattle.cx_region_state.specs.Inputs.{piece_bytes}
 use Rattle.cx_region_state.specs.declared.verdict.Copying.{Copying}
 use Rattle.cx_region_state.specs.Areas.{bytes_in, system_owner, with_copy_area}
 use Rattle.cx_region_state.specs.Facts.Areas.{given_back, place_below}

@@ -1,14 +1,14 @@
 -- What is decided is determined; who waits; and a wait leaves all as it is.
 use Rattle.std.proofs.Common.{◌≡◌, ℕ, Bool, true, false, Option, Some, None, List, refl, sym, ◌∙◌, ap}
 use Rattle.std.specs.Prelude.{Result, Ok, Err, MatchBool, MatchResult}
-use Rattle.cx_base_commands.specs.Abends.{abend_code}
-use Rattle.cx_base_commands.specs.declared.abends.Abend.TheVariants as abend
-use Rattle.cx_base_commands.specs.declared.conditions.Condition.{Condition}
+use Rattle.cx_base.specs.Abends.{abend_code}
+use Rattle.cx_base.specs.declared.abends.Abend.TheVariants as abend
+use Rattle.cx_base.specs.declared.conditions.Condition.{Condition}
 use Rattle.cx_exec.specs.declared.machine.Halt.{Halt}
 use Rattle.cx_exec.specs.declared.machine.Halt.TheVariants as halt
-use Rattle.cx_region_call.specs.declared.call.CallFault.{CallFault}
-use Rattle.cx_region_call.specs.Call.{Call, call_of}
-use Rattle.cx_region_call.specs.Inputs.{are_inputs_there}
+use Rattle.cx_region_state.specs.declared.call.CallFault.{CallFault}
+use Rattle.cx_region_state.specs.Call.{Call, call_of}
+use Rattle.cx_region_state.specs.Inputs.{are_inputs_there}
 use Rattle.cx_region_commands.specs.Laws.Rows.{JudgedOnce}
 use Rattle.cx_region_state.specs.declared.replies.TurnReply.{TurnReply}
 use Rattle.cx_region_state.specs.declared.replies.TurnReply.TheVariants as turn

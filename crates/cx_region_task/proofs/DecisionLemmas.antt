@@ -3,14 +3,14 @@ use Rattle.std.proofs.Common.{◌≡◌, ℕ, ◌<◌, ◌^◌, ◌+◌, Bool, t
 use Rattle.std.specs.Prelude.{Result, Ok, Err, drop}
 use Rattle.std.specs.List.{AllByRecursion}
 use Rattle.std.specs.Option.{ok_or}
-use Rattle.cx_base_commands.specs.declared.commands.Command.{Command}
-use Rattle.cx_base_commands.specs.declared.legal.ListedCondition.{ListedCondition}
+use Rattle.cx_base.specs.declared.commands.Command.{Command}
+use Rattle.cx_base.specs.declared.legal.ListedCondition.{ListedCondition}
 use Rattle.cx_storage.specs.Address.{address_in}
 use Rattle.cx_storage.specs.Storage.{Storage}
 use Rattle.cx_service.specs.Queues.{AreSoundQueues}
-use Rattle.cx_region_call.specs.declared.call.CallFault.{CallFault}
-use Rattle.cx_region_call.specs.declared.call.CallFault.TheVariants.{Xarg}
-use Rattle.cx_region_call.specs.Call.{ArgumentBlock, Call, argument_count, block_of, call_of, command_of, conditions_of, marks_last_alone, only_if, places_of, then_result, words_at}
+use Rattle.cx_region_state.specs.declared.call.CallFault.{CallFault}
+use Rattle.cx_region_state.specs.declared.call.CallFault.TheVariants.{Xarg}
+use Rattle.cx_region_state.specs.Call.{ArgumentBlock, Call, argument_count, block_of, call_of, command_of, conditions_of, marks_last_alone, only_if, places_of, then_result, words_at}
 use Rattle.cx_region_commands.specs.Common.{AreSoundPrograms}
 use Rattle.cx_region_commands.specs.Facts.Fits.{judged_fits}
 use Rattle.cx_region_state.specs.declared.verdict.Verdict.TheVariants.{Meets}

@@ -12,7 +12,7 @@ use Rattle.cx_storage.specs.Facts.Areas.{byte_after_get, same_storage}
 use Rattle.cx_storage.specs.Facts.Sound.{covers_cases, covers_from, sound_with_area, sound_with_byte}
 use Rattle.cx_storage.specs.Facts.Spans.{span_at, span_from, span_has, span_inside, span_length}
 use Rattle.cx_storage.specs.Facts.Writes.{areas_after_set, byte_after_set, byte_after_set_elsewhere, written_whole}
-use Rattle.cx_region_call.specs.Inputs.{piece_bytes}
+use Rattle.cx_region_state.specs.Inputs.{piece_bytes}
 use Rattle.cx_region_state.specs.declared.verdict.Copying.{Copying}
 use Rattle.cx_region_state.specs.declared.verdict.NewLevel.{NewLevel}
 use Rattle.cx_region_state.specs.Areas.{IsTaskPlace, bytes_in, first_of_tasks, last_of_tasks, system_owner, with_cap, with_copied, with_copy_area, with_filled, with_stg_area}

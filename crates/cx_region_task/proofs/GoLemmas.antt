@@ -1,7 +1,7 @@
 -- What a task's way keeps, from the state in which all that its command does is done.
 use Rattle.std.proofs.Common.{◌≡◌, ℕ, List, [], ◌∷◌, refl, ◌∙◌}
 use Rattle.std.specs.Prelude.{⊤}
-use Rattle.cx_base_commands.specs.declared.conditions.Condition.{Condition}
+use Rattle.cx_base.specs.declared.conditions.Condition.{Condition}
 use Rattle.cx_storage.specs.Storage.{Storage, starts_elsewhere}
 use Rattle.cx_storage.specs.Address.{address_in}
 use Rattle.cx_program.specs.declared.level.Level.{Level}

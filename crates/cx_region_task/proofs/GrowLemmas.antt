@@ -1,24 +1,24 @@
 -- What is made, written and ended by a command keeps.
 use Rattle.std.proofs.Common.{◌≡◌, ℕ, suc, ◌<◌, ◌≤◌, Option, Some, None, List, [], ◌∷◌, length, refl, ◌∙◌, arith, unwrap_or}
-use Rattle.cx_base_commands.specs.declared.eib.EibField.TheVariants.{Fn, Rcode, Resp}
+use Rattle.cx_base.specs.declared.eib.EibField.TheVariants.{Fn, Rcode, Resp}
 use Rattle.std.specs.Option.{option_map}
 use Rattle.std.specs.Int.{to_be_bytes, w16, w32}
 use Rattle.std.specs.Prelude.{⊤}
-use Rattle.cx_base_commands.specs.Eib.{eib_field}
-use Rattle.cx_base_commands.specs.declared.eib.EibField.{EibField}
+use Rattle.cx_base.specs.Eib.{eib_field}
+use Rattle.cx_base.specs.declared.eib.EibField.{EibField}
 use Rattle.cx_storage.specs.Storage.{Storage, areas_of, with_area, IsSound as IsSoundStorage}
 use Rattle.cx_storage.specs.Address.{address_after}
 use Rattle.cx_storage.specs.Place.{IsLeastPlace}
 use Rattle.cx_storage.specs.Facts.Sound.{sound_with_area}
 use Rattle.cx_storage.specs.Facts.Writes.{areas_after_write}
 use Rattle.cx_program.specs.Handles.{Handles, after_pop}
-use Rattle.cx_region_call.specs.declared.answer.Answer.{Answer}
-use Rattle.cx_region_call.specs.declared.listed.Listed.{Listed}
-use Rattle.cx_region_call.specs.declared.outputs.Output.{Output}
-use Rattle.cx_region_call.specs.Answer.{with_answer, with_eib, with_set}
-use Rattle.cx_region_call.specs.Call.{Call, place_of, resp_place}
-use Rattle.cx_region_call.specs.Eib.{Content, with_calen, with_field, with_fields, content}
-use Rattle.cx_region_call.specs.Outputs.{bytes_from, put_out, with_output}
+use Rattle.cx_region_state.specs.declared.answer.Answer.{Answer}
+use Rattle.cx_region_state.specs.declared.listed.Listed.{Listed}
+use Rattle.cx_region_state.specs.declared.outputs.Output.{Output}
+use Rattle.cx_region_state.specs.Answer.{with_answer, with_eib, with_set}
+use Rattle.cx_region_state.specs.Call.{Call, place_of, resp_place}
+use Rattle.cx_region_state.specs.Eib.{Content, with_calen, with_field, with_fields, content}
+use Rattle.cx_region_state.specs.Outputs.{bytes_from, put_out, with_output}
 use Rattle.cx_region_state.specs.declared.verdict.TaskChange.{TaskChange}
 use Rattle.cx_region_state.specs.declared.verdict.TaskChange.TheVariants.{Nothing, Makes, Ends, Gets, Enters, Replaces, LevelEnds, TaskEnds, AbendsWith}
 use Rattle.cx_region_state.specs.declared.verdict.Copying.{Copying}

@@ -1,8 +1,8 @@
 -- What a half-turn keeps, by the command that is due or the instructions that run.
 use Rattle.std.proofs.Common.{◌≡◌, Bool, true, false, Option, refl}
 use Rattle.std.specs.Prelude.{MatchBool}
-use Rattle.cx_base_commands.specs.Abends.{abend_code}
-use Rattle.cx_base_commands.specs.declared.abends.Abend.TheVariants as abend
+use Rattle.cx_base.specs.Abends.{abend_code}
+use Rattle.cx_base.specs.declared.abends.Abend.TheVariants as abend
 use Rattle.cx_exec.specs.declared.machine.Halt.{Halt}
 use Rattle.cx_exec.specs.declared.machine.Halt.TheVariants as halt
 use Rattle.cx_exec_laws.specs.Facts.Keeps.{runs_keep_areas}

@@ -3,7 +3,7 @@ use Rattle.std.proofs.Common.{◌≡◌, ℕ, zero, suc, ◌+◌, ◌≤◌, Lis
 use Rattle.std.specs.Option.{option_map_or}
 use Rattle.cx_program.specs.declared.entries.Handler.TheVariants.{Ignored, Label, NoEntry}
 use Rattle.cx_program.specs.Handles.{Handles, put_entry}
-use Rattle.cx_region_call.specs.declared.listed.Listed.{Listed}
+use Rattle.cx_region_state.specs.declared.listed.Listed.{Listed}
 use Rattle.cx_region_task.specs.Changes.{with_ignored, with_labels}
 
 labels_suc : (handles : Handles) (all : List Listed) (k : ℕ) (listed : Listed) → slice_get all k ≡ Some listed

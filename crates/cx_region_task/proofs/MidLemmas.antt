@@ -5,7 +5,7 @@ use Rattle.cx_storage.specs.Address.{address_after}
 use Rattle.cx_storage.specs.Facts.Writes.{areas_after_write}
 use Rattle.cx_program.specs.Levels.{Levels}
 use Rattle.cx_service.specs.Resources.{Resources, without_owner}
-use Rattle.cx_region_call.specs.Eib.{with_calen, with_field}
+use Rattle.cx_region_state.specs.Eib.{with_calen, with_field}
 use Rattle.cx_region_state.specs.declared.replies.TurnReply.{TurnReply}
 use Rattle.cx_region_state.specs.declared.replies.TurnReply.TheVariants as turn
 use Rattle.cx_region_state.specs.Replies.{is_over}

@@ -5,7 +5,7 @@ use Rattle.std.specs.Map.{lookup, remove_entry, set_value}
 use Rattle.std.proofs.lemmas.Bool.{cases_Bool, eq-eqb}
 use Rattle.std.proofs.lemmas.Option.{none-some, same_Some}
 use Rattle.indexmap.specs.IndexMap.{insert_entry}
-use Rattle.cx_base_lists.specs.Facts.Tables.{insert_entry_absent, insert_entry_present}
+use Rattle.cx_base.specs.Facts.Tables.{insert_entry_absent, insert_entry_present}
 use Rattle.cx_service.specs.declared.faults.ServiceFault.TheVariants.{Enqbusy}
 use Rattle.cx_service.specs.declared.resources.Hold.{Hold}
 use Rattle.cx_service.specs.declared.resources.ResourceName.{ResourceName}

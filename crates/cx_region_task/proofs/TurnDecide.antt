@@ -1,8 +1,8 @@
 -- A half-turn is decided by what was reached before.
 use Rattle.std.proofs.Common.{◌≡◌, ℕ, Bool, true, false, Option, Some, None, List, sym, ◌∙◌, ap, subst}
 use Rattle.std.specs.Prelude.{MatchBool}
-use Rattle.cx_base_commands.specs.Abends.{abend_code}
-use Rattle.cx_base_commands.specs.declared.conditions.Condition.{Condition}
+use Rattle.cx_base.specs.Abends.{abend_code}
+use Rattle.cx_base.specs.declared.conditions.Condition.{Condition}
 use Rattle.cx_exec.specs.declared.machine.Halt.{Halt}
 use Rattle.cx_exec.specs.declared.machine.Halt.TheVariants as halt
 use Rattle.cx_exec.specs.Advance.{Advances}

@@ -2,7 +2,7 @@
 use Rattle.std.proofs.Common.{◌≡◌, ℕ, Bool, true, false, Some, List, refl, sym, ◌∙◌, ap, subst}
 use Rattle.std.specs.Prelude.{if◌then◌else◌}
 use Rattle.std.proofs.lemmas.Option.{same_Some}
-use Rattle.cx_base_commands.specs.declared.conditions.Condition.{Condition}
+use Rattle.cx_base.specs.declared.conditions.Condition.{Condition}
 use Rattle.cx_storage.specs.declared.areas.Area.{Area}
 use Rattle.cx_storage.specs.declared.areas.Kind.TheVariants.{Got as GotKind, System}
 use Rattle.cx_storage.specs.Storage.{Storage, area_at, area_from, areas_of, starts_elsewhere, with_areas_kept, IsSound as IsSoundStorage}
@@ -12,9 +12,9 @@ use Rattle.cx_program.specs.declared.entries.Entries.{Entries}
 use Rattle.cx_program.specs.declared.choice.Choice.{Choice}
 use Rattle.cx_program.specs.declared.choice.Choice.TheVariants as choice
 use Rattle.cx_service.specs.Resources.{dequeue, without_owner}
-use Rattle.cx_region_call.specs.declared.answer.Answer.{Answer}
-use Rattle.cx_region_call.specs.declared.outputs.Output.{Output}
-use Rattle.cx_region_call.specs.Call.{Call}
+use Rattle.cx_region_state.specs.declared.answer.Answer.{Answer}
+use Rattle.cx_region_state.specs.declared.outputs.Output.{Output}
+use Rattle.cx_region_state.specs.Call.{Call}
 use Rattle.cx_region_state.specs.declared.replies.TurnReply.{TurnReply}
 use Rattle.cx_region_state.specs.declared.replies.TurnReply.TheVariants as turn
 use Rattle.cx_region_state.specs.declared.verdict.TaskChange.{TaskChange}
@@ -24,7 +24,7 @@ use Rattle.cx_region_state.specs.declared.verdict.Ended.TheVariants.{TakesInput,
 use Rattle.cx_region_state.specs.declared.verdict.Fill.{Fill}
 use Rattle.cx_region_state.specs.declared.verdict.Fill.TheVariants.{Byte, Item}
 use Rattle.cx_region_state.specs.Areas.{IsAreaOf, got_owner, system_owner}
-use Rattle.cx_region_state.specs.State.{TaskContext, TaskState}
+use Rattle.cx_region_state.specs.State.{TaskContext, TaskState, with_storage}
 use Rattle.cx_region_state.specs.Parts.Fits.{FitsChange, FitsEnded}
 use Rattle.cx_region_state.specs.Verdicts.{handed_over}
 use Rattle.cx_region_task.specs.declared.continuation.Continuation.{Continuation}
@@ -44,9 +44,9 @@ use Rattle.cx_region_task.proofs.SoundSteps.{OwnStay, free_keeps, of_owns, owns_
 
 -- ---- written
 -- outputs and report: storage has the same areas, all else is the same
-given_grew : (call : Call) (outputs : List Output) (change : TaskChange) (start mid : TaskContext) → Grew change start mid → Grew change start (write_outputs call outputs change mid)
-unfolding write_outputs
-given_grew call outputs change start mid grew =
+stored_grew : (change : TaskChange) (start mid : TaskContext) (storage : Storage) → areas_of storage ≡ areas_of mid.shared.storage
+    → Grew change start mid → Grew change start (with_storage mid storage)
+stored_grew change start mid storage areas grew =
     let held = grew.held in
     record {
       held = record {
@@ -55,30 +55,22 @@ given_grew call outputs change start mid grew =
         resources = held.resources;
         storage = held.storage;
         sound = held.sound;
-        same = put_out_areas mid.shared.storage call (handed_over change mid) outputs ∙ held.same;
+        same = areas ∙ held.same;
         others = held.others;
         task = held.task;
       };
       stands = grew.stands;
     }
 
+given_grew : (call : Call) (outputs : List Output) (change : TaskChange) (start mid : TaskContext) → Grew change start mid → Grew change start (write_outputs call outputs change mid)
+unfolding write_outputs
+given_grew call outputs change start mid grew =
+    stored_grew change start mid _ (put_out_areas mid.shared.storage call (handed_over change mid) outputs) grew
+
 reported_grew : (call : Call) (answer : Answer) (change : TaskChange) (start mid : TaskContext) → Grew change start mid → Grew change start (write_report call answer mid)
 unfolding write_report
 reported_grew call answer change start mid grew =
-    let held = grew.held in
-    record {
-      held = record {
-        slot = held.slot;
-        programs = held.programs;
-        resources = held.resources;
-        storage = held.storage;
-        sound = held.sound;
-        same = answered_areas mid.shared.storage mid.task.eib call answer ∙ held.same;
-        others = held.others;
-        task = held.task;
-      };
-      stands = grew.stands;
-    }
+    stored_grew change start mid _ (answered_areas mid.shared.storage mid.task.eib call answer) grew
 
 -- ---- ended
 got_apart : (s : Storage) (slot start len place size : ℕ) → IsAreaOf s slot start len → area_at s place ≡ Some (area_from place size (got_owner slot)) → start ≡ place → ⊥

@@ -8,7 +8,7 @@ use Rattle.cx_program.specs.Entries.{label_on, turned_off}
 use Rattle.cx_program.specs.Handles.{put_exit}
 use Rattle.cx_program.specs.Levels.{Levels, all_levels, with_current, IsNearestExit}
 use Rattle.cx_service.specs.Resources.{without_owner}
-use Rattle.cx_region_call.specs.Eib.{with_calen}
+use Rattle.cx_region_state.specs.Eib.{with_calen}
 use Rattle.cx_region_state.specs.declared.replies.TurnReply.{TurnReply}
 use Rattle.cx_region_state.specs.declared.replies.TurnReply.TheVariants as turn
 use Rattle.cx_region_state.specs.State.{TaskContext, TaskState}
@@ -56,8 +56,7 @@ left_at index task storage =
     unwound (length task.levels.callers - index) task.levels.callers task.levels.current storage
 
 -- The exit of the level at an index takes the abend: the levels below it end. EIBCALEN is the level's length; the task
--- has
--- the registers and code that the level kept, R15 the label, and next the label; the exit is off, and no command is
+-- has the registers and code that the level kept, R15 the label, and next the label; the exit is off, and no command is
 -- due.
 unfoldable pub exit_storage : ℕ → TaskState → Storage → Storage
 exit_storage index task storage =

@@ -4,10 +4,10 @@
 use Rattle.std.specs.Prelude.{◌≡◌, ℕ, Bool, true, false, List, [], ◌∷◌, replicate, slice_get, Option, Some, None, is_some, unwrap_or}
 use Rattle.std.specs.Option.{option_map, option_map_or}
 use Rattle.cx_ebcdic.specs.Aids.{key_of}
-use Rattle.cx_base_commands.specs.declared.commands.Command.TheVariants.{Link}
-use Rattle.cx_base_commands.specs.declared.conditions.Condition.{Condition}
-use Rattle.cx_base_commands.specs.Commands.{row_of}
-use Rattle.cx_base_commands.specs.Conditions.{entry_of}
+use Rattle.cx_base.specs.declared.commands.Command.TheVariants.{Link}
+use Rattle.cx_base.specs.declared.conditions.Condition.{Condition}
+use Rattle.cx_base.specs.Commands.{row_of}
+use Rattle.cx_base.specs.Conditions.{entry_of}
 use Rattle.cx_storage.specs.Storage.{Storage, starts_elsewhere, with_areas_kept}
 use Rattle.cx_program.specs.declared.entries.Handler.TheVariants as entry
 use Rattle.cx_program.specs.declared.entries.Exit.TheVariants.{On}
@@ -17,13 +17,13 @@ use Rattle.cx_program.specs.Levels.{with_current}
 use Rattle.cx_service.specs.Queues.{Queues, item_of, with_item, with_item_at, with_last_read, without_queue}
 use Rattle.cx_service.specs.Resources.{Resources, dequeue, enqueue}
 use Rattle.cx_service.specs.Screen.{ShowsText}
-use Rattle.cx_region_call.specs.declared.answer.Answer.{Answer}
-use Rattle.cx_region_call.specs.declared.inputs.StorageSpan.{StorageSpan}
-use Rattle.cx_region_call.specs.declared.listed.Listed.{Listed}
-use Rattle.cx_region_call.specs.declared.outputs.Output.{Output}
-use Rattle.cx_region_call.specs.Answer.{with_answer, resource_of}
-use Rattle.cx_region_call.specs.Call.{Call}
-use Rattle.cx_region_call.specs.Outputs.{put_out}
+use Rattle.cx_region_state.specs.declared.answer.Answer.{Answer}
+use Rattle.cx_region_state.specs.declared.inputs.StorageSpan.{StorageSpan}
+use Rattle.cx_region_state.specs.declared.listed.Listed.{Listed}
+use Rattle.cx_region_state.specs.declared.outputs.Output.{Output}
+use Rattle.cx_region_state.specs.Answer.{with_answer, resource_of}
+use Rattle.cx_region_state.specs.Call.{Call}
+use Rattle.cx_region_state.specs.Outputs.{put_out}
 use Rattle.cx_region_state.specs.declared.verdict.TaskChange.{TaskChange}
 use Rattle.cx_region_state.specs.declared.verdict.TaskChange.TheVariants.{Makes, Ends, Gets, Enters, Replaces, LevelEnds, TaskEnds}
 use Rattle.cx_region_state.specs.declared.verdict.Copying.{Copying}

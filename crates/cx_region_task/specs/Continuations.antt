@@ -1,10 +1,10 @@
 -- How a task goes on after a command (Application Programmer's Reference Manual, SC33-0077, "Exceptional conditions",
 -- "Program Control").
 use Rattle.std.specs.Prelude.{◌≡◌, ℕ, Bool, true, false, ◌||◌, is_some, if◌then◌else◌, List, [], ◌∷◌, slice_index}
-use Rattle.cx_base_commands.specs.declared.conditions.Condition.{Condition}
-use Rattle.cx_base_commands.specs.declared.conditions.Condition.TheVariants.{Normal}
-use Rattle.cx_base_commands.specs.declared.options.OptionName.TheVariants.{Nosuspend}
-use Rattle.cx_base_commands.specs.Arguments.{has_option}
+use Rattle.cx_base.specs.declared.conditions.Condition.{Condition}
+use Rattle.cx_base.specs.declared.conditions.Condition.TheVariants.{Normal}
+use Rattle.cx_base.specs.declared.options.OptionName.TheVariants.{Nosuspend}
+use Rattle.cx_base.specs.Arguments.{has_option}
 use Rattle.cx_storage.specs.Address.{address_in}
 use Rattle.cx_program.specs.declared.choice.Choice.{Choice}
 use Rattle.cx_program.specs.declared.choice.Choice.TheVariants as choice
@@ -12,7 +12,7 @@ use Rattle.cx_program.specs.declared.entries.Entries.{Entries}
 use Rattle.cx_program.specs.declared.level.Level.{Level}
 use Rattle.cx_program.specs.Handles.{choice as choice_by, waits}
 use Rattle.cx_program.specs.Levels.{Levels, with_called_level, with_current}
-use Rattle.cx_region_call.specs.Call.{Call, has_nohandle, resp_place}
+use Rattle.cx_region_state.specs.Call.{Call, has_nohandle, resp_place}
 use Rattle.cx_region_state.specs.declared.replies.TurnReply.{TurnReply}
 use Rattle.cx_region_state.specs.declared.replies.TurnReply.TheVariants as turn
 use Rattle.cx_region_state.specs.declared.verdict.TaskChange.{TaskChange}

@@ -2,17 +2,17 @@
 -- "Exceptional conditions"; the order of tests is this product's own).
 use Rattle.std.specs.Prelude.{Bool, true, false, not, if◌then◌else◌, List, Option, Some, None}
 use Rattle.std.specs.Option.{option_map}
-use Rattle.cx_base_commands.specs.declared.abends.Abend.TheVariants.{Xarg}
-use Rattle.cx_base_commands.specs.declared.commands.Command.{Command}
-use Rattle.cx_base_commands.specs.declared.conditions.Condition.{Condition}
-use Rattle.cx_base_commands.specs.declared.conditions.Condition.TheVariants.{Enqbusy, Nospace}
-use Rattle.cx_base_commands.specs.declared.options.OptionName.TheVariants.{Queue}
+use Rattle.cx_base.specs.declared.abends.Abend.TheVariants.{Xarg}
+use Rattle.cx_base.specs.declared.commands.Command.{Command}
+use Rattle.cx_base.specs.declared.conditions.Condition.{Condition}
+use Rattle.cx_base.specs.declared.conditions.Condition.TheVariants.{Enqbusy, Nospace}
+use Rattle.cx_base.specs.declared.options.OptionName.TheVariants.{Queue}
 use Rattle.cx_storage.specs.Storage.{Storage}
 use Rattle.cx_service.specs.declared.resources.ResourceName.{ResourceName}
-use Rattle.cx_region_call.specs.declared.outputs.Output.{Output}
-use Rattle.cx_region_call.specs.Call.{Call}
-use Rattle.cx_region_call.specs.Inputs.{bytes_of}
-use Rattle.cx_region_call.specs.Outputs.{can_put}
+use Rattle.cx_region_state.specs.declared.outputs.Output.{Output}
+use Rattle.cx_region_state.specs.Call.{Call}
+use Rattle.cx_region_state.specs.Inputs.{bytes_of}
+use Rattle.cx_region_state.specs.Outputs.{can_put}
 use Rattle.cx_region_state.specs.declared.verdict.TaskChange.{TaskChange}
 use Rattle.cx_region_state.specs.declared.verdict.Verdict.{Verdict}
 use Rattle.cx_region_state.specs.declared.verdict.Verdict.TheVariants.{Refuses, Waits, Meets}

@@ -1,17 +1,16 @@
 -- The command that is due is decided, and the decision carried out (Application Programmer's Reference Manual,
--- SC33-0077,
--- "Argument Values"; the order of the tests is this product's own): its list is read as a call, its inputs are tested,
--- and its row judges it.
+-- SC33-0077, "Argument Values"; the order of the tests is this product's own): its list is read as a call, its inputs
+-- are tested, and its row judges it.
 use Rattle.std.specs.Prelude.{◌≡◌, ℕ, false, if◌then◌else◌, MatchBool, MatchResult, Option, Some, None, slice_index}
-use Rattle.cx_base_commands.specs.declared.abends.Abend.{Abend}
-use Rattle.cx_base_commands.specs.declared.abends.Abend.TheVariants as abend
-use Rattle.cx_base_commands.specs.Abends.{abend_code}
-use Rattle.cx_base_commands.specs.declared.conditions.Condition.{Condition}
+use Rattle.cx_base.specs.declared.abends.Abend.{Abend}
+use Rattle.cx_base.specs.declared.abends.Abend.TheVariants as abend
+use Rattle.cx_base.specs.Abends.{abend_code}
+use Rattle.cx_base.specs.declared.conditions.Condition.{Condition}
 use Rattle.cx_storage.specs.Address.{address_in}
-use Rattle.cx_region_call.specs.declared.call.CallFault.{CallFault}
-use Rattle.cx_region_call.specs.declared.call.CallFault.TheVariants.{Xarg, Xfun}
-use Rattle.cx_region_call.specs.Call.{Call, call_of}
-use Rattle.cx_region_call.specs.Inputs.{are_inputs_there}
+use Rattle.cx_region_state.specs.declared.call.CallFault.{CallFault}
+use Rattle.cx_region_state.specs.declared.call.CallFault.TheVariants.{Xarg, Xfun}
+use Rattle.cx_region_state.specs.Call.{Call, call_of}
+use Rattle.cx_region_state.specs.Inputs.{are_inputs_there}
 use Rattle.cx_region_state.specs.declared.replies.TurnReply.{TurnReply}
 use Rattle.cx_region_state.specs.declared.replies.TurnReply.TheVariants as turn
 use Rattle.cx_region_state.specs.declared.verdict.Verdict.{Verdict}

@@ -1,7 +1,7 @@
 -- What holds of a task in every state that half-turns reach (this product's own): its areas are there, each its own.
 use Rattle.std.specs.Prelude.{ℕ, ◌≤◌, ◌∷◌, length, map, nat_eq}
 use Rattle.std.specs.List.{AllByRecursion, IsDistinct}
-use Rattle.cx_base_commands.specs.Eib.{eib_len}
+use Rattle.cx_base.specs.Eib.{eib_len}
 use Rattle.cx_storage.specs.Storage.{Storage}
 use Rattle.cx_program.specs.declared.level.Level.{Level}
 use Rattle.cx_region_state.specs.Areas.{IsAreaOf}

@@ -10,7 +10,7 @@ ghost use Rattle.cx_region_task.specs.Abends.{Abends, AbendsAt, IsExit, end_with
 use cx_ebcdic::Name4;
 use cx_exec::Cpu;
 use cx_program::{Level, LevelStack};
-use cx_region_call::eib::put_calen;
+use cx_region_state::eib::put_calen;
 use cx_region_state::{Shared, Task, TerminalEntry, TurnReply};
 use cx_storage::{Store, address_in};
 

@@ -6,10 +6,9 @@ ghost use Rattle.cx_storage.specs.Storage.{with_area};
 ghost use Rattle.cx_region_state.specs.Areas.{IsSoundProgram, IsTaskPlace, entry_level, entry_registers, length_or_zero, registers_of, system_owner, with_cap, with_copy_area, with_filled, with_stg_area};
 ghost use Rattle.cx_region_state.specs.Parts.Fits.{FitsCopy, FitsLevel};
 
-use cx_base_commands::EistgField;
+use cx_base::EistgField;
 use cx_program::{ConditionCode, HandleTable, Level};
-use cx_region_call::StorageSpan;
-use cx_region_state::{Copying, FIRST_OF_TASKS, LAST_OF_TASKS, NewLevel};
+use cx_region_state::{Copying, FIRST_OF_TASKS, LAST_OF_TASKS, NewLevel, StorageSpan};
 use cx_storage::laws::store_is_sound;
 use cx_storage::{Kind, Owner, Store, address_after};
 use std::alloc::AllocError;
@@ -170,7 +169,8 @@ pub(crate) fn get_both<S: Store>(
     }
 }
 
-/// A level's registers on entry to its program.
+/// A level's registers on entry to its program: 3 and 15 have its entry, 11 the EIB's address, 13 that of DFHEISTG, and
+/// all others 0.
 #[tactic(auto, unfolding(cx_region_state::specs::Areas::entry_registers))]
 pub fn entry_registers(level: &NewLevel, eib: u32) -> [u32; 16]
     ensures { result ≡ registers_of level.now eib }
@@ -181,7 +181,8 @@ pub fn entry_registers(level: &NewLevel, eib: u32) -> [u32; 16]
     ]
 }
 
-/// A level as it begins, for the task whose EIB is at an address.
+/// A level as it begins, for the task whose EIB is at an address: on entry to its program, with condition code 0, and
+/// without handles.
 #[tactic(auto, unfolding(cx_region_state::specs::Areas::entry_level))]
 pub fn entry_level(level: &NewLevel, eib: u32) -> Level
     ensures { result ≡ entry_level level.now eib }

@@ -1,5 +1,5 @@
 //! Why a task abends.
-use cx_base_commands::{Abend, Command, Condition};
+use cx_base::{Abend, Command, Condition};
 use cx_exec::Interruption;
 
 /// Why a task abends.

@@ -1,19 +1,20 @@
 //! The command that is due: what it will do.
-ghost use Rattle.std.specs.Prelude.{◌≡◌, ◌≢◌};
+ghost use Rattle.std.specs.Prelude.{◌≡◌};
 ghost use Rattle.cx_region_commands.specs.Common.{AreSoundPrograms};
 ghost use Rattle.cx_service.specs.Queues.{AreSoundQueues};
 ghost use Rattle.cx_region_state.specs.State.{context};
 ghost use Rattle.cx_region_state.specs.Parts.Fits.{Fits};
-ghost use Rattle.cx_region_task.specs.Decisions.{decision_by, resource_waited, wait_for};
+ghost use Rattle.cx_region_task.specs.Decisions.{continuation_at, decision_by, resource_waited, wait_for};
 ghost use Rattle.cx_region_task.specs.Performing.{Decides, fault_abend};
 
 use crate::decision::{Act, Decision, Wait};
 use crate::finishing::has_room;
 use crate::going::{continuation_at, is_wait};
-use cx_base_commands::{Abend, Condition, OptionName};
-use cx_region_call::{Call, CallFault, Outputs, are_inputs_there, name8, read_call};
+use cx_base::{Abend, Condition, OptionName};
 use cx_region_commands::{is_wrong_length, judge, resource_named};
-use cx_region_state::{Shared, Task, TaskChange, TerminalEntry, Verdict};
+use cx_region_state::{
+    Call, CallFault, Shared, Task, TerminalEntry, Verdict, are_inputs_there, name8, read_call,
+};
 use cx_service::ResourceName;
 use cx_storage::{Store, address_in};
 
@@ -48,36 +49,27 @@ fn wait_for<S: Store>(condition: Condition, store: &S, call: &Call) -> Wait
     }
 }
 
-/// What is decided of a call that meets a condition.
+/// What is decided of a call that meets a condition, where its task would go on so.
 #[tactic(auto, unfolding(crate::specs::Decisions::decision_by))]
-fn decide_met<S: Store + Drop>(
-    call: Call,
-    condition: Condition,
-    outputs: Outputs,
-    change: TaskChange,
+fn decide_act<S: Store + Drop>(
+    act: Act,
     shared: &Shared<S>,
     terminal_entry: &TerminalEntry,
     task: &Task,
 ) -> Decision
-    requires { condition ≢ Condition.Error }
+    requires { act.continuation ≡ continuation_at act.call act.condition act.change
+        (context shared.now terminal_entry.now task.now) }
     ensures { let before = context shared.now terminal_entry.now task.now in
-        result ≡ decision_by call (Verdict.Meets condition outputs change) before }
+        result ≡ decision_by act.call (Verdict.Meets act.condition act.outputs act.change) before }
 {
-    if !has_room(&call, &outputs, &change, shared, terminal_entry, task) {
-        return Decision::Refuse(Some(call), Abend::Xarg);
+    if !has_room(&act, shared, terminal_entry, task) {
+        return Decision::Refuse(Some(act.call), Abend::Xarg);
     }
-    let continuation = continuation_at(&call, condition, &change, task);
-    if is_wait(&continuation) {
-        let wait = wait_for(condition, &shared.store, &call);
-        return Decision::Wait(call, wait);
+    if is_wait(&act.continuation) {
+        let wait = wait_for(act.condition, &shared.store, &act.call);
+        return Decision::Wait(act.call, wait);
     }
-    Decision::Act(Act {
-        call,
-        condition,
-        outputs,
-        change,
-        continuation,
-    })
+    Decision::Act(act)
 }
 
 /// What is decided of a call by its verdict.
@@ -96,15 +88,15 @@ fn decide_by<S: Store + Drop>(
         Verdict::Refuses(abend) => Decision::Refuse(Some(call), abend),
         Verdict::Waits => Decision::Wait(call, Wait::Input),
         Verdict::Meets(condition, outputs, change) => {
-            decide_met(
+            let continuation = continuation_at(&call, condition, &change, task);
+            let act = Act {
                 call,
                 condition,
                 outputs,
                 change,
-                shared,
-                terminal_entry,
-                task,
-            )
+                continuation,
+            };
+            decide_act(act, shared, terminal_entry, task)
         }
     }
 }

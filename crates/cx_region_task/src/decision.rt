@@ -5,10 +5,9 @@ ghost use Rattle.cx_region_task.specs.Performing.{continuation_cause, decision_c
 
 use crate::cause::Cause;
 use crate::continuation::Continuation;
-use cx_base_commands::{Abend, Command, Condition};
+use cx_base::{Abend, Command, Condition};
 use cx_ebcdic::Name8;
-use cx_region_call::{Call, Outputs};
-use cx_region_state::TaskChange;
+use cx_region_state::{Call, Outputs, TaskChange};
 use cx_service::ResourceName;
 
 /// What a command waits for.

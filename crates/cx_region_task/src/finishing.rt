@@ -2,7 +2,7 @@
 ghost use Rattle.std.specs.Prelude.{◌≡◌, ◌<◌, ◌^◌, [], IfSome, None, Some, option_map, slice_get, unwrap_or};
 ghost use Rattle.std.specs.Option.{option_map_or};
 ghost use Rattle.cx_ebcdic.specs.Aids.{key_of};
-ghost use Rattle.cx_base_commands.specs.Commands.{row_of};
+ghost use Rattle.cx_base.specs.Commands.{row_of};
 ghost use Rattle.cx_storage.specs.Storage.{starts_elsewhere, with_areas_kept};
 ghost use Rattle.cx_service.specs.Queues.{delete_fault, item_of, read_fault, with_last_read, without_queue};
 ghost use Rattle.cx_service.specs.Resources.{dequeue};
@@ -12,15 +12,18 @@ ghost use Rattle.cx_region_state.specs.Parts.Fits.{FitsChange, FitsEnded};
 ghost use Rattle.cx_region_task.specs.Changes.{apply_after, write_outputs, read_for, report_of, write_report, with_change, with_queues, with_resources};
 ghost use Rattle.cx_region_task.specs.Parts.Making.{MatchEnded, MatchFinished, text_of};
 ghost use Rattle.cx_region_task.specs.Decisions.{has_room};
-ghost use Rattle.cx_region_call.specs.Outputs.{put_out};
+ghost use Rattle.cx_region_state.specs.Outputs.{put_out};
 
 use crate::areas::length_or_zero;
+use crate::decision::Act;
 use crate::making::item_bytes;
-use cx_base_commands::{Command, Condition};
+use cx_base::Command;
 use cx_ebcdic::Name8;
 use cx_program::LevelStack;
-use cx_region_call::{Answer, Call, Outputs, can_put, put_answer, put_outputs, resource};
-use cx_region_state::{Ended, Fill, Input, Shared, Task, TaskChange, TerminalEntry};
+use cx_region_state::{
+    Answer, Call, Ended, Fill, Input, Shared, Task, TaskChange, TerminalEntry, can_put, put_answer,
+    put_outputs, resource,
+};
 use cx_service::Queues;
 use cx_storage::Store;
 
@@ -49,34 +52,32 @@ fn text_of<'a>(change: &TaskChange, queues: &'a Queues, input: &'a Option<Input>
 /// there has none.
 #[tactic(auto, unfolding(crate::specs::Decisions::has_room, cx_region_state::specs::Verdicts::handed_over))]
 pub(crate) fn has_room<S: Store + Drop>(
-    call: &Call,
-    outputs: &Outputs,
-    change: &TaskChange,
+    act: &Act,
     shared: &Shared<S>,
     terminal_entry: &TerminalEntry,
     task: &Task,
 ) -> bool
-    ensures { result ≡ has_room call.now outputs.now change.now (context shared.now terminal_entry.now task.now) }
+    ensures { let before = context shared.now terminal_entry.now task.now in
+        result ≡ has_room act.now.call act.now.outputs act.now.change before }
 {
-    let text = text_of(change, &shared.queues, &terminal_entry.input);
-    can_put(&shared.store, call, text, outputs)
+    let text = text_of(&act.change, &shared.queues, &terminal_entry.input);
+    can_put(&shared.store, &act.call, text, &act.outputs)
 }
 
 /// Writes the outputs, of the text that the command hands over.
 #[tactic(auto, unfolding(crate::specs::Changes::write_outputs, cx_region_state::specs::Verdicts::handed_over))]
 pub(crate) fn write_outputs<S: Store + Drop>(
-    call: &Call,
-    outputs: &Outputs,
-    change: &TaskChange,
+    act: &Act,
     shared: &mut Shared<S>,
     terminal_entry: &TerminalEntry,
     task: &Task,
 )
     ensures { let before = context shared.old terminal_entry.now task.now in
-        context shared.new terminal_entry.now task.now ≡ write_outputs call.now outputs.now change.now before }
+        let after = context shared.new terminal_entry.now task.now in
+        after ≡ write_outputs act.now.call act.now.outputs act.now.change before }
 {
-    let text = text_of(change, &shared.queues, &terminal_entry.input);
-    put_outputs(&mut shared.store, call, text, outputs);
+    let text = text_of(&act.change, &shared.queues, &terminal_entry.input);
+    put_outputs(&mut shared.store, &act.call, text, &act.outputs);
 }
 
 /// The EIBCALEN of the nearest caller, where there is one.
@@ -97,23 +98,22 @@ fn calen_above(levels: &LevelStack) -> Option<u16>
 /// What the command reports.
 #[tactic(auto, unfolding(crate::specs::Changes::report_of))]
 pub(crate) fn report_of<S: Store + Drop>(
-    call: &Call,
-    condition: Condition,
-    change: &TaskChange,
+    act: &Act,
     shared: &Shared<S>,
     terminal_entry: &TerminalEntry,
     task: &Task,
 ) -> Answer
-    ensures { result ≡ report_of call.now condition change.now (context shared.now terminal_entry.now task.now) }
+    ensures { let before = context shared.now terminal_entry.now task.now in
+        result ≡ report_of act.now.call act.now.condition act.now.change before }
 {
     let plain = Answer {
-        function: call.command().function(),
-        condition: condition.number(),
-        resource: resource(&shared.store, call),
+        function: act.call.command().function(),
+        condition: act.condition.number(),
+        resource: resource(&shared.store, &act.call),
         aid: None,
         calen: None,
     };
-    match change {
+    match &act.change {
         TaskChange::Ends(Ended::TakesInput) => Answer {
             aid: terminal_entry.input.as_ref().map(|held| held.aid.code()),
             ..plain

@@ -1,7 +1,7 @@
 //! How a task goes on after a command.
 ghost use Rattle.std.specs.Prelude.{◌≡◌, ◌≢◌, ◌<◌, ◌^◌, ◌||◌, [], false, Some, None, length};
-ghost use Rattle.cx_base_commands.specs.declared.conditions.Condition.TheVariants.{Error};
-ghost use Rattle.cx_base_commands.specs.Arguments.{has_option};
+ghost use Rattle.cx_base.specs.declared.conditions.Condition.TheVariants.{Error};
+ghost use Rattle.cx_base.specs.Arguments.{has_option};
 ghost use Rattle.cx_storage.specs.Address.{address_in};
 ghost use Rattle.cx_program.specs.Handles.{choice as choice_by, waits};
 ghost use Rattle.cx_program.specs.Levels.{with_called_level};
@@ -14,11 +14,10 @@ ghost use Rattle.cx_region_task.specs.Parts.Making.{MatchWay, with_kept};
 use crate::abending::{abend, end_task, free_stg};
 use crate::areas::{entry_level, entry_registers};
 use crate::continuation::Continuation;
-use cx_base_commands::{Condition, OptionName};
+use cx_base::{Condition, OptionName};
 use cx_exec::Cpu;
 use cx_program::{Choice, HandleTable, Level};
-use cx_region_call::Call;
-use cx_region_state::{NewLevel, Shared, Task, TaskChange, TerminalEntry, TurnReply};
+use cx_region_state::{Call, NewLevel, Shared, Task, TaskChange, TerminalEntry, TurnReply};
 use cx_storage::{Store, address_in};
 
 /// The choice where the entries aren't looked at.

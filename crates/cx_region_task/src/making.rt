@@ -16,13 +16,12 @@ ghost use Rattle.cx_program.specs.declared.entries.Handler.TheVariants as Entry;
 
 use crate::areas::{MOST_BYTES, get_at, get_both, get_filled, get_stg, put_cap};
 use crate::blocks::{copy, fill};
-use cx_base_lists::List;
+use cx_base::List;
 use cx_ebcdic::Name8;
 use cx_program::HandleTable;
-use cx_region_call::{Listed, StorageSpan};
 use cx_region_state::{
-    Copying, Fill, Got, Made, NewLevel, Next, NextTransaction, Request, Shared, Task, TaskChange,
-    TerminalEntry,
+    Copying, Fill, Got, Listed, Made, NewLevel, Next, NextTransaction, Request, Shared,
+    StorageSpan, Task, TaskChange, TerminalEntry,
 };
 use cx_service::{Enqueues, Queues, ResourceName, Screen};
 use cx_storage::laws::store_is_sound;

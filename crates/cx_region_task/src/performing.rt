@@ -12,9 +12,7 @@ use crate::decision::{Act, Decision};
 use crate::finishing::{apply_after, report_of, write_outputs, write_report};
 use crate::going::go;
 use crate::making::apply_before;
-use cx_base_commands::Condition;
-use cx_region_call::{Call, Outputs};
-use cx_region_state::{Shared, Task, TaskChange, TerminalEntry, TurnReply};
+use cx_region_state::{Shared, Task, TerminalEntry, TurnReply};
 use cx_storage::Store;
 use std::alloc::AllocError;
 
@@ -22,27 +20,24 @@ use std::alloc::AllocError;
 ///
 /// An error comes only where an allocation failed; then all is as before.
 fn commit<S: Store + Drop>(
-    call: &Call,
-    condition: Condition,
-    outputs: &Outputs,
-    change: &TaskChange,
+    act: &Act,
     shared: &mut Shared<S>,
     terminal_entry: &mut TerminalEntry,
     task: &mut Task,
 ) -> Result<(), AllocError>
-    requires { FitsChange change.now (context shared.old terminal_entry.old task.old) }
+    requires { FitsChange act.now.change (context shared.old terminal_entry.old task.old) }
     ensures ok { let before = context shared.old terminal_entry.old task.old in
         let after = context shared.new terminal_entry.new task.new in
-        OnOk result (Commits call.now condition outputs.now change.now before after) }
+        OnOk result (Commits act.now.call act.now.condition act.now.outputs act.now.change before after) }
     ensures err { OnErr result
         (context shared.new terminal_entry.new task.new ≡ context shared.old terminal_entry.old task.old) }
-    ensures memory { OnErr result (change_takes_memory change.now ≡ true) }
+    ensures memory { OnErr result (change_takes_memory act.now.change ≡ true) }
 {
-    let answer = report_of(call, condition, change, shared, terminal_entry, task);
-    apply_before(change, shared, terminal_entry, task)?;
-    write_outputs(call, outputs, change, shared, terminal_entry, task);
-    write_report(call, &answer, shared, terminal_entry, task);
-    apply_after(change, shared, terminal_entry, task);
+    let answer = report_of(act, shared, terminal_entry, task);
+    apply_before(&act.change, shared, terminal_entry, task)?;
+    write_outputs(act, shared, terminal_entry, task);
+    write_report(&act.call, &answer, shared, terminal_entry, task);
+    apply_after(&act.change, shared, terminal_entry, task);
     Ok(())
 }
 
@@ -64,15 +59,7 @@ fn perform<S: Store + Drop>(
         (context shared.new terminal_entry.new task.new ≡ context shared.old terminal_entry.old task.old) }
     ensures memory { OnErr result (change_takes_memory act.now.change ≡ true) }
 {
-    commit(
-        &act.call,
-        act.condition,
-        &act.outputs,
-        &act.change,
-        shared,
-        terminal_entry,
-        task,
-    )?;
+    commit(act, shared, terminal_entry, task)?;
     Ok(go(
         &act.continuation,
         act.condition,

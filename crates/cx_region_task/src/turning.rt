@@ -11,7 +11,7 @@ use crate::abending::abend;
 use crate::cause::{AbendRecord, Cause};
 use crate::deciding::decide;
 use crate::performing::carry_out;
-use cx_base_commands::{Abend, Command};
+use cx_base::{Abend, Command};
 use cx_exec::{Halt, advance};
 use cx_program::ConditionCode;
 use cx_region_state::{Shared, Task, TerminalEntry, TurnReply};

@@ -49,9 +49,8 @@ pub record StoppedAt {A S : Type 0} (language : Language A) (performs : S → A 
   pub done : Wrote (◌≡◌ written) performs old ((front_of language lines line).actions ++ own)
 
 -- How a run of the script that these bytes are ended, and what it wrote. Ok: all of its actions are done and written.
--- Without
--- memory it stopped at an action of a line; after a failed write some of its actions are done, and a front of their
--- transcript is written; any other fault is the script's own, and everything in front of it is done and written.
+-- Without memory it stopped at an action of a line; after a failed write some of its actions are done, and a front of
+-- their transcript is written; any other fault is the script's own, and everything in front of it is done and written.
 unfoldable pub EndsScript : {A S : Type 0} → Language A → (S → A → List ℕ → S → Type 0) → S → Ending → List ℕ
     → Result Summary RunFault → List ℕ → Type 0
 EndsScript language performs old ending bytes (Ok summary) written =

@@ -13,8 +13,7 @@ use cx_region::Region;
 use cx_script_actions::Performer;
 use cx_script_blocks::{RunFault, Summary};
 use cx_script_io::ScriptDevices;
-use cx_storage_keep::KeepingStore;
-use cx_storage_pages::PagedStore;
+use cx_storage_pages::{KeepingStore, PagedStore};
 use std::alloc::{AllocError, Global};
 
 /// What a script of `cicsedf` is performed on: a region under EDF.

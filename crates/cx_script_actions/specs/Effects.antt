@@ -1,7 +1,7 @@
 -- What an action does to the region, and what is written for it (own).
 use Rattle.std.specs.Prelude.{◌≡◌, ℕ, ◌++◌, List, [], map, codes, Option, Some, None}
 use Rattle.std.specs.Option.{option_and_then, option_map}
-use Rattle.cx_base_text.specs.Texts.{shown_text}
+use Rattle.cx_base.specs.Texts.{shown_text}
 use Rattle.cx_code.specs.declared.image.Image.{Image}
 use Rattle.cx_load.specs.Fault.{fault_name, fault_of}
 use Rattle.cx_load.specs.declared.fault.ImageFault.{ImageFault}
@@ -38,7 +38,7 @@ ByFault (Some fault) old name _ text new = (text ≡ refused_text (codes "PROGRA
 -- what SCREEN writes: the screen of a terminal, as it is shown
 abbrev pub screen_text : RegionState → List ℕ → List ℕ
 screen_text region name =
-    let shown = option_map (map shown_text) (option_map (λ t. t.screen) (terminal_of region name)) in
+    let shown = option_map (map shown_text) (option_map (λ t. t.entry.screen) (terminal_of region name)) in
     page_lines (codes "SCREEN") name shown
 
 -- the page of a display that has this name

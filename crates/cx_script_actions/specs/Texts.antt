@@ -1,10 +1,10 @@
 -- The lines of a transcript (own).
 use Rattle.std.specs.Prelude.{ℕ, List, [], ◌∷◌, ◌++◌, codes, Option, Some, None, Result, Ok, Err}
 use Rattle.std.specs.Option.{option_to_list}
-use Rattle.cx_base_text.specs.Digits.{digits}
-use Rattle.cx_base_text.specs.Texts.{shown_text, shown_name, written_line}
-use Rattle.cx_base_text.specs.Pages.{page_text}
-use Rattle.cx_base_commands.specs.Conditions.{entry_of}
+use Rattle.cx_base.specs.Digits.{digits}
+use Rattle.cx_base.specs.Texts.{shown_text, shown_name, written_line}
+use Rattle.cx_base.specs.Pages.{page_text}
+use Rattle.cx_base.specs.Conditions.{entry_of}
 use Rattle.cx_load.specs.declared.program.Loaded.{Loaded}
 use Rattle.cx_edf.specs.Answers.{edf_reply_name}
 use Rattle.cx_edf.specs.declared.answers.Answer.{Answer}

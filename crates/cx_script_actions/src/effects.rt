@@ -9,7 +9,7 @@ ghost use Rattle.cx_script_actions.specs.declared.actions.Action.TheVariants as 
 use crate::actions::Action;
 use crate::performer::Performer;
 use crate::texts::{answer_text, page_lines, refused_image};
-use cx_base_text::Page;
+use cx_base::Page;
 use cx_code::{Bytes, Image};
 use cx_ebcdic::{Name4, Name8};
 use cx_edf::{Debugged, Display, EdfEvent, PageName};

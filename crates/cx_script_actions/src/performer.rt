@@ -6,7 +6,7 @@ ghost use Rattle.cx_script_actions.specs.Allowed.{IsAllowedAction, IsAllowedLine
 ghost use Rattle.cx_script_actions.specs.Language.{Language, edf_language};
 
 use crate::actions::{Action, Heading, Line, line_of};
-use cx_base_lists::List;
+use cx_base::List;
 use cx_ebcdic::Name8;
 use std::alloc::{AllocError, Global};
 

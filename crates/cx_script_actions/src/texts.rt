@@ -3,10 +3,10 @@
 ghost use Rattle.std.specs.Prelude.{◌≡◌, IfOk, [], ◌∷◌, codes};
 ghost use Rattle.std.specs.Option.{option_copied, option_map};
 ghost use Rattle.cx_load.specs.Fault.{fault_name};
-ghost use Rattle.cx_base_text.specs.Texts.{shown_name, written_line};
+ghost use Rattle.cx_base.specs.Texts.{shown_name, written_line};
 ghost use Rattle.cx_script_actions.specs.Texts.{answer_text, defined_text, named_line, page_lines, plain_text, program_text, refused_text, reply_text, turn_reply_detail, turn_text};
 
-use cx_base_text::{Page, hexadecimal, shown, shown_name, written_line};
+use cx_base::{Page, hexadecimal, shown, shown_name, written_line};
 use cx_ebcdic::{Name4, Name8};
 use cx_edf::{Answer, EdfEvent};
 use cx_load::{ImageFault, Loaded};

@@ -88,8 +88,7 @@ step_in language number (Some block) text =
     else ok_or (option_map block_step (with_line language block text)) (BadLine number)
 
 -- What the line with this number leads to in a script of this language: a step, or a fault of its own. That of a bad
--- line is
--- BadLine with its number.
+-- line is BadLine with its number.
 unfoldable pub step_at : {A : Type 0} → Language A → ℕ → Option Block → List ℕ → Result (LineStep A) RunFault
 step_at language number block text =
     if is_too_long text then Err (BadLine number) else step_in language number block text

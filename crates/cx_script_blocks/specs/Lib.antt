@@ -2,6 +2,7 @@
 pub mod Blocks
 pub mod Faults
 pub mod Status
+pub mod Shown
 pub use Rattle.cx_script_io.specs.Lines
 pub use Rattle.cx_asm_build.specs.Kinds
 pub use Rattle.cx_asm_build.specs.Prepared

@@ -11,7 +11,7 @@ ghost use Rattle.cx_asm_build.specs.declared.faults.PrepareFault.TheVariants.{At
 
 use crate::faults::RunFault;
 use cx_asm_build::{PrepareFault, Prepared, prepare};
-use cx_base_lists::List;
+use cx_base::List;
 use cx_code::{Bytes, Image, Offsets};
 use cx_ebcdic::Name8;
 use cx_script_actions::{Action, Heading, Line, ScriptAction, Wanted};

@@ -63,7 +63,7 @@ impl<T: Drop> From<AllocFailed<T>> for RunFault {
     }
 }
 
-/// What a whole script was.
+/// What is answered of a script whose lines were all done.
 #[derive(Clone, Copy, Debug, PartialEq, Eq)]
 pub struct Summary {
     /// How many lines it has: those of blocks, comments and empty lines among them.

@@ -3,8 +3,10 @@
 
 mod blocks;
 mod faults;
+mod shown;
 
 #[doc(hidden)]
 pub use blocks::{Block, Body, LineStep, step_at, with_text};
 pub use cx_asm_build::SourceKind;
 pub use faults::{RunFault, Summary, status};
+pub use shown::printable_byte;

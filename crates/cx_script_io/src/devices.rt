@@ -37,7 +37,8 @@ pub trait ScriptIn {
         ensures { result ≡ has_failed self.now };
 
     /// What a read did to the bytes that are left, where they are known.
-    ghost known: { (before after : Self) (given : Option (List ℕ)) → reads before given after → ReadsKnown (left before) given (left after) };
+    ghost known: { (before after : Self) (given : Option (List ℕ)) → reads before given after
+        → ReadsKnown (left before) given (left after) };
 }
 
 /// What a transcript is written to.
@@ -64,7 +65,8 @@ pub trait ScriptOut {
         ensures { result ≡ has_failed self.now };
 
     /// What a write did to the bytes that were written, where they are known.
-    ghost known: { (before after : Self) (taken : Option (List ℕ)) → writes before taken after → WritesKnown (written before) taken (written after) };
+    ghost known: { (before after : Self) (taken : Option (List ℕ)) → writes before taken after
+        → WritesKnown (written before) taken (written after) };
 }
 
 /// What a script is read from and its transcript is written to, as one: the states that it goes through order reads and
@@ -72,7 +74,8 @@ pub trait ScriptOut {
 pub trait ScriptDevices: ScriptIn + ScriptOut {
     /// A read leaves what was written.
     ghost read_keeps: { (before after : Self) (given : Option (List ℕ)) → Self.reads before given after
-        → (Self.written after ≡ Self.written before) × (Self.ScriptOut.has_failed after ≡ Self.ScriptOut.has_failed before) };
+        → (Self.written after ≡ Self.written before)
+        × (Self.ScriptOut.has_failed after ≡ Self.ScriptOut.has_failed before) };
 
     /// A write leaves what is to be read.
     ghost write_keeps: { (before after : Self) (taken : Option (List ℕ)) → Self.writes before taken after

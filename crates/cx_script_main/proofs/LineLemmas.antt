@@ -6,7 +6,8 @@ use Rattle.std.specs.Str.Lines.{strip_carriage_return}
 use Rattle.cx_script_io.specs.Facts.Lines.{line_met, none_met}
 use Rattle.cx_script_io.specs.Lines.{last_met, lines_met}
 use Rattle.cx_script_io.specs.Unbroken.{IsUnbroken}
-use Rattle.cx_script_main.specs.Shown.{shown_byte, shown_line}
+use Rattle.cx_script_main.specs.Shown.{shown_line}
+use Rattle.cx_script_blocks.specs.Shown.{printable_byte}
 use Rattle.cx_script_io.specs.declared.input.Ending.TheVariants.{AtEnd}
 
 -- the first line
@@ -38,17 +39,17 @@ line_last bytes u = ap (λ (l : List (List ℕ)). slice_get l 0) (none_met AtEnd
 
 -- ---- a line as it is shown
 -- one more of its characters is written
-pub one_more : (done rest all left : List ℕ) (b ch : ℕ) → ch ≡ shown_byte b → left ≡ b ∷ rest → done ++ encode_utf8_all (map shown_byte left) ≡ all
-    → (done ++ encode_utf8 ch) ++ encode_utf8_all (map shown_byte rest) ≡ all
+pub one_more : (done rest all left : List ℕ) (b ch : ℕ) → ch ≡ printable_byte b → left ≡ b ∷ rest → done ++ encode_utf8_all (map printable_byte left) ≡ all
+    → (done ++ encode_utf8 ch) ++ encode_utf8_all (map printable_byte rest) ≡ all
 one_more done rest all left b ch is e h =
-    let here : encode_utf8 ch ++ encode_utf8_all (map shown_byte rest) ≡ encode_utf8_all (map shown_byte left) = rw (e, is) refl in
-    append_assoc done (encode_utf8 ch) (encode_utf8_all (map shown_byte rest)) ∙ ap (λ (l : List ℕ). done ++ l) here ∙ h
+    let here : encode_utf8 ch ++ encode_utf8_all (map printable_byte rest) ≡ encode_utf8_all (map printable_byte left) = rw (e, is) refl in
+    append_assoc done (encode_utf8 ch) (encode_utf8_all (map printable_byte rest)) ∙ ap (λ (l : List ℕ). done ++ l) here ∙ h
 
 -- all are
 pub all_written : (done shown line : List ℕ) (i : ℕ) → length shown ≤ i → shown ≡ take (min 4096 (length line)) line
-    → done ++ encode_utf8_all (map shown_byte (drop i shown)) ≡ encode_utf8_all (map shown_byte shown) → done ≡ shown_line line
+    → done ++ encode_utf8_all (map printable_byte (drop i shown)) ≡ encode_utf8_all (map printable_byte shown) → done ≡ shown_line line
 all_written done shown line i past is h =
     let none : drop i shown ≡ [] = drop_all i shown past in
     let front : shown ≡ take 4096 line = is ∙ take_min 4096 line in
-    let whole : done ++ [] ≡ encode_utf8_all (map shown_byte shown) = rw none at h in
-    sym (append-nil done) ∙ whole ∙ ap (λ (l : List ℕ). encode_utf8_all (map shown_byte l)) front
+    let whole : done ++ [] ≡ encode_utf8_all (map printable_byte shown) = rw none at h in
+    sym (append-nil done) ∙ whole ∙ ap (λ (l : List ℕ). encode_utf8_all (map printable_byte l)) front

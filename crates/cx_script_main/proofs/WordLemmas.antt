@@ -10,7 +10,7 @@ use Rattle.clap.specs.declared.builder.ArgAction.TheVariants.{Set}
 use Rattle.clap.specs.declared.error.kind.ErrorKind.{ErrorKind}
 use Rattle.clap.specs.declared.error.kind.ErrorKind.TheVariants.{OutOfMemory}
 use Rattle.clap.proofs.OnLiterals.{clap_on_literals}
-use Rattle.cx_script_main.specs.Words.{is_option, file_of}
+use Rattle.cx_script_main.specs.Words.{is_option_word, file_of}
 
 abbrev pub file_rule : Rule
 file_rule = record (new_rule (codes "FILE")) { action = Some Set }
@@ -63,7 +63,7 @@ takes_other : (own : Text) (c : ℕ) (more : Text) → (c == 45) ≡ false → t
 unfolding takes_by
 takes_other own c more e = ap₂ takes_by (walk_one c more e) (passes_one c more e) ∙ by_end (c ∷ more)
 
-takes_second : (own word : Text) → is_option word ≡ false → takes script (own ∷ word ∷ []) ≡ true
+takes_second : (own word : Text) → is_option_word word ≡ false → takes script (own ∷ word ∷ []) ≡ true
 takes_second own [] free = takes_empty own
 takes_second own (c ∷ []) free = elim (cases_Bool (c == 45)) [
   | inl e ↦ let same : c ≡ 45 = eqb-true c 45 e in rw same (takes_hyphen own)
@@ -75,7 +75,7 @@ takes_second own (c ∷ d ∷ more) free = takes_other own c (d ∷ more) free
 pub takes_named : (words : List Text) → is_some (file_of words) ≡ true → takes script words ≡ true
 takes_named [] named = takes_none
 takes_named (own ∷ []) named = takes_own own
-takes_named (own ∷ file ∷ []) named = elim (cases_Bool (is_option file)) [
+takes_named (own ∷ file ∷ []) named = elim (cases_Bool (is_option_word file)) [
   | inl e ↦ let never : false ≡ true = rw e at named in absurd (cc)
   | inr e ↦ takes_second own file e
 ]

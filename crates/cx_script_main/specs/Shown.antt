@@ -1,11 +1,10 @@
 -- The line of the script that a fault is of, as it is reported (own).
-use Rattle.std.specs.Prelude.{ℕ, ◌-◌, if◌then◌else◌, is_some, List, Option, Some, None, encode_utf8_all, map, slice_get, take}
+use Rattle.std.specs.Prelude.{ℕ, ◌-◌, List, Option, Some, None, encode_utf8_all, map, slice_get, take}
 use Rattle.std.specs.Option.{option_and_then}
 use Rattle.std.specs.Result.{result_err}
-use Rattle.std.specs.Str.{byte}
-use Rattle.cx_ebcdic.specs.Characters.{code_of}
 use Rattle.cx_script_blocks.specs.declared.faults.RunFault.{RunFault}
 use Rattle.cx_script_blocks.specs.declared.faults.RunFault.TheVariants.{BadLine, BadLook, Source}
+use Rattle.cx_script_blocks.specs.Shown.{printable_byte}
 use Rattle.cx_script_io.specs.Lines.{lines_met}
 use Rattle.cx_script_io.specs.declared.input.Ending.TheVariants.{AtEnd}
 use Rattle.cx_script_main.specs.declared.program.Run.{Run}
@@ -30,10 +29,6 @@ abbrev pub faulty_line : Run → Option (List ℕ)
 faulty_line run =
     option_and_then (λ number. option_and_then (λ bytes. line_at bytes number) run.read) (faulty_number run)
 
--- a byte of a line as it is shown: a period where it has no character
-abbrev pub shown_byte : ℕ → ℕ
-shown_byte c = if is_some (code_of c) then c else byte "."
-
 -- a line as it is shown: the characters of its first 4,096 bytes
 abbrev pub shown_line : List ℕ → List ℕ
-shown_line line = encode_utf8_all (map shown_byte (take 4096 line))
+shown_line line = encode_utf8_all (map printable_byte (take 4096 line))

@@ -71,10 +71,10 @@ pub record ObeysWords {H : Type 0} (gives_words : H → Result (List (List ℕ))
   pub done : ObeysGiven runs words asked outcome new
 
 -- the line that reports an outcome; none of a run without a fault
-abbrev pub report_of : List ℕ → Result Run Refusal → Option (List ℕ)
-report_of usage (Ok run) = option_map fault_line (result_err run.answer)
-report_of usage (Err Usage) = Some usage
-report_of usage (Err Memory) = Some (fault_line fault.Memory)
+abbrev pub outcome_line : List ℕ → Result Run Refusal → Option (List ℕ)
+outcome_line usage (Ok run) = option_map fault_line (result_err run.answer)
+outcome_line usage (Err Usage) = Some usage
+outcome_line usage (Err Memory) = Some (fault_line fault.Memory)
 
 -- the line of the script that its fault is of, as it is shown
 abbrev pub line_report_of : Result Run Refusal → Option (List ℕ)
@@ -95,6 +95,6 @@ pub record ProgramStarts {H : Type 0} (gives_words : H → Result (List (List �
   pub between : H
   pub does : ObeysWords gives_words runs old outcome between
   pub faulted : H
-  pub reported : ReportsLine reports between (report_of usage outcome) faulted
+  pub reported : ReportsLine reports between (outcome_line usage outcome) faulted
   pub shown : ReportsLine reports faulted (line_report_of outcome) new
   pub is : status ≡ program_status outcome

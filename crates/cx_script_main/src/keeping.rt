@@ -3,7 +3,7 @@
 ghost use Rattle.std.specs.Prelude.{◌≡◌, ◌++◌, [], IfSome, None, Some, if◌then◌else◌};
 ghost use Rattle.cx_script_main.specs.Parts.Keeping.{KeepsBytesRead, KeepsRead, LeavesKept};
 
-use cx_base_lists::List;
+use cx_base::List;
 use cx_script_io::{DeviceFault, ScriptDevices, ScriptIn, ScriptOut, in_front};
 use std::alloc::Global;
 

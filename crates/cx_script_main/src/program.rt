@@ -7,7 +7,7 @@ ghost use Rattle.cx_script.specs.Session.{RanIn};
 ghost use Rattle.cx_script_main.specs.Program.{RanFrom, program_status, unread_run};
 
 use crate::keeping::Keeping;
-use cx_base_lists::List;
+use cx_base::List;
 use cx_script::{Performer, RunFault, ScriptDevices, Summary, run_script_on, status};
 use std::alloc::{AllocError, Global};
 

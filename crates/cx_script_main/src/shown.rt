@@ -4,11 +4,12 @@ ghost use Rattle.std.specs.Prelude.{◌≡◌, ◌-◌, Some, slice_get};
 ghost use Rattle.std.specs.Option.{option_map};
 ghost use Rattle.cx_script_io.specs.Lines.{lines_met};
 ghost use Rattle.cx_script_io.specs.declared.input.Ending.TheVariants.{AtEnd};
-ghost use Rattle.cx_script_main.specs.Shown.{faulty_line, faulty_number, line_at, line_of_fault, shown_byte, shown_line};
+ghost use Rattle.cx_script_blocks.specs.Shown.{printable_byte};
+ghost use Rattle.cx_script_main.specs.Shown.{faulty_line, faulty_number, line_at, line_of_fault, shown_line};
 
 use crate::program::Run;
-use cx_ebcdic::to_ebcdic;
 use cx_script::{Ending, RunFault};
+use cx_script_blocks::printable_byte;
 use cx_script_io::{in_front, last_line, split_line, strip_carriage_return};
 use std::fmt::{Display, Formatter};
 
@@ -74,14 +75,9 @@ impl Run {
 
 /// The character that shows a byte of a line.
 fn shown_char(c: u8) -> char
-    ensures { result ≡ shown_byte c }
+    ensures { result ≡ printable_byte c }
 {
-    let character = char::from(c);
-    if to_ebcdic(character).is_some() {
-        character
-    } else {
-        '.'
-    }
+    char::from(printable_byte(c))
 }
 
 /// A line of a script that is shown.

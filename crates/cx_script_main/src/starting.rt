@@ -4,7 +4,7 @@ ghost use Rattle.std.specs.Option.{option_map};
 ghost use Rattle.std.specs.Result.{result_err};
 ghost use Rattle.std.specs.Process.{exit_status};
 ghost use Rattle.cx_script_blocks.specs.Faults.{fault_line};
-ghost use Rattle.cx_script_main.specs.Start.{ObeysWords, ReportsLine, RunsFile, RunsInput, RunsOnDevices, RunsScript, ProgramStarts, line_report_of, report_of};
+ghost use Rattle.cx_script_main.specs.Start.{ObeysWords, ReportsLine, RunsFile, RunsInput, RunsOnDevices, RunsScript, ProgramStarts, line_report_of, outcome_line};
 
 use crate::host::Host;
 use crate::program::{Refusal, Run, program_status, run_opened};
@@ -91,7 +91,7 @@ fn report_fault<H: Host>(host: &mut H, answer: Result<Summary, RunFault>)
 
 /// Reports a fault, or why the words are refused, on standard error.
 fn report<H: Host>(host: &mut H, usage: &str, outcome: &Result<Run, Refusal>)
-    ensures { ReportsLine H.reports host.old (report_of usage.now outcome.now) host.new }
+    ensures { ReportsLine H.reports host.old (outcome_line usage.now outcome.now) host.new }
 {
     match outcome {
         Ok(run) => report_fault(host, run.answer),

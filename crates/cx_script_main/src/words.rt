@@ -2,7 +2,7 @@
 
 ghost use Rattle.std.specs.Prelude.{◌≡◌, map, IfOk, IsErrOf, None, Some};
 ghost use Rattle.std.specs.Option.{option_map};
-ghost use Rattle.cx_script_main.specs.Words.{file_of, is_option};
+ghost use Rattle.cx_script_main.specs.Words.{file_of, is_option_word};
 
 use crate::program::Refusal;
 use clap::error::ErrorKind;
@@ -11,8 +11,8 @@ use std::alloc::Global;
 use std::convert::AsStr;
 
 /// Whether a word is an option: a hyphen with more after it.
-fn is_option(word: &str) -> bool
-    ensures { result ≡ is_option word.now }
+fn is_option_word(word: &str) -> bool
+    ensures { result ≡ is_option_word word.now }
 {
     match word.as_bytes() {
         [b'-', _, ..] => true,
@@ -44,7 +44,7 @@ fn second_of<S: AsStr>(words: &[S]) -> Result<Option<&str>, Refusal>
 {
     match words {
         [] | [_] => Ok(None),
-        [_, file] if !is_option(file.as_str()) => Ok(Some(file.as_str())),
+        [_, file] if !is_option_word(file.as_str()) => Ok(Some(file.as_str())),
         _ => Err(Refusal::Usage),
     }
 }

@@ -5,7 +5,8 @@ use Rattle.cx_search.specs.declared.found.Origin.{Origin}
 use Rattle.cx_search.specs.Found.{IsAt}
 use Rattle.cx_search.specs.Moves.{GoesOnly}
 use Rattle.cx_search.specs.Nexts.{AreFirstNexts, AreLinked, AreNexts, IsAmong}
-use Rattle.cx_search.proofs.ListLemmas.{item_appended, item_at, item_kept, item_last}
+use Rattle.cx_search.specs.Facts.Items.{item_appended, item_kept, item_last}
+use Rattle.cx_search.proofs.ListLemmas.{item_at}
 use Rattle.cx_search.proofs.SearchLemmas.{at_kept, at_same, below_next}
 
 module _ {State : Type 0} (Goes : State → ℕ → State → Type 0) (found : List (State × Origin)) where

@@ -5,7 +5,7 @@ use Rattle.std.proofs.lemmas.Option.{same_Some, slice_get_within}
 use Rattle.cx_search.specs.declared.found.Origin.{Origin}
 use Rattle.cx_search.specs.Forever.{AtRest}
 use Rattle.cx_search.specs.Rest.{AreResting, IsListed, IsNear, IsResting}
-use Rattle.cx_search.proofs.ListLemmas.{item_appended, item_kept, item_last}
+use Rattle.cx_search.specs.Facts.Items.{item_appended, item_kept, item_last}
 use Rattle.cx_search.proofs.SearchLemmas.{below_next}
 
 module _ {State : Type 0} (Goes : State → ℕ → State → Type 0) (found : List (State × Origin)) (cut : Option ℕ) where

@@ -6,7 +6,8 @@ use Rattle.std.proofs.lemmas.Option.{none-some, same_Some, slice_get_within}
 use Rattle.cx_search.specs.declared.found.Origin.{Origin}
 use Rattle.cx_search.specs.Moves.{GoesOnly, GoesTo}
 use Rattle.cx_search.specs.Found.{IsAt, IsBefore, IsFoundBy, ComesFrom, Searched}
-use Rattle.cx_search.proofs.ListLemmas.{item_at, item_kept, item_last, item_appended}
+use Rattle.cx_search.specs.Facts.Items.{item_kept, item_last, item_appended}
+use Rattle.cx_search.proofs.ListLemmas.{item_at}
 
 -- below the next number is below it, or it
 pub below_next : (a b : ℕ) → a < b + 1 → (a < b) ⊎ (a ≡ b)

@@ -13,7 +13,7 @@ ghost use Rattle.cx_search.specs.declared.marks.Rule.TheVariants.{All};
 use crate::found::Found;
 use crate::marks::{Rule, is_marked, no_marks};
 use crate::space::Space;
-use cx_base_lists::List;
+use cx_base::List;
 use std::alloc::AllocError;
 
 /// The first place that isn't marked, below a limit.
@@ -154,7 +154,8 @@ impl<T: Space> Found<T> {
     ///
     /// An error comes only where an allocation failed.
     pub fn restless(&self) -> Result<Option<usize>, AllocError>
-        ensures { (space : T) (start : T.State) → IsWhole (T.goes space) start self.now.states.entries self.now.links.items
+        ensures { (space : T) (start : T.State)
+            → IsWhole (T.goes space) start self.now.states.entries self.now.links.items
             → IfOk result (λ place. MatchOption place
             ((moves : Items ℕ) (to : T.State) → Leads (T.goes space) start moves to → CanRest (T.goes space) to)
             (IsFirstPlaceOf (λ state. CanRest (T.goes space) state → ⊥) self.now.states.entries)) }

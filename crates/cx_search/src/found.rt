@@ -7,7 +7,7 @@ ghost use Rattle.cx_search.specs.Nexts.{AreFirstNexts, AreLinked};
 ghost use Rattle.cx_search.specs.Moves.{IsFirst};
 
 use crate::space::Space;
-use cx_base_lists::List;
+use cx_base::List;
 use indexmap::IndexMap;
 use std::alloc::{AllocError, Global};
 
@@ -22,7 +22,7 @@ pub struct Origin {
     pub moves: usize,
 }
 
-/// What was found.
+/// The states that a search has found so far, and what moves lead to from each.
 #[derive(Drop)]
 pub struct Found<T: Space> {
     pub alloc: Global,
@@ -212,7 +212,7 @@ impl<T: Space> Found<T> {
     }
 }
 
-/// What a search has come to.
+/// What a search has found, and whether that is all.
 #[derive(Drop)]
 pub struct Outcome<T: Space> {
     /// The states that were found.

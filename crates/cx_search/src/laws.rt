@@ -9,7 +9,8 @@ pub fn one_list_is_sooner()
     ensures { SoonerOrders }
 {}
 
-/// One list leads first to a state.
+/// Of the lists of moves that lead to a state, one is the first: no list of fewer moves leads there, and none of as
+/// many that is sooner.
 pub fn one_list_leads_first<T: Space>()
     ensures { (space : T) → FirstIsOne (T.goes space) }
 {}

@@ -7,10 +7,10 @@ ghost use Rattle.cx_search.specs.Nexts.{AreLinked};
 
 use crate::found::Found;
 use crate::space::Space;
-use cx_base_lists::List;
+use cx_base::List;
 use std::alloc::{AllocError, Global};
 
-/// By which places a place is marked.
+/// By which places, once they are marked, a place is marked too.
 #[derive(Clone, Copy, Debug)]
 pub enum Rule {
     /// By one that a move leads to; and where no move can be made.
@@ -68,7 +68,8 @@ fn visit(rule: Rule, links: &Vec<List<usize>>, place: usize, marks: &mut Vec<boo
     requires long { length marks.old.items ≡ length links.now.items }
     ensures marked { result ≡ true → (is_marked marks.old.items place ≡ false)
         × (marks.new.items ≡ slice_set marks.old.items place true)
-        × ((nexts : Items ℕ) → slice_get links.now.items place ≡ Some nexts → is_due rule nexts marks.old.items ≡ true) }
+        × ((nexts : Items ℕ) → slice_get links.now.items place ≡ Some nexts
+        → is_due rule nexts marks.old.items ≡ true) }
     ensures left { result ≡ false → (marks.new.items ≡ marks.old.items)
         × ((nexts : Items ℕ) → slice_get links.now.items place ≡ Some nexts → is_marked marks.old.items place ≡ false
         → is_due rule nexts marks.old.items ≡ false) }
@@ -106,7 +107,8 @@ impl<T: Space> Found<T> {
     fn sweep(&self, rule: Rule, marks: &mut Vec<bool>) -> bool
         requires { length marks.old.items ≡ length self.now.links.items }
         ensures long { length marks.new.items ≡ length marks.old.items }
-        ensures right { (space : T) (done : ℕ) → AreLinked (T.goes space) self.now.states.entries self.now.links.items done
+        ensures right { (space : T) (done : ℕ)
+            → AreLinked (T.goes space) self.now.states.entries self.now.links.items done
             → AreRight (T.goes space) self.now.states.entries rule marks.old.items
             → AreRight (T.goes space) self.now.states.entries rule marks.new.items }
         ensures same { result ≡ false → marks.new.items ≡ marks.old.items }
@@ -127,7 +129,8 @@ impl<T: Space> Found<T> {
     /// An error comes only where an allocation failed.
     pub(crate) fn marks(&self, rule: Rule) -> Result<Vec<bool>, AllocError>
         ensures long { IfOk result (λ marks. length marks.items ≡ length self.now.links.items) }
-        ensures right { (space : T) (done : ℕ) → AreLinked (T.goes space) self.now.states.entries self.now.links.items done
+        ensures right { (space : T) (done : ℕ)
+            → AreLinked (T.goes space) self.now.states.entries self.now.links.items done
             → IfOk result (λ marks. AreRight (T.goes space) self.now.states.entries rule marks.items) }
         ensures stable { IfOk result (λ marks. AreStable self.now.links.items rule marks.items) }
     {

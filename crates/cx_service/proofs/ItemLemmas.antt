@@ -5,7 +5,7 @@ use Rattle.std.specs.Map.{set_value}
 use Rattle.indexmap.specs.IndexMap.{insert_entry}
 use Rattle.cx_ebcdic.specs.Names.{is_name}
 use Rattle.cx_service.specs.Queues.{Queue, Queues, queue_of, with_item}
-use Rattle.cx_base_lists.specs.Facts.Tables.{insert_entry_present}
+use Rattle.cx_base.specs.Facts.Tables.{insert_entry_present}
 
 pub with_item_present : (queues : Queues) (name bytes : List ℕ) (old : Queue) → queue_of queues name ≡ Some old → with_item queues name bytes ≡ set_value (is_name name) queues (record old { items = old.items ++ bytes ∷ [] })
 unfolding with_item

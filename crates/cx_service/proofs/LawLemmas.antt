@@ -17,7 +17,7 @@ use Rattle.cx_service.specs.declared.faults.ServiceFault.{ServiceFault}
 use Rattle.cx_service.specs.declared.faults.ServiceFault.TheVariants.{Lengerr, Itemerr, Nospace, Qiderr, Enqbusy, Invreq, Memory}
 use Rattle.cx_service.proofs.LineLemmas.{one_lines, short_first, parts_whole}
 use Rattle.cx_ebcdic.specs.Facts.Names.{is_name-laws}
-use Rattle.cx_base_lists.specs.Facts.Lookups.{lookup-insert_entry-same}
+use Rattle.cx_base.specs.Facts.Lookups.{lookup-insert_entry-same}
 
 pub short_text : (text : List ℕ) → position (λ byte. byte == new_line) text ≡ None → length text ≤ 80 → AreLinesOf text (text ∷ [])
 short_text text none short = short_first text text None [] (parts_whole text none) short refl

@@ -14,7 +14,7 @@ use Rattle.indexmap.specs.IndexMap.{insert_entry}
 use Rattle.cx_ebcdic.specs.Names.{is_name}
 use Rattle.cx_ebcdic.specs.Facts.Names.{is_name-laws}
 use Rattle.cx_service.specs.Queues.{Queue, Queues, most_queues, most_items, most_data, is_item_length, queue_of, queue_or_empty, count_of, last_read_of, item_numbered, item_len_of, size_of, data_of, write_fault, rewrite_fault, read_fault, with_item, with_item_at, with_last_read, IsSoundQueue, AreSoundQueues}
-use Rattle.cx_base_lists.specs.Facts.Tables.{insert_entry_present, insert_entry_absent, found_meets, each-set_value, each-remove_entry, each-insert_entry, length-remove_entry, distinct-set_value, distinct-insert_entry}
+use Rattle.cx_base.specs.Facts.Tables.{insert_entry_present, insert_entry_absent, found_meets, each-set_value, each-remove_entry, each-insert_entry, length-remove_entry, distinct-set_value, distinct-insert_entry}
 
 -- ---- what conditions say
 pub no_fault : {F : Type 0} (b : Bool) (fault : F) (others : Option F) → cond b (Some fault) others ≡ None → (b ≡ false) × (others ≡ None)

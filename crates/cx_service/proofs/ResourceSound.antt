@@ -12,7 +12,7 @@ use Rattle.cx_service.specs.declared.resources.ResourceName.{ResourceName}
 use Rattle.cx_service.specs.declared.resources.Hold.{Hold}
 use Rattle.cx_service.specs.declared.faults.ServiceFault.TheVariants.{Enqbusy, Invreq}
 use Rattle.cx_service.proofs.QueueSound.{no_fault}
-use Rattle.cx_base_lists.specs.Facts.Tables.{insert_entry_present, insert_entry_absent, found_meets, each-set_value, each-remove_entry, each-insert_entry, length-remove_entry, distinct-set_value, distinct-remove_entry, distinct-filter, each-filter, length-filter}
+use Rattle.cx_base.specs.Facts.Tables.{insert_entry_present, insert_entry_absent, found_meets, each-set_value, each-remove_entry, each-insert_entry, length-remove_entry, distinct-set_value, distinct-remove_entry, distinct-filter, each-filter, length-filter}
 
 -- ---- ENQ
 pub enqueued_keeps : (resources : Resources) (slot : ℕ) (name : ResourceName) → AreSoundResources resources → enq_fault resources slot name ≡ None → IsDistinct is_resource (keys_of (enqueue resources slot name)) → AreSoundResources (enqueue resources slot name)

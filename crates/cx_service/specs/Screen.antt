@@ -1,5 +1,5 @@
--- The screen of a terminal: 24 lines of 80 bytes, a 3270's larger screen (Introduction to the 3270, GA27-2739), and what
--- SEND TEXT shows on it (SC33-0077, "SEND TEXT"; which lines is this product's own rule).
+-- The screen of a terminal: 24 lines of 80 bytes, a 3270's larger screen (Introduction to the 3270, GA27-2739), and
+-- what SEND TEXT shows on it (SC33-0077, "SEND TEXT"; which lines is this product's own rule).
 use Rattle.std.specs.Prelude.{◌≡◌, ℕ, ◌-◌, Bool, if◌then◌else◌, List, [], ◌∷◌, ◌++◌, length, replicate}
 use Rattle.std.specs.List.{AllByRecursion}
 use Rattle.cx_service.specs.Lines.{blank, columns, AreLinesOf}

@@ -167,7 +167,7 @@ fn take_off(resources: &mut IndexMap<ResourceName, Hold>, slot: u8, name: &Resou
 }
 
 /// Sets the count of a resource that is held.
-#[tactic(auto, using(cx_base_lists::specs::Facts::Tables::set_value_absent))]
+#[tactic(auto, using(cx_base::specs::Facts::Tables::set_value_absent))]
 fn set_count(resources: &mut IndexMap<ResourceName, Hold>, name: &ResourceName, count: u16)
     ensures { (hold : Hold) → hold_of resources.old.entries name.now ≡ Some hold
         → resources.new.entries ≡ set_value (is_resource name.now) resources.old.entries

@@ -5,7 +5,7 @@ ghost use Rattle.std.specs.Result.{result_err};
 ghost use Rattle.cx_service.specs.Queues.{is_item_length as is_length, queue_of, queue_or_empty, count_of, last_read_of, item_numbered, item_of, size_of, data_of, next_number, write_fault, rewrite_fault, read_fault, delete_fault, with_item, with_item_at, with_last_read, without_queue, AreSoundQueues};
 
 use crate::faults::ServiceFault;
-use cx_base_lists::List;
+use cx_base::List;
 use cx_ebcdic::Name8;
 use indexmap::IndexMap;
 use std::alloc::{AllocError, Global};
@@ -380,7 +380,7 @@ fn put_first(
 }
 
 /// Puts an item in the place of item n of a queue, where it is there.
-#[tactic(auto, using(cx_base_lists::specs::Facts::Tables::set_value_absent), unfolding(crate::specs::Queues::with_item_at))]
+#[tactic(auto, using(cx_base::specs::Facts::Tables::set_value_absent), unfolding(crate::specs::Queues::with_item_at))]
 fn put_at(queues: &mut IndexMap<Name8, Queue>, name: Name8, n: usize, item: Item)
     ensures { queues.new.entries ≡ with_item_at queues.old.entries name n item }
 {
@@ -391,7 +391,7 @@ fn put_at(queues: &mut IndexMap<Name8, Queue>, name: Name8, n: usize, item: Item
 }
 
 /// Makes item n of a queue the one last read, where the queue is there.
-#[tactic(auto, using(cx_base_lists::specs::Facts::Tables::set_value_absent), unfolding(crate::specs::Queues::with_last_read))]
+#[tactic(auto, using(cx_base::specs::Facts::Tables::set_value_absent), unfolding(crate::specs::Queues::with_last_read))]
 fn mark_read(queues: &mut IndexMap<Name8, Queue>, name: Name8, n: usize)
     ensures { queues.new.entries ≡ with_last_read queues.old.entries name n }
 {

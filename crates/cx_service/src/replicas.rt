@@ -5,9 +5,7 @@ use crate::enqueues::Enqueues;
 use crate::queues::{Queue, Queues};
 use crate::resources::{Hold, ResourceName};
 use crate::screen::{COLUMNS, ROWS, Screen};
-use cx_base_copies::{
-    Replica, Same, are_same_items, are_same_tables, replica_of_items, replica_of_table,
-};
+use cx_base::{Replica, Same, are_same_items, are_same_tables, replica_of_items, replica_of_table};
 use std::alloc::{AllocError, Global};
 
 impl Same for Queue {

@@ -9,7 +9,7 @@ use crate::faults::fault_of;
 use crate::lines::{columns, text_of, trim_blanks};
 use crate::source::{Items, Source, SourceFault, Text};
 use crate::statements::{is_continued, is_last, items_of};
-use cx_base_lists::List;
+use cx_base::List;
 use std::alloc::{AllocError, Global};
 use std::collections::VecDeque;
 

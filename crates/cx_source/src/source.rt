@@ -3,7 +3,7 @@
 ghost use Rattle.std.specs.Prelude.{◌≡◌, IfOk};
 ghost use Rattle.cx_source.specs.Faults.{fault_name};
 
-use cx_base_lists::List;
+use cx_base::List;
 use std::alloc::{AllocError, AllocFailed, Global};
 use thiserror::Error;
 

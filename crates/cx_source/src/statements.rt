@@ -7,7 +7,7 @@ ghost use Rattle.cx_source.specs.Statements.{is_continued, is_last, items_from, 
 use crate::lines::{columns, entries_of, is_comment, is_end, is_marked, skip_blanks, trim_blanks};
 use crate::marks::{Delimiter, first_mark};
 use crate::source::{Item, Stmt, Text};
-use cx_base_lists::List;
+use cx_base::List;
 use std::alloc::{AllocError, Global};
 use std::collections::VecDeque;
 

@@ -1,11 +1,10 @@
 -- Bytes written one after the other, and what a write leaves elsewhere.
-use Rattle.std.proofs.Common.{refl, sym, ◌∙◌, inl, inr, arith, drop, unwrap_or, []}
+use Rattle.std.proofs.Common.{refl, sym, ◌∙◌, inl, inr, arith, unwrap_or, []}
 use Rattle.std.proofs.lemmas.Bool.{cases_Bool, cases_lt, false≢true, le-ltb}
-use Rattle.std.proofs.lemmas.List.{drop_more, drop_all}
 use Rattle.std.proofs.lemmas.Option.{slice_get-get_or, none-some}
 use Rattle.std.specs.List.{AllByRecursion}
 use Rattle.std.specs.Option.{option_map_or}
-use Rattle.std.specs.Prelude.{◌≡◌, ℕ, zero, suc, ◌+◌, ◌-◌, ◌<◌, ◌≤◌, Bool, true, false, List, ◌∷◌, length, Option, Some, None, is_some, ◌^◌, slice_index, []}
+use Rattle.std.specs.Prelude.{◌≡◌, ℕ, zero, suc, ◌-◌, ◌<◌, ◌≤◌, Bool, true, false, List, ◌∷◌, length, Option, Some, None, is_some, ◌^◌, []}
 use Rattle.cx_storage.specs.Facts.Sound.{covers_cases, IsSound-head, IsSound-tail, sound_with_byte}
 use Rattle.cx_storage.specs.Facts.Writes.{written_whole, written_none, byte_after_bytes, holder_after_set}
 use Rattle.cx_storage.specs.Storage.{Storage, byte_at, holder, IsSound, span, with_byte, with_bytes, after_write}
@@ -36,16 +35,6 @@ span_zero s a n e = rw (e, span_empty s a) refl
 pub unwrap_absent : (o : Option (List ℕ)) (d : List ℕ) → is_some o ≡ false → unwrap_or o d ≡ d
 unwrap_absent None d e = refl
 unwrap_absent (Some x) d e = cc
-
--- bytes written, the first and then the rest
-pub with_bytes_more : (s : Storage) (a k : ℕ) (bytes : List ℕ) (v : ℕ) → k < length bytes → v ≡ slice_index bytes k
-    → with_bytes (with_byte s a v) (address_after a 1) (drop (k + 1) bytes) ≡ with_bytes s a (drop k bytes)
-unfolding with_bytes
-with_bytes_more s a k bytes v h e = rw (e, drop_more bytes k 0 h) refl
-
-pub with_bytes_all : (s : Storage) (a k : ℕ) (bytes : List ℕ) → length bytes ≤ k → with_bytes s a (drop k bytes) ≡ s
-unfolding with_bytes
-with_bytes_all s a k bytes h = rw (drop_all k bytes h) refl
 
 -- bytes written
 pub sound_with_bytes : (s : Storage) (a : ℕ) (bytes : List ℕ) → IsSound s → AllByRecursion (λ b. b < 256) bytes → IsSound (with_bytes s a bytes)

@@ -1,5 +1,5 @@
--- Addresses (Principles of Operation, GA22-7000, "Storage Addressing" and "Address Generation"): numbers
--- below 2^24, which go on at 0 after the last.
+-- Addresses (Principles of Operation, GA22-7000, "Storage Addressing" and "Address Generation"): numbers below 2^24,
+-- which go on at 0 after the last.
 use Rattle.std.specs.Prelude.{ℕ, ◌+◌, ◌-◌, ◌%◌, ◌^◌}
 
 -- the address in a word: its bits 8 to 31

@@ -1,5 +1,5 @@
--- Where a new area goes (this product's own): the least multiple of 16 in a range at which all of it
--- lies in the range and meets no area.
+-- Where a new area goes (this product's own): the least multiple of 16 in a range at which all of it lies in the range
+-- and meets no area.
 use Rattle.std.specs.Prelude.{◌≡◌, ℕ, ◌+◌, ◌%◌, ◌≤◌, ◌⊎◌, Option, Some, None}
 use Rattle.std.specs.List.{AllByRecursion}
 use Rattle.cx_storage.specs.Storage.{Held, Storage, end_of}

@@ -1,6 +1,6 @@
--- Storage as the Principles of Operation (GA22-7000, "Storage Addressing") has it: bytes at addresses
--- below 2^24, and addresses that go on at 0 after the last. Here a byte is present exactly where an area
--- covers its address; the areas are this product's own.
+-- Storage as the Principles of Operation (GA22-7000, "Storage Addressing") has it: bytes at addresses below 2^24, and
+-- addresses that go on at 0 after the last. Here a byte is present exactly where an area covers its address; the areas
+-- are this product's own.
 use Rattle.std.specs.Prelude.{◌≡◌, ℕ, zero, suc, ◌+◌, ◌-◌, ◌%◌, ◌^◌, ◌<◌, ◌≤◌, Bool, ◌&&◌, not, List, [], ◌∷◌, map, length, replicate, slice_get, slice_set, Option, Some, None, is_some, nat_le, nat_lt, ◌==◌, if◌then◌else◌, ⊤, IsTrue}
 use Rattle.std.specs.Option.{option_map, option_and_then}
 use Rattle.std.specs.List.{AllByRecursion, filter, list_any}

@@ -1,6 +1,6 @@
--- Words and halfwords in storage (Principles of Operation, GA22-7000, "Information Formats" and
--- "Integral Boundaries"): the byte at the lowest address is the highest. Here they may be at any
--- address, and go on at address 0 after the last.
+-- Words and halfwords in storage (Principles of Operation, GA22-7000, "Information Formats" and "Integral Boundaries"):
+-- the byte at the lowest address is the highest. Here they may be at any address, and go on at address 0 after the
+-- last.
 use Rattle.std.specs.Prelude.{ℕ, Option}
 use Rattle.std.specs.Option.{option_map}
 use Rattle.byteorder.specs.Endian.{big_number}

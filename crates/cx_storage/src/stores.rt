@@ -102,7 +102,7 @@ pub trait Store {
 
     /// Writes the bytes (at most 65,536) from `a` (below 2^24) on; they go on at address 0 after
     /// X'FFFFFF'. False, and no change, exactly where one of the addresses is in no area.
-    #[tactic(auto, using(crate::specs::Facts::Spans::span_gone, crate::specs::Facts::Spans::span_present, crate::proofs::WriteLemmas::with_bytes_more, crate::proofs::WriteLemmas::with_bytes_all, crate::specs::Facts::Writes::written_none, crate::specs::Facts::Writes::written_whole))]
+    #[tactic(auto, using(crate::specs::Facts::Spans::span_gone, crate::specs::Facts::Spans::span_present, crate::specs::Facts::Writes::with_bytes_more, crate::specs::Facts::Writes::with_bytes_all, crate::specs::Facts::Writes::written_none, crate::specs::Facts::Writes::written_whole))]
     fn write(&mut self, a: u32, bytes: &[u8]) -> bool
         requires address { a < 2 ^ 24 }
         requires size { length bytes.now ≤ 65536 }

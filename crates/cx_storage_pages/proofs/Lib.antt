@@ -6,3 +6,4 @@ pub mod ChangeLemmas
 pub mod TableLemmas
 pub mod ScanLemmas
 pub mod SpanLemmas
+pub mod SlotLemmas

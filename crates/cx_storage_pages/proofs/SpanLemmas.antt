@@ -1,8 +1,8 @@
 -- Spans of pages: what is read, tested and written piece by piece.
-use Rattle.std.proofs.Common.{◌≡◌, ℕ, zero, suc, ◌+◌, ◌-◌, ◌%◌, ◌<◌, ◌≤◌, ◌^◌, true, false, refl, sym, ap, ◌∙◌, arith, inl, inr, replicate, List, [], ◌∷◌, length, slice_index, drop, Option, Some, None, is_some, unwrap_or}
+use Rattle.std.proofs.Common.{◌≡◌, ℕ, zero, suc, ◌+◌, ◌-◌, ◌%◌, ◌<◌, ◌≤◌, ◌^◌, true, false, refl, sym, ap, ◌∙◌, arith, inl, inr, replicate, List, [], ◌∷◌, length, slice_index, Option, Some, None, is_some, unwrap_or}
 use Rattle.std.proofs.lemmas.Bool.{cases_Bool, cases_lt, lt-ltb, le-ltb, lt-leb, le-leb}
 use Rattle.std.proofs.lemmas.Option.{slice_get-get_or}
-use Rattle.std.proofs.lemmas.List.{drop_more, drop_all, get_or-replicate, length-replicate}
+use Rattle.std.proofs.lemmas.List.{get_or-replicate, length-replicate}
 use Rattle.std.specs.Prelude.{IfSome, OnSome}
 use Rattle.std.specs.List.{AllByRecursion}
 use Rattle.cx_storage.specs.Address.{address_after, distance}
@@ -84,20 +84,6 @@ pub filled_span : (s : Storage) (a : ℕ) (buffer : List ℕ) → a < 2 ^ 24 →
     → ((k : ℕ) → k < length buffer → slice_index buffer k ≡ unwrap_or (byte_at s (address_after a k)) 0) → span s a (length buffer) ≡ Some buffer
 filled_span s a buffer la there each = span_from s a (length buffer) buffer la refl (λ k h.
     present_byte (byte_at s (address_after a k)) (span_has s a (length buffer) k la there h) ∙ ap Some (sym (each k h)))
-
-pub unwrap_absent : (o : Option (List ℕ)) (d : List ℕ) → is_some o ≡ false → unwrap_or o d ≡ d
-unwrap_absent None d e = refl
-unwrap_absent (Some x) d e = cc
-
--- bytes written one after the other
-pub with_bytes_more : (s : Storage) (a k : ℕ) (bytes : List ℕ) (v : ℕ) → k < length bytes → v ≡ slice_index bytes k
-    → with_bytes (with_byte s a v) (address_after a 1) (drop (k + 1) bytes) ≡ with_bytes s a (drop k bytes)
-unfolding with_bytes
-with_bytes_more s a k bytes v h e = rw (e, drop_more bytes k 0 h) refl
-
-pub with_bytes_all : (s : Storage) (a k : ℕ) (bytes : List ℕ) → length bytes ≤ k → with_bytes s a (drop k bytes) ≡ s
-unfolding with_bytes
-with_bytes_all s a k bytes h = rw (drop_all k bytes h) refl
 
 -- a span of one page written at once
 sound_with_bytes : (s : Storage) (a : ℕ) (bytes : List ℕ) → IsSound s → AllByRecursion (λ b. b < 256) bytes → IsSound (with_bytes s a bytes)

@@ -2,3 +2,4 @@
 pub mod Runs
 pub mod Reach
 pub mod Shown
+pub mod Slots

@@ -1,5 +1,4 @@
--- The definitions.
+-- The definitions, and words of private functions.
 pub mod Pages
--- Words of private functions.
 pub mod Parts
 pub mod Facts

@@ -6,3 +6,4 @@ pub mod Frame
 pub mod Page
 pub mod Directory
 pub mod Shown
+pub mod Slots

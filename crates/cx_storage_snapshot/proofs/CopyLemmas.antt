@@ -14,7 +14,7 @@ use Rattle.cx_storage.specs.Facts.Sound.{IsSound-head, IsSound-tail, IsSound-apa
 use Rattle.cx_storage.specs.Facts.Spans.{span_from, span_at, span_length}
 use Rattle.cx_storage.specs.declared.areas.Area.{Area}
 use Rattle.cx_storage_snapshot.specs.Hash.{hash_with_area}
-use Rattle.cx_base_copies.specs.Shared.{values}
+use Rattle.cx_base.specs.Shared.{values}
 use Rattle.cx_storage_snapshot.specs.Parts.Copies.{areas_from, IsCopyOf}
 
 -- two spans, one after the other

@@ -16,7 +16,7 @@ use Rattle.cx_storage.specs.Facts.Spans.{span_inside}
 use Rattle.cx_storage.specs.Facts.Writes.{written_whole}
 use Rattle.cx_storage.specs.declared.areas.Area.{Area}
 use Rattle.cx_storage.specs.declared.areas.Owner.{Owner}
-use Rattle.cx_base_copies.specs.Shared.{values}
+use Rattle.cx_base.specs.Shared.{values}
 use Rattle.cx_storage_snapshot.specs.Parts.Copies.{EndBefore, partly}
 use Rattle.cx_storage_snapshot.proofs.CopyLemmas.{take_piece}
 

@@ -1,6 +1,6 @@
 -- The hash of storage (this product's own).
 use Rattle.std.specs.Prelude.{ℕ, fold}
-use Rattle.cx_base_hash.specs.Hash.{hash_with, hash_of}
+use Rattle.cx_base.specs.Hash.{hash_with, hash_of}
 use Rattle.cx_storage.specs.Storage.{Held, Storage}
 
 -- the hash with the start and the bytes of one area more

@@ -1,9 +1,8 @@
 //! One area with a copy of its bytes.
 ghost use Rattle.std.specs.Prelude.{◌≡◌, ◌↔◌, IsTrue};
-ghost use Rattle.cx_base_hash.specs.Hash.{hash_of};
+ghost use Rattle.cx_base.specs.Hash.{hash_of};
 
-use cx_base_copies::Same;
-use cx_base_hash::hash_of_bytes;
+use cx_base::{Same, hash_of_bytes};
 use cx_storage::Area;
 use std::marker::Model;
 
@@ -17,7 +16,7 @@ pub struct AreaCopy {
 
 impl Model for AreaCopy {
     ghost use Rattle.std.specs.Prelude.{◌≡◌};
-    ghost use Rattle.cx_base_hash.specs.Hash.{hash_of};
+    ghost use Rattle.cx_base.specs.Hash.{hash_of};
     ghost use Rattle.cx_storage.specs.Storage.{Held};
 
     ghost Value = { Held };

@@ -2,14 +2,13 @@
 ghost use Rattle.std.specs.Prelude.{◌≡◌, ◌↔◌, ◌++◌, IsTrue, IfOk, Some};
 ghost use Rattle.cx_storage.specs.Storage.{area_at};
 ghost use Rattle.cx_storage_snapshot.specs.Hash.{storage_hash};
-ghost use Rattle.cx_base_copies.specs.Shared.{values};
+ghost use Rattle.cx_base.specs.Shared.{values};
 ghost use Rattle.cx_storage_snapshot.specs.Parts.Copies.{areas_from, IsCopyOf};
 
 use crate::area::AreaCopy;
 use crate::reading::copy_of;
 use crate::writing::put_areas;
-use cx_base_copies::are_same_shared;
-use cx_base_hash::hash_with;
+use cx_base::{are_same_shared, hash_with};
 use cx_storage::Store;
 use cx_storage::laws::{next_area_is_least, store_is_aligned, store_is_sound};
 use std::alloc::{AllocError, Global};
@@ -28,7 +27,7 @@ impl Model for StorageSnapshot {
 
     ghost Value = { Storage };
 
-    ghost use Rattle.cx_base_copies.specs.Shared.{values};
+    ghost use Rattle.cx_base.specs.Shared.{values};
 
     ghost view = { λ snapshot. values snapshot.areas.items };
 

@@ -2,7 +2,7 @@
 ghost use Rattle.std.specs.Prelude.{◌≡◌, ◌+◌, ◌%◌, ◌^◌, ◌≤◌, ◌<◌, ◌++◌, [], ◌∷◌, length, OnOk};
 ghost use Rattle.cx_storage.specs.Storage.{Storage, IsSound, end_of};
 ghost use Rattle.cx_storage.specs.Aligned.{AreAligned};
-ghost use Rattle.cx_base_copies.specs.Shared.{values};
+ghost use Rattle.cx_base.specs.Shared.{values};
 ghost use Rattle.cx_storage_snapshot.specs.Parts.Copies.{EndBefore, partly};
 
 use crate::area::AreaCopy;

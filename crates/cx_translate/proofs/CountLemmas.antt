@@ -7,20 +7,20 @@ use Rattle.std.specs.Str.{bytes_eq}
 use Rattle.std.proofs.lemmas.Bool.{eqb-true, ltb-false, leb-true}
 use Rattle.std.proofs.lemmas.List.Sums.{sum_by-cons}
 use Rattle.std.proofs.lemmas.Slice.Eq.{bytes_eq-Decides}
-use Rattle.cx_base_commands.specs.declared.commands.Command.{Command}
-use Rattle.cx_base_commands.specs.declared.conditions.Condition.{Condition}
-use Rattle.cx_base_commands.specs.declared.options.CommandOption.{CommandOption}
-use Rattle.cx_base_commands.specs.Commands.{row_of}
-use Rattle.cx_base_commands.specs.Facts.Commands.{each_command}
-use Rattle.cx_base_commands.specs.Conditions.{entry_of, handled_conditions}
-use Rattle.cx_base_commands.specs.Options.{common_of, option_name}
-use Rattle.cx_base_commands.specs.Legal.{lists_conditions}
+use Rattle.cx_base.specs.declared.commands.Command.{Command}
+use Rattle.cx_base.specs.declared.conditions.Condition.{Condition}
+use Rattle.cx_base.specs.declared.options.CommandOption.{CommandOption}
+use Rattle.cx_base.specs.Commands.{row_of}
+use Rattle.cx_base.specs.Facts.Commands.{each_command}
+use Rattle.cx_base.specs.Conditions.{entry_of, handled_conditions}
+use Rattle.cx_base.specs.Options.{common_of, option_name}
+use Rattle.cx_base.specs.Legal.{lists_conditions}
 use Rattle.cx_translate.specs.declared.due_arguments.DueArgument.{DueArgument}
 use Rattle.cx_translate.specs.declared.words.Word.{Word}
 use Rattle.cx_translate.specs.DueArguments.{common_due, condition_called, condition_due, due_of, due_by_kind, option_called}
 use Rattle.cx_translate.specs.Refusals.{conditions_in, fault_in, first_byte, has_too_many, has_unknown}
 use Rattle.cx_translate.proofs.RefusalLemmas.{few_conditions, known}
-use Rattle.cx_base_commands.specs.declared.options.CommonOption.TheVariants.{Resp}
+use Rattle.cx_base.specs.declared.options.CommonOption.TheVariants.{Resp}
 use Rattle.cx_translate.specs.Facts.Found.{listed_by, operand_by}
 use Rattle.cx_translate.specs.Call.{argument_of, labels_of, list_of, listed_of, operands_of, text_in}
 

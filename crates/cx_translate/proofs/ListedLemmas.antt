@@ -5,13 +5,13 @@ use Rattle.std.specs.List.{find, list_all, list_any}
 use Rattle.std.specs.Option.{option_or}
 use Rattle.std.specs.Str.{bytes_eq}
 use Rattle.std.proofs.lemmas.Slice.Eq.{bytes_eq-Decides}
-use Rattle.cx_base_commands.specs.declared.commands.Command.{Command}
-use Rattle.cx_base_commands.specs.declared.conditions.Condition.{Condition}
-use Rattle.cx_base_commands.specs.declared.conditions.Condition.TheVariants.{Normal, Error, Invreq, Nospace, Lengerr, Itemerr, Pgmiderr, Nostg, Qiderr, Enqbusy}
-use Rattle.cx_base_commands.specs.declared.options.CommandOption.{CommandOption}
-use Rattle.cx_base_commands.specs.Commands.{row_of}
-use Rattle.cx_base_commands.specs.Conditions.{entry_of, handled_conditions}
-use Rattle.cx_base_commands.specs.Legal.{is_handle, is_handled_number, is_legal_list, is_listed, lists_conditions, may_list}
+use Rattle.cx_base.specs.declared.commands.Command.{Command}
+use Rattle.cx_base.specs.declared.conditions.Condition.{Condition}
+use Rattle.cx_base.specs.declared.conditions.Condition.TheVariants.{Normal, Error, Invreq, Nospace, Lengerr, Itemerr, Pgmiderr, Nostg, Qiderr, Enqbusy}
+use Rattle.cx_base.specs.declared.options.CommandOption.{CommandOption}
+use Rattle.cx_base.specs.Commands.{row_of}
+use Rattle.cx_base.specs.Conditions.{entry_of, handled_conditions}
+use Rattle.cx_base.specs.Legal.{is_handle, is_handled_number, is_legal_list, is_listed, lists_conditions, may_list}
 use Rattle.cx_translate.specs.declared.due_arguments.DueArgument.{DueArgument}
 use Rattle.cx_translate.specs.declared.due_arguments.DueArgument.TheVariants.{Nothing, Label}
 use Rattle.cx_translate.specs.declared.words.Argument.{Argument}

@@ -9,18 +9,18 @@ use Rattle.std.proofs.lemmas.Bool.{eqb-true}
 use Rattle.std.proofs.lemmas.List.Sums.{sum_by-cons}
 use Rattle.std.proofs.lemmas.Nat.Bits.{bit_at_and, bit_at_or, bit_at-zero, same_from_bits}
 use Rattle.std.proofs.lemmas.Slice.Eq.{bytes_eq-Decides}
-use Rattle.cx_base_commands.specs.declared.commands.Command.{Command}
-use Rattle.cx_base_commands.specs.declared.commands.Command.TheVariants as command
-use Rattle.cx_base_commands.specs.declared.conditions.Condition.{Condition}
-use Rattle.cx_base_commands.specs.declared.options.CommandOption.{CommandOption}
-use Rattle.cx_base_commands.specs.declared.options.CommonOption.TheVariants.{Nohandle, Resp}
-use Rattle.cx_base_commands.specs.declared.options.ArgumentKind.{ArgumentKind}
-use Rattle.cx_base_commands.specs.declared.options.ArgumentKind.TheVariants as kind
-use Rattle.cx_base_commands.specs.Arguments.{arguments_in, is_argument, takes_argument}
-use Rattle.cx_base_commands.specs.Commands.{row_of}
-use Rattle.cx_base_commands.specs.Facts.Commands.{each_command}
-use Rattle.cx_base_commands.specs.Options.{common_of, option_name}
-use Rattle.cx_base_commands.specs.Legal.{has_bit}
+use Rattle.cx_base.specs.declared.commands.Command.{Command}
+use Rattle.cx_base.specs.declared.commands.Command.TheVariants as command
+use Rattle.cx_base.specs.declared.conditions.Condition.{Condition}
+use Rattle.cx_base.specs.declared.options.CommandOption.{CommandOption}
+use Rattle.cx_base.specs.declared.options.CommonOption.TheVariants.{Nohandle, Resp}
+use Rattle.cx_base.specs.declared.options.ArgumentKind.{ArgumentKind}
+use Rattle.cx_base.specs.declared.options.ArgumentKind.TheVariants as kind
+use Rattle.cx_base.specs.Arguments.{arguments_in, is_argument, takes_argument}
+use Rattle.cx_base.specs.Commands.{row_of}
+use Rattle.cx_base.specs.Facts.Commands.{each_command}
+use Rattle.cx_base.specs.Options.{common_of, option_name}
+use Rattle.cx_base.specs.Legal.{has_bit}
 use Rattle.cx_translate.specs.declared.due_arguments.DueArgument.{DueArgument}
 use Rattle.cx_translate.specs.declared.due_arguments.DueArgument.TheVariants.{Nothing, Name, Value, Label}
 use Rattle.cx_translate.specs.declared.words.Argument.{Argument}

@@ -1,9 +1,9 @@
 -- Lemmas on statements without a fault.
 use Rattle.std.proofs.Common.{◌≡◌, ◌≢◌, ℕ, Bool, true, false, cond, List, Option, Some, None, Ok, Err, slice_get, refl, ◌||◌}
 use Rattle.cx_source.specs.declared.source.Source.{Source}
-use Rattle.cx_base_commands.specs.declared.commands.Command.{Command}
-use Rattle.cx_base_commands.specs.Commands.{row_of}
-use Rattle.cx_base_commands.specs.Legal.{is_legal}
+use Rattle.cx_base.specs.declared.commands.Command.{Command}
+use Rattle.cx_base.specs.Commands.{row_of}
+use Rattle.cx_base.specs.Legal.{is_legal}
 use Rattle.cx_translate.specs.declared.words.Word.{Word}
 use Rattle.cx_translate.specs.declared.faults.TransFault.{TransFault}
 use Rattle.cx_translate.specs.declared.faults.TransFault.TheVariants.{UnknownCommand, Memory, UnknownOption, BadArgument, TooManyConditions, Conflict, MissingOption}

@@ -5,16 +5,16 @@ use Rattle.std.specs.List.{flat_map}
 use Rattle.std.specs.Option.{option_to_list, option_and, option_map}
 use Rattle.std.specs.Fmt.{digit_glyph}
 use Rattle.std.specs.Str.{bytes_eq}
-use Rattle.cx_base_commands.specs.declared.commands.Command.{Command}
-use Rattle.cx_base_commands.specs.declared.conditions.Condition.{Condition}
-use Rattle.cx_base_commands.specs.declared.legal.ListedCondition.{ListedCondition}
-use Rattle.cx_base_commands.specs.declared.options.CommandOption.{CommandOption}
-use Rattle.cx_base_commands.specs.declared.options.CommonOption.TheVariants.{Resp}
-use Rattle.cx_base_commands.specs.declared.options.ArgumentKind.{ArgumentKind}
-use Rattle.cx_base_commands.specs.declared.options.ArgumentKind.TheVariants.{Pointer, Name4, Name8}
-use Rattle.cx_base_commands.specs.Conditions.{entry_of}
-use Rattle.cx_base_commands.specs.Options.{common_of, option_name}
-use Rattle.cx_base_commands.specs.Commands.{row_of}
+use Rattle.cx_base.specs.declared.commands.Command.{Command}
+use Rattle.cx_base.specs.declared.conditions.Condition.{Condition}
+use Rattle.cx_base.specs.declared.legal.ListedCondition.{ListedCondition}
+use Rattle.cx_base.specs.declared.options.CommandOption.{CommandOption}
+use Rattle.cx_base.specs.declared.options.CommonOption.TheVariants.{Resp}
+use Rattle.cx_base.specs.declared.options.ArgumentKind.{ArgumentKind}
+use Rattle.cx_base.specs.declared.options.ArgumentKind.TheVariants.{Pointer, Name4, Name8}
+use Rattle.cx_base.specs.Conditions.{entry_of}
+use Rattle.cx_base.specs.Options.{common_of, option_name}
+use Rattle.cx_base.specs.Commands.{row_of}
 use Rattle.cx_translate.specs.declared.words.Argument.{Argument}
 use Rattle.cx_translate.specs.declared.words.Argument.TheVariants.{Given}
 use Rattle.cx_translate.specs.declared.words.Word.{Word}

@@ -1,19 +1,19 @@
 -- Which argument is due with each word of a command (Application Programmer's Reference Manual, SC33-0077, the syntax
--- of each command; the table of options is that of cx_base_commands).
+-- of each command; the table of options is that of cx_base).
 use Rattle.std.specs.Prelude.{ℕ, Bool, true, false, ◌&&◌, List, Option, Some, None, is_some, if◌then◌else◌}
 use Rattle.std.specs.List.{find}
 use Rattle.std.specs.Option.{option_map, option_or}
 use Rattle.std.specs.Str.{bytes_eq}
-use Rattle.cx_base_commands.specs.declared.commands.Command.{Command}
-use Rattle.cx_base_commands.specs.declared.conditions.Condition.{Condition}
-use Rattle.cx_base_commands.specs.declared.options.CommandOption.{CommandOption}
-use Rattle.cx_base_commands.specs.declared.options.CommonOption.TheVariants.{Nohandle, Resp}
-use Rattle.cx_base_commands.specs.declared.options.ArgumentKind.{ArgumentKind}
-use Rattle.cx_base_commands.specs.declared.options.ArgumentKind.TheVariants.{Flag, Name4, Name8}
-use Rattle.cx_base_commands.specs.Conditions.{entry_of, handled_conditions}
-use Rattle.cx_base_commands.specs.Options.{common_of, option_name}
-use Rattle.cx_base_commands.specs.Commands.{row_of}
-use Rattle.cx_base_commands.specs.Legal.{is_handle, lists_conditions}
+use Rattle.cx_base.specs.declared.commands.Command.{Command}
+use Rattle.cx_base.specs.declared.conditions.Condition.{Condition}
+use Rattle.cx_base.specs.declared.options.CommandOption.{CommandOption}
+use Rattle.cx_base.specs.declared.options.CommonOption.TheVariants.{Nohandle, Resp}
+use Rattle.cx_base.specs.declared.options.ArgumentKind.{ArgumentKind}
+use Rattle.cx_base.specs.declared.options.ArgumentKind.TheVariants.{Flag, Name4, Name8}
+use Rattle.cx_base.specs.Conditions.{entry_of, handled_conditions}
+use Rattle.cx_base.specs.Options.{common_of, option_name}
+use Rattle.cx_base.specs.Commands.{row_of}
+use Rattle.cx_base.specs.Legal.{is_handle, lists_conditions}
 use Rattle.cx_translate.specs.declared.due_arguments.DueArgument.{DueArgument}
 use Rattle.cx_translate.specs.declared.due_arguments.DueArgument.TheVariants.{Nothing, Name, Value, Label}
 use Rattle.cx_translate.specs.declared.words.Argument.{Argument}

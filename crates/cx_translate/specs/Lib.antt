@@ -13,9 +13,9 @@ pub mod Facts
 pub use Rattle.cx_source.specs.Lines
 pub use Rattle.cx_source.specs.Marks
 pub use Rattle.cx_source.specs.Statements
-pub use Rattle.cx_base_commands.specs.Conditions
-pub use Rattle.cx_base_commands.specs.Options
-pub use Rattle.cx_base_commands.specs.Commands
-pub use Rattle.cx_base_commands.specs.Legal
-pub use Rattle.cx_base_commands.specs.Eib
-pub use Rattle.cx_base_commands.specs.Eistg
+pub use Rattle.cx_base.specs.Conditions
+pub use Rattle.cx_base.specs.Options
+pub use Rattle.cx_base.specs.Commands
+pub use Rattle.cx_base.specs.Legal
+pub use Rattle.cx_base.specs.Eib
+pub use Rattle.cx_base.specs.Eistg

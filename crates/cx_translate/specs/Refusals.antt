@@ -4,13 +4,13 @@ use Rattle.std.specs.Prelude.{ℕ, Bool, false, ◌&&◌, ◌||◌, not, nat_lt,
 use Rattle.std.specs.Option.{option_map_or}
 use Rattle.std.specs.List.{list_any}
 use Rattle.std.specs.Str.{bytes_eq}
-use Rattle.cx_base_commands.specs.declared.commands.Command.{Command}
-use Rattle.cx_base_commands.specs.declared.options.CommonOption.TheVariants.{Nohandle, Resp}
-use Rattle.cx_base_commands.specs.declared.options.Rule.{Rule}
-use Rattle.cx_base_commands.specs.declared.options.Rule.TheVariants.{NotBoth, OneOfTwo, OneOfThree}
-use Rattle.cx_base_commands.specs.Options.{common_of, option_name}
-use Rattle.cx_base_commands.specs.Commands.{row_of, command_named}
-use Rattle.cx_base_commands.specs.Legal.{has_bit, is_legal, lists_conditions}
+use Rattle.cx_base.specs.declared.commands.Command.{Command}
+use Rattle.cx_base.specs.declared.options.CommonOption.TheVariants.{Nohandle, Resp}
+use Rattle.cx_base.specs.declared.options.Rule.{Rule}
+use Rattle.cx_base.specs.declared.options.Rule.TheVariants.{NotBoth, OneOfTwo, OneOfThree}
+use Rattle.cx_base.specs.Options.{common_of, option_name}
+use Rattle.cx_base.specs.Commands.{row_of, command_named}
+use Rattle.cx_base.specs.Legal.{has_bit, is_legal, lists_conditions}
 use Rattle.cx_translate.specs.declared.words.Word.{Word}
 use Rattle.cx_translate.specs.declared.due_arguments.DueArgument.TheVariants.{Nothing}
 use Rattle.cx_translate.specs.declared.faults.TransFault.{TransFault}

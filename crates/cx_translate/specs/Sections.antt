@@ -3,10 +3,10 @@ use Rattle.std.specs.Prelude.{option_and_then, ℕ, ◌+◌, Bool, false, true, 
 use Rattle.std.specs.Option.{option_map_or}
 use Rattle.std.specs.List.{position}
 use Rattle.std.specs.Str.{bytes_eq}
-use Rattle.cx_base_commands.specs.declared.eib.EibPiece.{EibPiece}
-use Rattle.cx_base_commands.specs.declared.eistg.EistgField.TheVariants.{Eipl, Eitp, Eicap}
-use Rattle.cx_base_commands.specs.Eib.{eib_field, eib_pieces}
-use Rattle.cx_base_commands.specs.Eistg.{eistg_field}
+use Rattle.cx_base.specs.declared.eib.EibPiece.{EibPiece}
+use Rattle.cx_base.specs.declared.eistg.EistgField.TheVariants.{Eipl, Eitp, Eicap}
+use Rattle.cx_base.specs.Eib.{eib_field, eib_pieces}
+use Rattle.cx_base.specs.Eistg.{eistg_field}
 use Rattle.cx_source.specs.declared.source.Item.{Item}
 use Rattle.cx_source.specs.declared.source.Stmt.{Stmt}
 use Rattle.cx_source.specs.Statements.{is_continued}

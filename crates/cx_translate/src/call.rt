@@ -3,8 +3,8 @@
 ghost use Rattle.std.specs.Prelude.{◌≡◌, ◌∷◌, [], ◌++◌, IfOk, OnOk, codes, false, option_map, string_bytes};
 ghost use Rattle.std.specs.List.{flat_map};
 ghost use Rattle.std.specs.Option.{option_to_list, option_and};
-ghost use Rattle.cx_base_commands.specs.Options.{option_name};
-ghost use Rattle.cx_base_commands.specs.declared.legal.ListedCondition.{ListedCondition};
+ghost use Rattle.cx_base.specs.Options.{option_name};
+ghost use Rattle.cx_base.specs.declared.legal.ListedCondition.{ListedCondition};
 ghost use Rattle.cx_translate.specs.DueArguments.{condition_called};
 ghost use Rattle.cx_translate.specs.Refusals.{has_too_many};
 ghost use Rattle.cx_translate.specs.Call.{
@@ -28,7 +28,7 @@ use crate::due_arguments::condition_called;
 use crate::names::{bare_argument, is_quoted};
 use crate::refusals::{first_byte, second_byte};
 use crate::words::{Argument, Word};
-use cx_base_commands::{ArgumentKind, Command, CommandOption, CommonOption};
+use cx_base::{ArgumentKind, Command, CommandOption, CommonOption};
 use cx_source::Text;
 use std::alloc::{AllocError, Global};
 use std::fmt::Write;

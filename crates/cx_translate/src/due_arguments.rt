@@ -13,7 +13,7 @@ ghost use Rattle.cx_translate.specs.DueArguments.{
 
 use crate::names::{is_name_or_place, is_value};
 use crate::words::Argument;
-use cx_base_commands::{ArgumentKind, Command, CommandOption, CommonOption, Condition};
+use cx_base::{ArgumentKind, Command, CommandOption, CommonOption, Condition};
 
 /// The argument that is due with a word.
 #[derive(Clone, Copy, Debug)]

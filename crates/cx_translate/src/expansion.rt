@@ -1,7 +1,7 @@
 //! The statements made of one EXEC statement, and the lines that they become.
 
 ghost use Rattle.std.specs.Prelude.{◌≡◌, ◌≢◌, ◌*◌, ◌++◌, ◌∷◌, [], IfErr, IfOk, None, OnOk, Some, codes, decimal, false, map, string_bytes};
-ghost use Rattle.cx_base_commands.specs.Commands.{row_of};
+ghost use Rattle.cx_base.specs.Commands.{row_of};
 ghost use Rattle.cx_translate.specs.Call.{list_of, pointers_of};
 ghost use Rattle.cx_translate.specs.Expansion.{call, fill_to_column, label, load, made_in, made_item, made_of, stmt, stores};
 ghost use Rattle.cx_translate.specs.Refusals.{fault_of, has_too_many};
@@ -12,7 +12,7 @@ use crate::call::{list_of, pointers_of};
 use crate::faults::TransFault;
 use crate::refusals::{command_in, fault_in};
 use crate::words::{Word, words_of};
-use cx_base_commands::Command;
+use cx_base::Command;
 use cx_source::{Item, Stmt, Text, text_of};
 use std::alloc::{AllocError, Global};
 use std::fmt::Write;

@@ -2,8 +2,8 @@
 
 ghost use Rattle.std.specs.Prelude.{◌≡◌, ◌≤◌, ℕ, List, None, Ok, false, length, true};
 ghost use Rattle.std.specs.List.{list_any};
-ghost use Rattle.cx_base_commands.specs.Legal.{is_legal, is_legal_list, lists_conditions};
-ghost use Rattle.cx_base_commands.specs.declared.commands.Command.{Command};
+ghost use Rattle.cx_base.specs.Legal.{is_legal, is_legal_list, lists_conditions};
+ghost use Rattle.cx_base.specs.declared.commands.Command.{Command};
 ghost use Rattle.cx_source.specs.Marks.{outside_apostrophes};
 ghost use Rattle.cx_source.specs.declared.source.Source.{Source};
 ghost use Rattle.cx_translate.specs.Call.{list_of, listed_of};

@@ -2,7 +2,7 @@
 
 ghost use Rattle.std.specs.Prelude.{◌≡◌, ◌≤◌, bit_or, false, fold, if◌then◌else◌, not};
 ghost use Rattle.std.specs.Option.{option_map_or};
-ghost use Rattle.cx_base_commands.specs.Commands.{row_of};
+ghost use Rattle.cx_base.specs.Commands.{row_of};
 ghost use Rattle.cx_translate.specs.Refusals.{
   command_in,
   conditions_in,
@@ -19,14 +19,14 @@ ghost use Rattle.cx_translate.specs.Refusals.{
   second_byte,
   word_at,
 };
-ghost use Rattle.cx_base_commands.specs.Legal.{has_bit};
-ghost use Rattle.cx_base_commands.specs.Options.{common_of, option_name};
+ghost use Rattle.cx_base.specs.Legal.{has_bit};
+ghost use Rattle.cx_base.specs.Options.{common_of, option_name};
 ghost use Rattle.cx_translate.specs.DueArguments.{due_of, suits};
 
 use crate::due_arguments::{DueArgument, condition_called, due_of, suits};
 use crate::faults::TransFault;
 use crate::words::Word;
-use cx_base_commands::{Command, CommandOption, CommonOption, Rule, has_bit};
+use cx_base::{Command, CommandOption, CommonOption, Rule, has_bit};
 
 /// How many conditions a command may list.
 const CONDITIONS: usize = 16;

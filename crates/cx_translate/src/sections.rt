@@ -3,7 +3,7 @@
 ghost use Rattle.std.specs.Prelude.{[], ◌∷◌, codes, ◌≡◌, ◌≤◌, ◌<◌, ◌+◌, ◌++◌, IfOk, IfSome, OnOk, length, map};
 ghost use Rattle.std.specs.List.{position};
 ghost use Rattle.std.specs.Option.{option_map_or};
-ghost use Rattle.cx_base_commands.specs.Eib.{eib_field, eib_pieces};
+ghost use Rattle.cx_base.specs.Eib.{eib_field, eib_pieces};
 ghost use Rattle.cx_translate.specs.Expansion.{stmt};
 ghost use Rattle.cx_translate.specs.Sections.{
   bases,
@@ -27,7 +27,7 @@ ghost use Rattle.cx_translate.specs.Sections.{
 };
 
 use crate::expansion::{made_item, stmt};
-use cx_base_commands::{EibField, EibPiece, EistgField, eib_pieces};
+use cx_base::{EibField, EibPiece, EistgField, eib_pieces};
 use cx_source::{Item, Stmt, is_continued};
 use std::alloc::{AllocError, Global};
 

@@ -24,7 +24,7 @@ ghost use Rattle.cx_translate.specs.Translation.{
 use crate::expansion::statements_of;
 use crate::faults::TransFault;
 use crate::sections::{begins_exec, lines, put_bases, put_eib, put_storage};
-use cx_base_lists::List;
+use cx_base::List;
 use cx_source::{Item, Items, Source, Stmt, Text, is_continued};
 use std::alloc::{AllocError, Global};
 

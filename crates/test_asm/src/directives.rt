@@ -1,8 +1,9 @@
 //! The operands of USING, DROP, END and COPY, and the values of items.
 use crate::operand_tables::{place, table};
 use crate::symbols::name;
-use cx_asm_expressions::{FaultKind, TermFault};
-use cx_asm_operands::{Bases, Context, copy_fault, item_bytes, read_drop, read_entry, read_using};
+use cx_asm_expressions::{Constant, ConstantBytes, FaultKind, SymbolTable, TermFault, Value};
+use cx_asm_operands::{Bases, Context, copy_fault, read_drop, read_entry, read_using};
+use std::alloc::Global;
 use std::test::Fail;
 
 /// Operands of USING with their faults.
@@ -65,19 +66,33 @@ fn one_member_is_copied(rt: HostRuntime) {
     assert!(rt; copy_fault(b"DFHBMSCA") == Some(FaultKind::BadOperand));
 }
 
+/// The bytes of one copy of an item of a DS or DC, where P is the control section.
+fn item_bytes(
+    alloc: Global,
+    symbols: &SymbolTable,
+    here: Option<&Value>,
+    text: &[u8],
+    is_ds: bool,
+) -> Result<ConstantBytes, TermFault> {
+    match Constant::read(text, is_ds) {
+        Ok(item) => item.bytes(alloc, symbols, here, name(b"P")),
+        Err(fault) => Err(TermFault::Refused(fault)),
+    }
+}
+
 #[test]
 fn items_have_their_bytes(rt: HostRuntime) -> Result<(), Fail> {
     let alloc = rt.alloc();
     let symbols = table(alloc)?;
     let here = place(20, 4);
-    let copy = item_bytes(alloc, b"2A(*-4)", false, &symbols, Some(&here), name(b"P"))?;
+    let copy = item_bytes(alloc, &symbols, Some(&here), b"2A(*-4)", false)?;
     assert!(rt; copy.as_slice() == b"\x00\x00\x00\x10".as_slice());
     assert!(rt; copy.is_relocated());
-    let large = item_bytes(alloc, b"F'2147483648'", false, &symbols, None, name(b"P"));
+    let large = item_bytes(alloc, &symbols, None, b"F'2147483648'", false);
     assert!(rt; large.err() == Some(TermFault::Refused(FaultKind::ValueOutOfRange)));
-    let other = item_bytes(alloc, b"A(Z)", false, &symbols, None, name(b"P"));
+    let other = item_bytes(alloc, &symbols, None, b"A(Z)", false);
     assert!(rt; other.err() == Some(TermFault::Refused(FaultKind::NotRelocatable)));
-    let faulty = item_bytes(alloc, b"XL2'G'", true, &symbols, None, name(b"P"));
+    let faulty = item_bytes(alloc, &symbols, None, b"XL2'G'", true);
     assert!(rt; faulty.err() == Some(TermFault::Refused(FaultKind::BadOperand)));
     Ok(())
 }

@@ -1,5 +1,5 @@
 //! A section written out by hand: four instructions and three literals, with a gap before these.
-use crate::image_sections::{Content, section};
+use crate::image_sections::{Beside, Content, LEAST, section};
 use cx_asm_image::push_words;
 use cx_code::{Line, SpanKind, line_text};
 use std::alloc::{AllocError, Global};
@@ -44,7 +44,7 @@ fn written(alloc: Global, lines: &[Line]) -> Result<String, AllocError> {
 #[test]
 fn text_and_spans_give_the_lines(rt: HostRuntime) {
     let alloc = rt.alloc();
-    let Ok(Some(made)) = section(alloc, &LINES, 32, &[], 0, 80) else {
+    let Ok(Some(made)) = section(alloc, &LINES, 32, LEAST) else {
         panic!(rt; "refused");
     };
     assert!(rt; made.image().text.as_slice() == TEXT);
@@ -70,7 +70,12 @@ fn the_image_has_what_was_given(rt: HostRuntime) {
     let alloc = rt.alloc();
     let mut relocs = Vec::new(alloc);
     assert!(rt; push_words(&mut relocs, 24, 2).is_ok());
-    let Ok(Some(made)) = section(alloc, &LINES, 40, relocs.as_slice(), 6, 100) else {
+    let beside = Beside {
+        relocs: relocs.as_slice(),
+        entry: 6,
+        stg_len: 100,
+    };
+    let Ok(Some(made)) = section(alloc, &LINES, 40, beside) else {
         panic!(rt; "refused");
     };
     let image = made.into_image();
@@ -82,7 +87,11 @@ fn the_image_has_what_was_given(rt: HostRuntime) {
 /// The calls over these lines are answered as they should be. An error means out of memory.
 fn expect_answers<R: Abort + AllocGlobal>(rt: &R) -> Result<(), AllocError> {
     let alloc = rt.alloc();
-    let Some(made) = section(alloc, &LINES, 32, &[24], 0, 80)? else {
+    let beside = Beside {
+        relocs: &[24],
+        ..LEAST
+    };
+    let Some(made) = section(alloc, &LINES, 32, beside)? else {
         panic!(rt; "refused");
     };
     assert!(rt; made.image().text.as_slice() == TEXT);

@@ -24,14 +24,27 @@ fn what(alloc: Global, content: &Content) -> Result<What, AllocError> {
     }
 }
 
+/// What a section's image has beside its text.
+#[derive(Clone, Copy, Debug)]
+pub struct Beside<'a> {
+    pub relocs: &'a [u32],
+    pub entry: u32,
+    pub stg_len: u32,
+}
+
+/// No relocated word, the entry at the start, and the least working storage.
+pub const LEAST: Beside<'static> = Beside {
+    relocs: &[],
+    entry: 0,
+    stg_len: 80,
+};
+
 /// The section of these lines, and of a size, in bytes; None where the lines overlap, or the section isn't as long.
 pub fn section(
     alloc: Global,
     contents: &[(u32, Content)],
     size: u32,
-    relocs: &[u32],
-    entry: u32,
-    stg_len: u32,
+    beside: Beside<'_>,
 ) -> Result<Option<Assembled>, AllocError> {
     let mut lines = ResolvedLines::new(alloc);
     for (at, content) in contents {
@@ -47,8 +60,13 @@ pub fn section(
     if lines.end() > size || size > LARGEST_TEXT {
         return Ok(None);
     }
+    let Beside {
+        relocs,
+        entry,
+        stg_len,
+    } = beside;
     let relocs = Offsets::from_vec(relocs.to_vec(alloc)?);
-    let made = Assembled::new(alloc, lines.into_vec(), size, relocs, entry, stg_len)?;
+    let made = Assembled::new(lines.into_vec(), size, relocs, entry, stg_len)?;
     Ok(Some(made))
 }
 
@@ -56,7 +74,7 @@ pub fn section(
 fn the_largest_text_is_made(rt: HostRuntime) {
     let alloc = rt.alloc();
     let lines = [(0, Content::Space(3)), (65_535, Content::Data(b"\xFF"))];
-    let Ok(Some(made)) = section(alloc, &lines, 65_536, &[], 0, 80) else {
+    let Ok(Some(made)) = section(alloc, &lines, 65_536, LEAST) else {
         panic!(rt; "refused");
     };
     let text = made.image().text.as_slice();
@@ -67,9 +85,9 @@ fn the_largest_text_is_made(rt: HostRuntime) {
         (0, Content::Space(65_536)),
         (65_536, Content::Data(b"\xFF")),
     ];
-    assert!(rt; matches!(section(alloc, &longer, 65_536, &[], 0, 80), Ok(None)));
+    assert!(rt; matches!(section(alloc, &longer, 65_536, LEAST), Ok(None)));
     let over = [(4, Content::Data(b"\xFF")), (4, Content::Space(1))];
-    assert!(rt; matches!(section(alloc, &over, 65_536, &[], 0, 80), Ok(None)));
+    assert!(rt; matches!(section(alloc, &over, 65_536, LEAST), Ok(None)));
 }
 
 #[test]

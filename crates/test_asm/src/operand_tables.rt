@@ -2,8 +2,9 @@
 use crate::symbols::{Row, name, table_of};
 use cx_asm_expressions::{FaultKind, SymbolTable, TermFault, Value};
 use cx_asm_operands::{Bases, Context, read_using, resolve};
-use cx_asm_operations::{Directive, Operation};
+use cx_asm_operations::Operation;
 use cx_code::{CodeBytes, encode};
+use cx_source::{Stmt, Text};
 use std::alloc::Global;
 
 const SYMBOLS: &[Row] = &[
@@ -59,8 +60,12 @@ pub(crate) fn end_use(
     bases: &mut Bases,
     operand: &[u8],
 ) -> Result<Option<FaultKind>, TermFault> {
-    let drop = Operation::Directive(Directive::Drop);
-    let fault = bases.pass(alloc, symbols, Some(place(0, 1)), drop, operand)?;
+    let drop = Stmt {
+        name: Text::from_slice(alloc, b"")?,
+        operation: Text::from_slice(alloc, b"DROP")?,
+        operand: Text::from_slice(alloc, operand)?,
+    };
+    let fault = bases.pass(alloc, symbols, Some(place(0, 1)), &drop)?;
     Ok(fault)
 }
 

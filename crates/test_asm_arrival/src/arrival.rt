@@ -1,8 +1,8 @@
 //! Statements as the assembler makes them, byte for byte, and statements that break what is presumed of them.
 use crate::task::{STG, Task};
-use cx_base_commands::{Command, ListedCondition, OptionName};
+use cx_base::{Command, ListedCondition, OptionName};
 use cx_exec::{Halt, Interruption};
-use cx_region_call::CallFault;
+use cx_region_state::CallFault;
 use std::test::Fail;
 
 /// READQ TS QUEUE(8(5,4)) INTO(X'123') LENGTH(80(13)) RESP(84(13)), with base 3 for the literals.

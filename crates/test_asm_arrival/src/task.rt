@@ -2,7 +2,7 @@
 ghost use Rattle.std.specs.Prelude.{◌<◌, ◌^◌, ◌-◌, ◌≤◌, length};
 
 use cx_exec::{Cpu, Halt, advance};
-use cx_region_call::{Call, CallFault, read_call};
+use cx_region_state::{Call, CallFault, read_call};
 use cx_storage::{FlatStore, Kind, Owner, Store, address_in};
 use std::alloc::{AllocError, Global};
 

@@ -1,5 +1,5 @@
 //! Commands, their options and conditions against the Application Programmer's Reference Manual, SC33-0077.
-use cx_base_commands::{
+use cx_base::{
     Abend, ArgumentKind, Command, CommonOption, Condition, EibField, EibPiece, EistgField,
     ListedCondition, OptionName, Rule, eib_pieces, has_bit,
 };

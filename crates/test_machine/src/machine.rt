@@ -4,8 +4,7 @@ ghost use Rattle.std.specs.Prelude.{◌<◌, ◌^◌, ◌-◌, ◌≤◌, length
 
 use cx_exec::{Cpu, Halt, Step, advance, step};
 use cx_storage::{FlatStore, Kind, Owner, Store};
-use cx_storage_keep::KeepingStore;
-use cx_storage_pages::PagedStore;
+use cx_storage_pages::{KeepingStore, PagedStore};
 use std::alloc::{AllocError, Global};
 
 /// Where the program is; register 15 holds the address.

@@ -1,9 +1,9 @@
 //! Argument lists and EIBs as they are in storage.
 ghost use Rattle.std.specs.Prelude.{◌≤◌, ◌<◌, ◌^◌, length};
 
-use cx_base_commands::{Command, ListedCondition, OptionName};
-use cx_region_call::eib::put_calen;
-use cx_region_call::{Call, CallFault, read_call};
+use cx_base::{Command, ListedCondition, OptionName};
+use cx_region_state::eib::put_calen;
+use cx_region_state::{Call, CallFault, read_call};
 use cx_storage::{FlatStore, Kind, Owner, Store, halfword_at};
 use std::alloc::{AllocError, Global};
 use std::test::Fail;

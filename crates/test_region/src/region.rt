@@ -4,7 +4,7 @@ ghost use Rattle.cx_region.specs.Events.{IsAllowed};
 use crate::acts::{
     Act, FIRST, after, bytes, checked, is_blank, program, reply, task, terminal, transaction,
 };
-use cx_base_commands::Condition;
+use cx_base::Condition;
 use cx_code::Bytes;
 use cx_ebcdic::{Aid, Name4};
 use cx_load::Loaded;

@@ -32,6 +32,7 @@ fn bad_lines_of_orders_have_their_numbers(rt: HostRuntime) {
         (b"ORDERS\nABEND T001\n/*\n", 2),
         (b"ORDERS\nABEND T001 STORAGE\n/*\n", 2),
         (b"ORDERS\nAHEAD T001\n/*\n", 2),
+        (b"ORDERS\nAHEAD T001 AT P 1\n/*\n", 2),
         (b"ORDERS\nHELP\n/*\n", 2),
         (b"ORDERS\nFAULTS P\n/*\n", 2),
         (b"ORDERS\nORDERS\n/*\n", 2),

@@ -1,7 +1,7 @@
 //! Handles, levels and exits, by rows worked by hand.
 ghost use Rattle.std.specs.Prelude.{◌≢◌};
 
-use cx_base_commands::Condition;
+use cx_base::Condition;
 use cx_ebcdic::{Name4, Name8};
 use cx_program::{Choice, ConditionCode, HandleTable, Level, LevelStack, ProgramFault};
 use std::test::Fail;

@@ -1,5 +1,5 @@
 //! Queues, resources and screens made anew: equal until one changes, and each of its own.
-use cx_base_copies::{Replica, Same};
+use cx_base::{Replica, Same};
 use cx_ebcdic::Name8;
 use cx_service::{Enqueues, Queues, ResourceName, Screen, ServiceFault};
 use std::alloc::Global;

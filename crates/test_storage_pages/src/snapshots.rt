@@ -1,8 +1,7 @@
 //! Snapshots of stores: they are the areas, owners and bytes that are there, and nothing else; and a store gets them back.
 
 use cx_storage::{FlatStore, Kind, Owner, Store};
-use cx_storage_keep::KeepingStore;
-use cx_storage_pages::PagedStore;
+use cx_storage_pages::{KeepingStore, PagedStore};
 use cx_storage_snapshot::StorageSnapshot;
 use std::alloc::{AllocError, Global};
 use std::test::Fail;

@@ -2,8 +2,7 @@
 
 use crate::{changes, rows, runs};
 use cx_storage::FlatStore;
-use cx_storage_keep::KeepingStore;
-use cx_storage_pages::PagedStore;
+use cx_storage_pages::{KeepingStore, PagedStore};
 use std::test::Fail;
 
 #[test]

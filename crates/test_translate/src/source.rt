@@ -1,5 +1,5 @@
 //! Sources by worked rows and by each rule of lines; cutting; pieces.
-use cx_base_lists::List;
+use cx_base::List;
 use cx_source::{
     Delimiter, Items, Source, SourceFault, SourceReader, Stmt, begins_with_letter, cut, first_mark,
     is_continued, is_letter, is_name, is_name_character, outside, read_source, skip_blanks,

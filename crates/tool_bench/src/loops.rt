@@ -4,8 +4,7 @@
 
 use crate::slices::{Job, perform};
 use cx_storage::FlatStore;
-use cx_storage_keep::KeepingStore;
-use cx_storage_pages::PagedStore;
+use cx_storage_pages::{KeepingStore, PagedStore};
 use std::alloc::{AllocError, Global};
 use std::io;
 use std::io::BufRead;

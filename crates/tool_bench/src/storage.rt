@@ -5,8 +5,7 @@
 ghost use Rattle.std.specs.Prelude.{◌<◌, ◌^◌, ◌≤◌, length};
 
 use cx_storage::{FlatStore, Kind, Owner, Store};
-use cx_storage_keep::KeepingStore;
-use cx_storage_pages::PagedStore;
+use cx_storage_pages::{KeepingStore, PagedStore};
 use std::alloc::AllocError;
 use std::io;
 use std::io::BufRead;

@@ -6,7 +6,7 @@ use crate::code::{
 };
 use crate::draws::Draws;
 use crate::texts::{Subject, TURNS, changed};
-use cx_base_commands::{ArgumentKind, Command, CommonOption, Condition, has_bit};
+use cx_base::{ArgumentKind, Command, CommonOption, Condition, has_bit};
 use std::alloc::{AllocError, Global};
 
 /// The turns in which a program that fills task storage and the queues comes to their ends.

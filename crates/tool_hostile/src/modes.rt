@@ -1,7 +1,7 @@
 //! The mode of a terminal under EDF, by its table.
 
 use crate::acts::{Act, Done, Sent};
-use cx_base_commands::Condition;
+use cx_base::Condition;
 use cx_ebcdic::Aid;
 use cx_edf::{Answer, EdfReply};
 use cx_region::{Reply, TurnReply};

@@ -1,6 +1,6 @@
 //! Answers as a transcript has them. Printing them takes no memory.
 
-use cx_base_text::{shown_bytes, trim};
+use cx_base::{shown_bytes, trim};
 use cx_ebcdic::{Name4, Name8};
 use cx_edf::{Answer, EdfEvent};
 use cx_load::Loaded;

@@ -1,7 +1,7 @@
 //! Screens and displays as a transcript has them, and tasks. Printing them takes no memory.
 
 use crate::answers::as_text;
-use cx_base_text::{Page, shown_bytes, trim};
+use cx_base::{Page, shown_bytes, trim};
 use cx_ebcdic::Name4;
 use cx_edf::{Debugged, Display, PageName};
 use cx_region::TaskInfo;

@@ -1,7 +1,7 @@
 //! Answers that are due.
 
 use crate::texts::loaded;
-use cx_base_commands::Condition;
+use cx_base::Condition;
 use cx_edf::{Answer, EdfReply};
 use cx_region::{AlterReply, DefineFault, KeyReply, Reply, TurnReply};
 

@@ -1,6 +1,6 @@
 //! What a case says, line by line.
 
-use cx_base_commands::ListedCondition;
+use cx_base::ListedCondition;
 use std::alloc::{AllocError, Global};
 
 /// A field of a section, by its definition, as `CL16`, `H`, `F` or `0H`.

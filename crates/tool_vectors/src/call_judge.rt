@@ -7,7 +7,7 @@ use cx_asm_build::prepare;
 use cx_ebcdic::encode_line;
 use cx_exec::{Cpu, Halt, advance};
 use cx_load::{CheckedImage, FIRST_OF_PROGRAMS, Loaded, check, load};
-use cx_region_call::{Call, read_call};
+use cx_region_state::{Call, read_call};
 use cx_storage::{FlatStore, Kind, Owner, Store, address_in};
 use std::alloc::{AllocError, Global};
 

@@ -2,7 +2,7 @@
 //! Language, GC33-4010, "DS -- Define Storage"; GA22-7000, "Address Generation").
 
 use crate::call_case::Case;
-use cx_base_commands::EibField;
+use cx_base::EibField;
 use cx_storage::address_in;
 use std::alloc::{AllocError, Global};
 

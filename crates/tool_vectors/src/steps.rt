@@ -4,8 +4,7 @@
 
 use crate::step_judge::{Verdict, judge};
 use cx_storage::{FlatStore, Store};
-use cx_storage_keep::KeepingStore;
-use cx_storage_pages::PagedStore;
+use cx_storage_pages::{KeepingStore, PagedStore};
 use std::alloc::Global;
 use std::io;
 

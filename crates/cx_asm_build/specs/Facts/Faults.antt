@@ -3,7 +3,7 @@ use Rattle.std.proofs.Common.{◌≡◌, ◌≢◌, ℕ, ◌+◌, Bool, true, fa
 use Rattle.std.specs.Prelude.{drop, option_and_then, take}
 use Rattle.std.specs.Option.{option_map_or, option_or}
 use Rattle.std.specs.List.{cons_option}
-use Rattle.cx_base_commands.specs.declared.commands.Command.{Command}
+use Rattle.cx_base.specs.declared.commands.Command.{Command}
 use Rattle.cx_source.specs.Faults as lines
 use Rattle.cx_source.specs.Facts.AllFaults.{first_fault as first_line_fault, first_of_faults}
 use Rattle.cx_source.specs.Lines.{text_of}

@@ -1,7 +1,6 @@
 -- What the base registers hold where a program is entered: the addresses of the sections that the translator's USING
--- statements
--- name for them (OS/VS-DOS/VSE-VM/370 Assembler Language, GC33-4010, "USING"; which registers these are is this
--- product's own).
+-- statements name for them (OS/VS-DOS/VSE-VM/370 Assembler Language, GC33-4010, "USING"; which registers these are is
+-- this product's own).
 use Rattle.std.specs.Prelude.{◌≡◌, ℕ, Ok, Some, List, [], ◌∷◌, ◌++◌, codes, slice_get}
 use Rattle.cx_source.specs.declared.source.Stmt.{Stmt}
 use Rattle.cx_asm_operands.specs.Context.{Context, register_in}

@@ -19,9 +19,8 @@ use Rattle.cx_look_script.specs.declared.action.LookAction.{LookAction}
 use Rattle.cx_headline.specs.Laws.Runs.{WasWritten}
 
 -- What was done of a script with looks: the first of its actions, and all of them unless memory or the writer stopped
--- the run. Its
--- text was written. With the looks left out, and each RUN replaced by the turns that it did, these actions are a run of
--- `cicsedf` from the fresh region on to the same state, and so one of events under EDF.
+-- the run. Its text was written. With the looks left out, and each RUN replaced by the turns that it did, these actions
+-- are a run of `cicsedf` from the fresh region on to the same state, and so one of events under EDF.
 pub record IsLookedOver (script : Script LookAction) (answer : Result Summary RunFault) (written : List ℕ)
     : Type 0 where
   pub count : ℕ

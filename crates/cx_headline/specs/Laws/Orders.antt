@@ -11,7 +11,7 @@ use Rattle.cx_edf.specs.Laws.Edf.{AreAnsweredOff}
 use Rattle.cx_orders.specs.Moves.{Moves, begun}
 use Rattle.cx_orders.specs.declared.states.KeyLine.{KeyLine}
 use Rattle.cx_orders.specs.declared.states.OrdersState.{OrdersState}
-use Rattle.cx_look_words.specs.Words.{Lines}
+use Rattle.cx_look_tables.specs.Words.{Lines}
 use Rattle.cx_look_orders.specs.Laws.{AskFor, IsRunOf}
 use Rattle.cx_look_orders.specs.Outcomes.{EndsWith, HasText, IsStuck, NoLater}
 use Rattle.cx_look_orders.specs.Report.{CutText, WholeText}
@@ -22,7 +22,7 @@ use Rattle.cx_look_orders.specs.declared.outcomes.Outcome.{Outcome}
 use Rattle.cx_look_orders.specs.declared.steps.Step.{Step}
 use Rattle.cx_look.specs.Orders.{orders_block}
 use Rattle.cx_look.specs.declared.orders.OrdersBlock.{OrdersBlock}
-use Rattle.cx_look_script.specs.Laws.Orders.{AskForEvents, IsSpelled}
+use Rattle.cx_look_script.specs.Laws.Orders.{AskForEvents, HasSpelling}
 use Rattle.cx_look_script.specs.Looking.{AreLookLines, ShowsOrders, at_region}
 use Rattle.cx_look_script.specs.Orders.{AreSeen, names_with_edf, sights_of}
 use Rattle.cx_look_script.specs.State.{LookState}
@@ -80,7 +80,7 @@ OrdersAreTrue = (block : OrdersBlock) (state : LookState) (text : List ℕ) (is 
 -- the very events that the steps are: where a text spells each terminal's name, of the keys of a block's lines.
 abbrev pub LinesAskForSteps : Type 0
 LinesAskForSteps = (most : ℕ) (lines : List (List ℕ)) (state : LookState) (steps : List Step) (to : OrdersState)
-    → AllByRecursion IsSpelled (names_of state.edf.region.terminals)
+    → AllByRecursion HasSpelling (names_of state.edf.region.terminals)
     → (run : IsRunOf (orders_block most lines).keys (begun state.edf.region) steps to)
     → AskForEvents (script_lines state.edf.region (orders_block most lines).keys (names_with_edf state.edf) steps)
     (map event.Off (names_with_edf state.edf) ++ map event.Plain run.events)

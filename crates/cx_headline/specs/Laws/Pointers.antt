@@ -2,9 +2,9 @@
 -- Programmer's Reference Manual, SC33-0077, SET of GETMAIN and READQ TS, ADDRESS; that pointers are handed over in
 -- DFHEITP is this product's own).
 use Rattle.std.specs.Prelude.{◌≡◌, ◌≢◌, ℕ, ◌+◌, ◌<◌, false, List, [], ◌∷◌, ◌++◌, codes, slice_set}
-use Rattle.cx_base_commands.specs.declared.conditions.Condition.{Condition}
-use Rattle.cx_base_commands.specs.declared.options.CommandOption.{CommandOption}
-use Rattle.cx_base_commands.specs.declared.options.OptionName.{OptionName}
+use Rattle.cx_base.specs.declared.conditions.Condition.{Condition}
+use Rattle.cx_base.specs.declared.options.CommandOption.{CommandOption}
+use Rattle.cx_base.specs.declared.options.OptionName.{OptionName}
 use Rattle.cx_storage.specs.Address.{address_after}
 use Rattle.cx_storage.specs.Storage.{Storage, IsSound as IsSoundStorage}
 use Rattle.cx_load.specs.Fault.{IsFit}
@@ -13,8 +13,8 @@ use Rattle.cx_load.specs.declared.program.Loaded.{Loaded}
 use Rattle.cx_exec.specs.Machine.{Machine}
 use Rattle.cx_exec.specs.Step.{Steps}
 use Rattle.cx_exec.specs.declared.machine.Step.TheVariants.{Done}
-use Rattle.cx_region_call.specs.declared.outputs.Output.{Output}
-use Rattle.cx_region_call.specs.declared.outputs.OutputValue.TheVariants.{Word}
+use Rattle.cx_region_state.specs.declared.outputs.Output.{Output}
+use Rattle.cx_region_state.specs.declared.outputs.OutputValue.TheVariants.{Word}
 use Rattle.cx_asm_execution.specs.Arrives.{Arrives}
 use Rattle.cx_asm_execution.specs.Expansion.{Statement, argument_address, call_made, instructions_made}
 use Rattle.cx_asm_execution.specs.Stands.{IsMachine, code_length}
@@ -39,7 +39,8 @@ use Rattle.cx_region_laws.specs.Laws.Pointers.{HasPutOut, is_written_again}
 -- half-turn of its sound task has performed it. A register that is in use as a base held its USING's base at the first
 -- instruction, and is none of 1, 14 and 15, which the call sets. After the half-turn the pointer's load has the four
 -- bytes that were loaded.
-pub record IsPerformed (loaded : Storage) (at load : ℕ) (sections : Sections) (bases : Bases) (base : ℕ) (s : Statement)
+pub record IsCommandPerformed (loaded : Storage) (at load : ℕ) (sections : Sections) (bases : Bases) (base : ℕ)
+    (s : Statement)
     (m : Machine) (before : TaskContext) (condition : Condition) (after : TaskContext) : Type 0 where
   pub next : m.next ≡ at
   pub arrives : Arrives m s (machine_of before)
@@ -74,7 +75,7 @@ GivesPointer site assembly at s name back =
     (storage loaded : Storage) (program : Loaded) (sections : Sections) (m : Machine) (before : TaskContext)
     (condition : Condition) (after : TaskContext) → IsFit assembly.section.image
     → IsLoaded storage assembly.section.image program loaded
-    → IsPerformed loaded (address_after program.at at)
+    → IsCommandPerformed loaded (address_after program.at at)
     (address_after program.at (at + code_length (instructions_made s))) sections (bases_of site)
     back.argument.base s m before condition after
     → GetsPointer (address_after program.at (at + code_length (instructions_made s)))

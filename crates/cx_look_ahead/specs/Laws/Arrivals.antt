@@ -5,7 +5,7 @@ use Rattle.cx_region.specs.State.{RegionState}
 use Rattle.cx_region.specs.Tables.{task_of}
 use Rattle.cx_region.specs.Turn.{TakesTurn}
 use Rattle.cx_look_symbols.specs.Lines.{SourcePlaces}
-use Rattle.cx_look_steps.specs.declared.traces.Visit.{Visit}
+use Rattle.cx_look_ahead.specs.declared.traces.Visit.{Visit}
 use Rattle.cx_look_ahead.specs.Arrivals.{ComesTo, are_among, is_command_among, statements_on}
 use Rattle.cx_look_ahead.specs.Instructions.{machine_ahead}
 use Rattle.cx_look_ahead.specs.Laws.{RunsThem}
@@ -16,14 +16,14 @@ pub record RunsSome (places : SourcePlaces) (region : RegionState) (name : List 
     (reply : TurnReply) (new : RegionState) : Type 0 where
   pub visits : List Visit
   pub run : RunsThem region name visits reply new
-  pub is : does ≡ are_among region.programs line.program (statements_on places line) visits
+  pub is : does ≡ are_among region.shared.programs line.program (statements_on places line) visits
 
 -- What a turn that is done does of a line: where it runs instructions, whether one of all these is on it; else whether
 -- the command is that it performs.
 abbrev pub DoesSome : SourcePlaces → RegionState → List ℕ → SourceLine → Bool → TurnReply → RegionState → Type 0
 DoesSome places region name line does reply new =
     MatchOption (machine_ahead region name)
-    (does ≡ is_command_among region.programs line.program (statements_on places line) (task_of region name))
+    (does ≡ is_command_among region.shared.programs line.program (statements_on places line) (task_of region name))
     (λ m. RunsSome places region name line does reply new)
 
 -- it comes to a line exactly where the turn, when it is done, does something of it

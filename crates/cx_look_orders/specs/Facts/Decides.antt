@@ -11,7 +11,7 @@ use Rattle.cx_ebcdic.specs.Names.{is_name}
 use Rattle.cx_search.specs.Laws.{BoundedNeverLoop, SoonerOrders}
 use Rattle.cx_search.specs.Moves.{IsSooner}
 use Rattle.cx_region_laws.specs.Laws.Regions.{KeysKeepToTheirTerminal, TurnsKeepToTheirTask}
-use Rattle.cx_look_words.specs.Words.{Lines}
+use Rattle.cx_look_tables.specs.Words.{Lines}
 use Rattle.cx_region.specs.State.{RegionState}
 use Rattle.cx_orders.specs.Facts.Same.{is_same, same_equivalence, same_is, same_state}
 use Rattle.cx_orders.specs.Laws.{MovesDecide}

@@ -2,17 +2,17 @@
 use Rattle.std.specs.Prelude.{◌≡◌, ℕ, Bool, Some, None, [], ◌∷◌, ◌++◌, codes}
 use Rattle.std.specs.List.{flat_map}
 use Rattle.std.specs.Result.{result_err}
-use Rattle.cx_base_text.specs.Texts.{shown_name}
+use Rattle.cx_base.specs.Texts.{shown_name}
 use Rattle.cx_asm_build.specs.Prepared.{prepared_of}
 use Rattle.cx_asm_build.specs.declared.faults.PrepareFault.TheVariants.{At}
 use Rattle.cx_asm_build.specs.declared.faults.SourceKind.{SourceKind}
 use Rattle.cx_look.specs.declared.look.SourceLines.{SourceLines}
-use Rattle.cx_look_words.specs.Words.{look_line}
+use Rattle.cx_look_tables.specs.Words.{look_line}
 use Rattle.cx_look_faults.specs.Kept.{kept_faults}
 use Rattle.cx_look_faults.specs.Laws.First.{Has}
 use Rattle.cx_look_faults.specs.Marks.{marks_of}
 use Rattle.cx_look_faults.specs.Notes.{notes_of}
-use Rattle.cx_look_script.specs.Faults.{fault_line, faults_text, note_line}
+use Rattle.cx_look_script.specs.Faults.{mark_line, faults_text, note_line}
 
 -- NONE, and then its notes
 abbrev pub NotesRefuseNothing : Type 0
@@ -27,7 +27,7 @@ NotesRefuseNothing =
 pub record WritesFault (source : SourceLines) (number : ℕ) (kind : SourceKind) : Type 0 where
   pub has : Has (At number kind) (kept_faults source.lines)
   pub written : faults_text source
-      ≡ flat_map (fault_line source) (marks_of source.lines (kept_faults source.lines))
+      ≡ flat_map (mark_line source) (marks_of source.lines (kept_faults source.lines))
       ++ flat_map (note_line source) (notes_of source.lines (kept_faults source.lines))
 
 abbrev pub RefusalsAreWritten : Type 0

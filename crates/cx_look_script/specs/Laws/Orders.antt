@@ -12,7 +12,7 @@ use Rattle.cx_script_actions.specs.declared.actions.Line.TheVariants as line
 use Rattle.cx_orders.specs.declared.states.KeyLine.{KeyLine}
 use Rattle.cx_look.specs.Laws.{IsAskedByItsLine}
 use Rattle.cx_look.specs.declared.orders.OrdersBlock.{OrdersBlock}
-use Rattle.cx_look_words.specs.Words.{Lines}
+use Rattle.cx_look_tables.specs.Words.{Lines}
 use Rattle.cx_look_orders.specs.Laws.{event_of}
 use Rattle.cx_look_orders.specs.Script.{script_lines}
 use Rattle.cx_look_orders.specs.declared.steps.Step.{Step}
@@ -33,7 +33,7 @@ OrdersAreReportedOnce = (block : OrdersBlock) (state : LookState) (one other : L
 
 -- ---- what the lines of its scripts ask
 -- a text spells the name, as that of a line TERMINAL does
-pub record IsSpelled (name : List ℕ) : Type 0 where
+pub record HasSpelling (name : List ℕ) : Type 0 where
   pub text : List ℕ
   pub spells : padded_name 4 text ≡ Some name
 
@@ -52,7 +52,7 @@ pub record AskForEvents (lines : Lines) (events : List EdfEvent) : Type 0 where
 -- so the lines that do steps ask for EDF OFF of each of these terminals, and then for the events that the steps are
 abbrev pub ScriptsAskForEvents : Type 0
 ScriptsAskForEvents = (region : RegionState) (keys : List KeyLine) (edf : List (List ℕ)) (steps : List Step)
-    (events : List Event) → AllByRecursion IsSpelled (names_of region.terminals) → AllByRecursion IsSpelled edf
+    (events : List Event) → AllByRecursion HasSpelling (names_of region.terminals) → AllByRecursion HasSpelling edf
     → AllByRecursion IsAskedByItsLine keys
     → map (event_of (names_of region.terminals) keys) steps ≡ map Some events
     → AskForEvents (script_lines region keys edf steps) (map edf_event.Off edf ++ map edf_event.Plain events)

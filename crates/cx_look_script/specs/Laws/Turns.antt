@@ -15,32 +15,34 @@ use Rattle.cx_look_ahead.specs.Arrivals.{has_statement}
 use Rattle.cx_look_ahead.specs.Laws.Arrivals.{DoesSome}
 use Rattle.cx_look_ahead.specs.declared.arrivals.SourceLine.{SourceLine}
 use Rattle.cx_look_abend.specs.Abends.{abend_code_in}
-use Rattle.cx_look_watch.specs.declared.watching.Cause.TheVariants as cause
+use Rattle.cx_look_ahead.specs.declared.watching.Cause.TheVariants as cause
 use Rattle.cx_look_script.specs.Looking.{LookPerforms}
-use Rattle.cx_look_script.specs.Runs.{AppliesAtLooks, StopsWith, goes_on, look_actions_of, no_line, run_over, still_running, stopped_before, stopped_before_line, turn_of}
+use Rattle.cx_look_script.specs.Runs.{AppliesAtLooks, StopsWith, turn_goes_on, look_actions_of, no_line, run_over, still_running, stopped_before, stopped_before_line, turn_of}
 use Rattle.cx_look_script.specs.State.{LookState}
-use Rattle.cx_look_script.specs.Watched.{watched_text}
+use Rattle.cx_look_script.specs.Watched.{IsWatchedText}
 use Rattle.cx_look_script.specs.declared.action.LookAction.TheVariants as action
 use Rattle.cx_look_script.specs.declared.action.Stop.{Stop}
 use Rattle.cx_look_script.specs.declared.action.Stop.TheVariants as stop
 
 -- At most n turns of a terminal, one after another: the state before, what is written for them, and the state after.
 -- One more follows exactly where the last is to be followed by one more, and RUN doesn't end in front of it.
-unfoldable pub RunsOn : LookState → List ℕ → Stop → ℕ → List ℕ → LookState → Type 0
-RunsOn old name s zero text new = (text ≡ still_running name) × (new ≡ run_over old)
-RunsOn old name s (suc n) text new =
+unfoldable pub TakesTurns : LookState → List ℕ → Stop → ℕ → List ℕ → LookState → Type 0
+TakesTurns old name s zero text new = (text ≡ still_running name) × (new ≡ run_over old)
+TakesTurns old name s (suc n) text new =
     (line : Option (List ℕ)) × StopsWith s old.sources old.edf name line
     × MatchOption line
-    ((given : Answer) × (between : LookState) × (rest : List ℕ) × AppliesAtLooks old (turn_of name) given between
-    × MatchBool (goes_on between.edf (turn_of name) given) (RunsOn between name s n rest new)
+    ((given : Answer) × (between : LookState) × (watched rest : List ℕ)
+    × AppliesAtLooks old (turn_of name) given between × IsWatchedText old (cause.Turn name) between watched
+    × MatchBool (turn_goes_on between.edf (turn_of name) given) (TakesTurns between name s n rest new)
     ((rest ≡ []) × (new ≡ between))
-    × (text ≡ answer_text (turn_of name) given ++ watched_text old (cause.Turn name) between ++ rest))
+    × (text ≡ answer_text (turn_of name) given ++ watched ++ rest))
     (λ l. (text ≡ l) × (new ≡ run_over old))
 
 -- so the actions of a RUN of n turns are
 abbrev pub RunsTakeTurns : Type 0
 RunsTakeTurns = (old : LookState) (name : List ℕ) (s : Stop) (n : ℕ) (text : List ℕ) (new : LookState)
-    → PerformsAll LookPerforms old (look_actions_of (action.Run name (suc n) s)) text new → RunsOn old name s (suc n) text new
+    → PerformsAll LookPerforms old (look_actions_of (action.Run name (suc n) s)) text new
+    → TakesTurns old name s (suc n) text new
 
 -- the code of the abend as which an event is answered
 abbrev pub abend_in : Answer → Option (List ℕ)
@@ -64,8 +66,8 @@ pub record RegionDoes (old : LookState) (name : List ℕ) (to : SourceLine) (doe
 
 -- what a turn that is done under EDF does of a line of a source: nothing where it is held; else what the region's turn
 -- does
-abbrev pub IsDone : LookState → List ℕ → SourceLine → Bool → Answer → RegionState → Type 0
-IsDone old name to does given new =
+abbrev pub IsTurnDone : LookState → List ℕ → SourceLine → Bool → Answer → RegionState → Type 0
+IsTurnDone old name to does given new =
     MatchBool (holds old.edf name) ((given ≡ answer.Held) × (does ≡ false)) (RegionDoes old name to does given new)
 
 -- RUN TO ends in front of a turn exactly where the turn, when it is done, does something of the line: its run has an
@@ -73,7 +75,7 @@ IsDone old name to does given new =
 pub record EndsBeforeLine (old : LookState) (name : List ℕ) (to : SourceLine) (line : Option (List ℕ)) (given : Answer)
     (new : LookState) : Type 0 where
   pub does : Bool
-  pub done : IsDone old name to does given new.edf.region
+  pub done : IsTurnDone old name to does given new.edf.region
   pub is : line ≡ (if does then Some (stopped_before_line name to) else None)
 
 abbrev pub RunsEndBeforeLines : Type 0

@@ -1,8 +1,10 @@
 -- WATCH changes nothing that another line does or writes itself (own).
 use Rattle.std.specs.Prelude.{◌≡◌, ℕ, Bool, true, false, List}
 use Rattle.cx_look_ahead.specs.declared.rows.Row.{Row}
+use Rattle.cx_look_ahead.specs.declared.watching.Cause.{Cause}
 use Rattle.cx_look_script.specs.Looking.{Acts}
 use Rattle.cx_look_script.specs.State.{LookState}
+use Rattle.cx_look_script.specs.Watched.{IsWatchedText}
 use Rattle.cx_look_script.specs.declared.action.LookAction.{LookAction}
 use Rattle.cx_look_script.specs.declared.action.LookAction.TheVariants as action
 
@@ -23,3 +25,8 @@ WatchesChangeNothing = (old : LookState) (a : LookAction) (own : List ℕ) (new 
 abbrev pub WatchesStay : Type 0
 WatchesStay = (old : LookState) (a : LookAction) (own : List ℕ) (new : LookState)
     → is_watch a ≡ false → Acts old a own new → new.watched ≡ old.watched
+
+-- what is written of the bytes that are watched is a function of the two states
+abbrev pub WatchedTextsDecide : Type 0
+WatchedTextsDecide = (old new : LookState) (by : Cause) (one other : List ℕ)
+    → IsWatchedText old by new one → IsWatchedText old by new other → one ≡ other

@@ -12,8 +12,8 @@ use Rattle.cx_program.specs.declared.level.Level.{Level}
 use Rattle.cx_program.specs.Levels.{with_current}
 use Rattle.cx_service.specs.Queues.{AreSoundQueues}
 use Rattle.cx_service.specs.Resources.{AreSoundResources, Resources, without_owner}
-use Rattle.cx_base_commands.specs.declared.abends.Abend.TheVariants.{Xedf}
-use Rattle.cx_base_commands.specs.Abends.{abend_code}
+use Rattle.cx_base.specs.declared.abends.Abend.TheVariants.{Xedf}
+use Rattle.cx_base.specs.Abends.{abend_code}
 use Rattle.cx_region_state.specs.declared.replies.TurnReply.{TurnReply}
 use Rattle.cx_region_state.specs.declared.replies.TurnReply.TheVariants as turn
 use Rattle.cx_region_state.specs.Replies.{is_over}
@@ -139,7 +139,7 @@ put_as r name Nop after = refl
 put_as r name Abend after = refl
 
 pub sound_altered : (r new : RegionState) (name : List ℕ) (change : Change) → IsSound r → new ≡ altered_region r name change
-    → IsSoundStorage new.storage → AreSoundQueues new.queues → AreSoundResources new.resources → IsSound new
+    → IsSoundStorage new.shared.storage → AreSoundQueues new.shared.queues → AreSoundResources new.shared.resources → IsSound new
 unfolding altered_region
 sound_altered r new name change ok is sound queues resources = by_terminal (lookup (is_name name) r.terminals) refl is
   where

@@ -13,15 +13,15 @@ use Rattle.cx_storage.specs.Address.{address_after}
 use Rattle.cx_storage.specs.Place.{CanPlace, IsLeastPlace}
 use Rattle.cx_storage.specs.Facts.Sound.{sound_with_area}
 use Rattle.cx_load.specs.declared.program.Loaded.{Loaded}
-use Rattle.cx_base_commands.specs.declared.eistg.EistgField.TheVariants.{Eicap}
-use Rattle.cx_base_commands.specs.Eistg.{eistg_field}
-use Rattle.cx_base_commands.specs.Eib.{eib_field, eib_len}
-use Rattle.cx_region_call.specs.Eib.{Content, with_field, with_fields}
+use Rattle.cx_base.specs.declared.eistg.EistgField.TheVariants.{Eicap}
+use Rattle.cx_base.specs.Eistg.{eistg_field}
+use Rattle.cx_base.specs.Eib.{eib_field, eib_len}
+use Rattle.cx_region_state.specs.Eib.{Content, with_field, with_fields}
 use Rattle.cx_region_state.specs.declared.verdict.NewLevel.{NewLevel}
 use Rattle.cx_region_state.specs.Areas.{IsAreaOf, IsSoundProgram, IsTaskPlace, entry_level, first_of_tasks, last_of_tasks, system_owner, with_cap}
 use Rattle.cx_region_state.specs.Facts.Areas.{all_areas_put, all_areas_written, area_kept_get, area_put, area_written, not_there}
 use Rattle.cx_region_state.specs.State.{Input, TaskState}
-use Rattle.cx_base_lists.specs.Facts.Tables.{distinct-set_value, each-set_value, found_meets}
+use Rattle.cx_base.specs.Facts.Tables.{distinct-set_value, each-set_value, found_meets}
 use Rattle.cx_region_task.specs.Sound.{IsSoundTask}
 use Rattle.cx_region.specs.declared.asking.Asked.TheVariants.{Answer, Attach, Give}
 use Rattle.cx_region.specs.declared.asking.Start.{Start}
@@ -42,26 +42,26 @@ pub record Starting (r : RegionState) (name bytes : List ℕ) (start : Start) : 
   pub terminal : TerminalState
   pub there : terminal_of r name ≡ Some terminal
   pub idle : terminal.task ≡ None
-  pub slot : start.slot ≡ terminal.slot
-  pub tran : start.tran ≡ transaction_named terminal.following bytes
+  pub slot : start.slot ≡ terminal.entry.slot
+  pub tran : start.tran ≡ transaction_named terminal.entry.following bytes
   pub defined : transaction_of r start.tran ≡ Some start.program
   pub program : program_of r start.program ≡ Some start.loaded
-  pub calen : start.calen ≡ length (commarea_kept terminal.following)
+  pub calen : start.calen ≡ length (commarea_kept terminal.entry.following)
 
 pub asked_start : (r : RegionState) (name bytes : List ℕ) (start : Start) → asked r name bytes ≡ Attach start → Starting r name bytes start
 unfolding asked start_asked
 asked_start r name bytes start is = by_terminal (terminal_of r name) refl is
   where
-    by_program : (t : TerminalState) (program : List ℕ) (o : Option Loaded) → program_of r program ≡ o → transaction_of r (transaction_named t.following bytes) ≡ Some program
+    by_program : (t : TerminalState) (program : List ℕ) (o : Option Loaded) → program_of r program ≡ o → transaction_of r (transaction_named t.entry.following bytes) ≡ Some program
         → terminal_of r name ≡ Some t → t.task ≡ None
-        → option_map_or (start_of t (transaction_named t.following bytes) program) o (Answer key.NoSuchTransaction) ≡ Attach start → Starting r name bytes start
+        → option_map_or (start_of t (transaction_named t.entry.following bytes) program) o (Answer key.NoSuchTransaction) ≡ Attach start → Starting r name bytes start
     by_program t program None e defined there idle h = cc
     by_program t program (Some loaded) e defined there idle h =
-        let same : record { slot = t.slot; tran = transaction_named t.following bytes; program = program; loaded = loaded; calen = length (commarea_kept t.following) } ≡ start = cc in
+        let same : record { slot = t.entry.slot; tran = transaction_named t.entry.following bytes; program = program; loaded = loaded; calen = length (commarea_kept t.entry.following) } ≡ start = cc in
         subst (Starting r name bytes) same (record { terminal = t; there = there; idle = idle; slot = refl; tran = refl; defined = defined; program = e; calen = refl })
 
-    by_tran : (t : TerminalState) (o : Option (List ℕ)) → transaction_of r (transaction_named t.following bytes) ≡ o → terminal_of r name ≡ Some t → t.task ≡ None
-        → option_map_or (λ program. option_map_or (start_of t (transaction_named t.following bytes) program) (program_of r program) (Answer key.NoSuchTransaction)) o (Answer key.NoSuchTransaction) ≡ Attach start → Starting r name bytes start
+    by_tran : (t : TerminalState) (o : Option (List ℕ)) → transaction_of r (transaction_named t.entry.following bytes) ≡ o → terminal_of r name ≡ Some t → t.task ≡ None
+        → option_map_or (λ program. option_map_or (start_of t (transaction_named t.entry.following bytes) program) (program_of r program) (Answer key.NoSuchTransaction)) o (Answer key.NoSuchTransaction) ≡ Attach start → Starting r name bytes start
     by_tran t None e there idle h = cc
     by_tran t (Some program) e there idle h = by_program t program (program_of r program) refl e there idle h
 
@@ -70,32 +70,32 @@ asked_start r name bytes start is = by_terminal (terminal_of r name) refl is
     by_input (Some input) h = cc
 
     by_task : (t : TerminalState) (o : Option TaskState) → t.task ≡ o → terminal_of r name ≡ Some t
-        → option_map_or (λ (_ : TaskState). input_asked t.input) o (start_asked r t (transaction_named t.following bytes)) ≡ Attach start → Starting r name bytes start
-    by_task t None e there h = by_tran t (transaction_of r (transaction_named t.following bytes)) refl there e h
-    by_task t (Some task) e there h = by_input t.input h
+        → option_map_or (λ (_ : TaskState). input_asked t.entry.input) o (start_asked r t (transaction_named t.entry.following bytes)) ≡ Attach start → Starting r name bytes start
+    by_task t None e there h = by_tran t (transaction_of r (transaction_named t.entry.following bytes)) refl there e h
+    by_task t (Some task) e there h = by_input t.entry.input h
 
     by_terminal : (o : Option TerminalState) → terminal_of r name ≡ o → option_map_or (asked_at r bytes) o (Answer key.NoSuchTerminal) ≡ Attach start → Starting r name bytes start
     by_terminal None e h = cc
     by_terminal (Some t) e h = by_task t t.task refl e h
 
-pub start_free : (r : RegionState) (name bytes : List ℕ) (start : Start) → IsSound r → Starting r name bytes start → IsSlotFree r.storage start.slot
+pub start_free : (r : RegionState) (name bytes : List ℕ) (start : Start) → IsSound r → Starting r name bytes start → IsSlotFree r.shared.storage start.slot
 start_free r name bytes start ok starting =
     let low = slot_from 1 r.terminals (is_name name) starting.terminal ok.numbered starting.there in
-    let nobody : is_live r.terminals starting.terminal.slot ≡ false = live_at 1 r.terminals (is_name name) starting.terminal ok.numbered starting.there ∙ ap is_some starting.idle in
-    rw starting.slot (slot_free r.terminals r.storage starting.terminal.slot low nobody ok.areas)
+    let nobody : is_live r.terminals starting.terminal.entry.slot ≡ false = live_at 1 r.terminals (is_name name) starting.terminal ok.numbered starting.there ∙ ap is_some starting.idle in
+    rw starting.slot (slot_free r.terminals r.shared.storage starting.terminal.entry.slot low nobody ok.areas)
 
 pub start_program : (r : RegionState) (name bytes : List ℕ) (start : Start) → IsSound r → Starting r name bytes start → IsSoundProgram start.loaded
-start_program r name bytes start ok starting = found_meets IsSoundProgram (is_name start.program) r.programs start.loaded ok.programs_sound starting.program
+start_program r name bytes start ok starting = found_meets IsSoundProgram (is_name start.program) r.shared.programs start.loaded ok.programs_sound starting.program
 
 -- ---- a new terminal under a name
 -- with a terminal of the same slot put under its name, and storage in which what was there stays
-pub sound_put : (r : RegionState) (name : List ℕ) (t u : TerminalState) (s : Storage) (counter : ℕ) → IsSound r → terminal_of r name ≡ Some t → u.slot ≡ t.slot → is_some u.task ≡ true
-    → IsSoundStorage s → AreasStay r.storage s → IsSoundTerminal s u
+pub sound_put : (r : RegionState) (name : List ℕ) (t u : TerminalState) (s : Storage) (counter : ℕ) → IsSound r → terminal_of r name ≡ Some t → u.entry.slot ≡ t.entry.slot → is_some u.task ≡ true
+    → IsSoundStorage s → AreasStay r.shared.storage s → IsSoundTerminal s u
     → AllByRecursion (λ held. IsOwned (set_value (is_name name) r.terminals u) held.area) s → counter ≤ 9999999
-    → IsSound (record r { storage = s; terminals = set_value (is_name name) r.terminals u; counter = counter })
+    → IsSound (record r { shared = record r.shared { storage = s }; terminals = set_value (is_name name) r.terminals u; counter = counter })
 sound_put r name t u s counter ok there same live sound stay own owned few =
     let size : length (set_value (is_name name) r.terminals u) ≡ length r.terminals = length-set_value (is_name name) r.terminals u in
-    let all : AllByRecursion (λ e. IsSoundTerminal s e.1) r.terminals = all_weaker (λ e. IsSoundTerminal r.storage e.1) (λ e. IsSoundTerminal s e.1) r.terminals (λ e. terminal_stays r.storage s e.1 stay) ok.tasks in
+    let all : AllByRecursion (λ e. IsSoundTerminal s e.1) r.terminals = all_weaker (λ e. IsSoundTerminal r.shared.storage e.1) (λ e. IsSoundTerminal s e.1) r.terminals (λ e. terminal_stays r.shared.storage s e.1 stay) ok.tasks in
     let most = ok.terminals_few in
     record {
       storage = sound;
@@ -110,7 +110,7 @@ sound_put r name t u s counter ok there same live sound stay own owned few =
       numbered = numbered-set_value 1 r.terminals (is_name name) t u ok.numbered there same;
       tasks = each-set_value (IsSoundTerminal s) (is_name name) r.terminals u own all;
       areas = owned;
-      resources = all_weaker (λ e. is_live r.terminals e.1.owner ≡ true) (λ e. is_live (set_value (is_name name) r.terminals u) e.1.owner ≡ true) r.resources (λ e was. still_live r name t u e.1.owner ok there same live was) ok.resources;
+      resources = all_weaker (λ e. is_live r.terminals e.1.owner ≡ true) (λ e. is_live (set_value (is_name name) r.terminals u) e.1.owner ≡ true) r.shared.resources (λ e was. still_live r name t u e.1.owner ok there same live was) ok.resources;
       queues_sound = ok.queues_sound;
       resources_sound = ok.resources_sound;
       time = ok.time;
@@ -122,27 +122,27 @@ sound_put r name t u s counter ok there same live sound stay own owned few =
     by_slot true x y e f = e
     by_slot false x y e f = f
 
-    still_live : (r : RegionState) (name : List ℕ) (t u : TerminalState) (slot : ℕ) → IsSound r → terminal_of r name ≡ Some t → u.slot ≡ t.slot → is_some u.task ≡ true → is_live r.terminals slot ≡ true → is_live (set_value (is_name name) r.terminals u) slot ≡ true
+    still_live : (r : RegionState) (name : List ℕ) (t u : TerminalState) (slot : ℕ) → IsSound r → terminal_of r name ≡ Some t → u.entry.slot ≡ t.entry.slot → is_some u.task ≡ true → is_live r.terminals slot ≡ true → is_live (set_value (is_name name) r.terminals u) slot ≡ true
     still_live r name t u slot ok there same live was =
-        live-set_value 1 r.terminals (is_name name) t u slot ok.numbered there same ∙ by_slot (t.slot == slot) (is_some u.task) (is_live r.terminals slot) live was
+        live-set_value 1 r.terminals (is_name name) t u slot ok.numbered there same ∙ by_slot (t.entry.slot == slot) (is_some u.task) (is_live r.terminals slot) live was
 
-pub owned_put : (r : RegionState) (name : List ℕ) (t u : TerminalState) (area : Area) → IsSound r → terminal_of r name ≡ Some t → u.slot ≡ t.slot → is_some u.task ≡ true
+pub owned_put : (r : RegionState) (name : List ℕ) (t u : TerminalState) (area : Area) → IsSound r → terminal_of r name ≡ Some t → u.entry.slot ≡ t.entry.slot → is_some u.task ≡ true
     → IsOwned r.terminals area → IsOwned (set_value (is_name name) r.terminals u) area
 owned_put r name t u area ok there same live was =
     let step = live-set_value 1 r.terminals (is_name name) t u area.owner.slot ok.numbered there same in
-    go (area.owner.slot == 0) (t.slot == area.owner.slot) (is_some u.task) (is_live r.terminals area.owner.slot) (is_live (set_value (is_name name) r.terminals u) area.owner.slot) step live was
+    go (area.owner.slot == 0) (t.entry.slot == area.owner.slot) (is_some u.task) (is_live r.terminals area.owner.slot) (is_live (set_value (is_name name) r.terminals u) area.owner.slot) step live was
   where
     go : (zero here task before after : Bool) → after ≡ (if here then task else before) → task ≡ true → zero || before ≡ true → zero || after ≡ true
     go true here task before after e live was = refl
     go false true task before after e live was = e ∙ live
     go false false task before after e live was = e ∙ was
 
-pub owned_own : (r : RegionState) (name : List ℕ) (t u : TerminalState) (a len : ℕ) → IsSound r → terminal_of r name ≡ Some t → u.slot ≡ t.slot → is_some u.task ≡ true
-    → IsOwned (set_value (is_name name) r.terminals u) (area_from a len (system_owner t.slot))
+pub owned_own : (r : RegionState) (name : List ℕ) (t u : TerminalState) (a len : ℕ) → IsSound r → terminal_of r name ≡ Some t → u.entry.slot ≡ t.entry.slot → is_some u.task ≡ true
+    → IsOwned (set_value (is_name name) r.terminals u) (area_from a len (system_owner t.entry.slot))
 owned_own r name t u a len ok there same live =
-    let step = live-set_value 1 r.terminals (is_name name) t u t.slot ok.numbered there same in
-    let now : is_live (set_value (is_name name) r.terminals u) t.slot ≡ true = step ∙ rw (eq-eqb t.slot t.slot refl) live in
-    or_second (t.slot == 0) (is_live (set_value (is_name name) r.terminals u) t.slot) now
+    let step = live-set_value 1 r.terminals (is_name name) t u t.entry.slot ok.numbered there same in
+    let now : is_live (set_value (is_name name) r.terminals u) t.entry.slot ≡ true = step ∙ rw (eq-eqb t.entry.slot t.entry.slot refl) live in
+    or_second (t.entry.slot == 0) (is_live (set_value (is_name name) r.terminals u) t.entry.slot) now
   where
     or_second : (a b : Bool) → b ≡ true → a || b ≡ true
     or_second true b e = refl
@@ -240,10 +240,10 @@ owned_areas P s slot len stg_len places new all =
 -- ---- attach
 pub sound_attached : (r : RegionState) (name bytes : List ℕ) (start : Start) (input : Input) (places : Places) (fields : List Content) (commarea : List ℕ) (level : NewLevel) (s : Storage) (ts : List (List ℕ × TerminalState))
     → IsSound r → (starting : Starting r name bytes start) → IsSoundStorage s
-    → ArePlaced r.storage (system_owner start.slot) start.calen start.loaded.stg_len places
-    → s ≡ with_areas_filled (with_task_areas r.storage (system_owner start.slot) start.calen start.loaded.stg_len places) places fields commarea level
+    → ArePlaced r.shared.storage (system_owner start.slot) start.calen start.loaded.stg_len places
+    → s ≡ with_areas_filled (with_task_areas r.shared.storage (system_owner start.slot) start.calen start.loaded.stg_len places) places fields commarea level
     → ts ≡ set_value (is_name name) r.terminals (with_task starting.terminal input (task_of_start start (next_number r.counter) places))
-    → IsSound (record r { storage = s; terminals = ts; counter = next_number r.counter })
+    → IsSound (record r { shared = record r.shared { storage = s }; terminals = ts; counter = next_number r.counter })
 unfolding fresh_task entry_level
 sound_attached r name bytes start input places fields commarea level s ts ok starting sound placed is is_ts =
     let good = start_program r name bytes start ok starting in
@@ -252,22 +252,22 @@ sound_attached r name bytes start input places fields commarea level s ts ok sta
     let task = task_of_start start (next_number r.counter) places in
     let u : TerminalState = with_task t input task in
     let low = good.stg_low in
-    let one = put_one r.storage slot eib_len places.eib ok.storage (omega arith) placed.eib in
-    let two = put_copy (with_eib_area r.storage (system_owner slot) places.eib) slot start.calen places.commarea one.sound placed.commarea in
-    let three = put_one (with_kept_area r.storage (system_owner slot) start.calen places.eib places.commarea) slot start.loaded.stg_len places.stg two.sound (omega arith) placed.stg in
-    let last : (x : ℕ) (area : Area) → area_at (with_task_areas r.storage (system_owner slot) start.calen start.loaded.stg_len places) x ≡ Some area → area_at s x ≡ Some area =
-    λ x area stands. ap (λ v. area_at v x) is ∙ area_filled (with_task_areas r.storage (system_owner slot) start.calen start.loaded.stg_len places) places fields commarea level x ∙ stands in
-    let stay : AreasStay r.storage s = λ x area stands. last x area (three.stay x area (two.stay x area (one.stay x area stands))) in
+    let one = put_one r.shared.storage slot eib_len places.eib ok.storage (omega arith) placed.eib in
+    let two = put_copy (with_eib_area r.shared.storage (system_owner slot) places.eib) slot start.calen places.commarea one.sound placed.commarea in
+    let three = put_one (with_kept_area r.shared.storage (system_owner slot) start.calen places.eib places.commarea) slot start.loaded.stg_len places.stg two.sound (omega arith) placed.stg in
+    let last : (x : ℕ) (area : Area) → area_at (with_task_areas r.shared.storage (system_owner slot) start.calen start.loaded.stg_len places) x ≡ Some area → area_at s x ≡ Some area =
+    λ x area stands. ap (λ v. area_at v x) is ∙ area_filled (with_task_areas r.shared.storage (system_owner slot) start.calen start.loaded.stg_len places) places fields commarea level x ∙ stands in
+    let stay : AreasStay r.shared.storage s = λ x area stands. last x area (three.stay x area (two.stay x area (one.stay x area stands))) in
     let eib_there : IsAreaOf s slot places.eib eib_len = last places.eib _ (three.stay places.eib _ (two.stay places.eib _ one.new)) in
     let stg_there : IsAreaOf s slot places.stg start.loaded.stg_len = last places.stg _ three.new in
-    let eib_apart : places.eib ≡ places.stg → ⊥ = λ e. stg_new (with_kept_area r.storage (system_owner slot) start.calen places.eib places.commarea) start.loaded.stg_len places.eib places.stg two.sound (omega arith) placed.stg e _ (two.stay places.eib _ one.new) in
+    let eib_apart : places.eib ≡ places.stg → ⊥ = λ e. stg_new (with_kept_area r.shared.storage (system_owner slot) start.calen places.eib places.commarea) start.loaded.stg_len places.eib places.stg two.sound (omega arith) placed.stg e _ (two.stay places.eib _ one.new) in
     let own : IsSoundTask s slot task =
     record { eib = eib_there; current = record { stg = stg_there; pushes = omega arith }; callers = tt; few = omega arith; apart = two_apart places.eib places.stg eib_apart } in
     let owned : AllByRecursion (λ held. IsOwned (set_value (is_name name) r.terminals u) held.area) s =
-    rw is (owned_filled (IsOwned (set_value (is_name name) r.terminals u)) (with_task_areas r.storage (system_owner slot) start.calen start.loaded.stg_len places) places fields commarea level
-    (owned_areas (IsOwned (set_value (is_name name) r.terminals u)) r.storage slot start.calen start.loaded.stg_len places
+    rw is (owned_filled (IsOwned (set_value (is_name name) r.terminals u)) (with_task_areas r.shared.storage (system_owner slot) start.calen start.loaded.stg_len places) places fields commarea level
+    (owned_areas (IsOwned (set_value (is_name name) r.terminals u)) r.shared.storage slot start.calen start.loaded.stg_len places
     (λ a n. subst (λ (k : ℕ). IsOwned (set_value (is_name name) r.terminals u) (area_from a n (system_owner k))) (sym starting.slot) (owned_own r name t u a n ok starting.there refl refl))
-    (all_weaker (λ held. IsOwned r.terminals held.area) (λ held. IsOwned (set_value (is_name name) r.terminals u) held.area) r.storage (λ held. owned_put r name t u held.area ok starting.there refl refl) ok.areas))) in
+    (all_weaker (λ held. IsOwned r.terminals held.area) (λ held. IsOwned (set_value (is_name name) r.terminals u) held.area) r.shared.storage (λ held. owned_put r name t u held.area ok starting.there refl refl) ok.areas))) in
     let number : next_number r.counter ≤ 9999999 = number_few r.counter ok.counter in
     rw is_ts (sound_put r name t u s (next_number r.counter) ok starting.there refl refl sound stay (subst (λ (k : ℕ). IsSoundTask s k task) starting.slot own) owned number)
   where
@@ -283,7 +283,7 @@ pub record Giving (r : RegionState) (name : List ℕ) : Type 0 where
   pub there : terminal_of r name ≡ Some terminal
   pub task : TaskState
   pub live : terminal.task ≡ Some task
-  pub none : terminal.input ≡ None
+  pub none : terminal.entry.input ≡ None
 
 pub asked_give : (r : RegionState) (name bytes : List ℕ) → asked r name bytes ≡ Give → Giving r name
 unfolding asked start_asked
@@ -298,29 +298,29 @@ asked_give r name bytes is = by_terminal (terminal_of r name) refl is
     by_tran t tran None h = cc
     by_tran t tran (Some program) h = by_program t tran program (program_of r program) h
 
-    by_input : (t : TerminalState) (task : TaskState) (o : Option Input) → t.input ≡ o → t.task ≡ Some task → terminal_of r name ≡ Some t → input_asked o ≡ Give → Giving r name
+    by_input : (t : TerminalState) (task : TaskState) (o : Option Input) → t.entry.input ≡ o → t.task ≡ Some task → terminal_of r name ≡ Some t → input_asked o ≡ Give → Giving r name
     by_input t task None e live there h = record { terminal = t; there = there; task = task; live = live; none = e }
     by_input t task (Some held) e live there h = cc
 
     by_task : (t : TerminalState) (o : Option TaskState) → t.task ≡ o → terminal_of r name ≡ Some t
-        → option_map_or (λ (_ : TaskState). input_asked t.input) o (start_asked r t (transaction_named t.following bytes)) ≡ Give → Giving r name
-    by_task t None e there h = by_tran t (transaction_named t.following bytes) (transaction_of r (transaction_named t.following bytes)) h
-    by_task t (Some task) e there h = by_input t task t.input refl e there h
+        → option_map_or (λ (_ : TaskState). input_asked t.entry.input) o (start_asked r t (transaction_named t.entry.following bytes)) ≡ Give → Giving r name
+    by_task t None e there h = by_tran t (transaction_named t.entry.following bytes) (transaction_of r (transaction_named t.entry.following bytes)) h
+    by_task t (Some task) e there h = by_input t task t.entry.input refl e there h
 
     by_terminal : (o : Option TerminalState) → terminal_of r name ≡ o → option_map_or (asked_at r bytes) o (Answer key.NoSuchTerminal) ≡ Give → Giving r name
     by_terminal None e h = cc
     by_terminal (Some t) e h = by_task t t.task refl e h
 
 pub sound_given : (r : RegionState) (name : List ℕ) (input : Input) (ts : List (List ℕ × TerminalState)) → IsSound r → (giving : Giving r name)
-    → ts ≡ set_value (is_name name) r.terminals (record giving.terminal { input = Some input }) → IsSound (record r { terminals = ts })
+    → ts ≡ set_value (is_name name) r.terminals (record giving.terminal { entry = record giving.terminal.entry { input = Some input } }) → IsSound (record r { terminals = ts })
 sound_given r name input ts ok giving is =
     let t = giving.terminal in
-    let u : TerminalState = record t { input = Some input } in
+    let u : TerminalState = record t { entry = record t.entry { input = Some input } } in
     let live : is_some u.task ≡ true = ap is_some giving.live in
-    let own : IsSoundTerminal r.storage t = found_meets (IsSoundTerminal r.storage) (is_name name) r.terminals t ok.tasks giving.there in
-    let owned : AllByRecursion (λ h. IsOwned (set_value (is_name name) r.terminals u) h.area) r.storage =
-    all_weaker (λ h. IsOwned r.terminals h.area) (λ h. IsOwned (set_value (is_name name) r.terminals u) h.area) r.storage (λ h. owned_put r name t u h.area ok giving.there refl live) ok.areas in
-    rw is (sound_put r name t u r.storage r.counter ok giving.there refl live ok.storage (λ x area stands. stands) own owned ok.counter)
+    let own : IsSoundTerminal r.shared.storage t = found_meets (IsSoundTerminal r.shared.storage) (is_name name) r.terminals t ok.tasks giving.there in
+    let owned : AllByRecursion (λ h. IsOwned (set_value (is_name name) r.terminals u) h.area) r.shared.storage =
+    all_weaker (λ h. IsOwned r.terminals h.area) (λ h. IsOwned (set_value (is_name name) r.terminals u) h.area) r.shared.storage (λ h. owned_put r name t u h.area ok giving.there refl live) ok.areas in
+    rw is (sound_put r name t u r.shared.storage r.counter ok giving.there refl live ok.storage (λ x area stands. stands) own owned ok.counter)
 
 -- ---- what is known of the terminal that is found
 pub of_found : {T : Type 0} (P : T → Type 0) (o : Option T) (t : T) → o ≡ Some t → MatchOption o ⊤ P → P t

@@ -29,7 +29,7 @@ use Rattle.cx_region_state.specs.Areas.{IsSoundProgram}
 use Rattle.cx_region_task.specs.Sound.{IsSoundLevel, IsSoundTask}
 use Rattle.cx_region.specs.Sound.{AreNumbered, IsOwned, IsSound, IsSoundTerminal, is_live}
 use Rattle.cx_region_state.specs.Facts.Areas.{area_kept_get, area_written, all_areas_put, all_areas_written}
-use Rattle.cx_base_lists.specs.Facts.Tables.{insert_entry_absent, each-insert_entry}
+use Rattle.cx_base.specs.Facts.Tables.{insert_entry_absent, each-insert_entry}
 
 -- a refusal that isn't the first one doesn't apply
 pub no_fault : {F : Type 0} (b : Bool) (fault : F) (others : Option F) → cond b (Some fault) others ≡ None → (b ≡ false) × (others ≡ None)
@@ -45,7 +45,7 @@ all_weaker P Q [] each all = tt
 all_weaker P Q (x ∷ xs) each all = (each x all.0, all_weaker P Q xs each all.1)
 
 -- ---- one more terminal
-numbered_push : (from : ℕ) (ts : List (List ℕ × TerminalState)) (name : List ℕ) (t : TerminalState) → AreNumbered from ts → t.slot ≡ from + length ts → AreNumbered from (ts ++ (name, t) ∷ [])
+numbered_push : (from : ℕ) (ts : List (List ℕ × TerminalState)) (name : List ℕ) (t : TerminalState) → AreNumbered from ts → t.entry.slot ≡ from + length ts → AreNumbered from (ts ++ (name, t) ∷ [])
 numbered_push from [] name t all is = (omega (arith, is), tt)
 numbered_push from (e ∷ ts) name t all is = (all.0, numbered_push (suc from) ts name t all.1 (omega (arith, is)))
 
@@ -59,7 +59,7 @@ or_left false b c e f = f e
 
 live_push : (ts : List (List ℕ × TerminalState)) (e : List ℕ × TerminalState) (slot : ℕ) → is_live ts slot ≡ true → is_live (ts ++ e ∷ []) slot ≡ true
 live_push [] e slot live = cc
-live_push (t ∷ ts) e slot live = or_left ((t.1.slot == slot) && is_some t.1.task) (is_live ts slot) (is_live (ts ++ e ∷ []) slot) live (live_push ts e slot)
+live_push (t ∷ ts) e slot live = or_left ((t.1.entry.slot == slot) && is_some t.1.task) (is_live ts slot) (is_live (ts ++ e ∷ []) slot) live (live_push ts e slot)
 
 pub terminal_room : (r : RegionState) (name : List ℕ) → IsSound r → terminal_fault r name ≡ None → length r.terminals < 16
 unfolding terminal_fault
@@ -85,10 +85,10 @@ sound_terminal r name ts ok free is distinct =
       terminals_few = omega arith;
       programs_sound = ok.programs_sound;
       numbered = rw put (numbered_push 1 r.terminals name fresh ok.numbered (omega arith));
-      tasks = rw is (each-insert_entry (IsSoundTerminal r.storage) is_name r.terminals name fresh tt ok.tasks);
-      areas = rw put (all_weaker (λ held. IsOwned r.terminals held.area) (λ held. IsOwned (r.terminals ++ (name, fresh) ∷ []) held.area) r.storage
+      tasks = rw is (each-insert_entry (IsSoundTerminal r.shared.storage) is_name r.terminals name fresh tt ok.tasks);
+      areas = rw put (all_weaker (λ held. IsOwned r.terminals held.area) (λ held. IsOwned (r.terminals ++ (name, fresh) ∷ []) held.area) r.shared.storage
           (λ held owned. or_left (held.area.owner.slot == 0) (is_live r.terminals held.area.owner.slot) (is_live (r.terminals ++ (name, fresh) ∷ []) held.area.owner.slot) owned (live_push r.terminals (name, fresh) held.area.owner.slot)) ok.areas);
-      resources = rw put (all_weaker (λ e. is_live r.terminals e.1.owner ≡ true) (λ e. is_live (r.terminals ++ (name, fresh) ∷ []) e.1.owner ≡ true) r.resources
+      resources = rw put (all_weaker (λ e. is_live r.terminals e.1.owner ≡ true) (λ e. is_live (r.terminals ++ (name, fresh) ∷ []) e.1.owner ≡ true) r.shared.resources
           (λ e live. live_push r.terminals (name, fresh) e.1.owner live) ok.resources);
       queues_sound = ok.queues_sound;
       resources_sound = ok.resources_sound;
@@ -98,7 +98,7 @@ sound_terminal r name ts ok free is distinct =
     }
 
 -- ---- a region as it begins
-sound_begun : IsSoundStorage fresh_region.storage → AreSoundQueues [] → AreSoundResources [] → IsSound fresh_region
+sound_begun : IsSoundStorage fresh_region.shared.storage → AreSoundQueues [] → AreSoundResources [] → IsSound fresh_region
 unfolding IsDistinct area_at
 sound_begun storage queues resources =
     record {
@@ -124,10 +124,10 @@ sound_begun storage queues resources =
 
 pub sound_fresh : (storage : Storage) (programs : List (List ℕ × Loaded)) (transactions : List (List ℕ × List ℕ)) (terminals : List (List ℕ × TerminalState)) (queues : Queues) (resources : Resources)
     → IsSoundStorage storage → AreSoundQueues queues → AreSoundResources resources
-    → storage ≡ fresh_region.storage → programs ≡ [] → transactions ≡ [] → terminals ≡ [] → queues ≡ [] → resources ≡ []
-    → IsSound (record { storage = storage; time = 0; date = 0; programs = programs; transactions = transactions; terminals = terminals; queues = queues; resources = resources; counter = 0 })
+    → storage ≡ fresh_region.shared.storage → programs ≡ [] → transactions ≡ [] → terminals ≡ [] → queues ≡ [] → resources ≡ []
+    → IsSound (record { shared = record { storage = storage; programs = programs; queues = queues; resources = resources }; time = 0; date = 0; transactions = transactions; terminals = terminals; counter = 0 })
 sound_fresh storage programs transactions terminals queues resources sound queues_ok resources_ok s p t m q e =
-    let storage_ok : IsSoundStorage fresh_region.storage = subst IsSoundStorage s sound in
+    let storage_ok : IsSoundStorage fresh_region.shared.storage = subst IsSoundStorage s sound in
     let no_queues : AreSoundQueues [] = subst AreSoundQueues q queues_ok in
     let no_resources : AreSoundResources [] = subst AreSoundResources e resources_ok in
     rw (s, p, t, m, q, e) (sound_begun storage_ok no_queues no_resources)
@@ -183,9 +183,9 @@ task_stays s t slot task stay ok =
 pub terminal_stays : (s t : Storage) (terminal : TerminalState) → AreasStay s t → IsSoundTerminal s terminal → IsSoundTerminal t terminal
 terminal_stays s t terminal stay ok = by_task terminal.task ok
   where
-    by_task : (o : Option TaskState) → MatchOption o ⊤ (λ task. IsSoundTask s terminal.slot task) → MatchOption o ⊤ (λ task. IsSoundTask t terminal.slot task)
+    by_task : (o : Option TaskState) → MatchOption o ⊤ (λ task. IsSoundTask s terminal.entry.slot task) → MatchOption o ⊤ (λ task. IsSoundTask t terminal.entry.slot task)
     by_task None ok = tt
-    by_task (Some task) ok = task_stays s t terminal.slot task stay ok
+    by_task (Some task) ok = task_stays s t terminal.entry.slot task stay ok
 
 loaded_stay : (s t : Storage) (image : Image) (loaded : Loaded) → IsSoundStorage s → 0 < length image.text → IsLoaded s image loaded t → AreasStay s t
 unfolding IsLeastPlace
@@ -193,7 +193,7 @@ loaded_stay s t image loaded ok some is x area stands =
     let put = area_kept_get s 0x010000 0x1FFFFF (length image.text) loaded.at program_owner x area ok some is.place.0 stands in
     rw is.storage_after (area_written (with_area s (Some loaded.at) (length image.text) program_owner) loaded.at (text_at loaded.at image) x ∙ put)
 
-pub program_room : (r : RegionState) (name : List ℕ) → program_fault r name ≡ None → length r.programs < 64
+pub program_room : (r : RegionState) (name : List ℕ) → program_fault r name ≡ None → length r.shared.programs < 64
 unfolding program_fault
 program_room r name free = leb-false _ _ (no_fault _ _ _ (no_fault _ _ _ free).1).0
 
@@ -211,15 +211,15 @@ sound_loaded s t image loaded fit is =
     record { stg_low = omega arith; stg_high = omega arith; entry = omega arith }
 
 pub sound_program : (r : RegionState) (name : List ℕ) (image : Image) (loaded : Loaded) (t : Storage) (ps : List (List ℕ × Loaded)) → IsSound r → IsSoundStorage t
-    → 0 < length image.text → IsSoundProgram loaded → program_fault r name ≡ None → IsLoaded r.storage image loaded t
-    → ps ≡ insert_entry is_name r.programs name loaded → IsDistinct is_name (keys_of ps) → IsSound (record r { programs = ps; storage = t })
+    → 0 < length image.text → IsSoundProgram loaded → program_fault r name ≡ None → IsLoaded r.shared.storage image loaded t
+    → ps ≡ insert_entry is_name r.shared.programs name loaded → IsDistinct is_name (keys_of ps) → IsSound (record r { shared = record r.shared { programs = ps; storage = t } })
 unfolding program_fault
 sound_program r name image loaded t ps ok sound some good free is_loaded is distinct =
     let first = no_fault _ _ _ free in
-    let room : length r.programs < 64 = program_room r name free in
-    let longer : length ps ≡ length r.programs + 1 =
-    ap length (is ∙ insert_entry_absent is_name r.programs name loaded (not_some _ first.0)) ∙ length_push r.programs (name, loaded) in
-    let stay : AreasStay r.storage t = loaded_stay r.storage t image loaded ok.storage some is_loaded in
+    let room : length r.shared.programs < 64 = program_room r name free in
+    let longer : length ps ≡ length r.shared.programs + 1 =
+    ap length (is ∙ insert_entry_absent is_name r.shared.programs name loaded (not_some _ first.0)) ∙ length_push r.shared.programs (name, loaded) in
+    let stay : AreasStay r.shared.storage t = loaded_stay r.shared.storage t image loaded ok.storage some is_loaded in
     record {
       storage = sound;
       cwa_stands = stay 0x001000 _ ok.cwa_stands;
@@ -229,12 +229,12 @@ sound_program r name image loaded t ps ok sound some good free is_loaded is dist
       programs_few = omega arith;
       transactions_few = ok.transactions_few;
       terminals_few = ok.terminals_few;
-      programs_sound = rw is (each-insert_entry IsSoundProgram is_name r.programs name loaded good ok.programs_sound);
+      programs_sound = rw is (each-insert_entry IsSoundProgram is_name r.shared.programs name loaded good ok.programs_sound);
       numbered = ok.numbered;
-      tasks = all_weaker (λ e. IsSoundTerminal r.storage e.1) (λ e. IsSoundTerminal t e.1) r.terminals (λ e. terminal_stays r.storage t e.1 stay) ok.tasks;
+      tasks = all_weaker (λ e. IsSoundTerminal r.shared.storage e.1) (λ e. IsSoundTerminal t e.1) r.terminals (λ e. terminal_stays r.shared.storage t e.1 stay) ok.tasks;
       areas = rw is_loaded.storage_after
-          (all_areas_written (IsOwned r.terminals) (with_area r.storage (Some loaded.at) (length image.text) program_owner) loaded.at (text_at loaded.at image)
-          (all_areas_put (IsOwned r.terminals) r.storage loaded.at (length image.text) program_owner refl ok.areas));
+          (all_areas_written (IsOwned r.terminals) (with_area r.shared.storage (Some loaded.at) (length image.text) program_owner) loaded.at (text_at loaded.at image)
+          (all_areas_put (IsOwned r.terminals) r.shared.storage loaded.at (length image.text) program_owner refl ok.areas));
       resources = ok.resources;
       queues_sound = ok.queues_sound;
       resources_sound = ok.resources_sound;
@@ -244,5 +244,5 @@ sound_program r name image loaded t ps ok sound some good free is_loaded is dist
     }
 
 -- the same, where queues and resources stay
-pub sound_with_queues : (v : RegionState) (queues : Queues) (resources : Resources) → queues ≡ v.queues → resources ≡ v.resources → IsSound v → IsSound (record v { queues = queues; resources = resources })
-sound_with_queues v queues resources e f ok = subst IsSound (λ i. record v { queues = sym e i; resources = sym f i }) ok
+pub sound_with_queues : (v : RegionState) (queues : Queues) (resources : Resources) → queues ≡ v.shared.queues → resources ≡ v.shared.resources → IsSound v → IsSound (record v { shared = record v.shared { queues = queues; resources = resources } })
+sound_with_queues v queues resources e f ok = subst IsSound (λ i. record v { shared = record v.shared { queues = sym e i; resources = sym f i } }) ok

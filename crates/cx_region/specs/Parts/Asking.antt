@@ -1,5 +1,5 @@
 -- What a key asks for, as a plan that is made before anything changes; no public contract cites it.
-use Rattle.std.specs.Prelude.{◌≡◌, ℕ, List, length, Option, Some, None, IsSomeAnd, MatchOption, option_and_then}
+use Rattle.std.specs.Prelude.{ℕ, List, length, Option, Some, None}
 use Rattle.std.specs.Option.{option_map_or}
 use Rattle.cx_load.specs.declared.program.Loaded.{Loaded}
 use Rattle.cx_region_state.specs.declared.verdict.NewLevel.{NewLevel}
@@ -10,18 +10,18 @@ use Rattle.cx_region.specs.declared.asking.Asked.TheVariants.{Answer, Give, Atta
 use Rattle.cx_region.specs.declared.asking.Start.{Start}
 use Rattle.cx_region.specs.State.{RegionState, TerminalState}
 use Rattle.cx_region.specs.Tables.{program_of, terminal_of, transaction_of}
-use Rattle.cx_region.specs.Attach.{HasNoTaskPlaces, commarea_kept, first_level, fresh_task, transaction_named}
+use Rattle.cx_region.specs.Attach.{commarea_kept, first_level, fresh_task, transaction_named}
 use Rattle.cx_region.specs.declared.asking.Places.{Places}
 
 -- a task to be attached
 abbrev pub start_of : TerminalState → List ℕ → List ℕ → Loaded → Asked
 start_of terminal tran program loaded =
     Attach (record {
-      slot = terminal.slot;
+      slot = terminal.entry.slot;
       tran = tran;
       program = program;
       loaded = loaded;
-      calen = length (commarea_kept terminal.following);
+      calen = length (commarea_kept terminal.entry.following);
     })
 
 unfoldable pub start_asked : RegionState → TerminalState → List ℕ → Asked
@@ -37,21 +37,11 @@ input_asked (Some held) = Answer key.AlreadyHeldInput
 
 abbrev pub asked_at : RegionState → List ℕ → TerminalState → Asked
 asked_at region bytes terminal =
-    option_map_or (λ (_ : TaskState). input_asked terminal.input) terminal.task
-    (start_asked region terminal (transaction_named terminal.following bytes))
+    option_map_or (λ (_ : TaskState). input_asked terminal.entry.input) terminal.task
+    (start_asked region terminal (transaction_named terminal.entry.following bytes))
 
 unfoldable pub asked : RegionState → List ℕ → List ℕ → Asked
 asked region name bytes = option_map_or (asked_at region bytes) (terminal_of region name) (Answer key.NoSuchTerminal)
-
--- what is asked may take memory
-unfoldable pub KeyTakesMemory : RegionState → List ℕ → List ℕ → Type 0
-KeyTakesMemory region name bytes =
-    IsSomeAnd (terminal_of region name) (λ terminal.
-    MatchOption terminal.task
-    (IsSomeAnd
-    (option_and_then (program_of region) (transaction_of region (transaction_named terminal.following bytes)))
-    (λ loaded. HasNoTaskPlaces region terminal loaded → ⊥))
-    (λ task. terminal.input ≡ None))
 
 -- the level and the task that begin
 abbrev pub level_of : Start → Places → NewLevel

@@ -5,25 +5,25 @@ use Rattle.std.specs.Prelude.{◌&&◌, ◌||◌, not, MatchOption, if◌then◌
 use Rattle.std.specs.Option.{option_map, option_and_then, option_map_or}
 use Rattle.std.specs.List.{AllByRecursion}
 use Rattle.std.proofs.lemmas.Bool.{cases_Bool, ltb-true}
-use Rattle.cx_base_commands.specs.declared.commands.Command.{Command}
-use Rattle.cx_base_commands.specs.declared.commands.Command.TheVariants as command
-use Rattle.cx_base_commands.specs.declared.options.OptionName.TheVariants.{Cancel, Commarea, From, Label, Program, Transid}
+use Rattle.cx_base.specs.declared.commands.Command.{Command}
+use Rattle.cx_base.specs.declared.commands.Command.TheVariants as command
+use Rattle.cx_base.specs.declared.options.OptionName.TheVariants.{Cancel, Commarea, From, Label, Program, Transid}
 use Rattle.cx_storage.specs.Storage.{Storage}
 use Rattle.cx_load.specs.declared.program.Loaded.{Loaded}
 use Rattle.cx_program.specs.declared.level.Level.{Level}
 use Rattle.cx_program.specs.declared.entries.Handling.{Handling}
 use Rattle.cx_service.specs.Queues.{AreSoundQueues}
-use Rattle.cx_region_call.specs.Call.{Call, place_of}
-use Rattle.cx_region_call.specs.Inputs.{are_inputs_there, bytes_of, is_length_negative, piece_of}
-use Rattle.cx_region_call.specs.Facts.Inputs.{IsMeasuredInput, commarea_of_return, commarea_of_xctl, from_of_send_text}
-use Rattle.cx_region_call.specs.declared.inputs.StorageSpan.{StorageSpan}
+use Rattle.cx_region_state.specs.Call.{Call, place_of}
+use Rattle.cx_region_state.specs.Inputs.{are_inputs_there, bytes_of, is_length_negative, piece_of}
+use Rattle.cx_region_state.specs.Facts.Inputs.{IsMeasuredInput, commarea_of_return, commarea_of_xctl, from_of_send_text}
+use Rattle.cx_region_state.specs.declared.inputs.StorageSpan.{StorageSpan}
 use Rattle.cx_region_state.specs.Areas.{IsSoundProgram, IsTaskPlace, with_copy_area}
 use Rattle.cx_region_state.specs.State.{Input, TaskContext}
 use Rattle.cx_region_state.specs.Parts.Fits.{Fits, FitsCopy, FitsNext, FitsPiece}
 use Rattle.cx_region_state.specs.declared.verdict.Copying.{Copying}
 use Rattle.cx_region_state.specs.declared.verdict.Verdict.{Verdict}
 use Rattle.cx_region_state.specs.declared.verdict.Verdict.TheVariants.{Refuses}
-use Rattle.cx_base_commands.specs.declared.abends.Abend.TheVariants as abend
+use Rattle.cx_base.specs.declared.abends.Abend.TheVariants as abend
 use Rattle.cx_region_commands.specs.declared.common.Called.{Called}
 use Rattle.cx_region_commands.specs.Facts.Programs.{program_sound}
 use Rattle.cx_region_commands.specs.Common.{AreSoundPrograms, commarea_of, has, name_at, named_program, program_of}

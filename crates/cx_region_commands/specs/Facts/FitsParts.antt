@@ -2,13 +2,13 @@
 use Rattle.std.proofs.Common.{◌≡◌, ◌≢◌, ◌<◌, ◌^◌, Bool, true, false, Option, Some, None, refl, arith, unwrap_or}
 use Rattle.std.specs.Prelude.{MatchBool, MatchOption}
 use Rattle.std.specs.List.{AllByRecursion}
-use Rattle.cx_base_commands.specs.declared.conditions.Condition.TheVariants.{Normal, Error, Invreq, Lengerr, Pgmiderr, Itemerr, Nospace, Qiderr, Enqbusy, Nostg}
-use Rattle.cx_base_commands.specs.declared.options.OptionName.{OptionName}
+use Rattle.cx_base.specs.declared.conditions.Condition.TheVariants.{Normal, Error, Invreq, Lengerr, Pgmiderr, Itemerr, Nospace, Qiderr, Enqbusy, Nostg}
+use Rattle.cx_base.specs.declared.options.OptionName.{OptionName}
 use Rattle.cx_storage.specs.Storage.{Storage, span}
-use Rattle.cx_region_call.specs.Call.{Call}
-use Rattle.cx_region_call.specs.Inputs.{are_inputs_there, piece_of}
-use Rattle.cx_region_call.specs.Facts.Inputs.{IsMeasuredInput, measured_there, piece_below, piece_few}
-use Rattle.cx_region_call.specs.declared.inputs.StorageSpan.{StorageSpan}
+use Rattle.cx_region_state.specs.Call.{Call}
+use Rattle.cx_region_state.specs.Inputs.{are_inputs_there, piece_of}
+use Rattle.cx_region_state.specs.Facts.Inputs.{IsMeasuredInput, measured_there, piece_below, piece_few}
+use Rattle.cx_region_state.specs.declared.inputs.StorageSpan.{StorageSpan}
 use Rattle.cx_region_state.specs.Parts.Fits.{IsThere}
 use Rattle.cx_region_commands.specs.Common.{piece_at}
 

@@ -4,13 +4,13 @@ use Rattle.std.specs.Prelude.{◌&&◌, if◌then◌else◌}
 use Rattle.std.specs.Option.{option_map_or}
 use Rattle.std.specs.List.{AllByRecursion}
 use Rattle.std.proofs.lemmas.Bool.{and_parts, cases_Bool, eqb-true, leb-true}
-use Rattle.cx_base_commands.specs.declared.commands.Command.TheVariants as command
-use Rattle.cx_base_commands.specs.declared.options.OptionName.TheVariants as option
-use Rattle.cx_base_commands.specs.declared.conditions.Condition.TheVariants.{Normal, Invreq, Qiderr}
+use Rattle.cx_base.specs.declared.commands.Command.TheVariants as command
+use Rattle.cx_base.specs.declared.options.OptionName.TheVariants as option
+use Rattle.cx_base.specs.declared.conditions.Condition.TheVariants.{Normal, Invreq, Qiderr}
 use Rattle.cx_region_state.specs.declared.verdict.TaskChange.TheVariants.{Ends, Makes}
 use Rattle.cx_region_state.specs.declared.verdict.Made.TheVariants.{Enqueues, ItemAt, ItemLast}
 use Rattle.cx_region_state.specs.declared.verdict.Verdict.TheVariants.{Meets}
-use Rattle.cx_region_call.specs.declared.outputs.OutputValue.TheVariants.{Half}
+use Rattle.cx_region_state.specs.declared.outputs.OutputValue.TheVariants.{Half}
 use Rattle.cx_region_state.specs.declared.verdict.Ended.TheVariants.{Frees}
 use Rattle.cx_storage.specs.declared.areas.Area.{Area}
 use Rattle.cx_storage.specs.declared.areas.Kind.{Kind}
@@ -22,10 +22,10 @@ use Rattle.cx_service.specs.declared.resources.Hold.{Hold}
 use Rattle.cx_service.specs.declared.resources.ResourceName.{ResourceName}
 use Rattle.cx_service.specs.Queues.{AreSoundQueues, Queues, count_of, delete_fault, item_len_of, read_fault, rewrite_fault, write_fault}
 use Rattle.cx_service.specs.Resources.{Resources, enq_fault, hold_fault, hold_of}
-use Rattle.cx_region_call.specs.Call.{Call, place_of}
-use Rattle.cx_region_call.specs.Inputs.{are_inputs_there, is_length_negative, length_option}
-use Rattle.cx_region_call.specs.Facts.Inputs.{from_of_writeq_ts, place_below}
-use Rattle.cx_region_call.specs.declared.inputs.StorageSpan.{StorageSpan}
+use Rattle.cx_region_state.specs.Call.{Call, place_of}
+use Rattle.cx_region_state.specs.Inputs.{are_inputs_there, is_length_negative, length_option}
+use Rattle.cx_region_state.specs.Facts.Inputs.{from_of_writeq_ts, place_below}
+use Rattle.cx_region_state.specs.declared.inputs.StorageSpan.{StorageSpan}
 use Rattle.cx_region_state.specs.Areas.{IsTaskPlace, got_owner}
 use Rattle.cx_region_state.specs.State.{TaskContext}
 use Rattle.cx_region_state.specs.Parts.Fits.{Fits, IsThere}

@@ -7,7 +7,7 @@ use Rattle.std.proofs.lemmas.Option.{none-some}
 use Rattle.cx_ebcdic.specs.Names.{is_name}
 use Rattle.cx_service.specs.declared.faults.ServiceFault.TheVariants.{Itemerr, Qiderr}
 use Rattle.cx_service.specs.Queues.{Queue, Queues, queue_of, count_of, last_read_of, item_len_of, item_numbered, read_fault, is_item_length, IsSoundQueue, AreSoundQueues}
-use Rattle.cx_base_lists.specs.Facts.Tables.{found_meets}
+use Rattle.cx_base.specs.Facts.Tables.{found_meets}
 
 -- what holds of each sound queue holds of the one that is found
 found : (queues : Queues) (name : List ℕ) → AreSoundQueues queues → (queue : Queue) → queue_of queues name ≡ Some queue → IsSoundQueue queue

@@ -1,6 +1,6 @@
 -- What holds of the rows of all commands.
 use Rattle.std.specs.Prelude.{◌≡◌}
-use Rattle.cx_region_call.specs.Call.{Call}
+use Rattle.cx_region_state.specs.Call.{Call}
 use Rattle.cx_region_state.specs.State.{TaskContext}
 use Rattle.cx_region_state.specs.declared.verdict.Verdict.{Verdict}
 use Rattle.cx_region_commands.specs.CommandVerdicts.{HasVerdict}

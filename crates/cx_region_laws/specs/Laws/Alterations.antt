@@ -1,8 +1,8 @@
 -- What follows from the definition of alterations.
 use Rattle.std.specs.Prelude.{◌≡◌, ◌≢◌, ℕ, Bool, true, false, ◌==◌, List, is_some, MatchOption}
 use Rattle.std.specs.Map.{keys_of}
-use Rattle.cx_base_commands.specs.declared.abends.Abend.TheVariants.{Xedf}
-use Rattle.cx_base_commands.specs.Abends.{abend_code}
+use Rattle.cx_base.specs.declared.abends.Abend.TheVariants.{Xedf}
+use Rattle.cx_base.specs.Abends.{abend_code}
 use Rattle.cx_storage.specs.Storage.{areas_of, byte_at, is_of_other_slot, with_areas_kept}
 use Rattle.cx_service.specs.Resources.{without_owner}
 use Rattle.cx_region_state.specs.declared.replies.TurnReply.TheVariants as turn
@@ -40,26 +40,26 @@ sets_byte _ x = false
 pub record AlterKeeps (old : RegionState) (name : List ℕ) (new : RegionState) : Type 0 where
   pub others : OthersAsBefore old name new
   pub names : keys_of new.terminals ≡ keys_of old.terminals
-  pub programs : new.programs ≡ old.programs
+  pub programs : new.shared.programs ≡ old.shared.programs
   pub transactions : new.transactions ≡ old.transactions
   pub time : new.time ≡ old.time
   pub date : new.date ≡ old.date
   pub counter : new.counter ≡ old.counter
-  pub queues : new.queues ≡ old.queues
+  pub queues : new.shared.queues ≡ old.shared.queues
 
 -- what else it leaves, where the task goes on: areas and resources, and all bytes except at most one
 pub record AlterKeepsStorage (old : RegionState) (change : Change) (new : RegionState) : Type 0 where
-  pub areas : areas_of new.storage ≡ areas_of old.storage
-  pub bytes : (x : ℕ) → sets_byte change x ≡ false → byte_at new.storage x ≡ byte_at old.storage x
-  pub resources : new.resources ≡ old.resources
+  pub areas : areas_of new.shared.storage ≡ areas_of old.shared.storage
+  pub bytes : (x : ℕ) → sets_byte change x ≡ false → byte_at new.shared.storage x ≡ byte_at old.shared.storage x
+  pub resources : new.shared.resources ≡ old.shared.resources
 
 -- and what it leaves where it ends the task: the areas, with their bytes, and the resources of all others
 pub record AlterKeepsOthers (old : RegionState) (name : List ℕ) (new : RegionState) : Type 0 where
-  pub areas : MatchOption (terminal_of old name) (new.storage ≡ old.storage) (λ terminal.
-      with_areas_kept (is_of_other_slot terminal.slot) new.storage
-      ≡ with_areas_kept (is_of_other_slot terminal.slot) old.storage)
-  pub resources : MatchOption (terminal_of old name) (new.resources ≡ old.resources) (λ terminal.
-      without_owner new.resources terminal.slot ≡ without_owner old.resources terminal.slot)
+  pub areas : MatchOption (terminal_of old name) (new.shared.storage ≡ old.shared.storage) (λ terminal.
+      with_areas_kept (is_of_other_slot terminal.entry.slot) new.shared.storage
+      ≡ with_areas_kept (is_of_other_slot terminal.entry.slot) old.shared.storage)
+  pub resources : MatchOption (terminal_of old name) (new.shared.resources ≡ old.shared.resources) (λ terminal.
+      without_owner new.shared.resources terminal.entry.slot ≡ without_owner old.shared.resources terminal.entry.slot)
 
 -- where a command is due, the current level keeps the registers and the code that its program has
 abbrev pub KeepsWhereDue : TaskState → Type 0

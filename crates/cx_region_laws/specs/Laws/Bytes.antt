@@ -5,9 +5,9 @@ use Rattle.std.specs.List.{list_any}
 use Rattle.cx_storage.specs.Address.{distance}
 use Rattle.cx_storage.specs.Storage.{Storage, areas_of, byte_at, is_of_other_slot, with_areas_kept, IsSound as IsSoundStorage}
 use Rattle.cx_service.specs.Queues.{AreSoundQueues}
-use Rattle.cx_region_call.specs.declared.outputs.Output.{Output}
-use Rattle.cx_region_call.specs.Call.{Call, call_of, place_of, resp_place}
-use Rattle.cx_region_call.specs.Outputs.{bytes_from}
+use Rattle.cx_region_state.specs.declared.outputs.Output.{Output}
+use Rattle.cx_region_state.specs.Call.{Call, call_of, place_of, resp_place}
+use Rattle.cx_region_state.specs.Outputs.{bytes_from}
 use Rattle.cx_region_commands.specs.Common.{AreSoundPrograms}
 use Rattle.cx_region_commands.specs.CommandVerdicts.{HasVerdict}
 use Rattle.cx_region_state.specs.declared.replies.TurnReply.{TurnReply}

@@ -3,18 +3,18 @@
 use Rattle.std.specs.Prelude.{◌≡◌, ℕ, ◌<◌, false, List, [], length, Option, Some, Ok, ⊤}
 use Rattle.std.specs.Option.{option_map_or}
 use Rattle.std.specs.Int.{w16, to_be_bytes}
-use Rattle.cx_base_commands.specs.declared.commands.Command.{Command}
-use Rattle.cx_base_commands.specs.declared.commands.Command.TheVariants.{Link}
-use Rattle.cx_base_commands.specs.declared.eib.EibField.TheVariants.{Calen}
-use Rattle.cx_base_commands.specs.declared.eistg.EistgField.TheVariants.{Eicap}
-use Rattle.cx_base_commands.specs.declared.options.OptionName.TheVariants.{Commarea}
-use Rattle.cx_base_commands.specs.Eib.{eib_len}
-use Rattle.cx_base_commands.specs.Eistg.{eistg_field}
+use Rattle.cx_base.specs.declared.commands.Command.{Command}
+use Rattle.cx_base.specs.declared.commands.Command.TheVariants.{Link}
+use Rattle.cx_base.specs.declared.eib.EibField.TheVariants.{Calen}
+use Rattle.cx_base.specs.declared.eistg.EistgField.TheVariants.{Eicap}
+use Rattle.cx_base.specs.declared.options.OptionName.TheVariants.{Commarea}
+use Rattle.cx_base.specs.Eib.{eib_len}
+use Rattle.cx_base.specs.Eistg.{eistg_field}
 use Rattle.cx_storage.specs.Address.{address_after}
 use Rattle.cx_storage.specs.Storage.{Storage, span}
 use Rattle.cx_storage.specs.Word.{word_at}
-use Rattle.cx_region_call.specs.Call.{Call, call_of, place_of, resp_place}
-use Rattle.cx_region_call.specs.Inputs.{length_option}
+use Rattle.cx_region_state.specs.Call.{Call, call_of, place_of, resp_place}
+use Rattle.cx_region_state.specs.Inputs.{length_option}
 use Rattle.cx_region_state.specs.declared.replies.TurnReply.TheVariants as turn
 use Rattle.cx_region_state.specs.State.{Input, TaskContext, TaskState}
 use Rattle.cx_region_task.specs.Performing.{list_of}
@@ -65,7 +65,7 @@ AttachedFindCommareas =
     (old new : RegionState) (name : List ℕ) (input : Input) (terminal : TerminalState) (task : TaskState)
     → IsSound old → TakesKey old name input key.Attached new
     → terminal_of old name ≡ Some terminal → task_of new name ≡ Some task
-    → FindsCommarea new.storage task (commarea_kept terminal.following)
+    → FindsCommarea new.shared.storage task (commarea_kept terminal.entry.following)
 
 -- EIBCALEN is the length of the COMMAREA of its level
 abbrev pub AttachedCalenIsTheLevels : Type 0
@@ -73,4 +73,4 @@ AttachedCalenIsTheLevels =
     (old new : RegionState) (name : List ℕ) (input : Input) (terminal : TerminalState) (task : TaskState)
     → IsSound old → TakesKey old name input key.Attached new
     → terminal_of old name ≡ Some terminal → task_of new name ≡ Some task
-    → field_at new.storage task.eib Calen ≡ Some (to_be_bytes w16 task.levels.current.calen)
+    → field_at new.shared.storage task.eib Calen ≡ Some (to_be_bytes w16 task.levels.current.calen)

@@ -1,7 +1,7 @@
 -- Which exit takes an abend, and what it leaves (Application Programmer's Reference Manual, SC33-0077, "HANDLE ABEND").
 use Rattle.std.specs.Prelude.{◌≡◌, ◌⊎◌, ℕ, ◌<◌, Bool, true, false, List, ◌∷◌, ◌++◌, length, reverse, slice_set, Some, None, Ok, MatchBool}
 use Rattle.std.specs.List.{AllByRecursion, list_all}
-use Rattle.cx_base_commands.specs.declared.conditions.Condition.{Condition}
+use Rattle.cx_base.specs.declared.conditions.Condition.{Condition}
 use Rattle.cx_storage.specs.declared.areas.Area.{Area}
 use Rattle.cx_storage.specs.Address.{address_in}
 use Rattle.cx_storage.specs.Storage.{Storage, area_at, starts_elsewhere, with_areas_kept}
@@ -10,9 +10,9 @@ use Rattle.cx_exec.specs.Advance.{Advances}
 use Rattle.cx_program.specs.declared.level.Level.{Level}
 use Rattle.cx_program.specs.Entries.{label_on}
 use Rattle.cx_program.specs.Levels.{IsNearestExit, all_levels, has_exit, has_exit_at}
-use Rattle.cx_region_call.specs.declared.outputs.Output.{Output}
-use Rattle.cx_region_call.specs.Call.{Call, call_of}
-use Rattle.cx_region_call.specs.Eib.{with_calen}
+use Rattle.cx_region_state.specs.declared.outputs.Output.{Output}
+use Rattle.cx_region_state.specs.Call.{Call, call_of}
+use Rattle.cx_region_state.specs.Eib.{with_calen}
 use Rattle.cx_region_commands.specs.CommandVerdicts.{HasVerdict}
 use Rattle.cx_region_state.specs.declared.replies.TurnReply.{TurnReply}
 use Rattle.cx_region_state.specs.declared.replies.TurnReply.TheVariants as turn

@@ -6,8 +6,8 @@ use Rattle.cx_region.specs.declared.replies.Reply.{Reply}
 use Rattle.cx_region.specs.State.{RegionState}
 use Rattle.cx_region.specs.Events.{Applies, IsDone, MayTakeMemory, Run, RunStopped}
 
--- What comes after a refused event is done as if that had never come; so its answer and the region after it are those that it
--- would have had.
+-- What comes after a refused event is done as if that had never come; so its answer and the region after it are those
+-- that it would have had.
 pub record IsAsWithout {S E R : Type 0} (does : S → E → R → S → Type 0) (may_take : S → E → Type 0)
     (old : S) (next : E) (result : Result R AllocError) (new : S) : Type 0 where
   pub done : IsDone does may_take old next result new

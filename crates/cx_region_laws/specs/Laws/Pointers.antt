@@ -2,16 +2,16 @@
 -- (Application Programmer's Reference Manual, SC33-0077, "Exceptional conditions", "Argument Values").
 use Rattle.std.specs.Prelude.{◌≡◌, ℕ, ◌<◌, Bool, true, false, ◌||◌, List, ◌∷◌, ◌++◌, slice_get, slice_index, Some, Ok}
 use Rattle.std.specs.List.{list_any}
-use Rattle.cx_base_commands.specs.declared.conditions.Condition.{Condition}
-use Rattle.cx_base_commands.specs.declared.options.OptionName.{OptionName}
-use Rattle.cx_base_commands.specs.Eib.{eib_len}
+use Rattle.cx_base.specs.declared.conditions.Condition.{Condition}
+use Rattle.cx_base.specs.declared.options.OptionName.{OptionName}
+use Rattle.cx_base.specs.Eib.{eib_len}
 use Rattle.cx_storage.specs.Address.{address_in, address_after}
 use Rattle.cx_storage.specs.Storage.{Storage, byte_at, IsSound as IsSoundStorage}
 use Rattle.cx_storage.specs.Word.{word_at}
-use Rattle.cx_region_call.specs.declared.outputs.Output.{Output}
-use Rattle.cx_region_call.specs.declared.outputs.OutputValue.TheVariants.{Word}
-use Rattle.cx_region_call.specs.Call.{Call, call_of, place_of, resp_place}
-use Rattle.cx_region_call.specs.Outputs.{bytes_from}
+use Rattle.cx_region_state.specs.declared.outputs.Output.{Output}
+use Rattle.cx_region_state.specs.declared.outputs.OutputValue.TheVariants.{Word}
+use Rattle.cx_region_state.specs.Call.{Call, call_of, place_of, resp_place}
+use Rattle.cx_region_state.specs.Outputs.{bytes_from}
 use Rattle.cx_region_commands.specs.Common.{output as output_of}
 use Rattle.cx_region_commands.specs.CommandVerdicts.{HasVerdict}
 use Rattle.cx_region_state.specs.declared.replies.TurnReply.TheVariants as turn

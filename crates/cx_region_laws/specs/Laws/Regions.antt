@@ -70,7 +70,7 @@ OthersAsBefore old name new =
 pub record TurnKeeps (old : RegionState) (name : List ℕ) (new : RegionState) : Type 0 where
   pub others : OthersAsBefore old name new
   pub names : keys_of new.terminals ≡ keys_of old.terminals
-  pub programs : new.programs ≡ old.programs
+  pub programs : new.shared.programs ≡ old.shared.programs
   pub transactions : new.transactions ≡ old.transactions
   pub time : new.time ≡ old.time
   pub date : new.date ≡ old.date
@@ -78,10 +78,12 @@ pub record TurnKeeps (old : RegionState) (name : List ℕ) (new : RegionState) :
 
 -- what else a turn of a terminal of a sound region leaves: the areas and the resources of all others, both ways
 pub record TurnKeepsOthers (old : RegionState) (name : List ℕ) (new : RegionState) : Type 0 where
-  pub areas : MatchOption (terminal_of old name) (new.storage ≡ old.storage)
-      (λ terminal. others_areas terminal.slot new.storage ≡ others_areas terminal.slot old.storage)
-  pub resources : MatchOption (terminal_of old name) (new.resources ≡ old.resources)
-      (λ terminal. without_owner new.resources terminal.slot ≡ without_owner old.resources terminal.slot)
+  pub areas : MatchOption (terminal_of old name) (new.shared.storage ≡ old.shared.storage)
+      (λ terminal.
+      others_areas terminal.entry.slot new.shared.storage ≡ others_areas terminal.entry.slot old.shared.storage)
+  pub resources : MatchOption (terminal_of old name) (new.shared.resources ≡ old.shared.resources)
+      (λ terminal.
+      without_owner new.shared.resources terminal.entry.slot ≡ without_owner old.shared.resources terminal.entry.slot)
 
 -- the counter of tasks after a key that was answered so: the next number, where a task was attached
 abbrev pub counter_after : KeyReply → ℕ → ℕ
@@ -92,13 +94,13 @@ counter_after _ counter = counter
 pub record KeyKeeps (old : RegionState) (name : List ℕ) (reply : KeyReply) (new : RegionState) : Type 0 where
   pub others : OthersAsBefore old name new
   pub names : keys_of new.terminals ≡ keys_of old.terminals
-  pub programs : new.programs ≡ old.programs
+  pub programs : new.shared.programs ≡ old.shared.programs
   pub transactions : new.transactions ≡ old.transactions
   pub time : new.time ≡ old.time
   pub date : new.date ≡ old.date
-  pub queues : new.queues ≡ old.queues
-  pub resources : new.resources ≡ old.resources
-  pub storage : reply ≢ key.Attached → new.storage ≡ old.storage
+  pub queues : new.shared.queues ≡ old.shared.queues
+  pub resources : new.shared.resources ≡ old.shared.resources
+  pub storage : reply ≢ key.Attached → new.shared.storage ≡ old.shared.storage
   pub counter : new.counter ≡ counter_after reply old.counter
 
 abbrev pub TurnsKeepToTheirTask : Type 0

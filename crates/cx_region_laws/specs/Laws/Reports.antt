@@ -4,21 +4,21 @@ use Rattle.std.specs.Prelude.{◌≡◌, ◌⊎◌, ℕ, Bool, true, false, List
 use Rattle.std.specs.Option.{option_or}
 use Rattle.std.specs.List.{list_any}
 use Rattle.std.specs.Int.{w16, w32, to_be_bytes}
-use Rattle.cx_base_commands.specs.declared.commands.Command.TheVariants.{Link}
-use Rattle.cx_base_commands.specs.declared.conditions.Condition.{Condition}
-use Rattle.cx_base_commands.specs.declared.conditions.Condition.TheVariants.{Normal}
-use Rattle.cx_base_commands.specs.declared.eib.EibField.{EibField}
-use Rattle.cx_base_commands.specs.declared.eib.EibField.TheVariants.{Calen, Fn, Rcode, Resp, Rsrce}
-use Rattle.cx_base_commands.specs.declared.options.OptionName.TheVariants.{Program, Queue}
-use Rattle.cx_base_commands.specs.Commands.{row_of}
-use Rattle.cx_base_commands.specs.Conditions.{entry_of}
-use Rattle.cx_base_commands.specs.Eib.{eib_field, eib_len}
+use Rattle.cx_base.specs.declared.commands.Command.TheVariants.{Link}
+use Rattle.cx_base.specs.declared.conditions.Condition.{Condition}
+use Rattle.cx_base.specs.declared.conditions.Condition.TheVariants.{Normal}
+use Rattle.cx_base.specs.declared.eib.EibField.{EibField}
+use Rattle.cx_base.specs.declared.eib.EibField.TheVariants.{Calen, Fn, Rcode, Resp, Rsrce}
+use Rattle.cx_base.specs.declared.options.OptionName.TheVariants.{Program, Queue}
+use Rattle.cx_base.specs.Commands.{row_of}
+use Rattle.cx_base.specs.Conditions.{entry_of}
+use Rattle.cx_base.specs.Eib.{eib_field, eib_len}
 use Rattle.cx_storage.specs.Address.{address_after}
 use Rattle.cx_storage.specs.Storage.{Storage, span, IsSound as IsSoundStorage}
 use Rattle.cx_service.specs.Queues.{AreSoundQueues}
-use Rattle.cx_region_call.specs.declared.outputs.Output.{Output}
-use Rattle.cx_region_call.specs.Call.{Call, call_of, resp_place}
-use Rattle.cx_region_call.specs.Inputs.{bytes_of}
+use Rattle.cx_region_state.specs.declared.outputs.Output.{Output}
+use Rattle.cx_region_state.specs.Call.{Call, call_of, resp_place}
+use Rattle.cx_region_state.specs.Inputs.{bytes_of}
 use Rattle.cx_region_commands.specs.Common.{AreSoundPrograms}
 use Rattle.cx_region_commands.specs.CommandVerdicts.{HasVerdict}
 use Rattle.cx_region_state.specs.declared.replies.TurnReply.{TurnReply}
@@ -132,8 +132,8 @@ changes_level turn.Returned = true
 changes_level (turn.TookExit code) = true
 changes_level _ = false
 
--- EIBCALEN is the length of the COMMAREA of the level that is the current one then. Storage is sound afterwards, as that
--- of every store is.
+-- EIBCALEN is the length of the COMMAREA of the level that is the current one then. Storage is sound afterwards, as
+-- that of every store is.
 abbrev pub CalenIsTheLevels : Type 0
 CalenIsTheLevels = (before after : TaskContext) (reply : TurnReply)
     → IsSoundContext before → IsSoundStorage after.shared.storage → IsRespApart before

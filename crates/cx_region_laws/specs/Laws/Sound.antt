@@ -13,9 +13,9 @@ use Rattle.cx_region.specs.Sound.{IsSound}
 -- What every store, every list of queues and every list of resources keeps by itself, whatever is done with it:
 -- disjoint areas that have their bytes, each below 256; the limits of queues and of holds.
 pub record ArePartsSound (region : RegionState) : Type 0 where
-  pub storage : IsSoundStorage region.storage
-  pub queues : AreSoundQueues region.queues
-  pub resources : AreSoundResources region.resources
+  pub storage : IsSoundStorage region.shared.storage
+  pub queues : AreSoundQueues region.shared.queues
+  pub resources : AreSoundResources region.shared.resources
 
 -- the image of a program that is to be defined was checked
 abbrev pub IsChecked : Event → Type 0

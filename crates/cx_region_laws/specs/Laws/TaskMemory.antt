@@ -1,10 +1,10 @@
 -- Which half-turns may take memory (Application Programmer's Reference Manual, SC33-0077, the section of each command).
 use Rattle.std.specs.Prelude.{◌≡◌, Bool, true, false, is_some}
-use Rattle.cx_base_commands.specs.declared.commands.Command.{Command}
-use Rattle.cx_base_commands.specs.declared.commands.Command.TheVariants as command
-use Rattle.cx_base_commands.specs.declared.options.OptionName.TheVariants.{Set}
+use Rattle.cx_base.specs.declared.commands.Command.{Command}
+use Rattle.cx_base.specs.declared.commands.Command.TheVariants as command
+use Rattle.cx_base.specs.declared.options.OptionName.TheVariants.{Set}
 use Rattle.cx_storage.specs.Storage.{Storage}
-use Rattle.cx_region_call.specs.Call.{Call}
+use Rattle.cx_region_state.specs.Call.{Call}
 use Rattle.cx_region_state.specs.State.{TaskContext}
 use Rattle.cx_region_commands.specs.Common.{commarea_of, has}
 use Rattle.cx_region_task.specs.Turn.{TakesMemory}

@@ -1,12 +1,12 @@
--- What a verdict must have so that it can be carried out: places that are the least ones, services without a fault, bytes
--- that are in storage.
+-- What a verdict must have so that it can be carried out: places that are the least ones, services without a fault,
+-- bytes that are in storage.
 use Rattle.std.specs.Prelude.{◌≡◌, ◌≢◌, ℕ, ◌<◌, ◌≤◌, ◌^◌, List, length, Option, Some, None, ⊤, is_some, IsTrue}
-use Rattle.cx_base_commands.specs.declared.conditions.Condition.TheVariants.{Error}
+use Rattle.cx_base.specs.declared.conditions.Condition.TheVariants.{Error}
 use Rattle.cx_storage.specs.Storage.{Storage, area_at, area_from}
 use Rattle.cx_service.specs.Queues.{delete_fault, item_len_of, read_fault, rewrite_fault, write_fault}
 use Rattle.cx_service.specs.Resources.{enq_fault}
-use Rattle.cx_region_call.specs.declared.inputs.StorageSpan.{StorageSpan}
-use Rattle.cx_region_call.specs.Inputs.{piece_bytes}
+use Rattle.cx_region_state.specs.declared.inputs.StorageSpan.{StorageSpan}
+use Rattle.cx_region_state.specs.Inputs.{piece_bytes}
 use Rattle.cx_region_state.specs.declared.verdict.TaskChange.{TaskChange}
 use Rattle.cx_region_state.specs.declared.verdict.TaskChange.TheVariants.{Makes, Ends, Gets, Enters, Replaces, TaskEnds}
 use Rattle.cx_region_state.specs.declared.verdict.Copying.{Copying}

@@ -4,7 +4,7 @@ use Rattle.std.specs.Option.{option_map_or}
 use Rattle.cx_storage.specs.Address.{address_after, distance}
 use Rattle.cx_storage.specs.Storage.{Storage, span, starts_elsewhere, with_areas_kept}
 use Rattle.cx_service.specs.Queues.{Queues, delete_fault, item_len_of, item_of, read_fault}
-use Rattle.cx_region_call.specs.Inputs.{piece_bytes}
+use Rattle.cx_region_state.specs.Inputs.{piece_bytes}
 use Rattle.cx_region_state.specs.declared.verdict.TaskChange.{TaskChange}
 use Rattle.cx_region_state.specs.declared.verdict.TaskChange.TheVariants.{Ends, Gets}
 use Rattle.cx_region_state.specs.declared.verdict.Copying.{Copying}

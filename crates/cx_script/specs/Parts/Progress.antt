@@ -114,8 +114,8 @@ TakesLine performs number due old before (Err Write) new after place =
     DoneOf (λ own. SentSome performs old own before after) (actions_due due)
 TakesLine performs number due old before (Err fault) new after place = (due ≡ Err fault) × (after ≡ before)
 TakesLine {A} performs number due old before (Ok done) new after place =
-    (step : Step A) × (due ≡ Ok step) × (place ≡ step.place) × (text : List ℕ) × PerformsAll performs old step.actions text new
-    × Sends logs before after text
+    (step : Step A) × (due ≡ Ok step) × (place ≡ step.place)
+    × (text : List ℕ) × PerformsAll performs old step.actions text new × Sends logs before after text
 
 -- Some lines are done, after n others and in this block: however the script goes on, what it asks is their actions, and
 -- what the next lines ask.

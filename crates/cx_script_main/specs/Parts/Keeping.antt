@@ -6,7 +6,8 @@ use Rattle.cx_script_main.specs.declared.keeping.Keeping.{Keeping}
 -- What is kept after a read, if anything is: what was kept before it, and then the bytes that it gave. Nothing is kept
 -- any more once memory was refused.
 abbrev pub KeepsBytesRead : Option (List ℕ) → Option (List ℕ) → Option (List ℕ) → Type 0
-KeepsBytesRead before given after = IfSome after (λ bytes. option_map (λ kept. kept ++ unwrap_or given []) before ≡ Some bytes)
+KeepsBytesRead before given after =
+    IfSome after (λ bytes. option_map (λ kept. kept ++ unwrap_or given []) before ≡ Some bytes)
 
 -- a read of the devices, whose bytes are kept
 abbrev pub KeepsRead : {D : Type 0} → (D → Option (List ℕ) → D → Type 0) → Keeping D → Option (List ℕ) → Keeping D

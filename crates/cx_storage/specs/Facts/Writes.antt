@@ -1,8 +1,9 @@
 -- What a byte and bytes written leave.
 use Rattle.std.proofs.Common.{refl, ap, ◌∙◌, inl, inr, arith}
+use Rattle.std.proofs.lemmas.List.{drop_more, drop_all}
 use Rattle.std.proofs.lemmas.Bool.{cases_Bool, cases_eq, cases_lt, lt-ltb, le-ltb}
 use Rattle.std.specs.Option.{option_map}
-use Rattle.std.specs.Prelude.{◌≡◌, ℕ, zero, suc, ◌-◌, ◌<◌, ◌≤◌, true, false, cond, List, ◌∷◌, length, slice_get, Option, Some, None, is_some, nat_lt, ◌≢◌, ◌^◌, slice_set, slice_index, []}
+use Rattle.std.specs.Prelude.{◌≡◌, ℕ, zero, suc, ◌+◌, drop, ◌-◌, ◌<◌, ◌≤◌, true, false, cond, List, ◌∷◌, length, slice_get, Option, Some, None, is_some, nat_lt, ◌≢◌, ◌^◌, slice_set, slice_index, []}
 use Rattle.cx_storage.specs.Facts.Sound.{covers_cases, put_byte_area}
 use Rattle.cx_storage.specs.Facts.Spans.{span_has, span_from, span_present_agree}
 use Rattle.cx_storage.specs.Storage.{Storage, covers, byte_at, areas_of, span, with_byte, with_bytes, after_write, holder}
@@ -19,6 +20,16 @@ slice_get-slice_set_other (b ∷ bs) zero zero v e = absurd (e refl)
 slice_get-slice_set_other (b ∷ bs) zero (suc k) v e = refl
 slice_get-slice_set_other (b ∷ bs) (suc j) zero v e = refl
 slice_get-slice_set_other (b ∷ bs) (suc j) (suc k) v e = slice_get-slice_set_other bs j k v (λ p. e (ap suc p))
+
+-- bytes written, the first and then the rest
+pub with_bytes_more : (s : Storage) (a k : ℕ) (bytes : List ℕ) (v : ℕ) → k < length bytes → v ≡ slice_index bytes k
+    → with_bytes (with_byte s a v) (address_after a 1) (drop (k + 1) bytes) ≡ with_bytes s a (drop k bytes)
+unfolding with_bytes
+with_bytes_more s a k bytes v h e = rw (e, drop_more bytes k 0 h) refl
+
+pub with_bytes_all : (s : Storage) (a k : ℕ) (bytes : List ℕ) → length bytes ≤ k → with_bytes s a (drop k bytes) ≡ s
+unfolding with_bytes
+with_bytes_all s a k bytes h = rw (drop_all k bytes h) refl
 
 -- a byte after a write of one byte at its own address: the new byte, where there was one
 pub byte_after_set : (s : Storage) (a v : ℕ) → byte_at (with_byte s a v) a ≡ option_map (λ (_ : ℕ). v) (byte_at s a)

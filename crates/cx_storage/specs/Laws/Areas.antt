@@ -56,8 +56,8 @@ abbrev pub AreaIsPresent : Type 0
 AreaIsPresent =
     (s : Storage) (start : ℕ) (area : Area) → IsSound s → area_at s start ≡ Some area → IsPresentArea s start area
 
--- the next area is one of storage that starts at the address from or above, and none that starts there starts below it; None
--- where no area starts there
+-- the next area is one of storage that starts at the address from or above, and none that starts there starts below it;
+-- None where no area starts there
 abbrev pub IsNextArea : Storage → ℕ → Option Area → Type 0
 IsNextArea s from None = (start : ℕ) → from ≤ start → area_at s start ≡ None
 IsNextArea s from (Some area) =

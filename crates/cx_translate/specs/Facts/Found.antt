@@ -2,18 +2,18 @@
 use Rattle.std.specs.Prelude.{ℕ, Bool, false, not, bit_or, if◌then◌else◌, Option, Some, option_and_then, option_map, Result, Ok, Err, List, [], ◌∷◌, codes, drop, map, take}
 use Rattle.std.specs.List.{position}
 use Rattle.std.specs.Option.{option_map_or, option_to_list}
-use Rattle.cx_base_commands.specs.Eib.{eib_pieces}
+use Rattle.cx_base.specs.Eib.{eib_pieces}
 use Rattle.cx_source.specs.Statements.{is_continued}
 use Rattle.cx_source.specs.declared.source.Item.{Item}
 use Rattle.cx_source.specs.declared.source.Source.{Source}
 use Rattle.cx_source.specs.declared.source.Stmt.{Stmt}
 use Rattle.cx_translate.specs.declared.faults.TransFault.{TransFault}
-use Rattle.cx_base_commands.specs.declared.commands.Command.{Command}
-use Rattle.cx_base_commands.specs.declared.conditions.Condition.{Condition}
-use Rattle.cx_base_commands.specs.declared.legal.ListedCondition.{ListedCondition}
-use Rattle.cx_base_commands.specs.declared.options.CommandOption.{CommandOption}
-use Rattle.cx_base_commands.specs.declared.options.ArgumentKind.{ArgumentKind}
-use Rattle.cx_base_commands.specs.Options.{option_name}
+use Rattle.cx_base.specs.declared.commands.Command.{Command}
+use Rattle.cx_base.specs.declared.conditions.Condition.{Condition}
+use Rattle.cx_base.specs.declared.legal.ListedCondition.{ListedCondition}
+use Rattle.cx_base.specs.declared.options.CommandOption.{CommandOption}
+use Rattle.cx_base.specs.declared.options.ArgumentKind.{ArgumentKind}
+use Rattle.cx_base.specs.Options.{option_name}
 use Rattle.cx_translate.specs.declared.due_arguments.DueArgument.{DueArgument}
 use Rattle.cx_translate.specs.declared.words.Argument.{Argument}
 use Rattle.cx_translate.specs.Call.{listed_condition, operand_of}

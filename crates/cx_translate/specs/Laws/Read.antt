@@ -1,13 +1,13 @@
 -- How many words a command reads from its argument list (Application Programmer's Reference Manual, SC33-0077, the
 -- expansion of a command; the list's layout is this product's own).
 use Rattle.std.specs.Prelude.{ℕ, ◌+◌, Bool, ◌==◌, if◌then◌else◌, List, length, count_by}
-use Rattle.cx_base_commands.specs.declared.commands.Command.{Command}
-use Rattle.cx_base_commands.specs.declared.legal.ListedCondition.{ListedCondition}
-use Rattle.cx_base_commands.specs.declared.options.CommonOption.TheVariants.{Resp}
-use Rattle.cx_base_commands.specs.Arguments.{arguments_in}
-use Rattle.cx_base_commands.specs.Commands.{row_of}
-use Rattle.cx_base_commands.specs.Options.{common_of}
-use Rattle.cx_base_commands.specs.Legal.{has_bit}
+use Rattle.cx_base.specs.declared.commands.Command.{Command}
+use Rattle.cx_base.specs.declared.legal.ListedCondition.{ListedCondition}
+use Rattle.cx_base.specs.declared.options.CommonOption.TheVariants.{Resp}
+use Rattle.cx_base.specs.Arguments.{arguments_in}
+use Rattle.cx_base.specs.Commands.{row_of}
+use Rattle.cx_base.specs.Options.{common_of}
+use Rattle.cx_base.specs.Legal.{has_bit}
 
 abbrev pub has_label : ListedCondition → Bool
 has_label listed = listed.label == 0x80

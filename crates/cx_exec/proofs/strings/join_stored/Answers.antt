@@ -11,6 +11,6 @@ join_bytes-requires-clause-room g c = sym (span_length _ _ _ _ c.in-Some.ensures
 
 pub returns-in-Some-slice-clause-bytes : goal.returns-in-Some-slice-clause-bytes
 returns-in-Some-slice-clause-bytes g c = λ _.
-    spans_are_joined _ _ _ _ _ _ _ c.requires.first c.requires.second (omega (arith, c.requires.count)) c.requires.outside
+    spans_are_joined _ _ _ _ _ _ _ c.args.at.first c.args.at.second (omega (arith, c.requires.count)) c.requires.outside
     c.in-Some.ensures.bytes c.in-Some-slice.ensures.bytes c.join_bytes.ensures.size
     (λ k h. c.join_bytes.ensures.each k (omega (arith, h, span_length _ _ _ _ c.in-Some.ensures.bytes)))

@@ -5,4 +5,4 @@ use Rattle.cx_exec.proofs.translation.translate_bytes.Given as goal
 
 -- the first k bytes are made
 abbrev pub invariant-loop-k : goal.invariant-loop-k
-invariant-loop-k g l = take l.k l.new ≡ stored_by (translated_byte (g.S.Store.storage l.store) l.a1 l.a2) l.k
+invariant-loop-k g l = take l.k l.new ≡ stored_by (translated_byte (g.S.Store.storage l.store) l.at.a1 l.at.a2) l.k

@@ -11,9 +11,9 @@ returns-clause-bytes g c _ =
     let apart = c.lie_apart.ensures (search rules) in
     aligned_is_packed _ _ _ _ _ _ _ _
     (record {
-      some1 = c.requires.some1;
-      some2 = c.requires.some2;
-      few = omega (arith, c.requires.count2);
+      some1 = c.args.lengths.some1;
+      some2 = c.args.lengths.some2;
+      few = omega (arith, c.args.lengths.few2);
       fits1 = apart.0;
       fits2 = c.in-Some.ensures.no_wrap;
       apart = apart.1;
@@ -22,4 +22,4 @@ returns-clause-bytes g c _ =
       prefix = c.align.ensures.prefix;
       each = c.align.ensures.bytes;
     })
-    (omega (arith, c.requires.count1)) c.pack_aligned.array_long c.pack_aligned.ensures.each c.pack_aligned.ensures.last
+    (omega (arith, c.args.lengths.few1)) c.pack_aligned.array_long c.pack_aligned.ensures.each c.pack_aligned.ensures.last

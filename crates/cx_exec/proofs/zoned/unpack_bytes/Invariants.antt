@@ -5,4 +5,4 @@ use Rattle.cx_exec.proofs.zoned.unpack_bytes.Given as goal
 
 -- the first k bytes are made
 abbrev pub invariant-loop-k : goal.invariant-loop-k
-invariant-loop-k g l = take l.k l.new ≡ stored_by (unpacked_byte (g.S.Store.storage l.store) l.e1 l.n2 l.e2) l.k
+invariant-loop-k g l = take l.k l.new ≡ stored_by (unpacked_byte (g.S.Store.storage l.store) l.ends.e1 l.ends.n2 l.ends.e2) l.k

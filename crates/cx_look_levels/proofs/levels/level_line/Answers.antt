@@ -1,5 +1,5 @@
 use Rattle.std.proofs.Common.{◌≡◌, ◌∙◌, ap, arith, length}
-use Rattle.cx_base_text.specs.Digits.{digits}
+use Rattle.cx_base.specs.Digits.{digits}
 use Rattle.cx_region_state.specs.State.{SharedState}
 use Rattle.cx_look_symbols.specs.Places.{address_word, place_of}
 use Rattle.cx_look_levels.specs.Levels.{cap_word, level_line}

@@ -5,7 +5,7 @@ use Rattle.cx_look_script.proofs.orders.sights_lines.Goals as goal
 
 pub loop-sight-preserved : goal.loop-sight-preserved
 loop-sight-preserved g c =
-    rw c.in_ok-push_lines.ensures
+    rw c.in_ok-append.ensures
     (seen_one_more _ _ _ _ _ _ _ _ c.in-Some.ensures.cases.0 c.in_ok-shown.ensures c.loop-sight.invariant)
 
 pub returns : goal.returns

@@ -5,4 +5,4 @@ use Rattle.cx_look_tasks.proofs.resources.resource_lines.Given as goal
 
 abbrev pub invariant-loop-i : goal.invariant-loop-i
 invariant-loop-i g l =
-    l.report ++ flat_map (resource_lines l.region l.activities) (drop l.i l.region.resources) ≡ flat_map (resource_lines l.region l.activities) l.region.resources
+    l.report ++ flat_map (resource_lines l.region l.activities) (drop l.i l.region.shared.resources) ≡ flat_map (resource_lines l.region l.activities) l.region.shared.resources

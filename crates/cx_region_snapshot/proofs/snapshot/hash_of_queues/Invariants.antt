@@ -1,5 +1,5 @@
 use Rattle.std.proofs.Common.{◌≡◌, fold, length}
-use Rattle.cx_base_hash.specs.Hash.{hash_with}
+use Rattle.cx_base.specs.Hash.{hash_with}
 use Rattle.cx_region_snapshot.proofs.snapshot.hash_of_queues.Given as goal
 
 -- the hash so far, with what is left, is that of all

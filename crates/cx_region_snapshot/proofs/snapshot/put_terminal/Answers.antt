@@ -1,7 +1,7 @@
 use Rattle.std.proofs.Common.{◌≡◌, ◌+◌, ◌∙◌, refl, length, take, slice_get, Some}
 use Rattle.std.proofs.lemmas.Option.{slice_get_read}
 use Rattle.indexmap.specs.IndexMap.{insert_entry}
-use Rattle.cx_base_copies.specs.Facts.Tables.{entry_next}
+use Rattle.cx_base.specs.Facts.Replicas.{entry_next}
 use Rattle.cx_ebcdic.specs.Facts.Names.{is_name-laws}
 use Rattle.cx_ebcdic.specs.Names.{is_name}
 use Rattle.cx_region_snapshot.proofs.snapshot.put_terminal.Goals as goal

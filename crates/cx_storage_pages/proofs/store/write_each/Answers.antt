@@ -1,6 +1,6 @@
 use Rattle.std.proofs.Common.{refl, sym, ◌∙◌, arith}
 use Rattle.cx_storage_pages.specs.Parts.Shown.{stored}
-use Rattle.cx_storage_pages.proofs.SpanLemmas.{with_bytes_more, with_bytes_all}
+use Rattle.cx_storage.specs.Facts.Writes.{with_bytes_more, with_bytes_all}
 use Rattle.cx_storage_pages.proofs.store.write_each.Goals as goal
 
 pub written-preserved : goal.written-preserved

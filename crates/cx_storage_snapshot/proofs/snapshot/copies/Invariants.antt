@@ -1,5 +1,5 @@
 use Rattle.std.proofs.Common.{◌≡◌, ◌++◌, ◌-◌, ◌≤◌, ◌^◌}
-use Rattle.cx_base_copies.specs.Shared.{values}
+use Rattle.cx_base.specs.Shared.{values}
 use Rattle.cx_storage_snapshot.specs.Parts.Copies.{areas_from}
 use Rattle.cx_storage_snapshot.proofs.snapshot.copies.Given as goal
 

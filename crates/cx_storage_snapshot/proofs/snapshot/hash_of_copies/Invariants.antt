@@ -1,6 +1,6 @@
 use Rattle.std.proofs.Common.{◌≡◌, drop, fold}
 use Rattle.cx_storage_snapshot.specs.Hash.{hash_with_area}
-use Rattle.cx_base_copies.specs.Shared.{values}
+use Rattle.cx_base.specs.Shared.{values}
 use Rattle.cx_storage_snapshot.proofs.snapshot.hash_of_copies.Given as goal
 
 -- the hash so far, with what is left, is that of all

@@ -1,6 +1,6 @@
 use Rattle.std.proofs.Common.{◌∙◌, ◌+◌, ◌++◌, [], ◌∷◌, ap, sym, arith, take}
 use Rattle.cx_storage.specs.Storage.{Held, IsSound}
-use Rattle.cx_base_copies.specs.Shared.{values}
+use Rattle.cx_base.specs.Shared.{values}
 use Rattle.cx_storage_snapshot.proofs.WriteLemmas.{sound_take, front_more, copy_aligned}
 use Rattle.cx_storage_snapshot.proofs.writing.put_areas.Goals as goal
 

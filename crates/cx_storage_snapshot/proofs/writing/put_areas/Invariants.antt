@@ -1,5 +1,5 @@
 use Rattle.std.proofs.Common.{◌≡◌, take}
-use Rattle.cx_base_copies.specs.Shared.{values}
+use Rattle.cx_base.specs.Shared.{values}
 use Rattle.cx_storage_snapshot.proofs.writing.put_areas.Given as goal
 
 -- those so far are put in

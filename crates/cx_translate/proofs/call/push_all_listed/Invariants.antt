@@ -1,6 +1,6 @@
 use Rattle.std.proofs.Common.{◌≡◌, ◌∷◌, ◌++◌, [], drop, List, ℕ}
 use Rattle.std.specs.List.{flat_map}
-use Rattle.cx_base_commands.specs.declared.legal.ListedCondition.{ListedCondition}
+use Rattle.cx_base.specs.declared.legal.ListedCondition.{ListedCondition}
 use Rattle.cx_translate.specs.Call.{listed_of}
 use Rattle.cx_translate.proofs.call.push_all_listed.Given as goal
 

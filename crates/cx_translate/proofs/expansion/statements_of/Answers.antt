@@ -1,5 +1,5 @@
 use Rattle.std.proofs.Common.{rules}
-use Rattle.cx_base_commands.specs.Commands as X2
+use Rattle.cx_base.specs.Commands as X2
 use Rattle.cx_translate.specs.Pieces.{pieces_of}
 use Rattle.cx_translate.specs.Words.{words_of}
 use Rattle.cx_translate.specs.Refusals.{command_in, fault_of}

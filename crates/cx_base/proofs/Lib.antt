@@ -1,0 +1,10 @@
+pub mod DigitLemmas
+pub mod ShownLemmas
+pub mod FieldLemmas
+pub mod PageLemmas
+pub mod SharedLemmas
+pub mod TableLemmas
+pub mod CommandTableLemmas
+pub mod RowLemmas
+pub mod JoinedLemmas
+pub mod ArgumentLemmas

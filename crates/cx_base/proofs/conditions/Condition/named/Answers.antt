@@ -1,0 +1,5 @@
+use Rattle.cx_base.proofs.CommandTableLemmas.{found_by_condition_name}
+use Rattle.cx_base.proofs.conditions.Condition.named.Goals as goal
+
+pub returns : goal.returns
+returns c = rw c.with_name.ensures (found_by_condition_name c.args.name.now)

@@ -1,0 +1,21 @@
+-- The definitions, in reading order, then what the laws state, and lemmas that other crates cite.
+pub mod Digits
+pub mod Texts
+pub mod Pages
+pub mod Parts
+pub mod Facts
+pub mod Hash
+pub mod Shared
+pub mod Conditions
+pub mod Abends
+pub mod Options
+pub mod Commands
+pub mod Legal
+pub mod Arguments
+pub mod Layout
+pub mod Eib
+pub mod Eistg
+pub mod Laws
+pub use Rattle.cx_ebcdic.specs.Names
+pub use Rattle.cx_ebcdic.specs.Characters
+pub use Rattle.cx_ebcdic.specs.Lookup

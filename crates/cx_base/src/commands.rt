@@ -1,0 +1,353 @@
+//! The commands and their rows.
+ghost use Rattle.std.specs.Prelude.{◌≡◌, ◌↔◌, ◌==◌, Some};
+ghost use Rattle.std.specs.List.{find};
+ghost use Rattle.std.specs.Str.{bytes_eq};
+ghost use Rattle.cx_base.specs.Commands.{command_called, command_named, command_with, with_blank_between, row_of};
+ghost use Rattle.cx_base.specs.Legal.{lists_conditions};
+
+use crate::options::{ArgumentKind, CommandOption, OptionName, Rule};
+
+/// A command that a program can give by EXEC CICS.
+///
+/// Application Programmer's Reference Manual, SC33-0077. The function values are CICS's customary
+/// ones; the bits of the options and their order are this product's own.
+#[derive(Clone, Copy, Debug, PartialEq, Eq)]
+pub enum Command {
+    Address,
+    HandleCondition,
+    IgnoreCondition,
+    PushHandle,
+    PopHandle,
+    Receive,
+    WriteqTs,
+    ReadqTs,
+    DeleteqTs,
+    Getmain,
+    Freemain,
+    Link,
+    Xctl,
+    Return,
+    Abend,
+    HandleAbend,
+    Enq,
+    Deq,
+    Suspend,
+    SendText,
+}
+
+impl Command {
+    /// All commands, in the order of their function values.
+    pub const ALL: [Command; 20] = [
+        Command::Address,
+        Command::HandleCondition,
+        Command::IgnoreCondition,
+        Command::PushHandle,
+        Command::PopHandle,
+        Command::Receive,
+        Command::WriteqTs,
+        Command::ReadqTs,
+        Command::DeleteqTs,
+        Command::Getmain,
+        Command::Freemain,
+        Command::Link,
+        Command::Xctl,
+        Command::Return,
+        Command::Abend,
+        Command::HandleAbend,
+        Command::Enq,
+        Command::Deq,
+        Command::Suspend,
+        Command::SendText,
+    ];
+
+    /// The function value, the first two bytes of the argument list's block, and EIBFN afterwards.
+    pub fn function(self) -> u16
+        ensures { result ≡ (row_of self).function }
+    {
+        match self {
+            Command::Address => 0x0202,
+            Command::HandleCondition => 0x0204,
+            Command::IgnoreCondition => 0x020A,
+            Command::PushHandle => 0x020C,
+            Command::PopHandle => 0x020E,
+            Command::Receive => 0x0402,
+            Command::WriteqTs => 0x0A02,
+            Command::ReadqTs => 0x0A04,
+            Command::DeleteqTs => 0x0A06,
+            Command::Getmain => 0x0C02,
+            Command::Freemain => 0x0C04,
+            Command::Link => 0x0E02,
+            Command::Xctl => 0x0E04,
+            Command::Return => 0x0E08,
+            Command::Abend => 0x0E0C,
+            Command::HandleAbend => 0x0E0E,
+            Command::Enq => 0x1204,
+            Command::Deq => 0x1206,
+            Command::Suspend => 0x1208,
+            Command::SendText => 0x1806,
+        }
+    }
+
+    /// The command's name, as `READQ TS`.
+    pub fn name(self) -> &'static str
+        ensures { result.now ≡ (row_of self).name }
+    {
+        match self {
+            Command::Address => "ADDRESS",
+            Command::HandleCondition => "HANDLE CONDITION",
+            Command::IgnoreCondition => "IGNORE CONDITION",
+            Command::PushHandle => "PUSH HANDLE",
+            Command::PopHandle => "POP HANDLE",
+            Command::Receive => "RECEIVE",
+            Command::WriteqTs => "WRITEQ TS",
+            Command::ReadqTs => "READQ TS",
+            Command::DeleteqTs => "DELETEQ TS",
+            Command::Getmain => "GETMAIN",
+            Command::Freemain => "FREEMAIN",
+            Command::Link => "LINK",
+            Command::Xctl => "XCTL",
+            Command::Return => "RETURN",
+            Command::Abend => "ABEND",
+            Command::HandleAbend => "HANDLE ABEND",
+            Command::Enq => "ENQ",
+            Command::Deq => "DEQ",
+            Command::Suspend => "SUSPEND",
+            Command::SendText => "SEND TEXT",
+        }
+    }
+
+    /// The command of that function value, or None where no command has it.
+    #[tactic(auto, unfolding(crate::specs::Commands::command_with))]
+    pub fn from_function(function: u16) -> Option<Command>
+        ensures value { result ≡ command_with function }
+        ensures exact { (command : Command) → (result ≡ Some command) ↔ ((row_of command).function ≡ function) }
+    {
+        with_function(&Command::ALL, function)
+    }
+
+    /// The command that words begin with, and how many of them are its name: both, or else the first alone, or
+    /// else the first with TS left out. None where no command has such a name, as for HANDLE alone.
+    /// The second is empty where there is one word.
+    #[tactic(auto, unfolding(crate::specs::Commands::command_named, crate::specs::Commands::command_called))]
+    pub fn named(first: &[u8], second: &[u8]) -> Option<(Command, usize)>
+        ensures { result ≡ command_named first.now second.now }
+    {
+        if let Some(command) = with_words(&Command::ALL, first, second) {
+            return Some((command, 2));
+        }
+        if let Some(command) = with_name(&Command::ALL, first) {
+            return Some((command, 1));
+        }
+        with_words(&Command::ALL, first, b"TS").map(|command| (command, 1))
+    }
+
+    /// The options that have a bit in option byte 1, in the order of their words in the argument list.
+    pub fn options(self) -> &'static [CommandOption]
+        ensures { result.now ≡ (row_of self).options }
+    {
+        match self {
+            Command::Address => &ADDRESS,
+            Command::Receive => &RECEIVE,
+            Command::WriteqTs => &WRITEQ_TS,
+            Command::ReadqTs => &READQ_TS,
+            Command::DeleteqTs => &DELETEQ_TS,
+            Command::Getmain => &GETMAIN,
+            Command::Freemain => &FREEMAIN,
+            Command::Link => &LINK,
+            Command::Xctl => &XCTL,
+            Command::Return => &RETURN,
+            Command::Abend => &ABEND,
+            Command::HandleAbend => &HANDLE_ABEND,
+            Command::Enq => &ENQ,
+            Command::Deq => &DEQ,
+            Command::SendText => &SEND_TEXT,
+            Command::HandleCondition
+            | Command::IgnoreCondition
+            | Command::PushHandle
+            | Command::PopHandle
+            | Command::Suspend => &[],
+        }
+    }
+
+    /// The rules of the command's legal sets of options.
+    pub fn rules(self) -> &'static [Rule]
+        ensures { result.now ≡ (row_of self).rules }
+    {
+        match self {
+            Command::WriteqTs => &[Rule::NotBoth(0x10, 0x08), Rule::Needs(0x01, 0x02)],
+            Command::ReadqTs => &[Rule::OneOfTwo(0x40, 0x04), Rule::NotBoth(0x10, 0x08)],
+            Command::Link | Command::Xctl | Command::Return => &[Rule::Together(0x40, 0x20)],
+            Command::HandleAbend => &[Rule::OneOfThree(0x80, 0x40, 0x20)],
+            Command::Address
+            | Command::HandleCondition
+            | Command::IgnoreCondition
+            | Command::PushHandle
+            | Command::PopHandle
+            | Command::Receive
+            | Command::DeleteqTs
+            | Command::Getmain
+            | Command::Freemain
+            | Command::Abend
+            | Command::Enq
+            | Command::Deq
+            | Command::Suspend
+            | Command::SendText => &[],
+        }
+    }
+
+    /// Whether the command lists conditions: option byte 1 is then their number, and two bytes for each follow the block.
+    pub fn lists_conditions(self) -> bool
+        ensures { result ≡ lists_conditions self }
+    {
+        matches!(self, Command::HandleCondition | Command::IgnoreCondition)
+    }
+}
+
+/// The first of some commands that has a function value.
+fn with_function(commands: &[Command], function: u16) -> Option<Command>
+    ensures { result ≡ find (λ command. (row_of command).function == function) commands.now }
+{
+    commands
+        .iter()
+        .copied()
+        .find(|command| command.function() == function)
+}
+
+/// The first of some commands that has a name.
+fn with_name(commands: &[Command], name: &[u8]) -> Option<Command>
+    ensures { result ≡ find (λ command. bytes_eq (row_of command).name name.now) commands.now }
+{
+    commands
+        .iter()
+        .copied()
+        .find(|command| command.name().as_bytes() == name)
+}
+
+/// The first of some commands whose name is two words.
+fn with_words(commands: &[Command], first: &[u8], second: &[u8]) -> Option<Command>
+    ensures { result ≡ find
+        (λ command. bytes_eq (row_of command).name (with_blank_between first.now second.now)) commands.now }
+{
+    commands.iter().copied().find(|command| is_joined(command.name().as_bytes(), first, second))
+}
+
+/// Whether a text is two words with a blank between.
+fn is_joined(text: &[u8], first: &[u8], second: &[u8]) -> bool
+    ensures { result ≡ bytes_eq text.now (with_blank_between first.now second.now) }
+{
+    let Some(rest) = text.strip_prefix(first) else {
+        return false;
+    };
+    let Some((blank, last)) = rest.split_first() else {
+        return false;
+    };
+    *blank == b' ' && last == second
+}
+
+#[rattlefmt::skip]
+const ADDRESS: [CommandOption; 1] = [
+    CommandOption { bit: 0x80, name: OptionName::Cwa, kind: ArgumentKind::Pointer, required: true },
+];
+
+#[rattlefmt::skip]
+const RECEIVE: [CommandOption; 2] = [
+    CommandOption { bit: 0x80, name: OptionName::Into, kind: ArgumentKind::BytesWritten, required: true },
+    CommandOption { bit: 0x40, name: OptionName::Length, kind: ArgumentKind::HalfwordBothWays, required: true },
+];
+
+#[rattlefmt::skip]
+const WRITEQ_TS: [CommandOption; 8] = [
+    CommandOption { bit: 0x80, name: OptionName::Queue, kind: ArgumentKind::Name8, required: true },
+    CommandOption { bit: 0x40, name: OptionName::From, kind: ArgumentKind::BytesRead, required: true },
+    CommandOption { bit: 0x20, name: OptionName::Length, kind: ArgumentKind::Halfword, required: true },
+    CommandOption { bit: 0x10, name: OptionName::Main, kind: ArgumentKind::Flag, required: false },
+    CommandOption { bit: 0x08, name: OptionName::Auxiliary, kind: ArgumentKind::Flag, required: false },
+    CommandOption { bit: 0x04, name: OptionName::Nosuspend, kind: ArgumentKind::Flag, required: false },
+    CommandOption { bit: 0x02, name: OptionName::Item, kind: ArgumentKind::HalfwordOutWithoutRewrite, required: false },
+    CommandOption { bit: 0x01, name: OptionName::Rewrite, kind: ArgumentKind::Flag, required: false },
+];
+
+#[rattlefmt::skip]
+const READQ_TS: [CommandOption; 7] = [
+    CommandOption { bit: 0x80, name: OptionName::Queue, kind: ArgumentKind::Name8, required: true },
+    CommandOption { bit: 0x40, name: OptionName::Into, kind: ArgumentKind::BytesWritten, required: false },
+    CommandOption { bit: 0x20, name: OptionName::Length, kind: ArgumentKind::HalfwordBothWaysWithoutSet, required: true },
+    CommandOption { bit: 0x10, name: OptionName::Item, kind: ArgumentKind::Halfword, required: false },
+    CommandOption { bit: 0x08, name: OptionName::Next, kind: ArgumentKind::Flag, required: false },
+    CommandOption { bit: 0x04, name: OptionName::Set, kind: ArgumentKind::Pointer, required: false },
+    CommandOption { bit: 0x02, name: OptionName::Numitems, kind: ArgumentKind::HalfwordOut, required: false },
+];
+
+#[rattlefmt::skip]
+const DELETEQ_TS: [CommandOption; 1] = [
+    CommandOption { bit: 0x80, name: OptionName::Queue, kind: ArgumentKind::Name8, required: true },
+];
+
+#[rattlefmt::skip]
+const GETMAIN: [CommandOption; 4] = [
+    CommandOption { bit: 0x80, name: OptionName::Set, kind: ArgumentKind::Pointer, required: true },
+    CommandOption { bit: 0x40, name: OptionName::Length, kind: ArgumentKind::Halfword, required: true },
+    CommandOption { bit: 0x20, name: OptionName::Initimg, kind: ArgumentKind::Byte, required: false },
+    CommandOption { bit: 0x10, name: OptionName::Nosuspend, kind: ArgumentKind::Flag, required: false },
+];
+
+#[rattlefmt::skip]
+const FREEMAIN: [CommandOption; 1] = [
+    CommandOption { bit: 0x80, name: OptionName::Data, kind: ArgumentKind::Address, required: true },
+];
+
+#[rattlefmt::skip]
+const LINK: [CommandOption; 3] = [
+    CommandOption { bit: 0x80, name: OptionName::Program, kind: ArgumentKind::Name8, required: true },
+    CommandOption { bit: 0x40, name: OptionName::Commarea, kind: ArgumentKind::Address, required: false },
+    CommandOption { bit: 0x20, name: OptionName::Length, kind: ArgumentKind::Halfword, required: false },
+];
+
+#[rattlefmt::skip]
+const XCTL: [CommandOption; 3] = [
+    CommandOption { bit: 0x80, name: OptionName::Program, kind: ArgumentKind::Name8, required: true },
+    CommandOption { bit: 0x40, name: OptionName::Commarea, kind: ArgumentKind::BytesRead, required: false },
+    CommandOption { bit: 0x20, name: OptionName::Length, kind: ArgumentKind::Halfword, required: false },
+];
+
+#[rattlefmt::skip]
+const RETURN: [CommandOption; 3] = [
+    CommandOption { bit: 0x80, name: OptionName::Transid, kind: ArgumentKind::Name4, required: false },
+    CommandOption { bit: 0x40, name: OptionName::Commarea, kind: ArgumentKind::BytesRead, required: false },
+    CommandOption { bit: 0x20, name: OptionName::Length, kind: ArgumentKind::Halfword, required: false },
+];
+
+#[rattlefmt::skip]
+const ABEND: [CommandOption; 3] = [
+    CommandOption { bit: 0x80, name: OptionName::Abcode, kind: ArgumentKind::Name4, required: false },
+    CommandOption { bit: 0x40, name: OptionName::Cancel, kind: ArgumentKind::Flag, required: false },
+    CommandOption { bit: 0x20, name: OptionName::Nodump, kind: ArgumentKind::Flag, required: false },
+];
+
+#[rattlefmt::skip]
+const HANDLE_ABEND: [CommandOption; 3] = [
+    CommandOption { bit: 0x80, name: OptionName::Label, kind: ArgumentKind::Address, required: false },
+    CommandOption { bit: 0x40, name: OptionName::Cancel, kind: ArgumentKind::Flag, required: false },
+    CommandOption { bit: 0x20, name: OptionName::Reset, kind: ArgumentKind::Flag, required: false },
+];
+
+#[rattlefmt::skip]
+const ENQ: [CommandOption; 3] = [
+    CommandOption { bit: 0x80, name: OptionName::Resource, kind: ArgumentKind::BytesOrAddress, required: true },
+    CommandOption { bit: 0x40, name: OptionName::Length, kind: ArgumentKind::Halfword, required: false },
+    CommandOption { bit: 0x20, name: OptionName::Nosuspend, kind: ArgumentKind::Flag, required: false },
+];
+
+#[rattlefmt::skip]
+const DEQ: [CommandOption; 2] = [
+    CommandOption { bit: 0x80, name: OptionName::Resource, kind: ArgumentKind::BytesOrAddress, required: true },
+    CommandOption { bit: 0x40, name: OptionName::Length, kind: ArgumentKind::Halfword, required: false },
+];
+
+#[rattlefmt::skip]
+const SEND_TEXT: [CommandOption; 4] = [
+    CommandOption { bit: 0x80, name: OptionName::From, kind: ArgumentKind::BytesRead, required: true },
+    CommandOption { bit: 0x40, name: OptionName::Length, kind: ArgumentKind::Halfword, required: true },
+    CommandOption { bit: 0x20, name: OptionName::Erase, kind: ArgumentKind::Flag, required: false },
+    CommandOption { bit: 0x10, name: OptionName::Freekb, kind: ArgumentKind::Flag, required: false },
+];

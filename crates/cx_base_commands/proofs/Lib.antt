@@ -1,4 +1,0 @@
-pub mod TableLemmas
-pub mod RowLemmas
-pub mod JoinedLemmas
-pub mod ArgumentLemmas

@@ -1,5 +1,0 @@
-use Rattle.cx_base_commands.proofs.ArgumentLemmas.{found_argument}
-use Rattle.cx_base_commands.proofs.laws.arguments_are_found_by_name.Goals as goal
-
-pub returns : goal.returns
-returns c = found_argument

@@ -1,5 +1,0 @@
-use Rattle.cx_base_commands.proofs.RowLemmas.{lengths}
-use Rattle.cx_base_commands.proofs.laws.bytes_have_a_length.Goals as goal
-
-pub returns : goal.returns
-returns c = lengths

@@ -1,5 +1,0 @@
-use Rattle.cx_base_commands.proofs.RowLemmas.{own_names}
-use Rattle.cx_base_commands.proofs.laws.options_have_names_of_their_own.Goals as goal
-
-pub returns : goal.returns
-returns c = own_names

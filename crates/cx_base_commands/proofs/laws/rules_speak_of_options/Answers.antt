@@ -1,5 +1,0 @@
-use Rattle.cx_base_commands.proofs.RowLemmas.{rules_speak}
-use Rattle.cx_base_commands.proofs.laws.rules_speak_of_options.Goals as goal
-
-pub returns : goal.returns
-returns c = rules_speak

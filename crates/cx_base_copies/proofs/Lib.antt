@@ -1,2 +1,0 @@
-pub mod SharedLemmas
-pub mod TableLemmas

@@ -1,2 +1,0 @@
--- Lemmas that the crates above cite.
-pub mod Tables

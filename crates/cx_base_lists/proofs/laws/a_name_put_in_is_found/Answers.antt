@@ -1,5 +1,0 @@
-use Rattle.cx_base_lists.specs.Facts.Lookups.{lookup-insert_entry-same}
-use Rattle.cx_base_lists.proofs.laws.a_name_put_in_is_found.Goals as goal
-
-pub returns : goal.returns
-returns g c = lookup-insert_entry-same _ g.met.K.Eq.laws

@@ -1,3 +1,0 @@
--- Lemmas that other crates cite.
-pub mod Lookups
-pub mod Tables

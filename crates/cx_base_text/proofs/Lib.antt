@@ -1,4 +1,0 @@
-pub mod DigitLemmas
-pub mod ShownLemmas
-pub mod FieldLemmas
-pub mod PageLemmas

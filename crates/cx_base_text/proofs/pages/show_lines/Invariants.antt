@@ -1,7 +1,0 @@
-use Rattle.std.proofs.Common.{◌≡◌}
-use Rattle.cx_base_text.specs.Texts.{shown_text}
-use Rattle.cx_base_text.proofs.ShownLemmas.{mapped}
-use Rattle.cx_base_text.proofs.pages.show_lines.Given as goal
-
-abbrev pub invariant-loop-i : goal.invariant-loop-i
-invariant-loop-i l = l.lines ≡ mapped shown_text l.i l.initial.lines

@@ -1,6 +1,0 @@
-use Rattle.std.proofs.Common.{◌≡◌, ◌++◌, ◌∷◌, map, take}
-use Rattle.std.specs.List.{flat_map}
-use Rattle.cx_base_text.proofs.texts.written_line.Given as goal
-
-abbrev pub invariant-loop-word : goal.invariant-loop-word
-invariant-loop-word l = l.text.items ≡ l.first ++ flat_map (λ word. 32 ∷ word) (map (λ word. word.now) (take l.word-index l.words))

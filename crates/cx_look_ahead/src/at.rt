@@ -1,0 +1,248 @@
+//! AHEAD AT.
+ghost use Rattle.std.specs.Prelude.{◌≡◌, ◌<◌, ◌++◌, [], IfOk, IfSome, OnOk, codes, length};
+ghost use Rattle.std.specs.Option.{option_map, option_map_or};
+ghost use Rattle.cx_exec.specs.Advance.{Passes};
+ghost use Rattle.cx_exec.specs.Machine.{machine};
+ghost use Rattle.cx_look_ahead.specs.At.{ArrivesAt, AtText, at_line, fields_at, fields_on, first_among, names_on, there_lines};
+ghost use Rattle.cx_look_ahead.specs.Parts.Runs.{RunsPast};
+
+use crate::Trace;
+use crate::arrivals::{SourceLine, is_among, statements_on};
+use crate::instructions::{MOST_STEPS, cpu_ahead, trace_ahead, visit_line};
+use crate::traces::instruction_at;
+use cx_base::{decimal, shown_name};
+use cx_ebcdic::{Name4, Name8};
+use cx_exec::{Cpu, step};
+use cx_load::Loaded;
+use cx_look_levels::{LevelFields, SourcePoint};
+use cx_look_symbols::{Sources, Spot, StatementPlace, place_of, translated_in};
+use cx_look_tables::{Report, register_lines};
+use cx_look_xref::references_of;
+use cx_region::Region;
+use cx_source::Source;
+use cx_storage::Store;
+use cx_storage_snapshot::StorageSnapshot;
+use indexmap::IndexMap;
+use std::alloc::{AllocError, Global};
+
+/// How many instructions are before the first one that is in some statements of a program; None where none is.
+fn first_among(
+    programs: &IndexMap<Name8, Loaded>,
+    program: Name8,
+    statements: &[StatementPlace],
+    trace: &Trace,
+) -> Option<usize>
+    ensures value { result ≡ first_among programs.now.entries program statements.now trace.now.last.items }
+    ensures within { IfSome result (λ n. n < length trace.now.last.items) }
+{
+    trace.last.iter().position(|it| is_among(program, statements, place_of(programs, it.at).spot))
+}
+
+/// Performs so many instructions.
+#[tactic(auto, using(crate::proofs::LeftLemmas::passes_none))]
+fn run_to<S: Store>(cpu: &mut Cpu, store: &mut S, count: usize)
+    requires { RunsPast (machine cpu.old (S.storage store.old)) count }
+    ensures { Passes count (machine cpu.old (S.storage store.old)) (machine cpu.new (S.storage store.new)) }
+{
+    cx_exec_laws::laws::steps_decide();
+    let mut done = 0;
+    while done < count {
+        let _end = step(cpu, store);
+        done += 1;
+    }
+}
+
+/// What a run over a store like this one has after so many instructions; the store stays as it is.
+fn run_apart<S: Store + Drop>(
+    alloc: Global,
+    store: &S,
+    cpu: Cpu,
+    count: usize,
+) -> Result<(Cpu, S), AllocError>
+    requires { RunsPast (machine cpu (S.storage store.now)) count }
+    ensures { IfOk result (λ it. Passes count (machine cpu (S.storage store.now)) (machine it.0 (S.storage it.1))) }
+{
+    let snapshot = StorageSnapshot::take(alloc, store, None)?;
+    let mut apart = snapshot.store_like(store)?;
+    let mut cpu = cpu;
+    run_to(&mut cpu, &mut apart, count);
+    Ok((cpu, apart))
+}
+
+/// What a terminal's task will have where its next turn first comes to a line of a source; None where the turn runs no instruction of it.
+#[tactic(auto, using(crate::proofs::AtLemmas::past_of, crate::proofs::AtLemmas::arrives_with_no_run, crate::proofs::AtLemmas::arrives_with_no_machine, crate::proofs::AtLemmas::arrives_nowhere, crate::proofs::AtLemmas::arrives_there))]
+fn arrival<S: Store + Drop>(
+    alloc: Global,
+    sources: &Sources,
+    region: &Region<S>,
+    name: Name4,
+    line: &SourceLine,
+) -> Result<Option<(Cpu, S)>, AllocError>
+    ensures { IfOk result (λ there. let m = option_map (λ it. machine it.0 (S.storage it.1)) there in
+        ArrivesAt sources.now.places region.now name line.now m) }
+{
+    let statements = statements_on(alloc, sources.places(), line)?;
+    let Some(trace) = trace_ahead(alloc, region, name, MOST_STEPS as usize)? else {
+        return Ok(None);
+    };
+    let Some(cpu) = cpu_ahead(region, name) else {
+        return Ok(None);
+    };
+    let shared = region.shared();
+    let Some(count) = first_among(&shared.programs, line.program, &statements, &trace) else {
+        return Ok(None);
+    };
+    let there = run_apart(alloc, &shared.store, cpu, count)?;
+    Ok(Some(there))
+}
+
+/// Adds the first line of a look ahead to a line of a source, which ends with a word.
+fn at_line(
+    report: &mut Report,
+    name: Name4,
+    line: &SourceLine,
+    word: &[u8],
+) -> Result<(), AllocError>
+    ensures { OnOk result (report.new ≡ report.old ++ at_line name line.now word.now) }
+{
+    let name = shown_name(report.alloc(), name)?;
+    let program = shown_name(report.alloc(), line.program)?;
+    let number = decimal::<5>(line.line);
+    report.line(&[b"AHEAD", &name, b"AT", &program, b"LINE", &number, word])
+}
+
+/// The names that the statements on a line of a source use.
+fn names_on(alloc: Global, line: usize, source: &Source) -> Result<Vec<Name8>, AllocError>
+    ensures { IfOk result (λ names. names.items ≡ names_on line source.now) }
+{
+    let references = references_of(alloc, source)?;
+    references
+        .iter()
+        .filter(|it| it.line == line)
+        .map(|it| it.name)
+        .collect(alloc)
+}
+
+/// What a terminal's task has in front of an instruction of a line of a source.
+#[derive(Drop)]
+struct TaskThere<'a, S: Store> {
+    cpu: &'a Cpu,
+    store: &'a S,
+    name: Name4,
+    line: &'a SourceLine,
+}
+
+impl<'a, S: Store> TaskThere<'a, S> {
+    /// Adds the lines of the fields that the line of a source names.
+    fn fields_on(&self, report: &mut Report, offset: u32, source: &Source) -> Result<(), AllocError>
+        ensures { let m = machine self.now.cpu.now (S.storage self.now.store.now) in
+            let lines = fields_on m self.now.name self.now.line.now.line offset source.now in
+            OnOk result (report.new ≡ report.old ++ lines) }
+    {
+        let wanted = names_on(report.alloc(), self.line.line as usize, source)?;
+        let level = LevelFields {
+            store: self.store,
+            term: self.name,
+            at: SourcePoint {
+                regs: &self.cpu.regs,
+                offset,
+            },
+        };
+        level.chosen_fields(report, wanted.as_slice(), source)
+    }
+
+    /// Adds the lines of the fields that the line names, where a source defined the program.
+    fn fields_at(
+        &self,
+        report: &mut Report,
+        sources: &Sources,
+        spot: &Spot,
+    ) -> Result<(), AllocError>
+        ensures { let m = machine self.now.cpu.now (S.storage self.now.store.now) in
+            let lines = fields_at sources.now m self.now.name self.now.line.now spot.now in
+            OnOk result (report.new ≡ report.old ++ lines) }
+    {
+        let lines = sources.source_lines(self.line.program);
+        match translated_in(report.alloc(), lines)? {
+            Some(source) => self.fields_on(report, spot.offset, &source),
+            None => Ok(()),
+        }
+    }
+
+    /// Adds the lines of those fields, where a program has the next instruction.
+    fn fields_there(
+        &self,
+        report: &mut Report,
+        sources: &Sources,
+        spot: Option<Spot>,
+    ) -> Result<(), AllocError>
+        ensures { let m = machine self.now.cpu.now (S.storage self.now.store.now) in
+            let lines = fields_at sources.now m self.now.name self.now.line.now in
+            OnOk result (report.new ≡ report.old ++ option_map_or lines spot []) }
+    {
+        match spot {
+            Some(spot) => self.fields_at(report, sources, &spot),
+            None => Ok(()),
+        }
+    }
+
+    /// What is written of it.
+    #[tactic(auto, unfolding(crate::specs::At::there_lines))]
+    fn there_lines(
+        &self,
+        alloc: Global,
+        sources: &Sources,
+        programs: &IndexMap<Name8, Loaded>,
+    ) -> Result<Report, AllocError>
+        ensures { let m = machine self.now.cpu.now (S.storage self.now.store.now) in
+            IfOk result (λ report. report ≡ there_lines sources.now programs.now.entries self.now.name self.now.line.now m) }
+    {
+        let mut report = Report::new(alloc);
+        let [code] = decimal::<1>(u32::from(self.cpu.cc));
+        at_line(&mut report, self.name, self.line, &[b'C', b'C', b' ', code])?;
+        let visit = instruction_at(self.cpu, self.store);
+        visit_line(&mut report, sources, programs, &visit)?;
+        register_lines(&mut report, &self.cpu.regs)?;
+        let spot = place_of(programs, self.cpu.next).spot;
+        self.fields_there(&mut report, sources, spot)?;
+        Ok(report)
+    }
+}
+
+/// The report of a line that the next turn doesn't come to.
+fn none_report(alloc: Global, name: Name4, line: &SourceLine) -> Result<Report, AllocError>
+    ensures { IfOk result (λ report. report ≡ at_line name line.now (codes "NONE")) }
+{
+    let mut report = Report::new(alloc);
+    at_line(&mut report, name, line, b"NONE")?;
+    Ok(report)
+}
+
+/// Looks at what a terminal's task will have where its next turn first comes to a line of a source: its condition code, the instruction there,
+/// its registers, and the fields that the statements on the line name, as they are in front of the instruction. The instructions run over a store
+/// like this region's, so nothing changes here. NONE where the turn runs no instruction of a statement on the line: where it performs a command,
+/// there is no such statement, no task, or no such terminal.
+///
+/// An error comes only where memory for these or for the report was refused.
+pub fn at_text<S: Store + Drop>(
+    alloc: Global,
+    sources: &Sources,
+    region: &Region<S>,
+    name: Name4,
+    line: SourceLine,
+) -> Result<Report, AllocError>
+    ensures { IfOk result (λ report. AtText sources.now region.now name line report) }
+{
+    let there = arrival(alloc, sources, region, name, &line)?;
+    let Some((cpu, store)) = there else {
+        return none_report(alloc, name, &line);
+    };
+    let task = TaskThere {
+        cpu: &cpu,
+        store: &store,
+        name,
+        line: &line,
+    };
+    let report = task.there_lines(alloc, sources, &region.shared().programs)?;
+    Ok(report)
+}

@@ -1,0 +1,364 @@
+//! Ranges of bytes that are watched.
+ghost use Rattle.std.specs.Prelude.{◌≡◌, ◌↔◌, [], ◌++◌, IfOk, IsTrue, OnErr, OnOk, length, map};
+ghost use Rattle.std.specs.Option.{option_map_or};
+ghost use Rattle.std.specs.Str.{bytes_eq};
+ghost use Rattle.cx_look_ahead.specs.Watching.{AreOfRanges, IsOfRun, IsStatement, begun, begun_line, cause_word, change_line, command_word, instruction_word, is_full, kept_in, line_or, refused_line, with_range};
+ghost use Rattle.cx_look_ahead.specs.Parts.Adding.{AddsChange, AddsLines};
+
+use crate::writing::writer_of;
+use crate::{KeptMachine, Row, Work, bytes_word};
+use cx_base::{List, hexadecimal, shown_name};
+use cx_ebcdic::{Name4, Name8};
+use cx_load::Loaded;
+use cx_look_symbols::{Place, Sources, address_word, place_of, spot_before, statement_at};
+use cx_look_tables::{Report, decimal};
+use cx_storage::Store;
+use indexmap::IndexMap;
+use std::alloc::{AllocError, Global};
+use std::marker::Model;
+
+/// The most ranges that are watched.
+const MOST: usize = 16;
+
+/// What is done when a byte changes.
+#[derive(Clone, Copy, Debug, PartialEq, Eq)]
+pub enum Cause {
+    /// A turn of this terminal.
+    Turn(Name4),
+    /// A key of this terminal.
+    Key(Name4),
+    /// An alteration at this terminal.
+    Alter(Name4),
+    /// The definition of this program.
+    Program(Name8),
+    /// Any other line of a script.
+    Other,
+}
+
+/// A range, and its bytes as they were, in hexadecimal digits; hyphens for one that wasn't there.
+#[derive(Debug, Drop)]
+pub struct Kept {
+    pub range: Row,
+    pub bytes: List<u8>,
+}
+
+/// The ranges that are watched, the first given first.
+#[derive(Drop)]
+pub struct Watches {
+    ranges: Vec<Row>,
+}
+
+impl Model for Watches {
+    ghost use Rattle.std.specs.Prelude.{List as Elements};
+    ghost use Rattle.cx_look_ahead.specs.declared.rows.Row.{Row as Range};
+
+    ghost Value = { Elements Range };
+
+    ghost view = { λ watches. watches.ranges.items };
+}
+
+/// A word before a name.
+fn named(alloc: Global, word: &[u8], name: &[u8]) -> Result<Vec<u8>, AllocError>
+    ensures { IfOk result (λ text. text.items ≡ word.now ++ name.now) }
+{
+    let mut text = word.to_vec(alloc)?;
+    text.extend_from_slice(name)?;
+    Ok(text)
+}
+
+/// What was done, in the words of its line.
+fn cause_word(alloc: Global, cause: &Cause) -> Result<Vec<u8>, AllocError>
+    ensures { IfOk result (λ text. text.items ≡ cause_word cause.now) }
+{
+    match cause {
+        Cause::Turn(name) => named(alloc, b"TURN ", &shown_name(alloc, *name)?),
+        Cause::Key(name) => named(alloc, b"KEY ", &shown_name(alloc, *name)?),
+        Cause::Alter(name) => named(alloc, b"ALTER ", &shown_name(alloc, *name)?),
+        Cause::Program(name) => named(alloc, b"PROGRAM ", &shown_name(alloc, *name)?),
+        Cause::Other => b"ANOTHER LINE".to_vec(alloc),
+    }
+}
+
+/// A range with its bytes.
+fn kept_in<S: Store>(alloc: Global, store: &S, range: Row) -> Result<Kept, AllocError>
+    ensures { IfOk result (λ kept. kept ≡ kept_in (S.storage store.now) range) }
+{
+    let bytes = bytes_word(alloc, store, range.at, range.length)?;
+    Ok(Kept {
+        range,
+        bytes: List::from_vec(bytes),
+    })
+}
+
+/// What an action did: what it is called, what it did of a program, and the sources, the programs and the store after it.
+#[derive(Drop)]
+pub struct Done<'a, S: Store + Drop> {
+    pub cause: Cause,
+    pub work: &'a Work,
+    pub sources: &'a Sources,
+    pub programs: &'a IndexMap<Name8, Loaded>,
+    pub store: &'a S,
+}
+
+impl<'a, S: Store + Drop> Model for Done<'a, S> {
+    ghost use Rattle.cx_look_ahead.specs.Watching.{Effect};
+
+    ghost Value = { Effect };
+
+    ghost view = { λ it.
+        record {
+          by = it.cause;
+          done = it.work.now;
+          sources = it.sources.now;
+          programs = it.programs.now.entries;
+          storage = S.storage it.store.now;
+        } };
+}
+
+/// A statement by its line, or where there is none an address, after words that lead to it.
+fn line_or(
+    alloc: Global,
+    statement: &Option<List<u8>>,
+    words: &[u8],
+    place: &Place,
+) -> Result<Vec<u8>, AllocError>
+    ensures { IfOk result (λ word. word.items ≡ line_or statement.now words.now place.now) }
+{
+    match statement {
+        Some(statement) => named(alloc, b" LINE ", statement.as_slice()),
+        None => named(alloc, words, &address_word(alloc, place)?),
+    }
+}
+
+/// The statement that has an instruction.
+#[tactic(auto, unfolding(crate::specs::Watching::instruction_word))]
+fn instruction_word(
+    alloc: Global,
+    sources: &Sources,
+    programs: &IndexMap<Name8, Loaded>,
+    at: u32,
+) -> Result<Vec<u8>, AllocError>
+    ensures { IfOk result (λ word. word.items ≡ instruction_word sources.now programs.now.entries at) }
+{
+    let place = place_of(programs, at);
+    let statement = statement_at(alloc, sources, &place.spot)?;
+    line_or(alloc, &statement, b" INSTRUCTION ", &place)
+}
+
+/// The statement of a command's EXEC.
+#[tactic(auto, unfolding(crate::specs::Watching::command_word))]
+fn command_word(
+    alloc: Global,
+    sources: &Sources,
+    programs: &IndexMap<Name8, Loaded>,
+    back: u32,
+) -> Result<Vec<u8>, AllocError>
+    ensures { IfOk result (λ word. word.items ≡ command_word sources.now programs.now.entries back) }
+{
+    let statement = statement_at(alloc, sources, &spot_before(programs, back))?;
+    line_or(alloc, &statement, b" R14 ", &place_of(programs, back))
+}
+
+/// Whether two texts are the same.
+fn are_same(one: &[u8], other: &[u8]) -> bool
+    ensures { result ≡ bytes_eq one.now other.now }
+{
+    one == other
+}
+
+impl<'a, S: Store + Drop> Done<'a, S> {
+    /// The statement that has an instruction, if there is one.
+    fn written_by(&self, alloc: Global, at: Option<u32>) -> Result<Vec<u8>, AllocError>
+        ensures { let word = instruction_word self.now.sources self.now.programs in
+            IfOk result (λ text. text.items ≡ option_map_or word at []) }
+    {
+        match at {
+            Some(at) => instruction_word(alloc, self.sources, self.programs, at),
+            None => Ok(Vec::new(alloc)),
+        }
+    }
+
+    /// The statement of the last instruction that changed a byte of a range.
+    fn run_word(
+        &self,
+        alloc: Global,
+        machine: &KeptMachine,
+        range: Row,
+    ) -> Result<Vec<u8>, AllocError>
+        ensures { IfOk result (λ word. IsOfRun self.now.sources self.now.programs range machine.now word.items) }
+    {
+        let at = writer_of(alloc, self.store, machine, range)?;
+        self.written_by(alloc, at)
+    }
+
+    /// The statement that changed a byte of a range last.
+    #[tactic(auto, unfolding(crate::specs::Watching::IsStatement))]
+    fn statement(&self, alloc: Global, range: Row) -> Result<Vec<u8>, AllocError>
+        ensures { IfOk result (λ word.
+            IsStatement self.now.sources self.now.programs range self.now.done word.items) }
+    {
+        match self.work {
+            Work::Nothing => Ok(Vec::new(alloc)),
+            Work::Command(back) => command_word(alloc, self.sources, self.programs, *back),
+            Work::Instructions(machine) => self.run_word(alloc, machine, range),
+        }
+    }
+
+    /// What was done, in the words of its line, with the statement that did it.
+    fn by_word(&self, alloc: Global, statement: &[u8]) -> Result<Vec<u8>, AllocError>
+        ensures { IfOk result (λ word. word.items ≡ cause_word self.now.by ++ statement.now) }
+    {
+        let mut word = cause_word(alloc, &self.cause)?;
+        word.extend_from_slice(statement)?;
+        Ok(word)
+    }
+
+    /// Adds the line of a range whose bytes are no longer as they were.
+    #[tactic(auto, unfolding(crate::specs::Watching::change_line))]
+    fn change_line(
+        &self,
+        report: &mut Report,
+        kept: &Kept,
+        statement: &[u8],
+    ) -> Result<(), AllocError>
+        ensures { OnOk result (report.new ≡ report.old ++ change_line self.now kept.now statement.now) }
+    {
+        let range = kept.range;
+        let at = hexadecimal::<6>(range.at);
+        let length = decimal(report.alloc(), range.length as usize)?;
+        let from = kept.bytes.as_slice();
+        let to = bytes_word(report.alloc(), self.store, range.at, range.length)?;
+        let by = self.by_word(report.alloc(), statement)?;
+        report.line(&[
+            b"WATCH", &at, &length, b"FROM", from, b"TO", &to, b"BY", &by,
+        ])
+    }
+
+    /// Adds the line of a range that was changed.
+    fn changed_line(&self, report: &mut Report, kept: &Kept) -> Result<(), AllocError>
+        ensures { OnOk result (AddsChange self.now kept.now report.old report.new) }
+    {
+        let statement = self.statement(report.alloc(), kept.range)?;
+        self.change_line(report, kept, &statement)
+    }
+
+    /// Adds the line of a range, where its bytes aren't as they were kept.
+    #[tactic(auto, unfolding(crate::specs::Watching::AreOfRange))]
+    fn range_lines(&self, report: &mut Report, kept: &Kept) -> Result<(), AllocError>
+        ensures { OnOk result (AddsLines self.now kept.now report.old report.new) }
+    {
+        let range = kept.range;
+        let now = bytes_word(report.alloc(), self.store, range.at, range.length)?;
+        if are_same(kept.bytes.as_slice(), &now) {
+            return Ok(());
+        }
+        self.changed_line(report, kept)
+    }
+}
+
+/// Adds the line of a range that is watched from now on.
+fn begun_line<S: Store>(report: &mut Report, store: &S, range: Row) -> Result<(), AllocError>
+    ensures { OnOk result (report.new ≡ report.old ++ begun_line (S.storage store.now) range) }
+{
+    let at = hexadecimal::<6>(range.at);
+    let length = decimal(report.alloc(), range.length as usize)?;
+    let bytes = bytes_word(report.alloc(), store, range.at, range.length)?;
+    report.line(&[b"WATCH", &at, &length, b"IS", &bytes])
+}
+
+/// Adds the line of a range that isn't watched, since as many are as may be.
+fn refused_line(report: &mut Report, range: Row) -> Result<(), AllocError>
+    ensures { OnOk result (report.new ≡ report.old ++ refused_line range) }
+{
+    let at = hexadecimal::<6>(range.at);
+    let length = decimal(report.alloc(), range.length as usize)?;
+    report.line(&[b"WATCH", &at, &length, b"REFUSED", b"Full"])
+}
+
+impl Watches {
+    /// None. It takes no memory.
+    pub fn new(alloc: Global) -> Watches
+        ensures { result ≡ [] }
+    {
+        Watches {
+            ranges: Vec::new(alloc),
+        }
+    }
+
+    /// Whether no range is watched. It takes no memory.
+    pub fn is_empty(&self) -> bool
+        ensures { IsTrue result ↔ (length self.now ≡ 0) }
+    {
+        self.ranges.is_empty()
+    }
+
+    /// Whether as many ranges are watched as may be: 16.
+    fn is_full(&self) -> bool
+        ensures { result ≡ is_full self.now }
+    {
+        self.ranges.len() >= MOST
+    }
+
+    /// Watches a range more, unless as many are watched as may be, and gives the line that says so.
+    ///
+    /// An error comes only where memory for the range or for its line was refused; then it isn't watched.
+    pub fn watch<S: Store>(
+        &mut self,
+        alloc: Global,
+        store: &S,
+        range: Row,
+    ) -> Result<Report, AllocError>
+        ensures ranges { OnOk result (self.new ≡ with_range self.old range) }
+        ensures err { OnErr result (self.new ≡ self.old) }
+        ensures report { IfOk result (λ report. report ≡ begun self.old (S.storage store.now) range) }
+    {
+        let mut report = Report::new(alloc);
+        if self.is_full() {
+            refused_line(&mut report, range)?;
+            return Ok(report);
+        }
+        begun_line(&mut report, store, range)?;
+        self.ranges.push(range)?;
+        Ok(report)
+    }
+
+    /// Watches no range any more. It takes no memory.
+    pub fn stop(&mut self)
+        ensures { self.new ≡ [] }
+    {
+        self.ranges.clear();
+    }
+
+    /// The ranges with their bytes in a store.
+    ///
+    /// An error comes only where memory for them was refused.
+    pub fn kept<S: Store>(&self, alloc: Global, store: &S) -> Result<Vec<Kept>, AllocError>
+        ensures { IfOk result (λ kept. kept.items ≡ map (kept_in (S.storage store.now)) self.now) }
+    {
+        let mut kept = Vec::new(alloc);
+        for range in &self.ranges {
+            kept.push(kept_in(alloc, store, *range)?)?;
+        }
+        Ok(kept)
+    }
+}
+
+/// A line for each range whose bytes aren't as they were kept, with what was done and the statement that changed one of them last. Of a
+/// turn's instructions that is the last one that changed one: they are performed once more, from the machine as it was before, over a
+/// store like this one.
+///
+/// An error comes only where memory for the lines, or for that store, was refused.
+#[tactic(auto, using(crate::proofs::LineLemmas::no_lines))]
+pub fn change_lines<S: Store + Drop>(
+    alloc: Global,
+    done: &Done<'_, S>,
+    kept: &[Kept],
+) -> Result<Report, AllocError>
+    ensures { IfOk result (λ report. AreOfRanges done.now kept.now report) }
+{
+    let mut report = Report::new(alloc);
+    for range in kept {
+        done.range_lines(&mut report, range)?;
+    }
+    Ok(report)
+}

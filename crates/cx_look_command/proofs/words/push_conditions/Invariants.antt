@@ -1,7 +1,0 @@
-use Rattle.std.proofs.Common.{◌≡◌, ◌++◌, map, take}
-use Rattle.cx_look_command.specs.Commands.{condition_word}
-use Rattle.cx_look_words.specs.Words.{with_blanks}
-use Rattle.cx_look_command.proofs.words.push_conditions.Given as goal
-
-abbrev pub invariant-loop-listed : goal.invariant-loop-listed
-invariant-loop-listed l = l.text.items ≡ l.initial.text.items ++ with_blanks (map condition_word (take l.listed-index l.conditions))

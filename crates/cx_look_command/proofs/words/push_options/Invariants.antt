@@ -1,7 +1,0 @@
-use Rattle.std.proofs.Common.{◌≡◌, ◌++◌, drop}
-use Rattle.cx_look_command.specs.Commands.{option_words}
-use Rattle.cx_look_words.specs.Words.{with_blanks}
-use Rattle.cx_look_command.proofs.words.push_options.Given as goal
-
-abbrev pub invariant-loop-option : goal.invariant-loop-option
-invariant-loop-option g l = l.text.items ++ with_blanks (option_words (g.S.Store.storage l.store) l.call (drop l.option-index l.options)) ≡ l.initial.text.items ++ with_blanks (option_words (g.S.Store.storage l.store) l.call l.options)

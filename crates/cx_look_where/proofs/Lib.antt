@@ -1,2 +1,0 @@
-pub mod AddLemmas
-pub mod NearestLemmas

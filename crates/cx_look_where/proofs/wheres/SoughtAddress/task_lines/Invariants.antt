@@ -1,7 +1,0 @@
-use Rattle.std.proofs.Common.{◌≡◌, ◌++◌}
-use Rattle.cx_look_where.specs.Wheres.{first_levels}
-use Rattle.cx_look_where.proofs.wheres.SoughtAddress.task_lines.Given as goal
-
-abbrev pub invariant-loop-k : goal.invariant-loop-k
-invariant-loop-k l =
-    l.report ≡ l.initial.report ++ first_levels l.self.programs.now.entries l.self.sources.now l.self.address l.term l.task l.k

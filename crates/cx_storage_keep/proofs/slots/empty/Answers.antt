@@ -1,5 +1,0 @@
-use Rattle.cx_storage_keep.proofs.SlotLemmas.{none_kept}
-use Rattle.cx_storage_keep.proofs.slots.empty.Goals as goal
-
-pub returns : goal.returns
-returns c = λ i h low. absurd (none_kept i h low)

@@ -1,2 +1,0 @@
--- Proved facts of the words of private functions.
-pub mod Slots

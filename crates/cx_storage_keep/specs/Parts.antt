@@ -1,2 +1,0 @@
--- The vocabulary of private functions.
-pub mod Slots
