@@ -7,7 +7,7 @@ use std::test::Fail;
 
 #[test]
 fn bad_lines_of_orders_have_their_numbers(rt: HostRuntime) {
-    let cases: [(&[u8], usize); 28] = [
+    let cases: [(&[u8], usize); 29] = [
         (b"ORDERS 0\n/*\n", 1),
         (b"ORDERS 1000001\n/*\n", 1),
         (b"ORDERS 00000001\n/*\n", 1),
