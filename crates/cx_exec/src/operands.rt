@@ -116,7 +116,8 @@ pub(crate) fn put_fast<S: Store>(
 ) -> bool
     requires operand { a < 2 ^ 24 }
     requires size { length bytes.now ≤ 65536 }
-    ensures done { let before = machine cpu.old (S.storage store.old) in let after = machine cpu.new (S.storage store.new) in
+    ensures done { let before = machine cpu.old (S.storage store.old) in
+        let after = machine cpu.new (S.storage store.new) in
         result ≡ true → Stores a bytes.now cpu.old.cc updated before (Ok tt) after }
     ensures same { result ≡ false → machine cpu.new (S.storage store.new) ≡ machine cpu.old (S.storage store.old) }
 {
@@ -141,7 +142,8 @@ pub(crate) fn put_coded_at_hand<S: Store>(
     requires operand { a < 2 ^ 24 }
     requires size { length bytes.now ≤ 65536 }
     requires code { cc ≤ 3 }
-    ensures done { let before = machine cpu.old (S.storage store.old) in let after = machine cpu.new (S.storage store.new) in
+    ensures done { let before = machine cpu.old (S.storage store.old) in
+        let after = machine cpu.new (S.storage store.new) in
         result ≡ true → Stores a bytes.now cc updated before (Ok tt) after }
     ensures same { result ≡ false → machine cpu.new (S.storage store.new) ≡ machine cpu.old (S.storage store.old) }
 {
@@ -170,7 +172,8 @@ pub(crate) fn fill_fast<S: Store>(
     requires size { n ≤ 65536 }
     requires code { cc ≤ 3 }
     ensures present { result ≡ true → is_some (span (S.storage store.old) a n) ≡ true }
-    ensures done { let before = machine cpu.old (S.storage store.old) in let after = machine cpu.new (S.storage store.new) in
+    ensures done { let before = machine cpu.old (S.storage store.old) in
+        let after = machine cpu.new (S.storage store.new) in
         result ≡ true → Stores a (replicate n byte) cc updated before (Ok tt) after }
     ensures same { result ≡ false → machine cpu.new (S.storage store.new) ≡ machine cpu.old (S.storage store.old) }
 {

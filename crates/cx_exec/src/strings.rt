@@ -122,7 +122,8 @@ fn copy_at_hand<S: Store>(
 ) -> bool
     requires count { length bytes.old ≤ 256 }
     requires outside { (j : ℕ) → 0 < j → j < length bytes.old → at.a1 ≢ address_after at.a2 j }
-    ensures done { let before = machine cpu.old (S.storage store.old) in let after = machine cpu.new (S.storage store.new) in
+    ensures done { let before = machine cpu.old (S.storage store.old) in
+        let after = machine cpu.new (S.storage store.new) in
         result ≡ true → MvcEffect (length bytes.old) at.a1 at.a2 updated before (Ok tt) after }
     ensures same { result ≡ false → machine cpu.new (S.storage store.new) ≡ machine cpu.old (S.storage store.old) }
 {
@@ -381,7 +382,8 @@ fn join_each<S: Store>(
 fn clear<S: Store>(cpu: &mut Cpu, store: &mut S, n: u32, a: u32, updated: Updated) -> bool
     requires operand { a < 2 ^ 24 }
     requires count { n ≤ 256 }
-    ensures done { let before = machine cpu.old (S.storage store.old) in let after = machine cpu.new (S.storage store.new) in
+    ensures done { let before = machine cpu.old (S.storage store.old) in
+        let after = machine cpu.new (S.storage store.new) in
         result ≡ true → XcEffect n a a updated before (Ok tt) after }
     ensures same { result ≡ false → machine cpu.new (S.storage store.new) ≡ machine cpu.old (S.storage store.old) }
 {

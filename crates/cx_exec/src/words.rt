@@ -41,7 +41,8 @@ fn with_second<S: Store>(
 ) -> Performed
     requires rows { takes_second row.op ≡ true }
     requires second { second_at row.op (S.storage _store.now) second.a ≡ Some second.word }
-    ensures { let before = machine cpu.old (S.storage _store.now) in let after = machine cpu.new (S.storage _store.now) in
+    ensures { let before = machine cpu.old (S.storage _store.now) in
+        let after = machine cpu.new (S.storage _store.now) in
         RxEffect row.op row.r1 second.a updated before result after }
 {
     let first = cpu.regs[row.r1 as usize];

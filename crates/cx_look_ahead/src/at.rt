@@ -195,7 +195,8 @@ impl<'a, S: Store> TaskThere<'a, S> {
         programs: &IndexMap<Name8, Loaded>,
     ) -> Result<Report, AllocError>
         ensures { let m = machine self.now.cpu.now (S.storage self.now.store.now) in
-            IfOk result (λ report. report ≡ there_lines sources.now programs.now.entries self.now.name self.now.line.now m) }
+            IfOk result (λ report. report
+            ≡ there_lines sources.now programs.now.entries self.now.name self.now.line.now m) }
     {
         let mut report = Report::new(alloc);
         let [code] = decimal::<1>(u32::from(self.cpu.cc));

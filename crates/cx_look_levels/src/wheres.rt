@@ -137,7 +137,8 @@ impl SoughtAddress<'_> {
         term: Name4,
         terminal: &Terminal,
     ) -> Result<(), AllocError>
-        ensures { let lines = terminal_field_lines self.now.programs.now.entries self.now.sources.now self.now.address in
+        ensures { let lines =
+            terminal_field_lines self.now.programs.now.entries self.now.sources.now self.now.address in
             OnOk result (report.new ≡ report.old ++ lines (term, terminal.now)) }
     {
         match terminal.task() {

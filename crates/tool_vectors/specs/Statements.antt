@@ -1,4 +1,5 @@
--- The bytes of a statement in a control section of its own (own): P, at offset 0, with no other symbol, no base register in use and no literal.
+-- The bytes of a statement in a control section of its own (own): P, at offset 0, with no other symbol, no base
+-- register in use and no literal.
 use Rattle.std.specs.Prelude.{ℕ, pos, Option, Some, None, Result, Ok, Err, List, [], codes}
 use Rattle.cx_asm_expressions.specs.Names.{symbol_name}
 use Rattle.cx_asm_expressions.specs.Symbols.{find_in}
