@@ -1,19 +1,9 @@
 -- The lowest of several faults, found one after the other.
-use Rattle.std.proofs.Common.{◌≡◌, ℕ, ◌+◌, ◌<◌, Option, Some, None, List, length, get_or, drop, map, add-one, refl, arith}
+use Rattle.std.proofs.Common.{◌≡◌, ℕ, ◌+◌, ◌<◌, Option, List, length, get_or, drop, map, add-one}
 use Rattle.std.proofs.Math.Seq.{drop-cons}
-use Rattle.std.proofs.lemmas.Bool.Decides.{nat_tests}
+use Rattle.cx_asm_expressions.specs.Facts.Faults.{lower_in_turn}
 use Rattle.cx_asm_expressions.specs.Faults.{lower, lowest}
 use Rattle.cx_asm_expressions.specs.declared.faults.FaultKind.{FaultKind}
-
-lower_in_turn : (a b c : Option FaultKind) → lower (lower a b) c ≡ lower a (lower b c)
-lower_in_turn None b c = refl
-lower_in_turn (Some a) None c = refl
-lower_in_turn (Some a) (Some b) None = refl
-lower_in_turn (Some a) (Some b) (Some c) = grind (arith, nat_tests)
-
-pub lower_nothing : (a : Option FaultKind) → lower a None ≡ a
-lower_nothing None = refl
-lower_nothing (Some a) = refl
 
 -- one more of those that are left
 pub one_item_more : {X : Type 0} (f : X → Option FaultKind) (fault : Option FaultKind) (xs : List X) (d : X) (i : ℕ) (all : Option FaultKind)

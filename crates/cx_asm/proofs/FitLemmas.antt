@@ -4,9 +4,9 @@ use Rattle.std.proofs.lemmas.Bool.Decides.{nat_tests}
 use Rattle.cx_code.specs.Spelling.{Instruction}
 use Rattle.std.proofs.Common.{◌≡◌, ◌≤◌, ◌<◌, ℕ, zero, suc, ◌+◌, Bool, true, false, List, [], ◌∷◌, ◌++◌, length, refl, sym, ◌∙◌, ap, subst, arith}
 use Rattle.cx_code.specs.declared.disassembly.Line.{Line}
-use Rattle.cx_code.specs.declared.disassembly.What.TheVariants.{Code, Data, Space}
+use Rattle.cx_code.specs.declared.disassembly.LineContent.TheVariants.{Code, Data, Space}
 use Rattle.cx_asm_image.specs.Relocated.{words_at}
-use Rattle.cx_asm_image.specs.Resolved.{AreApart, end_after, end_of}
+use Rattle.cx_asm_image.specs.Resolved.{AreApart, end_after, offset_after}
 use Rattle.cx_asm.specs.Laws.SectionLines.{IsWithin, WordsApart}
 use Rattle.cx_asm.specs.Parts.Kept.{kept}
 use Rattle.cx_asm.specs.Resolving.{Standing, data_line, join_sections, line as line_of, relocated_offsets, space_line, standing_from}
@@ -16,18 +16,18 @@ use Rattle.cx_asm_pass1.specs.declared.places.Places.{Places}
 use Rattle.cx_asm_operands.specs.Bases.{none_in_use}
 use Rattle.cx_asm_pass2.specs.Statements.{PlacedStatement, statements_of}
 use Rattle.cx_asm_pass2.specs.Whole.{whole_of, whole_by}
-use Rattle.cx_asm.specs.Assembly.{size_of, standing_of}
+use Rattle.cx_asm.specs.Assembly.{control_section_size, standing_of}
 use Rattle.cx_asm.proofs.JoinLemmas.{joined_in_turn}
-use Rattle.cx_asm.proofs.WholeLemmas.{whole_is}
+use Rattle.cx_asm_pass2.specs.Facts.Whole.{whole_is}
 
 -- ---- the first of them
 apart_ends : (from : ℕ) (lines : List Line) (end : ℕ) → AreApart from lines end → from ≤ end
 apart_ends from [] end apart = apart
-apart_ends from (l ∷ lines) end apart = let rest = apart_ends (end_of l) lines end apart.1 in omega (arith, rest, apart.0)
+apart_ends from (l ∷ lines) end apart = let rest = apart_ends (offset_after l) lines end apart.1 in omega (arith, rest, apart.0)
 
 apart_front : (from : ℕ) (one other : List Line) (end : ℕ) → AreApart from (one ++ other) end → AreApart from one end
 apart_front from [] other end apart = apart_ends from other end apart
-apart_front from (l ∷ one) other end apart = (apart.0, apart_front (end_of l) one other end apart.1)
+apart_front from (l ∷ one) other end apart = (apart.0, apart_front (offset_after l) one other end apart.1)
 
 words_end : (from : ℕ) (words : List ℕ) (end : ℕ) → WordsApart from words end → from ≤ end
 words_end from [] end apart = apart
@@ -54,9 +54,9 @@ kept_fits true old part rest left first all end e f h is = fits_first old part r
 kept_fits false old part rest left first all end e f h is = cc
 
 -- ---- the last of them
-pub line_fits : (from : ℕ) (lines : List Line) (l : Line) (end : ℕ) → AreApart from (lines ++ l ∷ []) end → (end_after from lines ≤ l.at) × (end_of l ≤ end)
+pub line_fits : (from : ℕ) (lines : List Line) (l : Line) (end : ℕ) → AreApart from (lines ++ l ∷ []) end → (end_after from lines ≤ l.at) × (offset_after l ≤ end)
 line_fits from [] l end apart = (apart.0, apart.1)
-line_fits from (m ∷ lines) l end apart = line_fits (end_of m) lines l end apart.1
+line_fits from (m ∷ lines) l end apart = line_fits (offset_after m) lines l end apart.1
 
 words_rest : (from : ℕ) (one other : List ℕ) (end : ℕ) → WordsApart from (one ++ other) end → WordsApart 0 other end
 words_rest from [] [] end apart = omega arith
@@ -104,7 +104,7 @@ some_bytes items bytes count is_empty e f g h none =
 -- ---- what is in the control section fits in the largest text
 apart_more : (from : ℕ) (lines : List Line) (end most : ℕ) → end ≤ most → AreApart from lines end → AreApart from lines most
 apart_more from [] end most le apart = omega (arith, le, apart)
-apart_more from (l ∷ lines) end most le apart = (apart.0, apart_more (end_of l) lines end most le apart.1)
+apart_more from (l ∷ lines) end most le apart = (apart.0, apart_more (offset_after l) lines end most le apart.1)
 
 words_more : (from : ℕ) (words : List ℕ) (end most : ℕ) → end ≤ most → WordsApart from words end → WordsApart from words most
 words_more from [] end most le apart = omega (arith, le, apart)
@@ -113,8 +113,8 @@ words_more from (word ∷ words) end most le apart = (apart.0, words_more (word 
 within_more : (one : Standing) (end most : ℕ) → end ≤ most → IsWithin 0 one end → IsWithin 0 one most
 within_more one end most le h = record { lines = apart_more 0 one.lines end most le h.lines; words = words_more 0 one.relocs end most le h.words }
 
-pub section_fits : (source : Source) (places : Places) (statements : List PlacedStatement) → IsPlaced (final_state source) places → statements ≡ statements_of source → size_of source ≤ 65536
-    → IsWithin 0 (standing_of source) (size_of source) → IsWithin 0 (standing_from (whole_by places) statements none_in_use statements) 65536
+pub section_fits : (source : Source) (places : Places) (statements : List PlacedStatement) → IsPlaced (final_state source) places → statements ≡ statements_of source → control_section_size source ≤ 65536
+    → IsWithin 0 (standing_of source) (control_section_size source) → IsWithin 0 (standing_from (whole_by places) statements none_in_use statements) 65536
 unfolding standing_of
 section_fits source places statements placed e le h =
-    rw (whole_is source places placed, e) (within_more (standing_from (whole_of source) (statements_of source) none_in_use (statements_of source)) (size_of source) 65536 le h)
+    rw (whole_is source places placed, e) (within_more (standing_from (whole_of source) (statements_of source) none_in_use (statements_of source)) (control_section_size source) 65536 le h)

@@ -21,9 +21,6 @@ same ls ms rs qs e f = rw (e, f) refl
 pub joined_nothing : (s : Standing) → join_sections s empty_section ≡ s
 joined_nothing s = same _ _ _ _ (append-nil s.lines) (append-nil s.relocs)
 
-pub joined_first : (s : Standing) → join_sections empty_section s ≡ s
-joined_first s = refl
-
 pub joined_in_turn : (a b c : Standing) → join_sections (join_sections a b) c ≡ join_sections a (join_sections b c)
 joined_in_turn a b c = same _ _ _ _ (append_assoc a.lines b.lines c.lines) (append_assoc a.relocs b.relocs c.relocs)
 

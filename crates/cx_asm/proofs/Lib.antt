@@ -5,7 +5,7 @@ mod FitLemmas
 mod SectionLemmas
 mod WithinLemmas
 mod MadeLemmas
-pub mod WholeLemmas
+pub mod DueLemmas
 pub mod JoinLemmas
 pub mod FaultLemmas
 pub mod RoleLemmas

@@ -7,12 +7,12 @@ use Rattle.std.proofs.lemmas.Bool.Decides.{nat_tests}
 use Rattle.std.proofs.lemmas.List.Concat.{length-flat_map}
 use Rattle.std.proofs.lemmas.List.Sums.{sum_by-le-sum_by}
 use Rattle.std.proofs.lemmas.Option.{none-some}
-use Rattle.cx_asm_expressions.specs.Bytes.{CopyOfConstant, address_made, body_made, copy_of_constant, made_of, address_constant, plain_made}
+use Rattle.cx_asm_expressions.specs.Bytes.{CopyOfConstant, address_made, body_made, copy_of_constant, constant_copy, address_constant, plain_made}
 use Rattle.cx_asm_expressions.specs.Digits.{at_most, is_digit, number_in}
 use Rattle.cx_asm_expressions.specs.Expressions.{value_of}
 use Rattle.cx_asm_expressions.specs.Faults.{lowest}
 use Rattle.cx_asm_expressions.specs.Items.{Constant, after_digits, constant, constant_in, duplication_in, length_of, constant_or_fault, modifier_in, value_in, value_length, values_in, with_modifier, with_value}
-use Rattle.cx_asm_expressions.specs.Kinds.{bounded_decimal, half_bytes, integer_bytes, is_below, kind_of, row_of}
+use Rattle.cx_asm_expressions.specs.Kinds.{bounded_decimal, half_bytes, integer_bytes, is_below, kind_of, row_of_kind}
 use Rattle.cx_asm_expressions.specs.Weights.{stands_in}
 use Rattle.cx_asm_expressions.specs.declared.faults.FaultKind.{FaultKind}
 use Rattle.cx_asm_expressions.specs.declared.faults.FaultKind.TheVariants.{BadOperand, NotRelocatable, ValueOutOfRange}
@@ -56,11 +56,11 @@ integers n number = when_word _ n _
 
 -- ---- one value
 abbrev bytes_of_value : ConstantKind → Option ℕ → List ℕ → List ℕ
-bytes_of_value kind modifier value = (row_of kind).bytes value (value_length kind modifier value)
+bytes_of_value kind modifier value = (row_of_kind kind).bytes value (value_length kind modifier value)
 
 abbrev body_length : ConstantKind → Option ℕ → Option (List ℕ) → ℕ
 body_length kind modifier value =
-    option_map_or (λ body. sum_by (value_length kind modifier) (values_in (row_of kind).style body)) value (unwrap_or modifier (row_of kind).alignment)
+    option_map_or (λ body. sum_by (value_length kind modifier) (values_in (row_of_kind kind).style body)) value (unwrap_or modifier (row_of_kind kind).alignment)
 
 -- an external address has no length modifier
 abbrev Modified : ConstantKind → Option ℕ → Type 0
@@ -94,9 +94,9 @@ unless_fits (Some fault) bytes m size le e = cc
 
 plain_fits : (kind : ConstantKind) (modifier : Option ℕ) (body : List ℕ) (m : CopyOfConstant) → Modified kind modifier → plain_made kind modifier body ≡ Ok m → MadeFits m (body_length kind modifier (Some body))
 plain_fits kind modifier body m is e =
-    let values = values_in (row_of kind).style body in
-    unless_fits (lowest (map (λ value. (row_of kind).fault value (value_length kind modifier value)) values)) (flat_map (bytes_of_value kind modifier) values) m _
-    (values_fit kind modifier is (values_in (row_of kind).style body)) e
+    let values = values_in (row_of_kind kind).style body in
+    unless_fits (lowest (map (λ value. (row_of_kind kind).fault value (value_length kind modifier value)) values)) (flat_map (bytes_of_value kind modifier) values) m _
+    (values_fit kind modifier is (values_in (row_of_kind kind).style body)) e
 
 -- ---- addresses
 unless_refused : (is : Bool) (one m : CopyOfConstant) (fault : FaultKind) → cond is (Ok one) (Err fault) ≡ Ok m → (is ≡ true) × (one ≡ m)
@@ -190,7 +190,7 @@ kind_modified : (is_ds : Bool) (duplication rest : List ℕ) (kind : Option Cons
     → option_map_or (λ kind. with_modifier is_ds duplication kind rest) kind (Err BadOperand) ≡ Ok item → Modified item.kind item.modifier
 kind_modified is_ds duplication rest None item e = cc
 kind_modified is_ds duplication rest (Some kind) item e =
-    go (slice_index rest 0 == 76) (not ((row_of kind).greatest_in_dc == 0) && not (length (take_while (is_digit 10) (drop 1 rest)) == 0)) e
+    go (slice_index rest 0 == 76) (not ((row_of_kind kind).greatest_in_dc == 0) && not (length (take_while (is_digit 10) (drop 1 rest)) == 0)) e
   where
     go : (is takes : Bool) → cond is (cond takes (with_value is_ds duplication kind (Some (take_while (is_digit 10) (drop 1 rest))) (after_digits (drop 1 rest))) (Err BadOperand))
         (with_value is_ds duplication kind None rest) ≡ Ok item → Modified item.kind item.modifier
@@ -204,12 +204,12 @@ constant_modified is_ds text item e =
     kind_modified is_ds (take_while (is_digit 10) text) (drop 1 (after_digits text)) (kind_of (slice_index (after_digits text) 0)) item e
 
 made_fits : (find : List ℕ → Option Value) (here : Option Value) (control : Option (List ℕ)) (item : Constant) (m : CopyOfConstant) → Modified item.kind item.modifier
-    → made_of find here control item ≡ Ok m → MadeFits m (length_of item)
-unfolding made_of length_of
+    → constant_copy find here control item ≡ Ok m → MadeFits m (length_of item)
+unfolding constant_copy length_of
 made_fits find here control item m is e = body_fits find here control item.kind item.modifier item.value m is e
 
 -- one copy of an item
 pub item_fits : (whole : Whole) (counter : Option Value) (text : List ℕ) (item : Constant) (m : CopyOfConstant) → constant_in false text ≡ Ok item → item_made whole false counter text ≡ Ok m → MadeFits m (length_of item)
 item_fits whole counter text item m e h =
     made_fits whole.find counter whole.control item m (constant_modified false text item e)
-    (subst (λ r. judged_as (made_of whole.find counter whole.control) r ≡ Ok m) e h)
+    (subst (λ r. judged_as (constant_copy whole.find counter whole.control) r ≡ Ok m) e h)

@@ -18,7 +18,7 @@ use Rattle.cx_asm_pass1.specs.Facts.StatementExtents.{lower_none}
 use Rattle.cx_asm_pass1.specs.declared.place.ControlSection.{ControlSection}
 use Rattle.cx_asm_pass1.specs.declared.place.LineFault.{LineFault}
 use Rattle.cx_asm_pass1.specs.Facts.Kept.{last_pool as last_reported, pool_among, pool_kept, pool_listed}
-use Rattle.cx_asm_pass1.specs.PassState.{PassState, next_state, after_line, at_start, named_control, fault_in, first_fault_after, is_control, literal_fault, name_fault, name_in, operation_fault, own_fault, pool_after, section_fault, state_after, extent_in, length_of_section, parts_in, place_in, role_in}
+use Rattle.cx_asm_pass1.specs.PassState.{PassState, next_state, after_line, state_at_start, named_control, statement_fault_in, first_fault_after, is_control, literal_fault, name_fault, name_in, operation_fault, own_fault, pool_after, section_fault, state_after, extent_in, length_of_section, parts_in, place_in, role_in}
 use Rattle.cx_asm_pass1.specs.Laws.Apart.{Stands, section_length}
 use Rattle.cx_asm_pass1.specs.Layout.{extent_of}
 use Rattle.cx_asm_pass1.specs.Locations.{all_pools, last_pool_extent, final_state}
@@ -29,7 +29,7 @@ use Rattle.cx_asm_pass2.specs.SecondFaults.{bases_after}
 use Rattle.cx_asm_pass1.specs.declared.place.Place.{Place}
 use Rattle.cx_asm_pass2.specs.Statements.{PlacedItem, PlacedStatement, operation_of, placed_latest_first, placed_of, placed_statement, stated_in, statements_of}
 use Rattle.cx_asm_pass2.specs.Whole.{Whole, pool_of, whole_of_state, whole_of}
-use Rattle.cx_asm.specs.Assembly.{size_of, standing_of}
+use Rattle.cx_asm.specs.Assembly.{control_section_size, standing_of}
 use Rattle.cx_asm.specs.Laws.SectionLines.{IsWithin}
 use Rattle.cx_asm.specs.Resolving.{Standing, last_pool, empty_section, pool_standing, role_standing, standing_from, statement_standing}
 use Rattle.cx_asm.specs.Facts.Bases.{after_sixteen}
@@ -54,7 +54,7 @@ section_sound : (line : ℕ) (stmt : Stmt) (state : PassState) → (next_state l
 unfolding next_state
 section_sound line stmt state e =
     let own = lower_none (own_fault stmt state) (literal_fault (role_in stmt) (length state.places) (parts_in stmt) state.pool)
-    (first_none line (fault_in stmt state) state.fault (none_before line stmt state e) e) in
+    (first_none line (statement_fault_in stmt state) state.fault (none_before line stmt state e) e) in
     third_none (operation_fault (role_in stmt)) (name_fault (role_in stmt) stmt.name) (section_fault (role_in stmt) (name_in stmt) state.section state.control) _ own.0
 
 outside : (section : Option (List ℕ)) → is_control section None ≡ true → ⊥
@@ -105,7 +105,7 @@ sized state (Some name) e h = refl
 sized state None e h = no_end state.pool state.control state.lengths (h e) e
 
 -- the control section's length is its end, 0 without one
-size_is : (source : Source) → (final_state source).fault ≡ None → size_of source ≡ (last_pool_extent (final_state source)).end
+size_is : (source : Source) → (final_state source).fault ≡ None → control_section_size source ≡ (last_pool_extent (final_state source)).end
 size_is source e = sized (final_state source) (final_state source).control refl (no_pool (reverse source.items) e)
 
 -- ---- the control section
@@ -257,7 +257,7 @@ module _ (resolves : Resolves) (spelled : Spelled) (statements : List PlacedStat
   reversed : (items : List Item) → after items [] ≡ reverse items
   reversed items = after_is items [] ∙ append-nil (reverse items)
 
-  start : (control : Option (List ℕ)) → so_far control at_start ≡ 0
+  start : (control : Option (List ℕ)) → so_far control state_at_start ≡ 0
   start None = refl
   start (Some name) = refl
 
@@ -265,10 +265,10 @@ module _ (resolves : Resolves) (spelled : Spelled) (statements : List PlacedStat
   placed_here items = sym (placed_is items []) ∙ ap (λ (l : List Item). reverse (placed_latest_first l)) (reversed items)
 
   all_within : (items before : List Item) → after items [] ≡ before → (state_after before).fault ≡ None → (last_pool_extent (state_after before)).end ≤ bound
-      → IsWithin (so_far (state_after before).control at_start)
+      → IsWithin (so_far (state_after before).control state_at_start)
       (standing_from (whole_of_state (state_after before)) statements none_in_use (filter_map stated_in (placed_after [] items))) (last_pool_extent (state_after before)).end
   all_within items before e =
-      subst (λ (l : List Item). (state_after l).fault ≡ None → (last_pool_extent (state_after l)).end ≤ bound → IsWithin (so_far (state_after l).control at_start)
+      subst (λ (l : List Item). (state_after l).fault ≡ None → (last_pool_extent (state_after l)).end ≤ bound → IsWithin (so_far (state_after l).control state_at_start)
       (standing_from (whole_of_state (state_after l)) statements none_in_use (filter_map stated_in (placed_after [] items))) (last_pool_extent (state_after l)).end)
       e (along items [] none_in_use refl)
 
@@ -277,11 +277,11 @@ module _ (resolves : Resolves) (spelled : Spelled) (statements : List PlacedStat
   unfolding placed_of
   all_stand source sound le =
       subst (λ from. IsWithin from (standing_from (whole_of source) statements none_in_use (statements_of source)) (last_pool_extent (final_state source)).end) (start (final_state source).control)
-      (subst (λ (l : List PlacedItem). IsWithin (so_far (final_state source).control at_start) (standing_from (whole_of source) statements none_in_use (filter_map stated_in l)) (last_pool_extent (final_state source)).end)
+      (subst (λ (l : List PlacedItem). IsWithin (so_far (final_state source).control state_at_start) (standing_from (whole_of source) statements none_in_use (filter_map stated_in l)) (last_pool_extent (final_state source)).end)
       (placed_here source.items)
       (all_within source.items (reverse source.items) (reversed source.items) sound le))
 
-pub source_within : Resolves → Spelled → (source : Source) → (final_state source).fault ≡ None → size_of source ≤ 65536 → IsWithin 0 (standing_of source) (size_of source)
+pub source_within : Resolves → Spelled → (source : Source) → (final_state source).fault ≡ None → control_section_size source ≤ 65536 → IsWithin 0 (standing_of source) (control_section_size source)
 unfolding standing_of
 source_within resolves spelled source sound le =
     let size = size_is source sound in

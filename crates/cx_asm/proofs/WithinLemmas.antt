@@ -8,7 +8,7 @@ use Rattle.std.specs.Option.{option_map_or}
 use Rattle.std.specs.Result.{result_ok}
 use Rattle.cx_code.specs.Spelling.{Instruction as Made_instruction, IsWellFormed, spelling}
 use Rattle.cx_code.specs.Table.{length_of as row_length}
-use Rattle.cx_code.specs.declared.disassembly.What.TheVariants.{Code, Space}
+use Rattle.cx_code.specs.declared.disassembly.LineContent.TheVariants.{Code, Space}
 use Rattle.cx_code.specs.declared.table.Op.{Op}
 use Rattle.cx_asm_image.specs.Facts.Apart.{apart_append}
 use Rattle.cx_asm_image.specs.Relocated.{words_at}

@@ -14,7 +14,7 @@ use Rattle.cx_asm_operands.specs.Bases.{none_in_use}
 use Rattle.cx_asm_operands.specs.Directives.{entry_in}
 use Rattle.cx_asm_image.specs.Assembled.{AssembledParts, assembled_parts}
 use Rattle.cx_asm_image.specs.Storage.{working_storage}
-use Rattle.cx_asm_pass2.specs.Statements.{PlacedStatement, end_of, statements_of, placed_of}
+use Rattle.cx_asm_pass2.specs.Statements.{PlacedStatement, first_end, statements_of, placed_of}
 use Rattle.cx_asm_pass2.specs.Whole.{Whole, directive_context, whole_of}
 use Rattle.cx_asm_pass2.specs.SecondFaults.{second_faults_after}
 use Rattle.cx_asm.specs.Resolving.{Standing, standing_from}
@@ -33,8 +33,8 @@ unfoldable pub standing_of : Source → Standing
 standing_of source = standing_from (whole_of source) (statements_of source) none_in_use (statements_of source)
 
 -- how many bytes it has; 0 where there is none
-abbrev pub size_of : Source → ℕ
-size_of source = option_map_or (λ control. control.length) (control_section (final_state source)) 0
+abbrev pub control_section_size : Source → ℕ
+control_section_size source = option_map_or (λ control. control.length) (control_section (final_state source)) 0
 
 -- the entry that the first END writes, or the section's start
 abbrev pub entry_by : Whole → PlacedStatement → ℕ
@@ -44,11 +44,11 @@ entry_by whole s =
 unfoldable pub section_of : Source → AssembledParts
 section_of source =
     let stands = standing_of source in let storage = working_storage (storage_length (final_state source)) in
-    let entry = option_map_or (entry_by (whole_of source)) (end_of (statements_of source)) 0 in
-    assembled_parts stands.lines (size_of source) stands.relocs entry storage
+    let entry = option_map_or (entry_by (whole_of source)) (first_end (statements_of source)) 0 in
+    assembled_parts stands.lines (control_section_size source) stands.relocs entry storage
 
-abbrev pub made_of : Source → AssemblyParts
-made_of source =
+abbrev pub assembly_parts : Source → AssemblyParts
+assembly_parts source =
     let listing = map (item_listing (whole_of source) (section_of source).image.text) (placed_of source) in
     record { section = section_of source; listing = listing }
 
@@ -75,7 +75,7 @@ abbrev pub last_line : Source → ℕ
 last_line source = option_map_or (λ item. item.line) (slice_get source.items (length source.items - 1)) 0
 
 abbrev pub end_line : Source → ℕ
-end_line source = option_map_or (λ s. s.line) (end_of (statements_of source)) (last_line source)
+end_line source = option_map_or (λ s. s.line) (first_end (statements_of source)) (last_line source)
 
 -- that of a text of more than 65,536 bytes
 abbrev pub size_faults : ℕ → ℕ → List LineFault
@@ -88,7 +88,8 @@ first_found (fault ∷ more) later = fault ∷ more
 
 -- those of the second pass, and without one that of its size
 abbrev pub later_faults : Source → List LineFault
-later_faults source = first_found (second_faults_of source) (size_faults (size_of source) (end_line source))
+later_faults source =
+    first_found (second_faults_of source) (size_faults (control_section_size source) (end_line source))
 
 -- all faults for which a source is refused: those of the first pass, and where it has none the later ones
 unfoldable pub assembly_faults : Source → List LineFault
@@ -98,7 +99,7 @@ assembly_faults source = first_found (place_faults source) (later_faults source)
 -- what a source is assembled to, or its first fault
 unfoldable pub assembly_of : Source → Result AssemblyParts AsmFault
 assembly_of source =
-    option_map_or (λ first. Err (fault_at first)) (slice_get (assembly_faults source) 0) (Ok (made_of source))
+    option_map_or (λ first. Err (fault_at first)) (slice_get (assembly_faults source) 0) (Ok (assembly_parts source))
 
 -- The answer is the one due, unless memory runs out.
 abbrev pub Assembles : Result AssemblyParts AsmFault → Result AssemblyParts AsmFault → Type 0

@@ -16,14 +16,14 @@ offset_shown at (Storage is_ds) = Some at
 offset_shown at role = None
 
 -- the offset after the last item of a DC
-abbrev pub end_after : ℕ → List (List ℕ × ℕ) → ℕ
-end_after at items =
+abbrev pub end_of_items : ℕ → List (List ℕ × ℕ) → ℕ
+end_of_items at items =
     option_map_or (λ item. cap item.1 + cap (literal_size item.0)) (slice_get items (length items - 1)) at
 
 -- how many bytes an instruction or a DC has, with the gaps between items; other statements have none
 abbrev pub object_length : PlacedStatement → Role → ℕ
 object_length s (Instruction size) = size
-object_length s (Storage is_ds) = if is_ds then 0 else end_after s.place.offset (placed_items s) - s.place.offset
+object_length s (Storage is_ds) = if is_ds then 0 else end_of_items s.place.offset (placed_items s) - s.place.offset
 object_length s role = 0
 
 -- Those in the control section are listed with their bytes, and the gaps between items as zeros.

@@ -5,8 +5,8 @@ use Rattle.std.specs.List.{repeat}
 use Rattle.std.specs.Option.{option_map_or}
 use Rattle.std.specs.Result.{result_ok}
 use Rattle.cx_code.specs.declared.disassembly.Line.{Line}
-use Rattle.cx_code.specs.declared.disassembly.What.{What}
-use Rattle.cx_code.specs.declared.disassembly.What.TheVariants.{Code, Data, Space}
+use Rattle.cx_code.specs.declared.disassembly.LineContent.{LineContent}
+use Rattle.cx_code.specs.declared.disassembly.LineContent.TheVariants.{Code, Data, Space}
 use Rattle.cx_asm_expressions.specs.Items.{Constant, constant_in, size_of}
 use Rattle.cx_asm_expressions.specs.Bytes.{CopyOfConstant}
 use Rattle.cx_asm_expressions.specs.declared.values.Value.{Value}
@@ -24,7 +24,7 @@ use Rattle.cx_asm_pass2.specs.Statements.{PlacedStatement, operation_of, placed_
 use Rattle.cx_asm_pass2.specs.Whole.{Whole, counter_of, instruction_context, item_made, pool_of}
 use Rattle.cx_asm_pass2.specs.SecondFaults.{bases_after}
 
-abbrev pub line : ℕ → What → Line
+abbrev pub line : ℕ → LineContent → Line
 line at what = record { at = at; what = what }
 
 -- What is in the control section: its resolved lines, and the offsets of its relocated words.

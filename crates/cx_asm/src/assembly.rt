@@ -7,8 +7,8 @@ ghost use Rattle.cx_asm_image.specs.Assembled.{IsAssembled};
 ghost use Rattle.cx_asm_pass1.specs.AllFaults.{place_faults};
 ghost use Rattle.cx_asm_pass1.specs.Locations.{IsPlaced, final_state};
 ghost use Rattle.cx_asm_pass2.specs.Whole.{whole_by};
-ghost use Rattle.cx_asm_pass2.specs.Statements.{end_of, placed_of, statements_of};
-ghost use Rattle.cx_asm.specs.Assembly.{Assembles, assembly_of, end_line, entry_by, later_faults, made_of, second_faults_of, section_of, size_faults, size_of, standing_of};
+ghost use Rattle.cx_asm_pass2.specs.Statements.{first_end, placed_of, statements_of};
+ghost use Rattle.cx_asm.specs.Assembly.{Assembles, assembly_of, end_line, entry_by, later_faults, assembly_parts, second_faults_of, section_of, size_faults, control_section_size, standing_of};
 
 use crate::faults::{AsmFault, fault_at};
 use crate::laws::made_lines_do_not_overlap;
@@ -53,7 +53,8 @@ impl Assembly {
         self.section.image()
     }
 
-    /// The listing, one line for each of the source's, an EXEC statement's made lines in its place. It takes no memory.
+    /// The listing (GC33-4010, "Assembler Listing"), one line for each of the source's, an EXEC statement's made lines
+    /// in its place; each line without its end. It takes no memory.
     pub fn listing(&self) -> &[Text]
         ensures { result.now ≡ self.now.listing }
     {
@@ -74,7 +75,7 @@ impl Assembly {
         self.section.resolved()
     }
 
-    /// The image alone. It takes no memory.
+    /// The image, without the rest. It takes no memory.
     pub fn into_image(self) -> Image
         ensures { result ≡ self.section.image }
     {
@@ -93,8 +94,8 @@ pub fn disassembly(alloc: Global, assembly: &Assembly) -> Result<Vec<Line>, Allo
 }
 
 /// The size of the control section; 0 where there is none.
-fn size_of(places: &Places<'_>) -> u128
-    ensures { (source : Source) → IsPlaced (final_state source) places.now → result ≡ size_of source }
+fn control_section_size(places: &Places<'_>) -> u128
+    ensures { (source : Source) → IsPlaced (final_state source) places.now → result ≡ control_section_size source }
 {
     match places.control {
         Some(control) => control.length,
@@ -103,8 +104,8 @@ fn size_of(places: &Places<'_>) -> u128
 }
 
 /// The first END.
-fn end_of<'a, 'b>(statements: &'b [Statement<'a>]) -> Option<&'b Statement<'a>>
-    ensures { option_map (λ s. s.now) result ≡ end_of statements.now }
+fn first_end<'a, 'b>(statements: &'b [Statement<'a>]) -> Option<&'b Statement<'a>>
+    ensures { option_map (λ s. s.now) result ≡ first_end statements.now }
 {
     statements.iter().find(|statement| statement.is_end())
 }
@@ -116,9 +117,9 @@ fn entry(
     statements: &[Statement<'_>],
 ) -> Result<u32, AllocError>
     ensures { IfOk result
-        (λ entry. entry ≡ option_map_or (entry_by (whole_by places.now)) (end_of statements.now) 0) }
+        (λ entry. entry ≡ option_map_or (entry_by (whole_by places.now)) (first_end statements.now) 0) }
 {
-    let Some(statement) = end_of(statements) else {
+    let Some(statement) = first_end(statements) else {
         return Ok(0);
     };
     match entry_of(alloc, places, statement) {
@@ -133,7 +134,7 @@ fn end_line(source: &Source, statements: &[Statement<'_>]) -> usize
     requires { statements.now ≡ statements_of source.now }
     ensures { result ≡ end_line source.now }
 {
-    match end_of(statements) {
+    match first_end(statements) {
         Some(statement) => statement.line(),
         None => match source.items.as_slice().last() {
             Some(item) => item.line,
@@ -143,7 +144,7 @@ fn end_line(source: &Source, statements: &[Statement<'_>]) -> usize
 }
 
 /// The section of a source whose statements are placed.
-#[tactic(auto, using(crate::proofs::WholeLemmas::whole_is), unfolding(crate::specs::Assembly::section_of, crate::specs::Assembly::standing_of))]
+#[tactic(auto, using(cx_asm_pass2::specs::Facts::Whole::whole_is), unfolding(crate::specs::Assembly::section_of, crate::specs::Assembly::standing_of))]
 fn section_of(
     alloc: Global,
     source: &Source,
@@ -154,21 +155,21 @@ fn section_of(
     requires sound { (final_state source.now).fault ≡ None }
     requires placed { IsPlaced (final_state source.now) places.now }
     requires statements { statements.now ≡ statements_of source.now }
-    requires fits { size_of source.now ≤ 65536 }
+    requires fits { control_section_size source.now ≤ 65536 }
     requires standing { standing ≡ standing_of source.now }
     ensures { IfOk result (λ section. section ≡ section_of source.now) }
 {
     made_lines_do_not_overlap();
     let Standing { lines, relocs } = standing;
     let lines = lines.into_vec();
-    let size = size_of(places) as u32;
+    let size = control_section_size(places) as u32;
     let entry = entry(alloc, places, statements)?;
     let stg_len = working_storage(places.stg_length);
     Assembled::new(lines, size, Offsets::from_vec(relocs), entry, stg_len)
 }
 
 /// The assembly of a source whose statements are placed, with its section.
-fn made_of(
+fn assembly_parts(
     alloc: Global,
     source: &Source,
     places: &Places<'_>,
@@ -178,7 +179,7 @@ fn made_of(
     requires places { IsPlaced (final_state source.now) places.now }
     requires placed { placed.now ≡ placed_of source.now }
     requires section { section ≡ section_of source.now }
-    ensures { IfOk result (λ made. made ≡ made_of source.now) }
+    ensures { IfOk result (λ made. made ≡ assembly_parts source.now) }
 {
     let text = section.image().text.as_slice();
     let listing = listing_of(alloc, places, text, placed)?;
@@ -187,7 +188,7 @@ fn made_of(
 
 /// What the second pass over a source's statements finds; what they make is kept only where it fits in the largest
 /// text.
-#[tactic(auto, using(crate::proofs::WholeLemmas::whole_is), unfolding(crate::specs::Assembly::second_faults_of, crate::specs::Assembly::standing_of))]
+#[tactic(auto, using(cx_asm_pass2::specs::Facts::Whole::whole_is), unfolding(crate::specs::Assembly::second_faults_of, crate::specs::Assembly::standing_of))]
 fn found_in(
     alloc: Global,
     source: &Source,
@@ -198,7 +199,7 @@ fn found_in(
     requires sound { (final_state source.now).fault ≡ None }
     requires placed { IsPlaced (final_state source.now) places.now }
     requires statements { statements.now ≡ statements_of source.now }
-    requires fits { fits ≡ true → size_of source.now ≤ 65536 }
+    requires fits { fits ≡ true → control_section_size source.now ≤ 65536 }
     ensures first { IfOk result (λ found. found.first ≡ slice_get (second_faults_of source.now) 0) }
     ensures standing { IfOk result (λ found. fits ≡ true → found.standing ≡ standing_of source.now) }
 {
@@ -207,7 +208,7 @@ fn found_in(
 }
 
 /// The assembly of a source whose statements are placed.
-#[tactic(auto, using(crate::proofs::WholeLemmas::second_refused, crate::proofs::WholeLemmas::large_refused, crate::proofs::WholeLemmas::made_answered))]
+#[tactic(auto, using(crate::proofs::DueLemmas::second_refused, crate::proofs::DueLemmas::large_refused, crate::proofs::DueLemmas::made_answered))]
 fn assemble_placed(
     alloc: Global,
     source: &Source,
@@ -219,7 +220,7 @@ fn assemble_placed(
 {
     let placed = placed_lines(alloc, source, places.statements.as_slice())?;
     let statements = stated(alloc, placed.as_slice())?;
-    let size = size_of(places);
+    let size = control_section_size(places);
     let fits = size <= u128::from(LARGEST_TEXT);
     let found = found_in(alloc, source, places, statements.as_slice(), fits)?;
     if let Some(first) = found.first {
@@ -229,7 +230,7 @@ fn assemble_placed(
         return Err(AsmFault::TooLarge(end_line(source, statements.as_slice())));
     }
     let section = section_of(alloc, source, places, statements.as_slice(), found.standing)?;
-    Ok(made_of(alloc, source, places, placed.as_slice(), section)?)
+    Ok(assembly_parts(alloc, source, places, placed.as_slice(), section)?)
 }
 
 /// Assembles a source (GC33-4010).
@@ -239,7 +240,7 @@ fn assemble_placed(
 /// none of the second (operands and values). TooLarge comes only where there is no other fault, for a control section
 /// of more than 65,536 bytes. A source without a fault is assembled, or meets Memory, which comes only where an
 /// allocation failed.
-#[tactic(auto, using(crate::proofs::WholeLemmas::first_refused))]
+#[tactic(auto, using(crate::proofs::DueLemmas::first_refused))]
 pub fn assemble(alloc: Global, source: &Source) -> Result<Assembly, AsmFault>
     ensures { Assembles (assembly_of source.now) result }
 {
@@ -262,7 +263,7 @@ fn size_faults(alloc: Global, size: u128, line: usize) -> Result<List<LineFault>
 }
 
 /// The faults of the second pass over a source whose statements are placed, or without one that of its size.
-#[tactic(auto, using(crate::proofs::WholeLemmas::whole_is), unfolding(crate::specs::Assembly::second_faults_of))]
+#[tactic(auto, using(cx_asm_pass2::specs::Facts::Whole::whole_is), unfolding(crate::specs::Assembly::second_faults_of))]
 fn placed_faults(
     alloc: Global,
     source: &Source,
@@ -279,7 +280,7 @@ fn placed_faults(
     }
     size_faults(
         alloc,
-        size_of(places),
+        control_section_size(places),
         end_line(source, statements.as_slice()),
     )
 }
@@ -288,8 +289,8 @@ fn placed_faults(
 /// the second pass, and where that finds none TooLarge, if the control section is.
 ///
 /// Where the first pass finds none, `assemble` refuses the source for the first of the others; where there is none
-/// either, it is assembled. Of each line with a faulty statement a pass reports the lowest fault of all its statements, in
-/// the order in which the lines' first faults are met. An error comes only where an allocation failed.
+/// either, it is assembled. Of each line with a faulty statement a pass reports the lowest fault of all its statements,
+/// in the order in which the lines' first faults are met. An error comes only where an allocation failed.
 pub fn pass_faults(
     alloc: Global,
     source: &Source,

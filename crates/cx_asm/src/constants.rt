@@ -6,7 +6,7 @@ ghost use Rattle.cx_asm_expressions.specs.Faults.{lowest};
 ghost use Rattle.cx_asm_expressions.specs.Items.{constant_in};
 ghost use Rattle.cx_asm_pass2.specs.SecondFaults.{item_fault};
 ghost use Rattle.cx_asm_pass2.specs.Whole.{item_made, whole_by};
-ghost use Rattle.cx_asm.specs.Parts.Kept.{Fits, kept};
+ghost use Rattle.cx_asm.specs.Parts.Kept.{FitsSection, kept};
 ghost use Rattle.cx_asm.specs.Parts.Passing.{literal_standing};
 ghost use Rattle.cx_asm.specs.Resolving.{constant_standing, counter_at, data_standing, item_standing, items_standing, pool_standing, space_standing};
 
@@ -36,7 +36,7 @@ impl SecondPass<'_, '_, '_> {
         standing: &mut Standing,
     ) -> Result<(), AllocError>
         requires { let stands = constant_standing at (constant_in false text.now) (Ok made.now) in
-            Fits self.now.keeps standing.old stands }
+            FitsSection self.now.keeps standing.old stands }
         ensures { let stands = constant_standing at (constant_in false text.now) (Ok made.now) in
             OnOk result (standing.new ≡ kept self.now.keeps standing.old stands) }
     {
@@ -56,7 +56,7 @@ impl SecondPass<'_, '_, '_> {
         standing: &mut Standing,
     ) -> Result<Option<FaultKind>, AllocError>
         requires { let stands = data_standing (whole_by self.now.places.now) counter text.now at in
-            Fits self.now.keeps standing.old stands }
+            FitsSection self.now.keeps standing.old stands }
         ensures standing { let stands = data_standing (whole_by self.now.places.now) counter text.now at in
             OnOk result (standing.new ≡ kept self.now.keeps standing.old stands) }
         ensures fault { let whole = whole_by self.now.places.now in
@@ -80,7 +80,7 @@ impl SecondPass<'_, '_, '_> {
         text: &[u8],
         standing: &mut Standing,
     ) -> Result<(), AllocError>
-        requires { Fits self.now.keeps standing.old (space_standing at (constant_in true text.now)) }
+        requires { FitsSection self.now.keeps standing.old (space_standing at (constant_in true text.now)) }
         ensures { let stands = space_standing at (constant_in true text.now) in
             OnOk result (standing.new ≡ kept self.now.keeps standing.old stands) }
     {
@@ -99,7 +99,7 @@ impl SecondPass<'_, '_, '_> {
         standing: &mut Standing,
     ) -> Result<Option<FaultKind>, AllocError>
         requires { let stands = item_standing (whole_by self.now.places.now) is_ds statement.now item.now in
-            Fits self.now.keeps standing.old stands }
+            FitsSection self.now.keeps standing.old stands }
         ensures standing { let stands = item_standing (whole_by self.now.places.now) is_ds statement.now item.now in
             OnOk result (standing.new ≡ kept self.now.keeps standing.old stands) }
         ensures fault { let whole = whole_by self.now.places.now in
@@ -115,7 +115,7 @@ impl SecondPass<'_, '_, '_> {
     }
 
     /// Appends the items of a DS or DC, if they are kept. Their lowest fault is answered, if they have one.
-    #[tactic(auto, using(crate::proofs::JoinLemmas::kept_nothing, crate::proofs::FaultLemmas::lower_nothing))]
+    #[tactic(auto, using(crate::proofs::JoinLemmas::kept_nothing, cx_asm_expressions::specs::Facts::Faults::lower_nothing))]
     pub(crate) fn push_items(
         &self,
         is_ds: bool,
@@ -124,7 +124,7 @@ impl SecondPass<'_, '_, '_> {
         standing: &mut Standing,
     ) -> Result<Option<FaultKind>, AllocError>
         requires { let stands = items_standing (whole_by self.now.places.now) is_ds statement.now items.now in
-            Fits self.now.keeps standing.old stands }
+            FitsSection self.now.keeps standing.old stands }
         ensures standing { let stands = items_standing (whole_by self.now.places.now) is_ds statement.now items.now in
             OnOk result (standing.new ≡ kept self.now.keeps standing.old stands) }
         ensures fault { let whole = whole_by self.now.places.now in
@@ -147,7 +147,7 @@ impl SecondPass<'_, '_, '_> {
     ) -> Result<(), AllocError>
         requires { let it = option_map (λ e. (e.0.now, e.1)) literal in
             let stands = literal_standing (whole_by self.now.places.now) self.now.statements.now it in
-            Fits self.now.keeps standing.old stands }
+            FitsSection self.now.keeps standing.old stands }
         ensures { let it = option_map (λ e. (e.0.now, e.1)) literal.entry in
             let stands = literal_standing (whole_by self.now.places.now) self.now.statements.now it in
             OnOk result (standing.new ≡ kept self.now.keeps standing.old stands) }
@@ -168,7 +168,7 @@ impl SecondPass<'_, '_, '_> {
         standing: &mut Standing,
     ) -> Result<(), AllocError>
         requires { let stands = pool_standing (whole_by self.now.places.now) self.now.statements.now pool.now in
-            Fits self.now.keeps standing.old stands }
+            FitsSection self.now.keeps standing.old stands }
         ensures { let stands = pool_standing (whole_by self.now.places.now) self.now.statements.now pool.now in
             OnOk result (standing.new ≡ kept self.now.keeps standing.old stands) }
     {

@@ -12,7 +12,7 @@ use thiserror::Error;
 /// fault of all its statements.
 #[derive(Clone, Copy, Debug, PartialEq, Eq, Error)]
 pub enum AsmFault {
-    /// No such operation.
+    /// The operation isn't in the table of operations.
     #[error("line {0}: UnknownOperation")]
     UnknownOperation(usize),
     /// A symbol that no statement defines.
@@ -27,13 +27,13 @@ pub enum AsmFault {
     /// An operand that can't be read, or a statement where it isn't allowed.
     #[error("line {0}: BadOperand")]
     BadOperand(usize),
-    /// A value outside its limits.
+    /// A value, a length or a number of copies outside its limits.
     #[error("line {0}: ValueOutOfRange")]
     ValueOutOfRange(usize),
-    /// A value that is no place in the section it should be in.
+    /// A value that is neither absolute nor a place in one section, or no place in the section that it should be in.
     #[error("line {0}: NotRelocatable")]
     NotRelocatable(usize),
-    /// A control section of more than 65,536 bytes; the line is END's.
+    /// A control section of more than 65,536 bytes; the line is END's, and the source's last where there is no END.
     #[error("line {0}: TooLarge")]
     TooLarge(usize),
     /// An allocation failed.
@@ -61,7 +61,7 @@ impl<T: Drop> From<AllocFailed<T>> for AsmFault {
     }
 }
 
-/// The fault of a line. It takes no memory.
+/// The fault of a source whose first faulty line has this one: of its kind, with its line. It takes no memory.
 pub fn fault_at(first: LineFault) -> AsmFault
     ensures { result ≡ fault_at first }
 {

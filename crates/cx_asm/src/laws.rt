@@ -11,7 +11,7 @@ ghost use Rattle.cx_source.specs.declared.source.Source.{Source};
 ghost use Rattle.cx_asm_pass2.specs.SecondFaults.{second_faults_after};
 ghost use Rattle.cx_asm_pass2.specs.Statements.{PlacedStatement};
 ghost use Rattle.cx_asm_pass2.specs.Whole.{Whole, item_made};
-ghost use Rattle.cx_asm.specs.Assembly.{Assembles, AssemblyParts, assembly_of, size_of, standing_of};
+ghost use Rattle.cx_asm.specs.Assembly.{Assembles, AssemblyParts, assembly_of, control_section_size, standing_of};
 ghost use Rattle.cx_asm.specs.Laws.SecondFirst.{faults_by_statement};
 ghost use Rattle.cx_asm.specs.Laws.SectionLines.{IsWithin, WordsApart};
 ghost use Rattle.cx_asm.specs.declared.faults.AsmFault.{AsmFault};
@@ -20,7 +20,7 @@ ghost use Rattle.cx_asm.specs.declared.faults.AsmFault.TheVariants.{Memory};
 /// A copy of an item of a DC, or of a literal, has no more bytes than its length, which is at least a word's where it
 /// is relocated.
 pub fn a_constant_has_its_length()
-    ensures short { (whole : Whole) (counter : Option Value) (text : List ℕ) (item : Constant) (made : CopyOfConstant)
+    ensures at_length { (whole : Whole) (counter : Option Value) (text : List ℕ) (item : Constant) (made : CopyOfConstant)
         → constant_in false text ≡ Ok item → item_made whole false counter text ≡ Ok made
         → length made.bytes ≤ length_of item }
     ensures word { (whole : Whole) (counter : Option Value) (text : List ℕ) (item : Constant) (made : CopyOfConstant)
@@ -31,8 +31,8 @@ pub fn a_constant_has_its_length()
 /// In an accepted source whose control section is no longer than a text may be, the resolved lines ascend, share no
 /// byte, and end inside the control section; and so do the relocated words.
 pub fn made_lines_do_not_overlap()
-    ensures { (source : Source) → (final_state source).fault ≡ None → size_of source ≤ 65536
-        → IsWithin 0 (standing_of source) (size_of source) }
+    ensures { (source : Source) → (final_state source).fault ≡ None → control_section_size source ≤ 65536
+        → IsWithin 0 (standing_of source) (control_section_size source) }
 {
     cx_asm_operands::laws::what_is_resolved_is_well_formed();
     cx_code::laws::every_spelling();
@@ -55,9 +55,9 @@ pub fn an_assembly_is_one()
 /// share no byte and end in it, and so do its relocated words.
 pub fn an_assembly_stands_apart()
     ensures size { (source : Source) (made : AssemblyParts) → assembly_of source ≡ Ok made
-        → length made.section.image.text ≡ size_of source }
-    ensures short { (source : Source) (made : AssemblyParts) → assembly_of source ≡ Ok made
-        → size_of source ≤ 65536 }
+        → length made.section.image.text ≡ control_section_size source }
+    ensures within_section { (source : Source) (made : AssemblyParts) → assembly_of source ≡ Ok made
+        → control_section_size source ≤ 65536 }
     ensures lines { (source : Source) (made : AssemblyParts) → assembly_of source ≡ Ok made
         → AreApart 0 made.section.resolved (length made.section.image.text) }
     ensures words { (source : Source) (made : AssemblyParts) → assembly_of source ≡ Ok made

@@ -4,7 +4,7 @@ ghost use Rattle.std.specs.Prelude.{◌≡◌, ◌+◌, IfOk, drop, map, take, N
 ghost use Rattle.cx_asm_pools.specs.Pools.{cap, literal_size};
 ghost use Rattle.cx_asm_image.specs.Listing.{listing_line};
 ghost use Rattle.cx_asm_pass2.specs.Whole.{whole_by};
-ghost use Rattle.cx_asm.specs.Listing.{end_after, line_with, item_listing, object_length, object_of, offset_shown};
+ghost use Rattle.cx_asm.specs.Listing.{end_of_items, line_with, item_listing, object_length, object_of, offset_shown};
 
 use crate::section::is_control;
 use cx_asm_expressions::Constant;
@@ -43,8 +43,8 @@ fn item_end(item: &StatementItem<'_>) -> u128
 }
 
 /// The offset after a DC's items.
-fn end_after(at: u128, items: &[StatementItem<'_>]) -> u128
-    ensures { result ≡ end_after at items.now }
+fn end_of_items(at: u128, items: &[StatementItem<'_>]) -> u128
+    ensures { result ≡ end_of_items at items.now }
 {
     match items.last() {
         Some(item) => item_end(item),
@@ -52,8 +52,8 @@ fn end_after(at: u128, items: &[StatementItem<'_>]) -> u128
     }
 }
 
-/// How many bytes a statement of a role is listed with: an instruction's or a DC's, items and the bytes before them;
-/// none of others.
+/// How many bytes a statement of a role is listed with: as many as an instruction has, or the items of a DC with the
+/// gaps between them; 0 of every other statement.
 ///
 /// An error comes only where an allocation for a DC's items failed.
 pub fn object_length(
@@ -68,7 +68,7 @@ pub fn object_length(
         Role::Storage { is_ds: false } => {
             let items = placed_items(alloc, statement)?;
             let at = statement.place().offset;
-            Ok(end_after(at, items.as_slice()).saturating_sub(at))
+            Ok(end_of_items(at, items.as_slice()).saturating_sub(at))
         }
         _ => Ok(0),
     }

@@ -13,7 +13,7 @@ ghost use Rattle.cx_asm_pass2.specs.SecondFaults.{bases_after, items_fault, lite
 ghost use Rattle.cx_asm_pass2.specs.Statements.{operation_of, placed_items};
 ghost use Rattle.cx_asm_pass2.specs.Whole.{instruction_context, pool_of, whole_by};
 ghost use Rattle.cx_asm.specs.Laws.SectionLines.{IsWithin};
-ghost use Rattle.cx_asm.specs.Parts.Kept.{Fits, kept};
+ghost use Rattle.cx_asm.specs.Parts.Kept.{FitsSection, kept};
 ghost use Rattle.cx_asm.specs.Parts.Passing.{WithUsing};
 ghost use Rattle.cx_asm.specs.Resolving.{instruction_standing, items_standing, last_pool, pool_standing, role_standing, standing_from, statement_standing};
 
@@ -54,7 +54,7 @@ impl SecondPass<'_, '_, '_> {
     ) -> Result<Option<FaultKind>, AllocError>
         requires { let whole = whole_by self.now.places.now in
             let stands = instruction_standing whole bases.now statement.now operation in
-            Fits self.now.keeps standing.old stands }
+            FitsSection self.now.keeps standing.old stands }
         ensures standing { let whole = whole_by self.now.places.now in
             let stands = instruction_standing whole bases.now statement.now operation in
             OnOk result (standing.new ≡ kept self.now.keeps standing.old stands) }
@@ -81,7 +81,7 @@ impl SecondPass<'_, '_, '_> {
     ) -> Result<Option<FaultKind>, AllocError>
         requires { let whole = whole_by self.now.places.now in
             let stands = items_standing whole is_ds statement.now (placed_items statement.now) in
-            Fits self.now.keeps standing.old stands }
+            FitsSection self.now.keeps standing.old stands }
         ensures standing { let whole = whole_by self.now.places.now in
             let stands = items_standing whole is_ds statement.now (placed_items statement.now) in
             OnOk result (standing.new ≡ kept self.now.keeps standing.old stands) }
@@ -101,7 +101,7 @@ impl SecondPass<'_, '_, '_> {
     ) -> Result<(), AllocError>
         requires { let whole = whole_by self.now.places.now in
             let stands = pool_standing whole self.now.statements.now (pool_of whole statement.now) in
-            Fits self.now.keeps standing.old stands }
+            FitsSection self.now.keeps standing.old stands }
         ensures { let whole = whole_by self.now.places.now in
             let stands = pool_standing whole self.now.statements.now (pool_of whole statement.now) in
             OnOk result (standing.new ≡ kept self.now.keeps standing.old stands) }
@@ -127,7 +127,7 @@ impl SecondPass<'_, '_, '_> {
 
     /// Appends what a directive makes, if it is kept. Its fault is answered, if it has one, except that of USING or
     /// DROP.
-    #[tactic(auto, using(crate::proofs::JoinLemmas::kept_nothing, crate::proofs::FaultLemmas::lower_nothing), unfolding(cx_asm_operands::specs::Directives::bases_in))]
+    #[tactic(auto, using(crate::proofs::JoinLemmas::kept_nothing, cx_asm_expressions::specs::Facts::Faults::lower_nothing), unfolding(cx_asm_operands::specs::Directives::bases_in))]
     fn pass_directive(
         &self,
         statement: &Statement<'_>,
@@ -136,7 +136,7 @@ impl SecondPass<'_, '_, '_> {
     ) -> Result<Option<FaultKind>, AllocError>
         requires { let pass = self.now in let role = directive_role directive in
             let stands = role_standing (whole_by pass.places.now) pass.statements.now none_in_use statement.now role in
-            Fits pass.keeps standing.old stands }
+            FitsSection pass.keeps standing.old stands }
         ensures standing { let pass = self.now in let role = directive_role directive in
             let stands = role_standing (whole_by pass.places.now) pass.statements.now none_in_use statement.now role in
             OnOk result (standing.new ≡ kept pass.keeps standing.old stands) }
@@ -159,7 +159,7 @@ impl SecondPass<'_, '_, '_> {
 
     /// Appends what a statement of a number, from 0, makes, if it is kept. Its fault is answered, if it has one, except
     /// that of USING or DROP.
-    #[tactic(auto, using(crate::proofs::JoinLemmas::kept_nothing, crate::proofs::RoleLemmas::by_directive, crate::proofs::FaultLemmas::lower_nothing), unfolding(cx_asm_operands::specs::Directives::bases_in))]
+    #[tactic(auto, using(crate::proofs::JoinLemmas::kept_nothing, crate::proofs::RoleLemmas::by_directive, cx_asm_expressions::specs::Facts::Faults::lower_nothing), unfolding(cx_asm_operands::specs::Directives::bases_in))]
     fn pass_operands(
         &self,
         number: usize,
@@ -169,7 +169,7 @@ impl SecondPass<'_, '_, '_> {
     ) -> Result<Option<FaultKind>, AllocError>
         requires { let pass = self.now in let role = role_in statement.now.stmt in
             let stands = role_standing (whole_by pass.places.now) pass.statements.now bases.now statement.now role in
-            Fits pass.keeps standing.old stands }
+            FitsSection pass.keeps standing.old stands }
         ensures standing { let pass = self.now in let role = role_in statement.now.stmt in
             let stands = role_standing (whole_by pass.places.now) pass.statements.now bases.now statement.now role in
             OnOk result (standing.new ≡ kept pass.keeps standing.old stands) }
@@ -201,7 +201,7 @@ impl SecondPass<'_, '_, '_> {
     ) -> Result<Option<FaultKind>, AllocError>
         requires { let pass = self.now in
             let stands = statement_standing (whole_by pass.places.now) pass.statements.now bases.now statement.now in
-            Fits pass.keeps standing.old stands }
+            FitsSection pass.keeps standing.old stands }
         ensures standing { let pass = self.now in
             let stands = statement_standing (whole_by pass.places.now) pass.statements.now bases.now statement.now in
             OnOk result (standing.new ≡ kept pass.keeps standing.old stands) }
@@ -222,7 +222,7 @@ impl SecondPass<'_, '_, '_> {
     #[tactic(auto, using(crate::proofs::JoinLemmas::kept_nothing))]
     fn push_last_pool(&self, standing: &mut Standing) -> Result<(), AllocError>
         requires { let whole = whole_by self.now.places.now in
-            Fits self.now.keeps standing.old (pool_standing whole self.now.statements.now (last_pool whole)) }
+            FitsSection self.now.keeps standing.old (pool_standing whole self.now.statements.now (last_pool whole)) }
         ensures { let whole = whole_by self.now.places.now in
             let stands = pool_standing whole self.now.statements.now (last_pool whole) in
             OnOk result (standing.new ≡ kept self.now.keeps standing.old stands) }
@@ -245,7 +245,7 @@ impl SecondPass<'_, '_, '_> {
     ) -> Result<Option<FaultKind>, AllocError>
         requires { let pass = self.now in
             let stands = statement_standing (whole_by pass.places.now) pass.statements.now bases.old statement.now in
-            Fits pass.keeps standing.old stands }
+            FitsSection pass.keeps standing.old stands }
         ensures fault { let whole = whole_by self.now.places.now in
             IfOk result (λ fault. fault ≡ second_fault whole bases.old number statement.now) }
         ensures bases { let whole = whole_by self.now.places.now in

@@ -3,14 +3,14 @@
 ghost use Rattle.std.specs.Prelude.{◌≡◌, ◌++◌, ◌∷◌, [], IfOk, OnOk};
 ghost use Rattle.std.specs.List.{repeat};
 ghost use Rattle.cx_asm.specs.Laws.SectionLines.{IsWithin, WordsApart};
-ghost use Rattle.cx_asm.specs.Parts.Kept.{Fits, kept};
+ghost use Rattle.cx_asm.specs.Parts.Kept.{FitsSection, kept};
 ghost use Rattle.cx_asm.specs.Resolving.{data_line, join_sections, line as resolved_line, empty_section, relocated_offsets, space_line, standing as section_of};
-ghost use Rattle.cx_code.specs.declared.disassembly.What.TheVariants.{Code};
+ghost use Rattle.cx_code.specs.declared.disassembly.LineContent.TheVariants.{Code};
 
 use crate::pass::SecondPass;
 use cx_asm_expressions::ConstantBytes;
 use cx_asm_image::{ResolvedLines, push_words};
-use cx_code::{Bytes, Inst, Line, What};
+use cx_code::{Bytes, Inst, Line, LineContent};
 use std::alloc::{AllocError, Global};
 use std::marker::Model;
 
@@ -91,7 +91,7 @@ impl SecondPass<'_, '_, '_> {
         standing: &mut Standing,
     ) -> Result<(), AllocError>
         requires { let words = relocated_offsets at count made.now.is_relocated in
-            Fits self.now.keeps standing.old (section_of (data_line at (repeat count made.now.bytes)) words) }
+            FitsSection self.now.keeps standing.old (section_of (data_line at (repeat count made.now.bytes)) words) }
         ensures { let words = relocated_offsets at count made.now.is_relocated in
             let stands = section_of (data_line at (repeat count made.now.bytes)) words in
             OnOk result (standing.new ≡ kept self.now.keeps standing.old stands) }
@@ -106,7 +106,7 @@ impl SecondPass<'_, '_, '_> {
         }
         standing.push(Line {
             at: at as u32,
-            what: What::Data(Bytes::from_vec(bytes)),
+            what: LineContent::Data(Bytes::from_vec(bytes)),
         })
     }
 
@@ -117,7 +117,7 @@ impl SecondPass<'_, '_, '_> {
         size: u128,
         standing: &mut Standing,
     ) -> Result<(), AllocError>
-        requires { Fits self.now.keeps standing.old (section_of (space_line at size) []) }
+        requires { FitsSection self.now.keeps standing.old (section_of (space_line at size) []) }
         ensures { let stands = section_of (space_line at size) [] in
             OnOk result (standing.new ≡ kept self.now.keeps standing.old stands) }
     {
@@ -129,7 +129,7 @@ impl SecondPass<'_, '_, '_> {
         }
         standing.push(Line {
             at: at as u32,
-            what: What::Space(size as u32),
+            what: LineContent::Space(size as u32),
         })
     }
 
@@ -140,7 +140,7 @@ impl SecondPass<'_, '_, '_> {
         inst: Inst,
         standing: &mut Standing,
     ) -> Result<(), AllocError>
-        requires { Fits self.now.keeps standing.old (section_of (resolved_line at (Code inst) ∷ []) []) }
+        requires { FitsSection self.now.keeps standing.old (section_of (resolved_line at (Code inst) ∷ []) []) }
         ensures { let stands = section_of (resolved_line at (Code inst) ∷ []) [] in
             OnOk result (standing.new ≡ kept self.now.keeps standing.old stands) }
     {
@@ -149,7 +149,7 @@ impl SecondPass<'_, '_, '_> {
         }
         standing.push(Line {
             at: at as u32,
-            what: What::Code(inst),
+            what: LineContent::Code(inst),
         })
     }
 }

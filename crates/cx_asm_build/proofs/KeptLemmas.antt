@@ -2,7 +2,7 @@
 use Rattle.std.proofs.Common.{◌≡◌, ◌≤◌, ℕ, zero, suc, ◌+◌, Bool, true, false, cond, List, [], ◌∷◌, length, map, take, Option, Some, None, refl, sym, ap, ◌∙◌, arith}
 use Rattle.std.specs.Prelude.{nat_lt, ◌||◌, Err, Ok, Result}
 use Rattle.std.specs.Option.{option_map_or, option_or}
-use Rattle.cx_source.specs.Faults.{fault_of, source_from, source_in}
+use Rattle.cx_source.specs.Faults.{source_fault, source_from, source_in}
 use Rattle.cx_source.specs.Facts.AllFaults.{first_fault, source_is}
 use Rattle.cx_source.specs.Lines.{text_of}
 use Rattle.cx_source.specs.Statements.{is_continued, is_last, up_to_end}
@@ -32,15 +32,15 @@ first_is : (b : Bool) (one other : Option SourceFault) → b ≡ true → cond b
 first_is true one other e = refl
 first_is false one other e = cc
 
-past : (continues : Bool) (n : ℕ) (line : List ℕ) → n ≡ 10001 → fault_of continues n line ≡ Some (TooLong n)
-unfolding fault_of
+past : (continues : Bool) (n : ℕ) (line : List ℕ) → n ≡ 10001 → source_fault continues n line ≡ Some (TooLong n)
+unfolding source_fault
 past continues n line e =
     let late : nat_lt 10000 n ≡ true = ap (nat_lt 10000) e in
     first_is _ _ _ (or_true (nat_lt 80 (length line)) (nat_lt 10000 n) late)
 
 -- one line more
 longer : (continues : Bool) (n : ℕ) (line : List ℕ) (some all : List (List ℕ)) (fault : Option SourceFault) (last : Bool)
-    → fault_of continues n line ≡ fault → is_last continues (text_of line) ≡ last
+    → source_fault continues n line ≡ fault → is_last continues (text_of line) ≡ last
     → (fault ≡ None → Same (is_continued continues (text_of line)) (n + 1) some all) → Same continues n (line ∷ some) (line ∷ all)
 longer continues n line some all (Some fault) last f l h = (
   ap (λ o. option_or o (cond (is_last continues (text_of line)) None (first_fault (is_continued continues (text_of line)) (n + 1) some))) f
@@ -48,8 +48,8 @@ longer continues n line some all (Some fault) last f l h = (
   λ e. let no : Some fault ≡ None = sym (ap (λ o. option_or o (cond (is_last continues (text_of line)) None (first_fault (is_continued continues (text_of line)) (n + 1) all))) f) ∙ e in absurd (cc),
 )
 longer continues n line some all None true f l h = (
-  ap (λ b. option_or (fault_of continues n line) (cond b None (first_fault (is_continued continues (text_of line)) (n + 1) some))) l
-      ∙ sym (ap (λ b. option_or (fault_of continues n line) (cond b None (first_fault (is_continued continues (text_of line)) (n + 1) all))) l),
+  ap (λ b. option_or (source_fault continues n line) (cond b None (first_fault (is_continued continues (text_of line)) (n + 1) some))) l
+      ∙ sym (ap (λ b. option_or (source_fault continues n line) (cond b None (first_fault (is_continued continues (text_of line)) (n + 1) all))) l),
   λ e. ap (λ b. text_of line ∷ cond b [] (texts_up_to_end (is_continued continues (text_of line)) some)) l
       ∙ sym (ap (λ b. text_of line ∷ cond b [] (texts_up_to_end (is_continued continues (text_of line)) all)) l),
 )
@@ -58,7 +58,7 @@ longer continues n line some all None false f l h =
     let here : first_fault continues n (line ∷ all) ≡ first_fault (is_continued continues (text_of line)) (n + 1) all =
     ap (λ o. option_or o (cond (is_last continues (text_of line)) None (first_fault (is_continued continues (text_of line)) (n + 1) all))) f
     ∙ ap (λ b. cond b None (first_fault (is_continued continues (text_of line)) (n + 1) all)) l in (
-      ap (λ next. option_or (fault_of continues n line) (cond (is_last continues (text_of line)) None next)) rest.0,
+      ap (λ next. option_or (source_fault continues n line) (cond (is_last continues (text_of line)) None next)) rest.0,
       λ e. ap (λ b. text_of line ∷ cond b [] (texts_up_to_end (is_continued continues (text_of line)) some)) l
           ∙ ap (λ texts. text_of line ∷ texts) (rest.1 (sym here ∙ e))
           ∙ sym (ap (λ b. text_of line ∷ cond b [] (texts_up_to_end (is_continued continues (text_of line)) all)) l),
@@ -68,10 +68,10 @@ same : (k : ℕ) (continues : Bool) (n : ℕ) (all : List (List ℕ)) → n + k 
 same zero continues n all e h = absurd (omega (arith, e, h))
 same (suc k) continues n [] e h = (refl, λ f. refl)
 same (suc k) continues n (line ∷ rest) e h =
-    longer continues n line (take k rest) rest (fault_of continues n line) (is_last continues (text_of line)) refl refl
+    longer continues n line (take k rest) rest (source_fault continues n line) (is_last continues (text_of line)) refl refl
     (λ f. same k (is_continued continues (text_of line)) (n + 1) rest (omega (arith, e)) (early k n e h f))
   where
-    early : (k n : ℕ) → n + suc k ≡ 10002 → n ≤ 10001 → fault_of continues n line ≡ None → n + 1 ≤ 10001
+    early : (k n : ℕ) → n + suc k ≡ 10002 → n ≤ 10001 → source_fault continues n line ≡ None → n + 1 ≤ 10001
     early zero n e h f = let last : n ≡ 10001 = omega (arith, e) in let no : Some (TooLong n) ≡ None = sym (past continues n line last) ∙ f in absurd (cc)
     early (suc k) n e h f = omega (arith, e)
 

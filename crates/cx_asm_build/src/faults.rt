@@ -11,26 +11,46 @@ use std::fmt::{Display, Formatter, Write};
 use thiserror::Error;
 
 /// What may be wrong with a source: with its lines, with its EXEC statements, or with what the assembler reads.
+/// `SourceFault`, `TransFault` and `AsmFault` say of each when it comes.
 #[derive(Clone, Copy, Debug, PartialEq, Eq, Error)]
 pub enum SourceKind {
+    /// A line has a character without an EBCDIC code in columns 1 to 72.
     BadCharacter,
+    /// What begins in column 1 is no name.
     BadName,
+    /// A line that continues a statement isn't blank in columns 1 to 15.
     BadContinuation,
+    /// A line has more than 80 columns, or comes after the 10,000th.
     TooLong,
+    /// There is no END.
     NoEnd,
+    /// The words after EXEC aren't CICS and a command.
     UnknownCommand,
+    /// A word of an EXEC statement is no option of its command, and no condition that it lists.
     UnknownOption,
+    /// A command lacks an option that it can't be without, or lists no condition.
     MissingOption,
+    /// An option or a condition occurs twice, or options that exclude each other are given together.
     Conflict,
+    /// A command lists more than 16 conditions.
     TooManyConditions,
+    /// An argument of an EXEC statement is missing, or isn't as its word asks.
     BadArgument,
+    /// The operation isn't in the table of operations.
     UnknownOperation,
+    /// A symbol is used that no statement defines.
     UndefinedSymbol,
+    /// A symbol is defined that is defined already.
     DuplicateSymbol,
+    /// No base register in use reaches an address.
     NoAddressability,
+    /// An operand can't be read, or a statement stands where it isn't allowed.
     BadOperand,
+    /// A value, a length or a number of copies is outside its limits.
     ValueOutOfRange,
+    /// A value is neither absolute nor a place in one section, or no place in the section that it should be in.
     NotRelocatable,
+    /// The control section has more than 65,536 bytes.
     TooLarge,
 }
 
@@ -74,7 +94,7 @@ impl Display for SourceKind {
 /// Why a source gives no program.
 #[derive(Clone, Copy, Debug, PartialEq, Eq)]
 pub enum PrepareFault {
-    /// The line of the source with this number, counted from 1, is at fault; of NoEnd it is the one after the last.
+    /// The line of the source with this number, counted from 1, has this fault; of NoEnd it is the one after the last.
     At(usize, SourceKind),
     /// An allocation failed.
     Memory,

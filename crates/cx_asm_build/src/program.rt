@@ -3,7 +3,7 @@
 ghost use Rattle.std.specs.Prelude.{◌≡◌, ◌++◌, ◌∷◌, [], IfOk, OnOk, codes, flat_map, fold, map};
 ghost use Rattle.cx_asm.specs.Assembly.{assembly_of};
 ghost use Rattle.cx_code.specs.Text.{line_text};
-ghost use Rattle.cx_source.specs.Reader.{at_start, take_line};
+ghost use Rattle.cx_source.specs.Reader.{reading_at_start, take_line};
 ghost use Rattle.cx_translate.specs.Translation.{translation_of};
 ghost use Rattle.cx_asm_build.specs.Prepared.{Prepares, by_assembly, by_translation, prepared_of, output_lines};
 
@@ -14,12 +14,13 @@ use cx_source::{Source, SourceFault, SourceReader, Text};
 use cx_translate::translate;
 use std::alloc::{AllocError, Global};
 
-/// A program as its source gives it.
+/// A program that a source was made into, and what is written of it.
 #[derive(Debug, Drop)]
 pub struct Prepared {
-    /// What is written of it.
+    /// What is written of it: the listing and then the disassembly, where they are asked for, each line ended by LF;
+    /// empty where neither is.
     pub text: Bytes,
-    /// Its image.
+    /// Its image, which the loader takes.
     pub image: Image,
 }
 
@@ -128,7 +129,7 @@ fn feed(reader: &mut SourceReader, line: &[u8]) -> Result<(), AllocError>
 
 /// A reader that was fed these lines.
 fn fed(alloc: Global, lines: &[Text]) -> Result<SourceReader, AllocError>
-    ensures { IfOk result (λ reader. reader ≡ fold take_line at_start lines.now) }
+    ensures { IfOk result (λ reader. reader ≡ fold take_line reading_at_start lines.now) }
 {
     let mut reader = SourceReader::new(alloc);
     for line in lines {

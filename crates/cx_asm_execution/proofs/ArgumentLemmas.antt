@@ -9,10 +9,10 @@ use Rattle.cx_exec.specs.Machine.{effective, address_part}
 use Rattle.cx_asm_expressions.specs.declared.faults.FaultKind.{FaultKind}
 use Rattle.cx_asm_expressions.specs.declared.faults.FaultKind.TheVariants.{BadOperand, NoAddressability, ValueOutOfRange}
 use Rattle.cx_asm_expressions.specs.declared.values.Value.{Value}
-use Rattle.cx_asm_operands.specs.Addresses.{address, address_in as addressed_in, number_within, implied_address, nearest_address}
+use Rattle.cx_asm_operands.specs.Addresses.{address, address_by_bases as addressed_in, number_within, implied_address, nearest_address}
 use Rattle.cx_asm_operands.specs.Bases.{Bases}
 use Rattle.cx_asm_operands.specs.Context.{Context, number_at_most, register_in}
-use Rattle.cx_asm_operands.specs.Checking.{both_or_lower_fault, then_check, made_of}
+use Rattle.cx_asm_operands.specs.Checking.{both_or_lower_fault, then_check, with_made}
 use Rattle.cx_asm_operands.specs.Laws.AddressLaws.{Holds, IsNearest}
 use Rattle.cx_asm_operands.specs.Storage.{Operand, too_many_subfields, explicit_address, index_in, indexed_by, indexed_in, operand_in}
 use Rattle.cx_asm_operands.specs.declared.addresses.Address.{Address}
@@ -34,7 +34,7 @@ pub judged_ok : {A B : Type 0} (judge : A → Result B FaultKind) (of : Result A
 judged_ok judge (Ok value) b e = (value, refl, e)
 judged_ok judge (Err fault) b e = absurd (cc)
 
-pub made_ok : {A B : Type 0} (make : A → B) (of : Result A FaultKind) (b : B) → made_of make of ≡ Ok b → (a : A) × (of ≡ Ok a) × (make a ≡ b)
+pub made_ok : {A B : Type 0} (make : A → B) (of : Result A FaultKind) (b : B) → with_made make of ≡ Ok b → (a : A) × (of ≡ Ok a) × (make a ≡ b)
 made_ok make (Ok value) b e = (value, refl, cc)
 made_ok make (Err fault) b e = absurd (cc)
 

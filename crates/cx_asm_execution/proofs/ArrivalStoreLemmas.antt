@@ -11,7 +11,7 @@ use Rattle.cx_code.specs.declared.instruction.Fields.TheVariants.{Rx}
 use Rattle.cx_code.specs.Spelling.{Instruction, instruction}
 use Rattle.cx_exec.specs.Machine.{Machine, effective, address_part}
 use Rattle.cx_exec.specs.Advance.{Passes}
-use Rattle.cx_asm_execution.specs.Expansion.{ImpliedAddress, Argument, stores, address_reached, argument_address}
+use Rattle.cx_asm_execution.specs.Expansion.{ImpliedAddress, Argument, store_instructions, address_reached, argument_address}
 use Rattle.std.specs.List.{AllByRecursion, enumerate_from}
 use Rattle.cx_asm_execution.specs.Stands.{IsWord, list_length}
 use Rattle.cx_asm_execution.proofs.Ready.{Known, Ready}
@@ -56,7 +56,7 @@ abbrev OneGoes : List ℕ → ℕ → ℕ → Argument → List Instruction → 
 OneGoes first list k a rest m = (after : Machine) × Ready list rest after × StoredOne first list k (argument_address first a) m after
 
 store_one : Known → (first : List ℕ) (list k : ℕ) (a : Argument) (rest : List Instruction) (m : Machine) → list < 2 ^ 24 → 4 * k + 4 ≤ list_length → Same first m.regs
-    → IsWord first list k a.word → Ready list (stores (a ∷ []) ++ rest) m → OneGoes first list k a rest m
+    → IsWord first list k a.word → Ready list (store_instructions (a ∷ []) ++ rest) m → OneGoes first list k a rest m
 unfolding Passes
 store_one known first list k a rest m ll room same word ready =
     let v = argument_address first a in
@@ -128,7 +128,7 @@ abbrev AllGo : List ℕ → ℕ → ℕ → List Argument → List Instruction �
 AllGo first list k arguments rest m = (after : Machine) × Ready list rest after × Stored first list k arguments m after
 
 pub store_all : Known → (first : List ℕ) (list k : ℕ) (arguments : List Argument) (rest : List Instruction) (m : Machine) → list < 2 ^ 24 → 4 * (k + length arguments) ≤ list_length
-    → Same first m.regs → HaveWords first list k arguments → Ready list (stores arguments ++ rest) m → AllGo first list k arguments rest m
+    → Same first m.regs → HaveWords first list k arguments → Ready list (store_instructions arguments ++ rest) m → AllGo first list k arguments rest m
 unfolding Passes
 store_all known first list k [] rest m ll room same words ready =
     let inside = ready.machine.next in (
@@ -143,6 +143,6 @@ store_all known first list k [] rest m ll room same words ready =
       },
     )
 store_all known first list k (a ∷ arguments) rest m ll room same words ready =
-    let one = store_one known first list k a (stores arguments ++ rest) m ll (omega arith) same words.0 ready in
+    let one = store_one known first list k a (store_instructions arguments ++ rest) m ll (omega arith) same words.0 ready in
     let more = store_all known first list (k + 1) arguments rest one.0 ll (omega arith) one.2.same words.1 one.1 in
     (more.0, more.1, stored_more known first list k a arguments m one.0 more.0 ll (omega arith) ready.machine.next one.2 more.2)

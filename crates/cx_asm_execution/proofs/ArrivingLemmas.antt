@@ -4,8 +4,8 @@ use Rattle.std.proofs.Common.{zero, suc, ◌≡◌, ◌≤◌, ◌<◌, ℕ, ◌
 use Rattle.std.proofs.lemmas.List.{append_assoc, map-append, reverse-append, reverse-reverse}
 use Rattle.cx_asm_execution.specs.Arrives.{Arrives}
 use Rattle.cx_asm_execution.specs.Laws.Entry.{MadeAreCounted, ReachesEntry}
-use Rattle.cx_asm_execution.specs.Expansion.{Argument, Statement, block_bytes as statement_bytes, instructions_made as made_code, address_reached, words_of}
-use Rattle.cx_asm_execution.specs.Stands.{AreAt, IsAddressed, IsClear, Stands, code_length}
+use Rattle.cx_asm_execution.specs.Expansion.{Argument, Statement, resolved_block_bytes as statement_bytes, instructions_made as made_code, address_reached, words_of_list}
+use Rattle.cx_asm_execution.specs.Stands.{AreAt, IsListAddressed, IsClear, StandsInStorage, code_length}
 use Rattle.cx_base.specs.declared.commands.Command.{Command}
 use Rattle.cx_exec.specs.Machine.{Machine}
 use Rattle.cx_exec.specs.Step.{entry}
@@ -40,7 +40,7 @@ use Rattle.cx_asm_operands.specs.Forms.{instruction_or_fault}
 use Rattle.cx_asm_pass1.specs.PassState.{place_in}
 use Rattle.cx_asm_execution.specs.Arguments.{IsAddressed as IsAddressedBy, Sections}
 use Rattle.cx_asm_execution.specs.Arrival.{AreKept, CommandsArrive, IsReady}
-use Rattle.cx_asm_execution.specs.MadeLines.{AreResolved, IsMade, IsResolved, Site, bases_of, lines_after, call_of, code_lines, context_in, site_of}
+use Rattle.cx_asm_execution.specs.MadeLines.{AreResolved, IsMade, IsResolved, Site, bases_of, lines_after, statements_of_call, code_lines, context_in, site_of}
 use Rattle.cx_asm_execution.proofs.Arguments.{OperandsAddress}
 use Rattle.cx_asm_execution.proofs.Called.{call_statements}
 use Rattle.cx_asm_execution.proofs.Calls.{mark_of}
@@ -121,8 +121,8 @@ module _ (laws : Laws) (translated : Source) (assembly : AssemblyParts) (line : 
   block_resolves : ResolvesTo (whole_of translated) (bases_in_use translated first) line (reverse first) (load_of (block_of command words)) (block_of command words) 0 s.block.base s.block.displacement
   unfolding AreArguments
   block_resolves =
-      let all : AreArguments (whole_of translated) (bases_in_use translated first) line (reverse first) 0 (block_of command words ∷ rest_of command words) (words_of s) =
-      subst (λ k. AreArguments (whole_of translated) (bases_in_use translated first) line (reverse first) 0 k (words_of s)) (list_begins command words) case.statement.arguments in
+      let all : AreArguments (whole_of translated) (bases_in_use translated first) line (reverse first) 0 (block_of command words ∷ rest_of command words) (words_of_list s) =
+      subst (λ k. AreArguments (whole_of translated) (bases_in_use translated first) line (reverse first) 0 k (words_of_list s)) (list_begins command words) case.statement.arguments in
       all.0
 
   block_stands : StandsInSection translated assembly (context_of (whole_of translated) (bases_in_use translated first) line (reverse first) (load_of (block_of command words)))
@@ -211,7 +211,7 @@ module _ (laws : Laws) (translated : Source) (assembly : AssemblyParts) (line : 
         subst (λ n. AreAt m.storage n (made_code s)) (sym ready.next)
         (code_kept laws.spans loaded m.storage at (made_code s) (omega arith) kept (subst (AreAt loaded at) case.made all))
 
-    stands : Stands m s
+    stands : StandsInStorage m s
     stands =
         let bytes = same_bytes (whole_of translated) (bases_in_use translated first) line (reverse first) command words s case.statement in
         let block = literal_kept laws translated assembly (context_of (whole_of translated) (bases_in_use translated first) line (reverse first) (load_of (block_of command words)))
@@ -238,14 +238,14 @@ module _ (laws : Laws) (translated : Source) (assembly : AssemblyParts) (line : 
         lies_at list_context knows.section knows.offset 0 (address s.list.base s.list.displacement) sections m.regs
         ((laws.list list_context knows.section knows.offset knows.is).indexed 0 (address s.list.base s.list.displacement) case.statement.list).1 list_base
 
-    counts : (length (list_of command words) ≡ length (words_of s)) × (length (words_of s) ≤ 18)
+    counts : (length (list_of command words) ≡ length (words_of_list s)) × (length (words_of_list s) ≤ 18)
     counts = same_words laws.accepts (whole_of translated) (bases_in_use translated first) line (reverse first) command case.cics case.named words s case.accepted case.statement
 
-    words_reached : HaveWords m.regs (address_reached m.regs s.list) 0 (words_of s)
+    words_reached : HaveWords m.regs (address_reached m.regs s.list) 0 (words_of_list s)
     unfolding list_context
     words_reached =
-        subst (λ n. HaveWords m.regs n 0 (words_of s)) (sym list_reached)
-        (have_words laws.words sections m.regs (whole_of translated) (bases_in_use translated first) line (reverse first) 0 (list_of command words) (words_of s) knows.section knows.offset knows.is
+        subst (λ n. HaveWords m.regs n 0 (words_of_list s)) (sym list_reached)
+        (have_words laws.words sections m.regs (whole_of translated) (bases_in_use translated first) line (reverse first) 0 (list_of command words) (words_of_list s) knows.section knows.offset knows.is
         (let same = counts.0 in let most = counts.1 in omega (arith, same, most)) case.statement.arguments ready.bases.1.1.1.1)
 
     last_context : Context
@@ -266,7 +266,7 @@ module _ (laws : Laws) (translated : Source) (assembly : AssemblyParts) (line : 
         again : (p n : ℕ) → address_after p (4 * n) ≡ address_after (address_after p 0) (4 * n)
         again p n = omega arith
 
-    addressed : IsAddressed m s
+    addressed : IsListAddressed m s
     addressed =
         record {
           block = block_base.0;
@@ -426,16 +426,16 @@ commands_arrive laws returns make source translated assembly item exec translate
           first = called.first;
           second = called.second;
           conditions = called.conditions;
-          resolved = are_resolved site (reverse first) all.code.at (call_of site) (made_code s) (subst (AreResolvedLines whole bases (reverse first) all.code.at two) all.called.made all.here);
+          resolved = are_resolved site (reverse first) all.code.at (statements_of_call site) (made_code s) (subst (AreResolvedLines whole bases (reverse first) all.code.at two) all.called.made all.here);
         };
         loads = all.loads;
-        loaded = are_resolved site (lines_after site (call_of site)) (all.code.at + code_length (made_code s)) (pointer_loads command words) all.loads
-            (subst (λ n. AreResolvedLines whole bases (lines_after site (call_of site)) (all.code.at + n) loads all.loads) counted all.loaded);
+        loaded = are_resolved site (lines_after site (statements_of_call site)) (all.code.at + code_length (made_code s)) (pointer_loads command words) all.loads
+            (subst (λ n. AreResolvedLines whole bases (lines_after site (statements_of_call site)) (all.code.at + n) loads all.loads) counted all.loaded);
         front = all.code.front;
         back = all.code.back;
         stand = all.code.stand ∙ ap (λ k. all.code.front ++ code_lines all.code.at k ++ all.code.back) (all.split ∙ ap (λ k. k ++ all.loads) all.called.made);
         named = named_so translated exec.name line made.before (loads ++ made.after) command words assembly.section.resolved split (accepted translated assembly accepts).first code;
-        places = λ sections regs. each_addressed laws.addresses sections regs whole bases line (reverse first) 0 (list_of command words) (words_of s) called.arguments;
+        places = λ sections regs. each_addressed laws.addresses sections regs whole bases line (reverse first) 0 (list_of command words) (words_of_list s) called.arguments;
         arrives = λ storage loaded program sections m fit done ready.
             arrives_so laws translated assembly line first command words s case storage loaded program sections m fit done ready;
         returns = λ earlier register pointer cut. comes_back returns translated assembly line first command words accepts all earlier register pointer cut counted;

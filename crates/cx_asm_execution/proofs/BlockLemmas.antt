@@ -7,7 +7,7 @@ use Rattle.std.specs.List.{list_any, position, position_from}
 use Rattle.std.proofs.lemmas.Bool.{cases_Bool}
 use Rattle.std.proofs.lemmas.Iterator.Adapters.{position_from-zero}
 use Rattle.std.proofs.lemmas.List.{append_assoc, reverse-append}
-use Rattle.cx_code.specs.Table.{ops, row_of}
+use Rattle.cx_code.specs.Table.{ops, operation_row}
 use Rattle.cx_base.specs.declared.eib.EibField.{EibField}
 use Rattle.cx_base.specs.declared.eib.EibField.TheVariants.{Time, Date, Trnid, Taskn, Trmid, Calen, Aid, Fn, Rcode, Rsrce, Resp}
 use Rattle.cx_base.specs.declared.eib.EibPiece.{EibPiece}
@@ -16,8 +16,8 @@ use Rattle.cx_ebcdic.specs.Facts.Names.{is_name-decides, is_name-laws}
 use Rattle.cx_ebcdic.specs.Characters.{code_of, table}
 use Rattle.cx_ebcdic.specs.Names.{padded_name, name_code, is_name_character}
 use Rattle.cx_asm_operations.specs.Operations.{branches, directives, operation_named, operations, register_branches}
-use Rattle.cx_source.specs.Lines.{is_name, is_letter}
-use Rattle.cx_source.specs.Lines.{is_name_character as is_written_in_names}
+use Rattle.cx_source.specs.Lines.{is_symbol_name, is_letter}
+use Rattle.cx_source.specs.Lines.{is_symbol_name_character as is_written_in_names}
 use Rattle.cx_source.specs.Marks.{parts, within_after}
 use Rattle.cx_source.specs.declared.marks.Delimiter.TheVariants.{TopComma}
 use Rattle.cx_source.specs.declared.source.Item.{Item}
@@ -42,7 +42,7 @@ use Rattle.cx_asm_pass1.specs.Given.{duplicate}
 use Rattle.cx_asm_pass1.specs.PassState.{PassState, next_state, after_line, definitions_in, state_after, extent_in, length_of_section, parts_in, role_in}
 use Rattle.cx_asm_pass1.specs.Layout.{fault_beyond, extent_of, extent_at}
 use Rattle.cx_asm_pass1.specs.declared.roles.Role.TheVariants.{Storage, Dummy}
-use Rattle.cx_translate.specs.Facts.Found.{eib_before, eib_section, line_of}
+use Rattle.cx_translate.specs.Facts.Found.{eib_before, eib_section, listed_line}
 use Rattle.cx_asm_execution.specs.FieldLayouts.{EibIsLaidOut, LaysOut}
 
 -- ---- what is to be shown
@@ -60,11 +60,11 @@ HasBlock items = LaysOut (codes "DFHEIBLK") (map field eib_pieces) eib_field (λ
 
 -- ---- texts
 pub role_ds : (name operand : List ℕ) → role_in (stmt name (codes "DS") operand) ≡ Storage true
-unfolding operation_named operations ops row_of branches register_branches directives
+unfolding operation_named operations ops operation_row branches register_branches directives
 role_ds name operand = refl
 
 pub role_dsect : (name operand : List ℕ) → role_in (stmt name (codes "DSECT") operand) ≡ Dummy
-unfolding operation_named operations ops row_of branches register_branches directives
+unfolding operation_named operations ops operation_row branches register_branches directives
 role_dsect name operand = refl
 
 -- n bytes, as hexadecimal digits would give them
@@ -109,7 +109,7 @@ pub record Named (text : List ℕ) : Type 0 where
   pub is : symbol_name text ≡ Some name
 
 field_named : (f : EibField) → Named (eib_field f).name
-unfolding symbol_name padded_name is_name is_letter name_code is_name_character code_of table is_written_in_names
+unfolding symbol_name padded_name is_symbol_name is_letter name_code is_name_character code_of table is_written_in_names
 field_named Time = record { name = _; is = refl }
 field_named Date = record { name = _; is = refl }
 field_named Trnid = record { name = _; is = refl }
@@ -123,7 +123,7 @@ field_named Rsrce = record { name = _; is = refl }
 field_named Resp = record { name = _; is = refl }
 
 block_named : Named (codes "DFHEIBLK")
-unfolding symbol_name padded_name is_name is_letter name_code is_name_character code_of table is_written_in_names
+unfolding symbol_name padded_name is_symbol_name is_letter name_code is_name_character code_of table is_written_in_names
 block_named = record { name = _; is = refl }
 
 -- ---- a field
@@ -347,7 +347,7 @@ put_there xs e = go (position is_end xs) refl e
   where
     go : (place : Option ℕ) → position is_end xs ≡ place → list_any is_end (eib_before place xs) ≡ true → HasBlock (eib_before place xs)
     go None none e = (let no = none_found xs none in absurd (cc))
-    go (Some place) found e = has_block (take place xs) (drop place xs) (line_of (slice_get xs place))
+    go (Some place) found e = has_block (take place xs) (drop place xs) (listed_line (slice_get xs place))
 
 pub eib_laid_out : EibIsLaidOut
 unfolding translation

@@ -1,7 +1,7 @@
 -- The last four instructions: the mark, the list's address, the entry's address, and the call.
 use Rattle.std.proofs.Common.{◌≡◌, ◌≢◌, ℕ, ◌+◌, ◌*◌, ◌^◌, ◌<◌, ◌≤◌, List, [], ◌∷◌, length, Some, slice_index, refl, ◌∙◌, ap, arith, inr}
 use Rattle.std.proofs.lemmas.List.{get_or-set_same, get_or-set_other, length-set}
-use Rattle.cx_storage.specs.Storage.{after_write, IsSound}
+use Rattle.cx_storage.specs.Storage.{after_write, IsSoundStorage}
 use Rattle.cx_storage.specs.Address.{address_in, address_after}
 use Rattle.cx_storage.specs.Word.{word_at}
 use Rattle.cx_code.specs.declared.table.Op.TheVariants as op
@@ -27,7 +27,7 @@ pub record Called (s : Statement) (first : List ℕ) (list : ℕ) (m after : Mac
   pub kept : (r : ℕ) → r ≢ 0 → r ≢ 1 → r ≢ 14 → r ≢ 15 → slice_index after.regs r ≡ slice_index first r
   pub link : address_in (slice_index after.regs 14) ≡ address_after m.next 14
   pub storage : after.storage ≡ after_write m.storage (address_after list (4 * length s.arguments)) (0x80 ∷ [])
-  pub sound : IsSound after.storage
+  pub sound : IsSoundStorage after.storage
 
 abbrev CallGoes : Statement → List ℕ → ℕ → Machine → Type 0
 CallGoes s first list m = (after : Machine) × Called s first list m after

@@ -5,9 +5,9 @@ use Rattle.cx_code.specs.declared.table.Op.TheVariants as op
 use Rattle.cx_code.specs.declared.instruction.Fields.{Fields}
 use Rattle.cx_code.specs.declared.instruction.Fields.TheVariants.{Si}
 use Rattle.cx_code.specs.Spelling.{Instruction, instruction}
-use Rattle.cx_code.specs.Table.{is_shift, length_of, ops, row_of}
-use Rattle.cx_source.specs.Lines.{is_letter, is_name}
-use Rattle.cx_source.specs.Marks.{depth_after, is_length_attribute, parts_from, within_after}
+use Rattle.cx_code.specs.Table.{is_shift, length_of, ops, operation_row}
+use Rattle.cx_source.specs.Lines.{is_letter, is_symbol_name}
+use Rattle.cx_source.specs.Marks.{scan_depth_after, is_length_attribute, parts_from, within_after}
 use Rattle.cx_source.specs.declared.marks.Delimiter.TheVariants.{TopComma}
 use Rattle.cx_source.specs.declared.source.Item.{Item}
 use Rattle.cx_asm_expressions.specs.declared.faults.FaultKind.{FaultKind}
@@ -20,7 +20,7 @@ use Rattle.cx_translate.specs.Expansion.{made_item}
 use Rattle.cx_asm_operations.specs.Operations.{operation_named, operations}
 use Rattle.cx_asm_operations.specs.declared.operations.Operation.TheVariants as operation
 use Rattle.cx_asm_operands.specs.Bases.{Bases}
-use Rattle.cx_asm_operands.specs.Context.{Context, number_in}
+use Rattle.cx_asm_operands.specs.Context.{Context, operand_number}
 use Rattle.cx_asm_operands.specs.Forms.{fields_in, form_of_op, operands_of, instruction_or_fault}
 use Rattle.cx_asm_operands.specs.Checking.{both_or_lower_fault}
 use Rattle.cx_asm_operands.specs.Storage.{plain_in}
@@ -35,27 +35,27 @@ use Rattle.cx_asm_execution.proofs.ArgumentLemmas.{both_ok, made_ok}
 use Rattle.cx_asm_laws.specs.Facts.Plain.{ArePlain, decimal_plain, plain_cut}
 
 -- ---- the two operands
-byte_is : (c : Context) → number_in 255 c (codes "X'80'") ≡ Ok 128
-unfolding number_in value_of terms_of within_after is_length_attribute read_term is_name is_letter digit term_value sum_of_values relocation
+byte_is : (c : Context) → operand_number 255 c (codes "X'80'") ≡ Ok 128
+unfolding operand_number value_of terms_of within_after is_length_attribute read_term is_symbol_name is_letter digit term_value sum_of_values relocation
 byte_is c = refl
 
 after_comma : (before last : ℕ) (part : List ℕ) → parts_from TopComma (record { within = false; depth = 0; before = before; last = last }) part (codes ",X'80'") ≡ part ∷ codes "X'80'" ∷ []
-unfolding within_after depth_after is_length_attribute
+unfolding within_after scan_depth_after is_length_attribute
 after_comma before last part = refl
 
 word_cut : (text : List ℕ) → ArePlain text → operands_of (codes "DFHEIPL+" ++ text ++ codes ",X'80'") ≡ (codes "DFHEIPL+" ++ text) ∷ codes "X'80'" ∷ []
-unfolding within_after depth_after
+unfolding within_after scan_depth_after
 word_cut text plain =
     let cut = plain_cut (record { within = false; depth = 0; before = 76; last = 43 }) (codes "DFHEIPL+") text (codes ",X'80'") plain in
     cut.is ∙ after_comma cut.before cut.last (codes "DFHEIPL+" ++ text)
 
 -- ---- the instruction
 oi_named : operation_named (codes "OI") ≡ Some (operation.Machine op.Oi)
-unfolding operation_named operations ops row_of
+unfolding operation_named operations ops operation_row
 oi_named = refl
 
 oi_immediate : form_of_op op.Oi ≡ (form.Format format.Si)
-unfolding row_of is_shift
+unfolding operation_row is_shift
 oi_immediate = refl
 
 record HasSi (c : Context) (text : List ℕ) (fields : Fields) : Type 0 where
@@ -66,8 +66,8 @@ record HasSi (c : Context) (text : List ℕ) (fields : Fields) : Type 0 where
 fields_so : (c : Context) (text : List ℕ) (fields : Fields) → fields_in (form.Format format.Si) c (text ∷ codes "X'80'" ∷ []) ≡ Ok fields → HasSi c text fields
 unfolding fields_in
 fields_so c text fields e =
-    let made = made_ok (λ (v : Address × ℕ). Si v.1 (v.0).base (v.0).displacement) (both_or_lower_fault (plain_in false c text) (number_in 255 c (codes "X'80'"))) fields e in
-    let parts = both_ok (plain_in false c text) (number_in 255 c (codes "X'80'")) (made.0).0 (made.0).1 made.1 in
+    let made = made_ok (λ (v : Address × ℕ). Si v.1 (v.0).base (v.0).displacement) (both_or_lower_fault (plain_in false c text) (operand_number 255 c (codes "X'80'"))) fields e in
+    let parts = both_ok (plain_in false c text) (operand_number 255 c (codes "X'80'")) (made.0).0 (made.0).1 made.1 in
     let same : (made.0).1 ≡ 128 = (let found : ◌≡◌ {A = Result ℕ FaultKind} (Ok 128) (Ok (made.0).1) = sym (byte_is c) ∙ parts.1 in cc) in
     record { address = (made.0).0; operand = parts.0; is = sym made.2 ∙ ap (λ k. Si k ((made.0).0).base ((made.0).0).displacement) same }
 

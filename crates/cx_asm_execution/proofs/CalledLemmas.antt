@@ -4,14 +4,14 @@ use Rattle.std.proofs.Common.{◌≡◌, ◌≤◌, ℕ, ◌+◌, ◌-◌, ◌*�
 use Rattle.std.specs.List.{AllByRecursion}
 use Rattle.std.proofs.lemmas.Bool.Decides.{nat_tests}
 use Rattle.std.proofs.lemmas.List.{append_assoc, map-append, reverse-append}
-use Rattle.cx_code.specs.Table.{length_of, ops, row_of}
+use Rattle.cx_code.specs.Table.{length_of, ops, operation_row}
 use Rattle.cx_code.specs.declared.table.Op.{Op}
 use Rattle.cx_code.specs.declared.table.Op.TheVariants as op
 use Rattle.cx_code.specs.declared.disassembly.Line.{Line}
 use Rattle.cx_code.specs.Spelling.{Instruction}
 use Rattle.cx_base.specs.declared.commands.Command.{Command}
 use Rattle.cx_ebcdic.specs.Facts.Names.{is_name-laws}
-use Rattle.cx_source.specs.Lines.{is_letter, is_name}
+use Rattle.cx_source.specs.Lines.{is_letter, is_symbol_name}
 use Rattle.cx_source.specs.Marks.{parts, within_after}
 use Rattle.cx_source.specs.declared.marks.Delimiter.TheVariants.{TopComma}
 use Rattle.cx_source.specs.declared.source.Item.{Item}
@@ -54,23 +54,23 @@ abbrev pub AreInstructions : List Item → Type 0
 AreInstructions items = AllByRecursion (λ item. is_instruction item.stmt ≡ true) items
 
 is_la : (line : ℕ) (name operand : List ℕ) → is_instruction (made_item line (stmt name (codes "LA") operand)).stmt ≡ true
-unfolding made_item operation_named operations ops row_of
+unfolding made_item operation_named operations ops operation_row
 is_la line name operand = refl
 
 is_st : (line : ℕ) (name operand : List ℕ) → is_instruction (made_item line (stmt name (codes "ST") operand)).stmt ≡ true
-unfolding made_item operation_named operations ops row_of
+unfolding made_item operation_named operations ops operation_row
 is_st line name operand = refl
 
 is_oi : (line : ℕ) (name operand : List ℕ) → is_instruction (made_item line (stmt name (codes "OI") operand)).stmt ≡ true
-unfolding made_item operation_named operations ops row_of
+unfolding made_item operation_named operations ops operation_row
 is_oi line name operand = refl
 
 pub is_l : (line : ℕ) (name operand : List ℕ) → is_instruction (made_item line (stmt name (codes "L") operand)).stmt ≡ true
-unfolding made_item operation_named operations ops row_of
+unfolding made_item operation_named operations ops operation_row
 is_l line name operand = refl
 
 is_balr : (line : ℕ) (name operand : List ℕ) → is_instruction (made_item line (stmt name (codes "BALR") operand)).stmt ≡ true
-unfolding made_item operation_named operations ops row_of
+unfolding made_item operation_named operations ops operation_row
 is_balr line name operand = refl
 
 calls_so : (line k last : ℕ) (list : List (List ℕ)) → AreInstructions (lines line (stores k list ++ call last))
@@ -89,7 +89,7 @@ abbrev ds : List ℕ → Stmt
 ds name = stmt name (codes "DS") (codes "0H")
 
 role_ds : (name operand : List ℕ) → role_in (stmt name (codes "DS") operand) ≡ role.Storage true
-unfolding operation_named operations ops row_of branches register_branches directives
+unfolding operation_named operations ops operation_row branches register_branches directives
 role_ds name operand = refl
 
 half_part : parts TopComma (codes "0H") ≡ codes "0H" ∷ []
@@ -226,7 +226,7 @@ first_of whole bases before at item items [] r = absurd r
 first_of whole bases before at item items (i ∷ code) r = record { instruction = i; resolved = r.0 }
 
 pub la_role : (operand : List ℕ) → role_in (stmt [] (codes "LA") operand) ≡ role.Instruction (length_of op.La)
-unfolding operation_named operations ops row_of
+unfolding operation_named operations ops operation_row
 la_role operand = refl
 
 pub first_offset : (whole : Whole) (bases : Bases) (before : List Item) (at line : ℕ) (s : Stmt) → HasFirst whole bases before at (made_item line s)
@@ -257,7 +257,7 @@ has_label c cs = (let some : (length (c ∷ cs) == 0) ≡ false = grind (arith, 
 pub named_so : (source : Source) (name : List ℕ) (line : ℕ) (before after : List Item) (command : Command) (words : List Word) (lines_of : List Line)
     → source.items ≡ before ++ lines line (label name) ++ lines line (call_statements command words) ++ after → (final_state source).fault ≡ None
     → (code : StandInCode source (before ++ lines line (label name)) (lines line (call_statements command words)) lines_of) → StandsFor (whole_of source) name code.at
-unfolding symbol_name is_name is_letter
+unfolding symbol_name is_symbol_name is_letter
 named_so source [] line before after command words lines_of is sound code = λ symbol named. absurd (cc)
 named_so source (c ∷ cs) line before after command words lines_of is sound code =
     λ symbol named.

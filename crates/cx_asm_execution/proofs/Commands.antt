@@ -1,7 +1,7 @@
 -- The statement that an EXEC statement's made instructions are of (Application Programmer's Reference Manual,
 -- SC33-0077, the expansion of a command; the instructions and the argument list are this product's own).
 use Rattle.std.specs.Prelude.{◌≡◌, ℕ, ◌+◌, ◌-◌, false, Ok, List, [], ◌∷◌, ◌++◌, codes, length, reverse}
-use Rattle.cx_asm_execution.specs.Expansion.{Argument, Statement, instructions_made, words_of}
+use Rattle.cx_asm_execution.specs.Expansion.{Argument, Statement, instructions_made, words_of_list}
 use Rattle.cx_code.specs.Spelling.{Instruction}
 use Rattle.cx_base.specs.declared.commands.Command.{Command}
 use Rattle.cx_source.specs.declared.source.Item.{Item}
@@ -54,7 +54,7 @@ pub record IsStatementOf (whole : Whole) (bases : Bases) (line : ℕ) (before : 
   pub first : s.first ≡ first_byte command words
   pub second : s.second ≡ second_byte words
   pub conditions : s.conditions ≡ listed_of words
-  pub arguments : AreArguments whole bases line before 0 (list_of command words) (words_of s)
+  pub arguments : AreArguments whole bases line before 0 (list_of command words) (words_of_list s)
   pub last : plain_in false (context_of whole bases line (after_stores line before command words) (mark_of (last_word command words)))
       (word_of_list (last_word command words)) ≡ Ok (address s.last.base s.last.displacement)
   pub list : ResolvesTo whole bases line (after_mark line before command words) list_of_1 (codes "DFHEIPL") 0 s.list.base s.list.displacement

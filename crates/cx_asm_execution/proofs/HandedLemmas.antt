@@ -5,8 +5,8 @@ use Rattle.std.specs.List.{AllByRecursion, fold, list_all}
 use Rattle.std.proofs.lemmas.Bool.{cases_Bool, leb-true, ltb-true}
 use Rattle.std.proofs.lemmas.Nat.{or_of_8}
 use Rattle.cx_code.specs.declared.disassembly.Line.{Line}
-use Rattle.cx_code.specs.declared.disassembly.What.TheVariants.{Data}
-use Rattle.cx_code.specs.Table.{ops, row_of as op_row_of}
+use Rattle.cx_code.specs.declared.disassembly.LineContent.TheVariants.{Data}
+use Rattle.cx_code.specs.Table.{ops, operation_row as op_row_of}
 use Rattle.cx_base.specs.declared.commands.Command.{Command}
 use Rattle.cx_base.specs.declared.conditions.Condition.{Condition}
 use Rattle.cx_base.specs.declared.legal.ListedCondition.{ListedCondition}
@@ -19,11 +19,11 @@ use Rattle.cx_base.specs.Conditions.{entry_of}
 use Rattle.cx_base.specs.Legal.{is_legal, is_legal_second, is_legal_set, lists_conditions}
 use Rattle.cx_base.specs.Options.{common_of, option_name}
 use Rattle.cx_asm_operations.specs.Operations.{operation_named, operations}
-use Rattle.cx_source.specs.Marks.{depth_after, is_length_attribute, within_after}
+use Rattle.cx_source.specs.Marks.{scan_depth_after, is_length_attribute, within_after}
 use Rattle.cx_source.specs.declared.source.Item.{Item}
 use Rattle.cx_source.specs.declared.source.Source.{Source}
 use Rattle.cx_source.specs.declared.source.Stmt.{Stmt}
-use Rattle.cx_asm_expressions.specs.Bytes.{made_of}
+use Rattle.cx_asm_expressions.specs.Bytes.{constant_copy}
 use Rattle.cx_asm_expressions.specs.Digits.{digit}
 use Rattle.cx_asm_expressions.specs.Items.{constant, constant_in}
 use Rattle.cx_asm_expressions.specs.Kinds.{kind_of}
@@ -43,7 +43,7 @@ use Rattle.cx_asm_execution.specs.Laws.Loaded.{IsUnrelocated, LinesAreLoaded, St
 use Rattle.cx_asm_execution.proofs.Literals.{HasBytes, HasInstruction, LiteralsStand}
 use Rattle.cx_asm_execution.proofs.Resolved.{is_instruction_role}
 use Rattle.cx_asm_execution.proofs.Stores.{entry_in_15, load_of}
-use Rattle.cx_asm_laws.specs.Facts.Hexadecimals.{AreBytes}
+use Rattle.cx_asm_laws.specs.Facts.Hexadecimals.{EachIsByte}
 use Rattle.cx_asm_execution.proofs.HexLemmas.{block_is_last, hex_has_bytes}
 use Rattle.cx_asm_laws.specs.Facts.Plain.{split}
 
@@ -101,7 +101,7 @@ condition_small c = ltb-true _ _ (each_condition (λ x. nat_lt (entry_of x).numb
 abbrev two_bytes : ListedCondition → List ℕ
 two_bytes condition = condition.number ∷ condition.label ∷ []
 
-listed_small : (words : List Word) → AreBytes (flat_map two_bytes (listed_of words))
+listed_small : (words : List Word) → EachIsByte (flat_map two_bytes (listed_of words))
 listed_small [] = tt
 listed_small (word ∷ words) = go (condition_called word.name) (listed_small words)
   where
@@ -109,11 +109,11 @@ listed_small (word ∷ words) = go (condition_called word.name) (listed_small wo
     label true = omega arith
     label false = omega arith
 
-    go : (o : Option Condition) → AreBytes (flat_map two_bytes (listed_of words)) → AreBytes (flat_map two_bytes (listed_by o word.argument ++ listed_of words))
+    go : (o : Option Condition) → EachIsByte (flat_map two_bytes (listed_of words)) → EachIsByte (flat_map two_bytes (listed_by o word.argument ++ listed_of words))
     go None more = more
     go (Some c) more = (condition_small c, (label (is_some (text_in word.argument)), more))
 
-pub block_small : LegalBytes → (line : ℕ) (command : Command) (cics named words : List Word) → fault_in line command cics named words ≡ None → AreBytes (block_bytes command words)
+pub block_small : LegalBytes → (line : ℕ) (command : Command) (cics named words : List Word) → fault_in line command cics named words ≡ None → EachIsByte (block_bytes command words)
 unfolding block_bytes
 block_small legal line command cics named words e =
     let function = ltb-true (row_of command).function 65536 (split (nat_lt (row_of command).function 65536) (list_all (λ option. nat_lt option.bit 256) (row_of command).options) (all_small command)).0 in
@@ -149,12 +149,12 @@ block_stands legal stand source assembly bases number line before later command 
 
 -- ---- the entry
 entry_has_bytes : (whole : Whole) → HasBytes whole (codes "V(DFHEI1)") (0 ∷ 0 ∷ 8 ∷ 0 ∷ [])
-unfolding made_of constant_in kind_of digit within_after depth_after is_length_attribute
+unfolding constant_copy constant_in kind_of digit within_after scan_depth_after is_length_attribute
 entry_has_bytes whole =
     record { constant = constant 1 External None (Some (codes "DFHEI1")); written = refl; once = 0 ∷ 0 ∷ 8 ∷ 0 ∷ []; everywhere = λ counter. refl; all = refl }
 
 entry_is_last : literal_in (codes "15,=V(DFHEI1)") ≡ Some (codes "=V(DFHEI1)")
-unfolding literal_in within_after depth_after is_length_attribute
+unfolding literal_in within_after scan_depth_after is_length_attribute
 entry_is_last = refl
 
 pub entry_stands : LiteralsStand → EntryStands

@@ -16,8 +16,8 @@ use Rattle.cx_base.specs.Eistg.{eistg_field, eistg_head}
 use Rattle.cx_ebcdic.specs.Facts.Names.{is_name-decides, is_name-laws}
 use Rattle.cx_ebcdic.specs.Characters.{code_of, table}
 use Rattle.cx_ebcdic.specs.Names.{padded_name, name_code, is_name_character}
-use Rattle.cx_source.specs.Lines.{is_name, is_letter}
-use Rattle.cx_source.specs.Lines.{is_name_character as is_written_in_names}
+use Rattle.cx_source.specs.Lines.{is_symbol_name, is_letter}
+use Rattle.cx_source.specs.Lines.{is_symbol_name_character as is_written_in_names}
 use Rattle.cx_source.specs.Marks.{parts, within_after}
 use Rattle.cx_source.specs.Statements.{is_continued}
 use Rattle.cx_source.specs.declared.marks.Delimiter.TheVariants.{TopComma}
@@ -40,7 +40,7 @@ use Rattle.cx_translate.specs.Expansion.{made_item, stmt}
 use Rattle.cx_translate.specs.Sections.{begins_section, begins_storage, place_after, continuation_count, is_end, lines, insert_items, storage_fields, with_bases, with_eib, with_storage}
 use Rattle.cx_translate.specs.Translation.{expanded_items, translation}
 use Rattle.cx_translate.specs.Facts.AllFaults.{translated_so}
-use Rattle.cx_translate.specs.Facts.Found.{bases_after, continued, eib_before, eib_section, line_of, storage_before, storage_after}
+use Rattle.cx_translate.specs.Facts.Found.{bases_after, continued, eib_before, eib_section, listed_line, storage_before, storage_after}
 use Rattle.cx_asm_execution.specs.FieldLayouts.{HeadIsLaidOut, LaysOut}
 use Rattle.cx_asm_execution.proofs.Together.{StandTogether}
 use Rattle.cx_asm_execution.proofs.BlockLemmas.{Named, fault_kept, none_from, none_known, reverse_cons, role_ds, role_dsect}
@@ -73,13 +73,13 @@ unfolding constant_in kind_of digit within_after extent_of length_of
 eicap_fits = record { extent = λ extent. refl; place = refl }
 
 field_named : (f : EistgField) → Named (eistg_field f).name
-unfolding symbol_name padded_name is_name is_letter name_code is_name_character code_of table is_written_in_names
+unfolding symbol_name padded_name is_symbol_name is_letter name_code is_name_character code_of table is_written_in_names
 field_named Eipl = record { name = _; is = refl }
 field_named Eitp = record { name = _; is = refl }
 field_named Eicap = record { name = _; is = refl }
 
 storage_named : Named (codes "DFHEISTG")
-unfolding symbol_name padded_name is_name is_letter name_code is_name_character code_of table is_written_in_names
+unfolding symbol_name padded_name is_symbol_name is_letter name_code is_name_character code_of table is_written_in_names
 storage_named = record { name = _; is = refl }
 
 abbrev storage : List ℕ
@@ -298,7 +298,7 @@ after_part items place d found =
     let continues = continued (slice_get items place) in
     let n = continuation_count continues (drop (place + 1) items) in
     let more = take n (drop (place + 1) items) in
-    let line = line_of (slice_get items place) in
+    let line = listed_line (slice_get items place) in
     let first = get_or items place d in
     record {
       first = first;
@@ -317,7 +317,7 @@ after_part items place d found =
 
 before_part : (items : List Item) (place : ℕ) → IsPart (storage_before (Some place) items)
 before_part items place =
-    let line = line_of (slice_get items place) in
+    let line = listed_line (slice_get items place) in
     record {
       first = made_item line (stmt (codes "DFHEISTG") (codes "DSECT") []);
       more = [];
@@ -428,7 +428,7 @@ no_more p items eib e = go (position is_end items)
   where
     go : (place : Option ℕ) → list_any p (eib_before place items) ≡ false
     go None = e
-    go (Some place) = any_put p place (lines (line_of (slice_get items place)) eib_section) items e (eib (line_of (slice_get items place)))
+    go (Some place) = any_put p place (lines (listed_line (slice_get items place)) eib_section) items e (eib (listed_line (slice_get items place)))
 
 bases_none : (items : List Item) → position begins_section items ≡ None → with_bases items ≡ items
 unfolding with_bases

@@ -4,11 +4,11 @@ use Rattle.std.specs.Prelude.{Err, Result, ℤ, ◌^◌, flat_map, map}
 use Rattle.std.specs.List.{AllByRecursion, repeat}
 use Rattle.std.specs.Option.{option_map_or}
 use Rattle.cx_code.specs.declared.disassembly.Line.{Line}
-use Rattle.cx_asm_expressions.specs.Bytes.{CopyOfConstant, address_made, body_made, copy_of_constant, made_of, address_constant}
+use Rattle.cx_asm_expressions.specs.Bytes.{CopyOfConstant, address_made, body_made, copy_of_constant, constant_copy, address_constant}
 use Rattle.cx_asm_expressions.specs.Expressions.{value_of}
 use Rattle.cx_asm_expressions.specs.Faults.{lowest}
 use Rattle.cx_asm_expressions.specs.Items.{Constant, constant_in, value_length, values_in}
-use Rattle.cx_asm_expressions.specs.Kinds.{integer_bytes, is_below, row_of}
+use Rattle.cx_asm_expressions.specs.Kinds.{integer_bytes, is_below, row_of_kind}
 use Rattle.cx_asm_expressions.specs.declared.faults.FaultKind.{FaultKind}
 use Rattle.cx_asm_expressions.specs.declared.faults.FaultKind.TheVariants.{NotRelocatable, ValueOutOfRange}
 use Rattle.cx_asm_expressions.specs.Weights.{stands_in}
@@ -24,7 +24,7 @@ use Rattle.cx_asm_pass1.specs.declared.roles.Role.{Role}
 use Rattle.cx_asm_pass1.specs.declared.roles.Role.TheVariants as role
 use Rattle.cx_asm_operands.specs.Bases.{Bases}
 use Rattle.cx_asm_image.specs.Relocated.{words_at}
-use Rattle.cx_asm_image.specs.Resolved.{end_of, is_code}
+use Rattle.cx_asm_image.specs.Resolved.{offset_after, is_code}
 use Rattle.cx_asm_pass2.specs.SecondFaults.{bases_after}
 use Rattle.cx_asm_pass2.specs.Statements.{PlacedStatement, operation_of, placed_items}
 use Rattle.cx_asm_pass2.specs.Whole.{Whole, item_made, pool_of}
@@ -35,7 +35,7 @@ use Rattle.cx_asm_execution.proofs.TogetherLemmas.{length_joined}
 pub record IsOfConstant (r : ℕ) (l : Line) : Type 0 where
   pub constant : is_code l.what ≡ false
   pub begins : l.at ≤ r
-  pub ends : r + 4 ≤ end_of l
+  pub ends : r + 4 ≤ offset_after l
 
 unfoldable pub HasWord : ℕ → List Line → Type 0
 HasWord r [] = ⊥
@@ -103,12 +103,12 @@ body_four : (find : List ℕ → Option Value) (here : Option Value) (control : 
 body_four find here control kind modifier None = λ raised. absurd (cc)
 body_four find here control Address modifier (Some body) = address_four (value_length Address modifier body) control (value_of find here body)
 body_four find here control kind modifier (Some body) =
-    let values = values_in (row_of kind).style body in
-    unless_four (lowest (map (λ value. (row_of kind).fault value (value_length kind modifier value)) values))
-    (flat_map (λ value. (row_of kind).bytes value (value_length kind modifier value)) values)
+    let values = values_in (row_of_kind kind).style body in
+    unless_four (lowest (map (λ value. (row_of_kind kind).fault value (value_length kind modifier value)) values))
+    (flat_map (λ value. (row_of_kind kind).bytes value (value_length kind modifier value)) values)
 
-judged_four : (find : List ℕ → Option Value) (here : Option Value) (control : Option (List ℕ)) (item : Result Constant FaultKind) → HasFour (then_check (made_of find here control) item)
-unfolding made_of
+judged_four : (find : List ℕ → Option Value) (here : Option Value) (control : Option (List ℕ)) (item : Result Constant FaultKind) → HasFour (then_check (constant_copy find here control) item)
+unfolding constant_copy
 judged_four find here control (Ok item) = body_four find here control item.kind item.modifier item.value
 judged_four find here control (Err fault) = tt
 

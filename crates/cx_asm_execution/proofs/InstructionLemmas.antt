@@ -9,7 +9,7 @@ use Rattle.cx_storage.specs.Word.{word_at}
 use Rattle.cx_storage.specs.Facts.Writes.{span_present_after_write}
 use Rattle.cx_code.specs.declared.table.Op.TheVariants as op
 use Rattle.cx_code.specs.declared.instruction.Fields.TheVariants.{Rr, Rx, Si}
-use Rattle.cx_code.specs.Table.{row_of, length_of}
+use Rattle.cx_code.specs.Table.{operation_row, length_of}
 use Rattle.cx_code.specs.Spelling.{Instruction, instruction}
 use Rattle.cx_exec.specs.declared.machine.Step.TheVariants.{Done}
 use Rattle.cx_exec.specs.Branches.{link_word}
@@ -30,7 +30,7 @@ loaded_after r v m = record m { regs = slice_set m.regs r v; next = address_afte
 
 pub load_address : Known → (list r x b d v : ℕ) (rest : List Instruction) (m : Machine) → Ready list (instruction op.La (Rx r x b d) ∷ rest) m → effective m.regs x b d ≡ v
     → Steps m Done (loaded_after r v m) × Ready list rest (loaded_after r v m)
-unfolding Effect RxEffect row_of
+unfolding Effect RxEffect operation_row
 load_address known list r x b d v rest m ready e = (
   performs known list (instruction op.La (Rx r x b d)) rest m (loaded_after r v m) ready refl (rw e (refl, refl)),
   goes_on list (instruction op.La (Rx r x b d)) rest m (loaded_after r v m) ready refl refl (length-set m.regs r v ∙ ready.machine.regs) ready.machine.storage
@@ -39,7 +39,7 @@ load_address known list r x b d v rest m ready e = (
 
 pub load_word : Known → (list r b d v : ℕ) (rest : List Instruction) (m : Machine) → Ready list (instruction op.L (Rx r 0 b d) ∷ rest) m → word_at m.storage (effective m.regs 0 b d) ≡ Some v
     → Steps m Done (loaded_after r v m) × Ready list rest (loaded_after r v m)
-unfolding Effect RxEffect row_of
+unfolding Effect RxEffect operation_row
 load_word known list r b d v rest m ready e = (
   performs known list (instruction op.L (Rx r 0 b d)) rest m (loaded_after r v m) ready refl (rw e (refl, refl)),
   goes_on list (instruction op.L (Rx r 0 b d)) rest m (loaded_after r v m) ready refl refl (length-set m.regs r v ∙ ready.machine.regs) ready.machine.storage
@@ -69,7 +69,7 @@ stored_goes known list k cc_after bytes i rest m ll room few small size ready =
 pub store_word : Known → (list k b d v : ℕ) (rest : List Instruction) (m : Machine) → list < 2 ^ 24 → 4 * k + 4 ≤ list_length → Ready list (instruction op.St (Rx 0 0 b d) ∷ rest) m
     → effective m.regs 0 b d ≡ address_after list (4 * k) → slice_index m.regs 0 ≡ v
     → Steps m Done (stored_after (address_after list (4 * k)) (big_bytes 4 v) m.cc m) × Ready list rest (stored_after (address_after list (4 * k)) (big_bytes 4 v) m.cc m)
-unfolding Effect RxEffect Stores row_of
+unfolding Effect RxEffect Stores operation_row
 store_word known list k b d v rest m ll room ready at value =
     let i = instruction op.St (Rx 0 0 b d) in
     let there = word_there list k 4 (i ∷ rest) m ll room (omega arith) ready in (
@@ -81,7 +81,7 @@ store_word known list k b d v rest m ll room ready at value =
 pub mark_word : Known → (list k b d : ℕ) (rest : List Instruction) (m : Machine) → list < 2 ^ 24 → 4 * k + 4 ≤ list_length → Ready list (instruction op.Oi (Si 0x80 b d) ∷ rest) m
     → effective m.regs 0 b d ≡ address_after list (4 * k) → byte_at m.storage (address_after list (4 * k)) ≡ Some 0
     → Steps m Done (stored_after (address_after list (4 * k)) (0x80 ∷ []) 1 m) × Ready list rest (stored_after (address_after list (4 * k)) (0x80 ∷ []) 1 m)
-unfolding Effect SiEffect Stores row_of
+unfolding Effect SiEffect Stores operation_row
 mark_word known list k b d rest m ll room ready at none =
     let i = instruction op.Oi (Si 0x80 b d) in
     let there = word_there list k 1 (i ∷ rest) m ll room (omega arith) ready in (
@@ -95,5 +95,5 @@ abbrev pub called_after : Machine → Machine
 called_after m = record m { regs = slice_set m.regs 14 (link_word (updated_by m.next 2) m.cc); next = address_in (slice_index m.regs 15) }
 
 pub call : Known → (list : ℕ) (rest : List Instruction) (m : Machine) → Ready list (instruction op.Balr (Rr 14 15) ∷ rest) m → Steps m Done (called_after m)
-unfolding Effect RrEffect row_of
+unfolding Effect RrEffect operation_row
 call known list rest m ready = performs known list (instruction op.Balr (Rr 14 15)) rest m (called_after m) ready refl (refl, refl)

@@ -6,11 +6,11 @@ use Rattle.std.proofs.lemmas.List.Sums.{sum_by-cons}
 use Rattle.byteorder.specs.Endian.{big_number}
 use Rattle.cx_asm_execution.specs.Stands.{AreAt, code_length}
 use Rattle.cx_code.specs.declared.disassembly.Line.{Line}
-use Rattle.cx_code.specs.declared.disassembly.What.TheVariants.{Code}
+use Rattle.cx_code.specs.declared.disassembly.LineContent.TheVariants.{Code}
 use Rattle.cx_code.specs.Spelling.{Instruction, spelling}
 use Rattle.cx_code.specs.Table.{length_of}
 use Rattle.cx_asm_image.specs.Assembled.{AssembledParts}
-use Rattle.cx_asm_image.specs.Resolved.{AreApart, end_of}
+use Rattle.cx_asm_image.specs.Resolved.{AreApart, offset_after}
 use Rattle.cx_storage.specs.Address.{address_after}
 use Rattle.cx_storage.specs.Laws.Spans.{SpanIsBytes}
 use Rattle.cx_storage.specs.Place.{CanPlace, IsLeastPlace}
@@ -52,11 +52,11 @@ code_kept spans s t a (i ∷ code) small kept stands =
 -- ---- where code is
 ends : (rest : List Line) (at size : ℕ) → AreApart at rest size → at ≤ size
 ends [] at size a = a
-ends (l ∷ rest) at size a = (let more = ends rest (end_of l) size a.1 in let first = a.0 in omega (arith, more, first))
+ends (l ∷ rest) at size a = (let more = ends rest (offset_after l) size a.1 in let first = a.0 in omega (arith, more, first))
 
 first_within : (from : ℕ) (front : List Line) (l : Line) (back : List Line) (size : ℕ) → AreApart from (front ++ l ∷ back) size → l.at ≤ size
-first_within from [] l back size apart = (let more = ends back (end_of l) size apart.1 in omega (arith, more))
-first_within from (f ∷ front) l back size apart = first_within (end_of f) front l back size apart.1
+first_within from [] l back size apart = (let more = ends back (offset_after l) size apart.1 in omega (arith, more))
+first_within from (f ∷ front) l back size apart = first_within (offset_after f) front l back size apart.1
 
 pub code_within : (parts : AssembledParts) (front back : List Line) (at : ℕ) (i : Instruction) (code : List Instruction) → HasText parts
     → parts.resolved ≡ front ++ code_lines at (i ∷ code) ++ back → at ≤ 65536

@@ -1,7 +1,7 @@
 -- An accepted statement's block is that of a legal call.
 use Rattle.std.specs.Prelude.{◌≤◌, IsTrue, MatchBool, count_by, if◌then◌else◌}
 use Rattle.std.proofs.Common.{◌≡◌, ℕ, ◌+◌, Bool, true, false, None, List, [], ◌∷◌, length, refl, arith}
-use Rattle.cx_asm_execution.specs.Expansion.{Statement, block_bytes as statement_bytes, words_of}
+use Rattle.cx_asm_execution.specs.Expansion.{Statement, resolved_block_bytes as statement_bytes, words_of_list}
 use Rattle.cx_asm_execution.specs.Stands.{IsLegal}
 use Rattle.cx_region_state.specs.Call.{has_label, has_resp}
 use Rattle.cx_base.specs.Arguments.{arguments_in}
@@ -55,7 +55,7 @@ pub legal_so : Accepts → (whole : Whole) (bases : Bases) (line : ℕ) (before 
 legal_so known whole bases line before command cics named words s accepted is =
     let listed = listed_so known line command cics named words accepted (lists_conditions command) refl in
     let count = counted_so known line command cics named words accepted in
-    let same = same_count whole bases line before 0 (list_of command words) (words_of s) is.arguments in
+    let same = same_count whole bases line before 0 (list_of command words) (words_of_list s) is.arguments in
     record {
       options = rw (is.for_command, is.first, is.second) (known.bytes line command cics named words accepted);
       conditions = rw (is.for_command, is.first, is.conditions) listed;
@@ -72,8 +72,8 @@ same_bytes whole bases line before command words s is =
 -- ---- how many words
 pub same_words : Accepts → (whole : Whole) (bases : Bases) (line : ℕ) (before : List Item) (command : Command) (cics named words : List Word) (s : Statement)
     → fault_in line command cics named words ≡ None → IsStatementOf whole bases line before command words s
-    → (length (list_of command words) ≡ length (words_of s)) × (length (words_of s) ≤ 18)
+    → (length (list_of command words) ≡ length (words_of_list s)) × (length (words_of_list s) ≤ 18)
 same_words known whole bases line before command cics named words s accepted is =
-    let same = same_count whole bases line before 0 (list_of command words) (words_of s) is.arguments in
+    let same = same_count whole bases line before 0 (list_of command words) (words_of_list s) is.arguments in
     let room = known.room line command cics named words accepted in
     (omega (arith, same), omega (arith, same, room))

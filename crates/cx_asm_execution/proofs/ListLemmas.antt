@@ -14,7 +14,7 @@ use Rattle.cx_storage.specs.Facts.Spans.{span_at, span_from}
 use Rattle.cx_region_state.specs.Call.{has_high_bit, listed_in}
 use Rattle.cx_region_state.specs.Laws.Calls.{IsCallAt, bytes_of_block}
 use Rattle.cx_exec.specs.Machine.{effective}
-use Rattle.cx_asm_execution.specs.Expansion.{Statement, words_of, block_bytes, address_reached, argument_address, call_made}
+use Rattle.cx_asm_execution.specs.Expansion.{Statement, words_of_list, resolved_block_bytes, address_reached, argument_address, call_made}
 use Rattle.cx_asm_execution.specs.Stands.{IsLegal}
 use Rattle.cx_asm_execution.proofs.ArrivalStoreLemmas.{reaches}
 
@@ -76,10 +76,10 @@ marked s list n k v same small e = record {
 
 -- The list and the block, where they hold what the statement says, are its call.
 pub is_call : (s : Storage) (first : List ℕ) (list : ℕ) (statement : Statement) → list < 2 ^ 24 → IsLegal statement → statement.block.base ≢ 0
-    → span s (address_reached first statement.block) (length (block_bytes statement)) ≡ Some (block_bytes statement)
-    → ((k : ℕ) → k ≤ length statement.arguments → ListWord s list (length statement.arguments) k (slice_index (map (argument_address first) (words_of statement)) k))
+    → span s (address_reached first statement.block) (length (resolved_block_bytes statement)) ≡ Some (resolved_block_bytes statement)
+    → ((k : ℕ) → k ≤ length statement.arguments → ListWord s list (length statement.arguments) k (slice_index (map (argument_address first) (words_of_list statement)) k))
     → IsCallAt s list (call_made first statement)
-unfolding block_bytes call_made
+unfolding resolved_block_bytes call_made
 is_call s first list statement ll legal based block words = record {
   block = rw (head, at, start) (front_of_span s place _ _ _ _ _ (omega arith) block);
   options = legal.options;

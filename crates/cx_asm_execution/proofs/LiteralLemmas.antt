@@ -11,7 +11,7 @@ use Rattle.std.proofs.lemmas.List.{append_assoc, append-nil, reverse-append, rev
 use Rattle.std.proofs.lemmas.Option.{slice_get_past}
 use Rattle.std.proofs.lemmas.Slice.Eq.{bytes_eq-Decides}
 use Rattle.cx_code.specs.declared.disassembly.Line.{Line}
-use Rattle.cx_code.specs.declared.disassembly.What.TheVariants.{Data}
+use Rattle.cx_code.specs.declared.disassembly.LineContent.TheVariants.{Data}
 use Rattle.cx_source.specs.declared.source.Item.{Item}
 use Rattle.cx_source.specs.declared.source.Source.{Source}
 use Rattle.cx_source.specs.declared.source.Stmt.{Stmt}
@@ -36,12 +36,12 @@ use Rattle.cx_asm_operands.specs.Forms.{literal_in}
 use Rattle.cx_asm_operands.specs.Checking.{both_or_lower_fault, then_check}
 use Rattle.cx_asm_operands.specs.Storage.{indexed_in, operand, operand_in}
 use Rattle.cx_asm_operands.specs.declared.addresses.Address.{Address}
-use Rattle.cx_asm_image.specs.Resolved.{AreApart, end_of}
+use Rattle.cx_asm_image.specs.Resolved.{AreApart, offset_after}
 use Rattle.cx_asm_pass2.specs.SecondFaults.{bases_after}
 use Rattle.cx_asm_pass2.specs.Statements.{PlacedStatement, placed_statement, statements_of}
 use Rattle.cx_asm_pass1.specs.Layout.{item_length}
 use Rattle.cx_asm_pass2.specs.Whole.{Whole, literal_of, literal_place, pool_of, whole_of}
-use Rattle.cx_asm.specs.Assembly.{AssemblyParts, assembly_of, section_of, size_of, standing_of}
+use Rattle.cx_asm.specs.Assembly.{AssemblyParts, assembly_of, section_of, control_section_size, standing_of}
 use Rattle.cx_asm.specs.Resolving.{Standing, data_line, data_standing, counter_at, join_sections, last_pool, line, pool_standing, standing, standing_from, statement_standing}
 use Rattle.cx_asm_laws.specs.Facts.Lines.{control_same, fault_kept, own_sound, place_for, reverse_step, section_sound, statements_are, statements_from}
 use Rattle.cx_asm_execution.proofs.Arguments.{OperandsAddress}
@@ -87,12 +87,12 @@ own_right one other mine held o =
 -- ---- lines that don't overlap
 ends : (from : ℕ) (lines : List Line) (size : ℕ) → AreApart from lines size → from ≤ size
 ends from [] size apart = apart
-ends from (l ∷ lines) size apart = (let more = ends (end_of l) lines size apart.1 in let first = apart.0 in omega (arith, more, first))
+ends from (l ∷ lines) size apart = (let more = ends (offset_after l) lines size apart.1 in let first = apart.0 in omega (arith, more, first))
 
-begins : (from : ℕ) (front : List Line) (mine : Line) (back : List Line) (size : ℕ) → AreApart from (front ++ mine ∷ back) size → (from ≤ mine.at) × (end_of mine ≤ size)
-begins from [] mine back size apart = (apart.0, ends (end_of mine) back size apart.1)
+begins : (from : ℕ) (front : List Line) (mine : Line) (back : List Line) (size : ℕ) → AreApart from (front ++ mine ∷ back) size → (from ≤ mine.at) × (offset_after mine ≤ size)
+begins from [] mine back size apart = (apart.0, ends (offset_after mine) back size apart.1)
 begins from (l ∷ front) mine back size apart =
-    let more = begins (end_of l) front mine back size apart.1 in
+    let more = begins (offset_after l) front mine back size apart.1 in
     let first = apart.0 in
     let rest = more.0 in (omega (arith, rest, first), more.1)
 
@@ -100,15 +100,15 @@ word_after : (from : ℕ) (lines : List Line) (size r : ℕ) → AreApart from l
 unfolding HasWord
 word_after from [] size r apart h = absurd h
 word_after from (l ∷ lines) size r apart (inl h) = (let at = h.begins in let first = apart.0 in omega (arith, at, first))
-word_after from (l ∷ lines) size r apart (inr h) = (let rest = word_after (end_of l) lines size r apart.1 h in let first = apart.0 in omega (arith, rest, first))
+word_after from (l ∷ lines) size r apart (inr h) = (let rest = word_after (offset_after l) lines size r apart.1 h in let first = apart.0 in omega (arith, rest, first))
 
 beside : (from : ℕ) (front : List Line) (mine : Line) (back : List Line) (size r : ℕ) → AreApart from (front ++ mine ∷ back) size → HasWord r (front ++ back)
-    → (r + 4 ≤ mine.at) ⊎ (end_of mine ≤ r)
+    → (r + 4 ≤ mine.at) ⊎ (offset_after mine ≤ r)
 unfolding HasWord
-beside from [] mine back size r apart h = inr (word_after (end_of mine) back size r apart.1 h)
+beside from [] mine back size r apart h = inr (word_after (offset_after mine) back size r apart.1 h)
 beside from (l ∷ front) mine back size r apart (inl h) =
-    (let after = (begins (end_of l) front mine back size apart.1).0 in let last = h.ends in inl (omega (arith, after, last)))
-beside from (l ∷ front) mine back size r apart (inr h) = beside (end_of l) front mine back size r apart.1 h
+    (let after = (begins (offset_after l) front mine back size apart.1).0 in let last = h.ends in inl (omega (arith, after, last)))
+beside from (l ∷ front) mine back size r apart (inr h) = beside (offset_after l) front mine back size r apart.1 h
 
 own_unraised : (front : List Line) (mine : Line) (back : List Line) (size : ℕ) (relocs : List ℕ) → AreApart 0 (front ++ mine ∷ back) size → HaveWords relocs (front ++ back) → IsUnrelocated relocs mine
 own_unraised front mine back size [] apart words = tt
@@ -351,8 +351,8 @@ literal_own source p text literal byte bytes sound is there = ⊎_elim (λ yes. 
 -- ---- the law
 pub record Knows : Type 0 where
   pub addresses : OperandsAddress
-  pub size : (source : Source) (made : AssemblyParts) → assembly_of source ≡ Ok made → length made.section.image.text ≡ size_of source
-  pub short : (source : Source) (made : AssemblyParts) → assembly_of source ≡ Ok made → size_of source ≤ 65536
+  pub size : (source : Source) (made : AssemblyParts) → assembly_of source ≡ Ok made → length made.section.image.text ≡ control_section_size source
+  pub short : (source : Source) (made : AssemblyParts) → assembly_of source ≡ Ok made → control_section_size source ≤ 65536
   pub apart : (source : Source) (made : AssemblyParts) → assembly_of source ≡ Ok made → AreApart 0 made.section.resolved (length made.section.image.text)
 
 record IsLiteral (c : Context) (text : List ℕ) (index : ℕ) (address : Address) : Type 0 where

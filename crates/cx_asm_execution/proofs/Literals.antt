@@ -3,7 +3,7 @@
 use Rattle.std.specs.Prelude.{◌≡◌, ℕ, pos, ◌<◌, true, false, Ok, Option, Some, List, ◌∷◌, ◌++◌, length, reverse, codes}
 use Rattle.std.specs.List.{repeat}
 use Rattle.cx_code.specs.declared.disassembly.Line.{Line}
-use Rattle.cx_code.specs.declared.disassembly.What.TheVariants.{Data}
+use Rattle.cx_code.specs.declared.disassembly.LineContent.TheVariants.{Data}
 use Rattle.cx_source.specs.declared.source.Item.{Item}
 use Rattle.cx_source.specs.declared.source.Source.{Source}
 use Rattle.cx_source.specs.declared.source.Stmt.{Stmt}

@@ -3,7 +3,7 @@ use Rattle.std.proofs.Common.{◌≡◌, ◌≢◌, ◌%◌, [], ◌∷◌, leng
 use Rattle.cx_storage.specs.Storage.{span}
 use Rattle.cx_code.specs.declared.table.Op.TheVariants as op
 use Rattle.cx_code.specs.declared.instruction.Fields.TheVariants.{Rx}
-use Rattle.cx_code.specs.Table.{length_of, row_of}
+use Rattle.cx_code.specs.Table.{length_of, operation_row}
 use Rattle.cx_code.specs.Spelling.{Instruction, IsWellFormed, Spells, instruction, spelling}
 use Rattle.cx_exec.specs.declared.machine.Step.TheVariants.{Done}
 use Rattle.cx_exec.specs.Machine.{Machine}
@@ -32,6 +32,6 @@ performs_alone known i m after machine even outside stands plain effect =
     (outside, rw (found.0, found.1, plain, size) effect)
 
 pub loads_give_words : Fetching → LoadsGiveWords
-unfolding Effect RxEffect row_of
+unfolding Effect RxEffect operation_row
 loads_give_words known m r b d word machine even outside stands e =
     performs_alone known (instruction op.L (Rx r 0 b d)) m (loaded_after r word m) machine even outside stands refl (rw e (refl, refl))

@@ -5,12 +5,12 @@ use Rattle.std.specs.List.{AllByRecursion, list_any}
 use Rattle.std.proofs.lemmas.Bool.Decides.{nat_tests}
 use Rattle.std.proofs.lemmas.List.{get_or-drop, get_or-take, length-replicate}
 use Rattle.cx_code.specs.declared.disassembly.Line.{Line}
-use Rattle.cx_code.specs.declared.disassembly.What.{What}
-use Rattle.cx_code.specs.declared.disassembly.What.TheVariants.{Code, Data, Space}
+use Rattle.cx_code.specs.declared.disassembly.LineContent.{LineContent}
+use Rattle.cx_code.specs.declared.disassembly.LineContent.TheVariants.{Code, Data, Space}
 use Rattle.cx_asm_image.specs.Assembled.{AssembledParts}
 use Rattle.cx_asm_image.specs.Laws.Cover.{IsTextOf, StandsIn}
-use Rattle.cx_asm_image.specs.Resolved.{AreApart, bytes_of, end_of, size_of}
-use Rattle.cx_asm_image.specs.Text.{text_of}
+use Rattle.cx_asm_image.specs.Resolved.{AreApart, bytes_of, offset_after, size_of}
+use Rattle.cx_asm_image.specs.Text.{section_text}
 use Rattle.cx_load.specs.Fault.{IsFit, are_inside}
 use Rattle.cx_load.specs.Facts.Faults.{facts_of_fit}
 use Rattle.cx_load.specs.Laws.Words.{is_of_word}
@@ -26,21 +26,21 @@ use Rattle.cx_asm_execution.proofs.InStorage.{HasText, TextsAreMade}
 
 -- what the laws of lower crates say
 pub record Known : Type 0 where
-  pub text : (resolved : List Line) (size : ℕ) → AreApart 0 resolved size → IsTextOf resolved size (text_of resolved size)
+  pub text : (resolved : List Line) (size : ℕ) → AreApart 0 resolved size → IsTextOf resolved size (section_text resolved size)
   pub others : (at k : ℕ) (relocs text : List ℕ) → IsTrue (are_inside (length text) relocs) → list_any (is_of_word k) relocs ≡ false
       → slice_index (relocated_text at relocs text) k ≡ slice_index text k
   pub spans : SpanIsBytes
 
 -- a byte of a line that is unraised is of no raised word
-of_none : (relocs : List ℕ) (line : Line) (k : ℕ) → IsUnrelocated relocs line → line.at ≤ k → k < end_of line → list_any (is_of_word k) relocs ≡ false
+of_none : (relocs : List ℕ) (line : Line) (k : ℕ) → IsUnrelocated relocs line → line.at ≤ k → k < offset_after line → list_any (is_of_word k) relocs ≡ false
 of_none [] line k clear low high = refl
 of_none (r ∷ relocs) line k clear low high = rw (here clear.0) (of_none relocs line k clear.1 low high)
   where
-    here : (r + 4 ≤ line.at) ⊎ (end_of line ≤ r) → is_of_word k r ≡ false
+    here : (r + 4 ≤ line.at) ⊎ (offset_after line ≤ r) → is_of_word k r ≡ false
     here (inl before) = grind (arith, nat_tests)
     here (inr beyond) = grind (arith, nat_tests)
 
-size_is : (what : What) → length (bytes_of what) ≡ size_of what
+size_is : (what : LineContent) → length (bytes_of what) ≡ size_of what
 size_is (Code i) = refl
 size_is (Data bytes) = refl
 size_is (Space n) = length-replicate n 0
@@ -57,7 +57,7 @@ pub along_twice : (at m j : ℕ) → address_after (address_after at m) j ≡ ad
 along_twice at m j = omega arith
 
 one_loaded : Known → (storage after : Storage) (parts : AssembledParts) (loaded : Loaded) (line : Line) → HasText parts → IsFit parts.image → IsLoaded storage parts.image loaded after
-    → StandsIn parts.image.text line → end_of line ≤ length parts.image.text → IsUnrelocated parts.image.relocs line → StandsAt after loaded.at line
+    → StandsIn parts.image.text line → offset_after line ≤ length parts.image.text → IsUnrelocated parts.image.relocs line → StandsAt after loaded.at line
 one_loaded known storage after parts loaded line is fit done stands inside clear =
     let text = parts.image.text in
     let n = length text in
@@ -78,13 +78,13 @@ every : Known → (storage after : Storage) (parts : AssembledParts) (loaded : L
     → AllByRecursion (λ line. IsUnrelocated parts.image.relocs line → StandsAt after loaded.at line) lines
 every known storage after parts loaded [] from is fit done stand apart = tt
 every known storage after parts loaded (line ∷ lines) from is fit done stand apart = (
-  one_loaded known storage after parts loaded line is fit done stand.0 (ends lines (end_of line) apart.1),
-  every known storage after parts loaded lines (end_of line) is fit done stand.1 apart.1,
+  one_loaded known storage after parts loaded line is fit done stand.0 (ends lines (offset_after line) apart.1),
+  every known storage after parts loaded lines (offset_after line) is fit done stand.1 apart.1,
 )
   where
     ends : (rest : List Line) (at : ℕ) → AreApart at rest (length parts.image.text) → at ≤ length parts.image.text
     ends [] at a = a
-    ends (l ∷ rest) at a = (let more = ends rest (end_of l) a.1 in let first = a.0 in omega (arith, more, first))
+    ends (l ∷ rest) at a = (let more = ends rest (offset_after l) a.1 in let first = a.0 in omega (arith, more, first))
 
 pub all_loaded : Known → TextsAreMade → LinesAreLoaded
 all_loaded known texts source assembly storage after loaded accepts fit done =

@@ -4,13 +4,13 @@ use Rattle.std.specs.Option.{ok_or, option_map_or}
 use Rattle.std.proofs.Common.{◌≡◌, ℕ, ◌+◌, ◌*◌, true, false, ◌==◌, Some, Ok, Err, List, [], ◌∷◌, ◌++◌, drop, length, refl, sym, ◌∙◌, ap, subst, arith}
 use Rattle.std.proofs.lemmas.Bool.Decides.{nat_tests}
 use Rattle.std.proofs.lemmas.List.{append_assoc, map-append, reverse-append}
-use Rattle.cx_asm_execution.specs.Expansion.{Argument, Statement, branch as made_branch, instructions_made as made_code, stores as made_stores, words_of}
+use Rattle.cx_asm_execution.specs.Expansion.{Argument, Statement, branch as made_branch, instructions_made as made_code, store_instructions as made_stores, words_of_list}
 use Rattle.cx_code.specs.Spelling.{Instruction, instruction}
 use Rattle.cx_code.specs.Table.{length_of}
 use Rattle.cx_code.specs.declared.table.Op.TheVariants as op
 use Rattle.cx_code.specs.declared.instruction.Fields.TheVariants.{Rr, Rx, Si}
 use Rattle.cx_base.specs.declared.commands.Command.{Command}
-use Rattle.cx_source.specs.Marks.{depth_after, within_after}
+use Rattle.cx_source.specs.Marks.{scan_depth_after, within_after}
 use Rattle.cx_source.specs.declared.source.Item.{Item}
 use Rattle.cx_asm_expressions.specs.declared.faults.FaultKind.{FaultKind}
 use Rattle.cx_asm_expressions.specs.declared.faults.FaultKind.TheVariants.{BadOperand}
@@ -72,7 +72,7 @@ alone c text place x address is e =
     cc
 
 list_index : (c : Context) (x : ℕ) (address : Address) → indexed_in c (codes "DFHEIPL") ≡ Ok (x, address) → x ≡ 0
-unfolding operand_in within_after depth_after
+unfolding operand_in within_after scan_depth_after
 list_index c x address e = alone c (codes "DFHEIPL") (expression_value c (codes "DFHEIPL")) x address refl e
 
 literal_index : (c : Context) (text : List ℕ) (x : ℕ) (address : Address) → is_literal text ≡ true → indexed_in c text ≡ Ok (x, address) → x ≡ 0
@@ -80,7 +80,7 @@ unfolding operand_in
 literal_index c text x address is e = alone c text (ok_or c.literal BadOperand) x address (rw is refl) e
 
 word_operand : (c : Context) (text : List ℕ) → ArePlain text → operand_in true c (codes "DFHEIPL+" ++ text) ≡ Some (operand (expression_value c (codes "DFHEIPL+" ++ text)) [])
-unfolding operand_in within_after depth_after
+unfolding operand_in within_after scan_depth_after
 word_operand c text plain =
     let tail = no_parenthesis (record { within = false; depth = 0; before = 76; last = 43 }) text plain in
     let same : (1 + (1 + (1 + (1 + (1 + (1 + (1 + (1 + length text))))))) == length (codes "DFHEIPL+" ++ text)) ≡ true = grind (arith, nat_tests) in
@@ -196,10 +196,10 @@ calls_made stored marked whole bases line at before command words code r =
         first = refl;
         second = refl;
         conditions = refl;
-        arguments = subst (λ k. AreArguments whole bases line before 0 k (words_of s)) (sym (list_begins command words)) made.are;
+        arguments = subst (λ k. AreArguments whole bases line before 0 k (words_of_list s)) (sym (list_begins command words)) made.are;
         last = last.operand;
         list = end.loads.operand ∙ ap (λ n. Ok (n, end.loads.address)) listed;
         entry = end.takes.operand ∙ ap (λ n. Ok (n, end.takes.address)) entered;
       };
-      made = split.is ∙ ap (λ k. k ++ split.two) made.is ∙ ap (λ k. made_stores (words_of s) ++ k) tail;
+      made = split.is ∙ ap (λ k. k ++ split.two) made.is ∙ ap (λ k. made_stores (words_of_list s) ++ k) tail;
     }

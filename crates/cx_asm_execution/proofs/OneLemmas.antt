@@ -1,7 +1,7 @@
 -- A statement is determined by where its made statements are and what they are made of.
 use Rattle.std.proofs.Common.{◌≡◌, ℕ, ◌+◌, Some, Ok, List, [], ◌∷◌, ◌++◌, refl, sym, ◌∙◌, ap}
 use Rattle.std.specs.Prelude.{Option, Result}
-use Rattle.cx_asm_execution.specs.Expansion.{Argument, ImpliedAddress, Statement, instructions_made, stores, words_of}
+use Rattle.cx_asm_execution.specs.Expansion.{Argument, ImpliedAddress, Statement, instructions_made, store_instructions, words_of_list}
 use Rattle.cx_code.specs.declared.instruction.Fields.{Fields}
 use Rattle.cx_code.specs.declared.instruction.Fields.TheVariants.{Rx, Si}
 use Rattle.cx_code.specs.declared.table.Op.{Op}
@@ -15,7 +15,7 @@ use Rattle.cx_source.specs.declared.source.Stmt.{Stmt}
 use Rattle.cx_asm_expressions.specs.declared.faults.FaultKind.{FaultKind}
 use Rattle.cx_translate.specs.Expansion.{made_item}
 use Rattle.cx_asm_execution.specs.Arrival.{IsStatement}
-use Rattle.cx_asm_execution.specs.MadeLines.{AreResolved, Site, lines_after, call_of}
+use Rattle.cx_asm_execution.specs.MadeLines.{AreResolved, Site, lines_after, statements_of_call}
 
 -- ---- records with equal fields
 abbrev block_argument : Statement → Argument
@@ -64,7 +64,7 @@ no_load a b p q e =
     absurd (cc)
 
 stores_are : (xs ys : List Argument) (b d b' d' : ℕ) (p q : List Instruction)
-    → stores xs ++ instruction op.Oi (Si 128 b d) ∷ p ≡ stores ys ++ instruction op.Oi (Si 128 b' d') ∷ q
+    → store_instructions xs ++ instruction op.Oi (Si 128 b d) ∷ p ≡ store_instructions ys ++ instruction op.Oi (Si 128 b' d') ∷ q
     → Same xs ys (instruction op.Oi (Si 128 b d) ∷ p) (instruction op.Oi (Si 128 b' d') ∷ q)
 stores_are [] [] b d b' d' p q e = record { arguments = refl; after = e }
 stores_are [] (y ∷ ys) b d b' d' p q e = absurd (no_load (Si 128 b d) (Rx 0 y.index y.base y.displacement) _ _ e)
@@ -99,8 +99,8 @@ statement_of command first second conditions block head arguments last list entr
 pub statements_decide : (site : Site) (at other : ℕ) (s t : Statement) → IsStatement site at s → IsStatement site other t → s ≡ t
 unfolding instructions_made
 statements_decide site at other s t one two =
-    let code = codes_are site (lines_after site []) at other (call_of site) (instructions_made s) (instructions_made t) one.resolved two.resolved in
-    let split = stores_are (words_of s) (words_of t) s.last.base s.last.displacement t.last.base t.last.displacement _ _ code in
+    let code = codes_are site (lines_after site []) at other (statements_of_call site) (instructions_made s) (instructions_made t) one.resolved two.resolved in
+    let split = stores_are (words_of_list s) (words_of_list t) s.last.base s.last.displacement t.last.base t.last.displacement _ _ code in
     let all = split.arguments in
     let handed : block_argument s ≡ block_argument t = cc in
     let block : s.block ≡ t.block = based_is s.block t.block (ap (λ (a : Argument). a.base) handed) (ap (λ (a : Argument). a.displacement) handed) in

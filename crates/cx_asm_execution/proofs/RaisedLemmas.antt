@@ -3,7 +3,7 @@ use Rattle.std.proofs.Common.{◌≡◌, ◌⊎◌, inl, inr, ◌≤◌, ℕ, �
 use Rattle.std.specs.List.{AllByRecursion}
 use Rattle.cx_code.specs.declared.disassembly.Line.{Line}
 use Rattle.cx_asm_operands.specs.Bases.{none_in_use}
-use Rattle.cx_asm_image.specs.Resolved.{AreApart, end_of, is_code}
+use Rattle.cx_asm_image.specs.Resolved.{AreApart, offset_after, is_code}
 use Rattle.cx_asm_pass2.specs.Statements.{statements_of}
 use Rattle.cx_asm_pass2.specs.Whole.{whole_of}
 use Rattle.cx_asm.specs.Assembly.{section_of, standing_of}
@@ -17,26 +17,26 @@ word_after : (from : ℕ) (ls : List Line) (size r : ℕ) → AreApart from ls s
 unfolding HasWord
 word_after from [] size r apart h = absurd h
 word_after from (l ∷ ls) size r apart (inl h) = (let at = h.begins in let first = apart.0 in omega (arith, at, first))
-word_after from (l ∷ ls) size r apart (inr h) = (let rest = word_after (end_of l) ls size r apart.1 h in let first = apart.0 in omega (arith, rest, first))
+word_after from (l ∷ ls) size r apart (inr h) = (let rest = word_after (offset_after l) ls size r apart.1 h in let first = apart.0 in omega (arith, rest, first))
 
 abbrev IsBeside : ℕ → Line → Type 0
-IsBeside r l = (r + 4 ≤ l.at) ⊎ (end_of l ≤ r)
+IsBeside r l = (r + 4 ≤ l.at) ⊎ (offset_after l ≤ r)
 
 all_after : (from : ℕ) (ls : List Line) (size r : ℕ) → AreApart from ls size → r + 4 ≤ from → AllByRecursion (λ l. is_code l.what ≡ true → IsBeside r l) ls
 all_after from [] size r apart le = tt
 all_after from (l ∷ ls) size r apart le =
-    let first = apart.0 in ((λ code. inl (omega (arith, first, le))), all_after (end_of l) ls size r apart.1 (omega (arith, first, le)))
+    let first = apart.0 in ((λ code. inl (omega (arith, first, le))), all_after (offset_after l) ls size r apart.1 (omega (arith, first, le)))
 
 one_clear : (from : ℕ) (ls : List Line) (size r : ℕ) → AreApart from ls size → HasWord r ls → AllByRecursion (λ l. is_code l.what ≡ true → IsBeside r l) ls
 unfolding HasWord
 one_clear from [] size r apart h = tt
 one_clear from (l ∷ ls) size r apart (inl h) = (
   (λ code. (let no = h.constant in absurd (cc))),
-  all_after (end_of l) ls size r apart.1 h.ends,
+  all_after (offset_after l) ls size r apart.1 h.ends,
 )
 one_clear from (l ∷ ls) size r apart (inr h) = (
-  (λ code. inr (word_after (end_of l) ls size r apart.1 h)),
-  one_clear (end_of l) ls size r apart.1 h,
+  (λ code. inr (word_after (offset_after l) ls size r apart.1 h)),
+  one_clear (offset_after l) ls size r apart.1 h,
 )
 
 clear_more : (r : ℕ) (relocs : List ℕ) (ls : List Line) → AllByRecursion (λ l. is_code l.what ≡ true → IsBeside r l) ls → AllByRecursion (λ l. is_code l.what ≡ true → IsUnrelocated relocs l) ls

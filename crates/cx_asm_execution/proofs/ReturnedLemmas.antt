@@ -5,13 +5,13 @@ use Rattle.std.specs.Option.{option_map_or, option_to_list}
 use Rattle.std.proofs.lemmas.List.{append_assoc}
 use Rattle.std.proofs.lemmas.List.Sums.{sum_by-cons}
 use Rattle.cx_asm_execution.specs.Laws.Pointers.{LoadsGiveWords}
-use Rattle.cx_asm_execution.specs.Expansion.{Argument, Statement, argument_address, instructions_made as made_code, words_of}
+use Rattle.cx_asm_execution.specs.Expansion.{Argument, Statement, argument_address, instructions_made as made_code, words_of_list}
 use Rattle.cx_asm_execution.specs.Stands.{AreAt, IsMachine, code_length}
-use Rattle.cx_code.specs.declared.disassembly.What.TheVariants.{Code}
+use Rattle.cx_code.specs.declared.disassembly.LineContent.TheVariants.{Code}
 use Rattle.cx_code.specs.declared.instruction.Fields.TheVariants.{Rx}
 use Rattle.cx_code.specs.declared.table.Op.TheVariants as op
 use Rattle.cx_code.specs.Spelling.{Instruction, instruction}
-use Rattle.cx_code.specs.Table.{length_of, ops, row_of}
+use Rattle.cx_code.specs.Table.{length_of, ops, operation_row}
 use Rattle.cx_base.specs.declared.commands.Command.{Command}
 use Rattle.cx_base.specs.declared.options.CommandOption.{CommandOption}
 use Rattle.cx_base.specs.declared.options.ArgumentKind.TheVariants.{Pointer}
@@ -29,8 +29,8 @@ use Rattle.cx_asm_pass1.specs.Layout.{align}
 use Rattle.cx_asm_pass1.specs.declared.roles.Role.TheVariants as role
 use Rattle.cx_source.specs.declared.source.Item.{Item}
 use Rattle.cx_source.specs.declared.source.Source.{Source}
-use Rattle.cx_source.specs.Lines.{is_letter, is_name, is_name_character}
-use Rattle.cx_source.specs.Marks.{depth_after, within_after}
+use Rattle.cx_source.specs.Lines.{is_letter, is_symbol_name, is_symbol_name_character}
+use Rattle.cx_source.specs.Marks.{scan_depth_after, within_after}
 use Rattle.cx_storage.specs.Address.{address_after}
 use Rattle.cx_storage.specs.Laws.Spans.{SpanIsBytes}
 use Rattle.cx_storage.specs.Storage.{Storage}
@@ -48,7 +48,7 @@ use Rattle.cx_translate.specs.Facts.Found.{operand_by}
 use Rattle.cx_translate.specs.Call.{argument_of, labels_of, list_of, operand_of, operands_of as arguments_handed, pointer_by, pointers_of}
 use Rattle.cx_translate.specs.Expansion.{load, made_item, stmt}
 use Rattle.cx_translate.specs.Sections.{lines}
-use Rattle.cx_asm_operands.specs.Addresses.{address, address_in as addressed_in, number_within, implied_address}
+use Rattle.cx_asm_operands.specs.Addresses.{address, address_by_bases as addressed_in, number_within, implied_address}
 use Rattle.cx_asm_operands.specs.Bases.{Bases}
 use Rattle.cx_asm_operands.specs.Context.{Context, context, expression_value}
 use Rattle.cx_asm_operands.specs.Forms.{operands_of}
@@ -70,7 +70,7 @@ use Rattle.cx_asm_execution.proofs.CalledLemmas.{HasFirst, first_offset}
 use Rattle.cx_asm_execution.proofs.KeptLemmas.{IsPlaced, code_kept, code_within, is_placed}
 use Rattle.cx_asm_execution.proofs.MadeLemmas.{list_begins, rest_of}
 use Rattle.cx_asm_execution.proofs.StandingLemmas.{offset_is}
-use Rattle.cx_asm_execution.specs.Arrival.{AreKept, ComesBack, IsPointer}
+use Rattle.cx_asm_execution.specs.Arrival.{AreKept, PointerComesBack, IsPointer}
 use Rattle.cx_asm_execution.specs.MadeLines.{Site, code_lines}
 use Rattle.cx_asm_execution.proofs.Called.{call_statements}
 use Rattle.cx_asm_execution.proofs.OptionLemmas.{no_pointer_before}
@@ -78,7 +78,7 @@ use Rattle.cx_asm_execution.proofs.Pointers.{IsPointerLoad, LoadsAreResolved, Lo
 
 -- ---- DFHEITP as an operand
 one_term : terms_of (codes "DFHEITP") ≡ Some (term_of Plus Symbol (codes "DFHEITP") ∷ [])
-unfolding terms_of within_after depth_after read_term is_name is_letter is_name_character
+unfolding terms_of within_after scan_depth_after read_term is_symbol_name is_letter is_symbol_name_character
 one_term = refl
 
 -- it has the same value everywhere
@@ -87,7 +87,7 @@ unfolding value_of term_value
 same_value find here there = ap (sum_of_terms find here) one_term ∙ sym (ap (sum_of_terms find there) one_term)
 
 alone : (c : Context) → operand_in true c (codes "DFHEITP") ≡ Some (operand (expression_value c (codes "DFHEITP")) [])
-unfolding operand_in within_after depth_after
+unfolding operand_in within_after scan_depth_after
 alone c = refl
 
 implied : (c : Context) → indexed_in c (codes "DFHEITP") ≡ both_or_lower_fault (Ok 0) (then_check (implied_address c.bases) (expression_value c (codes "DFHEITP")))
@@ -204,18 +204,18 @@ has_argument whole bases line before k (other ∷ front) text back (a ∷ argume
     record { argument = rest.argument; at = rest.at; before = rest.before; resolves = rest.resolves }
 
 after_block : (whole : Whole) (bases : Bases) (line : ℕ) (before : List Item) (block : List ℕ) (list : List (List ℕ)) (s : Statement)
-    → AreArguments whole bases line before 0 (block ∷ list) (words_of s)
+    → AreArguments whole bases line before 0 (block ∷ list) (words_of_list s)
     → AreArguments whole bases line (made_item line (store_of 0) ∷ made_item line (load_of block) ∷ before) 1 list s.arguments
 unfolding AreArguments
 after_block whole bases line before block list s are = are.2
 
 -- ---- the load
 load_length : (register base displacement : ℕ) → code_length (instruction op.L (Rx register 0 base displacement) ∷ []) ≡ 4
-unfolding row_of
+unfolding operation_row
 load_length register base displacement = refl
 
 l_role : (operand : List ℕ) → role_in (stmt [] (codes "L") operand) ≡ role.Instruction (length_of op.L)
-unfolding operation_named operations ops row_of
+unfolding operation_named operations ops operation_row
 l_role operand = refl
 
 record Begins (whole : Whole) (bases : Bases) (before : List Item) (at : ℕ) (item : Item) (code : List Instruction) : Type 0 where
@@ -314,8 +314,8 @@ module _ (laws : Laws) (source : Source) (assembly : AssemblyParts) (line : ℕ)
   handed : HasArgument whole bases line (codes "DFHEITP") s.arguments (length (arguments_handed before words))
   handed =
       let after = list_split command words before register p in
-      let entire : AreArguments whole bases line (reverse first) 0 (block_of command words ∷ rest_of command words) (words_of s) =
-      subst (λ k. AreArguments whole bases line (reverse first) 0 k (words_of s)) (list_begins command words) all.called.is.arguments in
+      let entire : AreArguments whole bases line (reverse first) 0 (block_of command words ∷ rest_of command words) (words_of_list s) =
+      subst (λ k. AreArguments whole bases line (reverse first) 0 k (words_of_list s)) (list_begins command words) all.called.is.arguments in
       let lines_so = made_item line (store_of 0) ∷ made_item line (load_of (block_of command words)) ∷ reverse first in
       let rest = after_block whole bases line (reverse first) (block_of command words) (rest_of command words) s entire in
       has_argument whole bases line lines_so 1 (arguments_handed before words) (codes "DFHEITP") after.rest s.arguments
@@ -398,7 +398,7 @@ module _ (laws : Laws) (source : Source) (assembly : AssemblyParts) (line : ℕ)
   abbrev site : Site
   site = record { source = source; first = first; line = line; command = command; words = words }
 
-  pub comes_back : code_length all.calls ≡ code_length (made_code s) → ComesBack site assembly.section.image all.code.at s before register
+  pub comes_back : code_length all.calls ≡ code_length (made_code s) → PointerComesBack site assembly.section.image all.code.at s before register
   comes_back counted =
       record {
         argument = handed.argument;

@@ -6,7 +6,7 @@ use Rattle.std.specs.List.{AllByRecursion, cons_option}
 use Rattle.std.specs.Result.{result_err, result_ok}
 use Rattle.std.proofs.lemmas.List.{append_assoc, append-nil, reverse-append}
 use Rattle.cx_code.specs.declared.disassembly.Line.{Line}
-use Rattle.cx_code.specs.declared.disassembly.What.TheVariants.{Code}
+use Rattle.cx_code.specs.declared.disassembly.LineContent.TheVariants.{Code}
 use Rattle.cx_code.specs.declared.table.Op.{Op}
 use Rattle.cx_code.specs.declared.table.Op.TheVariants.{Bc, Bcr}
 use Rattle.cx_code.specs.declared.table.Format.{Format}
@@ -38,21 +38,21 @@ use Rattle.cx_asm_operands.specs.Bases.{Bases, none_in_use}
 use Rattle.cx_asm_operands.specs.Directives.{bases_in}
 use Rattle.cx_asm_operands.specs.Forms.{fields_in, form_of, operands_of, instruction_or_fault}
 use Rattle.cx_asm_operands.specs.Context.{Context}
-use Rattle.cx_asm_operands.specs.Checking.{made_of as fields_made}
+use Rattle.cx_asm_operands.specs.Checking.{with_made as fields_made}
 use Rattle.cx_asm_operands.specs.declared.forms.Form.{Form}
 use Rattle.cx_code.specs.declared.instruction.Fields.{Fields}
 use Rattle.cx_asm_pass2.specs.Statements.{PlacedStatement, operation_of, placed_statement, statements_of}
 use Rattle.cx_asm_pass2.specs.SecondFaults.{bases_after, literals_fault, operand_fault, second_fault}
 use Rattle.cx_asm_pass2.specs.Whole.{Whole, directive_context, instruction_context, whole_of}
 use Rattle.cx_asm.specs.Resolving.{line, standing_from, statement_standing}
-use Rattle.cx_asm.specs.Assembly.{AssemblyParts, assembly_of, made_of, second_faults_of, section_of, size_of, standing_of}
+use Rattle.cx_asm.specs.Assembly.{AssemblyParts, assembly_of, assembly_parts, second_faults_of, section_of, control_section_size, standing_of}
 use Rattle.cx_asm.specs.Facts.Accepted as facts
 use Rattle.cx_asm_execution.specs.MadeLines.{code_lines}
 use Rattle.cx_asm_execution.proofs.Resolved.{AreResolved, InstructionsStand, bases_from, bases_in_use, is_instruction, is_instruction_role}
 use Rattle.cx_asm_laws.specs.Facts.Judged.{NoFault, none_judged}
 use Rattle.cx_asm_laws.specs.Facts.Lines.{control_same, fault_kept, own_sound, place_for, reverse_step, section_sound, statements_are, statements_from, statements_joined}
 use Rattle.cx_asm_image.specs.Resolved.{AreApart}
-use Rattle.cx_asm_image.specs.Text.{text_of}
+use Rattle.cx_asm_image.specs.Text.{section_text}
 use Rattle.cx_asm_execution.proofs.InStorage.{TextsAreMade}
 
 -- ---- no fault of the second pass
@@ -88,10 +88,10 @@ made_joined whole all bases (x ∷ xs) ys =
 
 -- ---- an accepted source
 abbrev pub Short : Type 0
-Short = (source : Source) (made : AssemblyParts) → assembly_of source ≡ Ok made → size_of source ≤ 65536
+Short = (source : Source) (made : AssemblyParts) → assembly_of source ≡ Ok made → control_section_size source ≤ 65536
 
 abbrev pub Long : Type 0
-Long = (source : Source) (made : AssemblyParts) → assembly_of source ≡ Ok made → length made.section.image.text ≡ size_of source
+Long = (source : Source) (made : AssemblyParts) → assembly_of source ≡ Ok made → length made.section.image.text ≡ control_section_size source
 
 abbrev pub Apart : Type 0
 Apart = (source : Source) (made : AssemblyParts) → assembly_of source ≡ Ok made → AreApart 0 made.section.resolved (length made.section.image.text)
@@ -99,7 +99,7 @@ Apart = (source : Source) (made : AssemblyParts) → assembly_of source ≡ Ok m
 pub record IsAccepted (source : Source) (assembly : AssemblyParts) : Type 0 where
   pub first : (final_state source).fault ≡ None
   pub second : second_faults_of source ≡ []
-  pub made : made_of source ≡ assembly
+  pub made : assembly_parts source ≡ assembly
 
 pub accepted : (source : Source) (assembly : AssemblyParts) → assembly_of source ≡ Ok assembly → IsAccepted source assembly
 accepted source assembly e = (let ok = facts.accepted source assembly e in record { first = ok.sound; second = ok.second; made = ok.made_is })
@@ -110,7 +110,7 @@ unfolding section_of
 texts_are_made short long apart source assembly e =
     let size = long source assembly e in
     let lines : assembly.section.resolved ≡ (section_of source).resolved = ap (λ k. k.section.resolved) (sym (accepted source assembly e).made) in
-    let text : assembly.section.image.text ≡ text_of (section_of source).resolved (size_of source) = ap (λ k. k.section.image.text) (sym (accepted source assembly e).made) in
+    let text : assembly.section.image.text ≡ section_text (section_of source).resolved (control_section_size source) = ap (λ k. k.section.image.text) (sym (accepted source assembly e).made) in
     record {
       apart = apart source assembly e;
       text = text ∙ rw (lines, size) refl;

@@ -1,7 +1,7 @@
 -- One instruction is performed.
 use Rattle.std.proofs.Common.{◌≡◌, ℕ, suc, ◌+◌, ◌*◌, ◌^◌, ◌<◌, List, [], ◌∷◌, length, false, true, Some, Ok, is_some, ◌∙◌, arith}
 use Rattle.std.proofs.lemmas.List.Sums.{sum_by-cons}
-use Rattle.cx_storage.specs.Storage.{Storage, span, IsSound}
+use Rattle.cx_storage.specs.Storage.{Storage, span, IsSoundStorage}
 use Rattle.cx_storage.specs.Address.{address_after}
 use Rattle.cx_code.specs.Table.{length_of}
 use Rattle.cx_code.specs.Spelling.{Instruction, spelling}
@@ -44,7 +44,7 @@ still s t list a (i ∷ rest) la same apart (well, here, later) =
 
 -- after an instruction of four bytes, which changed the list alone, the machine is ready for the next ones
 pub goes_on : (list : ℕ) (i : Instruction) (rest : List Instruction) (m after : Machine) → Ready list (i ∷ rest) m → length_of i.op ≡ 4
-    → after.next ≡ address_after m.next 4 → length after.regs ≡ 16 → IsSound after.storage → is_some (span after.storage list list_length) ≡ true
+    → after.next ≡ address_after m.next 4 → length after.regs ≡ 16 → IsSoundStorage after.storage → is_some (span after.storage list list_length) ≡ true
     → Agree list m.storage after.storage → Ready list rest after
 unfolding AreAt
 goes_on list i rest m after ready size next regs sound there same =

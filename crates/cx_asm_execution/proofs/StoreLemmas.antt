@@ -7,11 +7,11 @@ use Rattle.cx_code.specs.declared.table.Op.TheVariants as op
 use Rattle.cx_code.specs.declared.instruction.Fields.{Fields}
 use Rattle.cx_code.specs.declared.instruction.Fields.TheVariants.{Rr, Rx}
 use Rattle.cx_code.specs.Spelling.{Instruction, instruction}
-use Rattle.cx_code.specs.Table.{is_shift, length_of, ops, row_of}
+use Rattle.cx_code.specs.Table.{is_shift, length_of, ops, operation_row}
 use Rattle.cx_source.specs.declared.source.Item.{Item}
 use Rattle.cx_source.specs.declared.source.Stmt.{Stmt}
-use Rattle.cx_source.specs.Lines.{is_letter, is_name}
-use Rattle.cx_source.specs.Marks.{depth_after, is_length_attribute, is_mark, lies_outside, parts_from, scan_after, within_after}
+use Rattle.cx_source.specs.Lines.{is_letter, is_symbol_name}
+use Rattle.cx_source.specs.Marks.{scan_depth_after, is_length_attribute, is_mark, lies_outside, parts_from, scan_after, within_after}
 use Rattle.cx_source.specs.declared.marks.Delimiter.TheVariants.{TopComma}
 use Rattle.cx_source.specs.declared.marks.Scan.{Scan}
 use Rattle.cx_asm_expressions.specs.declared.faults.FaultKind.{FaultKind}
@@ -24,7 +24,7 @@ use Rattle.cx_translate.specs.Expansion.{made_item, stmt}
 use Rattle.cx_asm_operations.specs.Operations.{operation_named, operations}
 use Rattle.cx_asm_operations.specs.declared.operations.Operation.TheVariants as operation
 use Rattle.cx_asm_operands.specs.Bases.{Bases}
-use Rattle.cx_asm_operands.specs.Context.{Context, number_in, register_in}
+use Rattle.cx_asm_operands.specs.Context.{Context, operand_number, register_in}
 use Rattle.cx_asm_operands.specs.Forms.{fields_in, form_of_op, operands_of, instruction_or_fault}
 use Rattle.cx_asm_operands.specs.Checking.{both_or_lower_fault}
 use Rattle.cx_asm_operands.specs.Storage.{indexed_in}
@@ -59,15 +59,15 @@ whole_part scan part (c ∷ after) p e =
 
 -- ---- registers
 zero_is : (c : Context) → register_in c (codes "0") ≡ Ok 0
-unfolding number_in value_of terms_of within_after read_term is_name is_letter digit term_value sum_of_values relocation
+unfolding operand_number value_of terms_of within_after read_term is_symbol_name is_letter digit term_value sum_of_values relocation
 zero_is c = refl
 
 one_is : (c : Context) → register_in c (codes "1") ≡ Ok 1
-unfolding number_in value_of terms_of within_after read_term is_name is_letter digit term_value sum_of_values relocation
+unfolding operand_number value_of terms_of within_after read_term is_symbol_name is_letter digit term_value sum_of_values relocation
 one_is c = refl
 
 fifteen_is : (c : Context) → register_in c (codes "15") ≡ Ok 15
-unfolding number_in value_of terms_of within_after read_term is_name is_letter digit term_value sum_of_values relocation
+unfolding operand_number value_of terms_of within_after read_term is_symbol_name is_letter digit term_value sum_of_values relocation
 fifteen_is c = refl
 
 -- ---- a register and the rest
@@ -76,15 +76,15 @@ record Cut (text : List ℕ) (register : List ℕ) (rest : List ℕ) : Type 0 wh
   is : operands_of text ≡ register ∷ parts_from TopComma scan [] rest
 
 cut_0 : (text : List ℕ) → Cut (codes "0," ++ text) (codes "0") text
-unfolding within_after depth_after is_length_attribute
+unfolding within_after scan_depth_after is_length_attribute
 cut_0 text = record { scan = record { within = false; depth = 0; before = 48; last = 44 }; is = refl }
 
 cut_1 : (text : List ℕ) → Cut (codes "1," ++ text) (codes "1") text
-unfolding within_after depth_after is_length_attribute
+unfolding within_after scan_depth_after is_length_attribute
 cut_1 text = record { scan = record { within = false; depth = 0; before = 49; last = 44 }; is = refl }
 
 cut_15 : (text : List ℕ) → Cut (codes "15," ++ text) (codes "15") text
-unfolding within_after depth_after is_length_attribute
+unfolding within_after scan_depth_after is_length_attribute
 cut_15 text = record { scan = record { within = false; depth = 0; before = 53; last = 44 }; is = refl }
 
 -- ---- an instruction with one
@@ -126,19 +126,19 @@ with_zero o c text i indexed e = with_register o c (codes "0," ++ text) (codes "
 
 -- ---- made statements
 la_named : operation_named (codes "LA") ≡ Some (operation.Machine op.La)
-unfolding operation_named operations ops row_of
+unfolding operation_named operations ops operation_row
 la_named = refl
 
 st_named : operation_named (codes "ST") ≡ Some (operation.Machine op.St)
-unfolding operation_named operations ops row_of
+unfolding operation_named operations ops operation_row
 st_named = refl
 
 la_indexed : form_of_op op.La ≡ (form.Format format.Rx)
-unfolding row_of is_shift
+unfolding operation_row is_shift
 la_indexed = refl
 
 st_indexed : form_of_op op.St ≡ (form.Format format.Rx)
-unfolding row_of is_shift
+unfolding operation_row is_shift
 st_indexed = refl
 
 pub resolved_so : (whole : Whole) (bases : Bases) (line at : ℕ) (before : List Item) (s : Stmt) (o : Op) (i : Instruction) → operation_named s.operation ≡ Some (operation.Machine o)
@@ -165,19 +165,19 @@ stores_resolved whole bases line at k before (argument ∷ list) (i ∷ j ∷ co
 
 -- ---- the branch
 pub l_named : operation_named (codes "L") ≡ Some (operation.Machine op.L)
-unfolding operation_named operations ops row_of
+unfolding operation_named operations ops operation_row
 l_named = refl
 
 balr_named : operation_named (codes "BALR") ≡ Some (operation.Machine op.Balr)
-unfolding operation_named operations ops row_of
+unfolding operation_named operations ops operation_row
 balr_named = refl
 
 pub l_indexed : form_of_op op.L ≡ (form.Format format.Rx)
-unfolding row_of is_shift
+unfolding operation_row is_shift
 l_indexed = refl
 
 balr_is : (c : Context) → instruction_or_fault (operation.Machine op.Balr) c (codes "14,15") ≡ Ok (instruction op.Balr (Rr 14 15))
-unfolding instruction_or_fault fields_in row_of is_shift number_in value_of terms_of within_after depth_after is_length_attribute read_term is_name is_letter digit term_value sum_of_values relocation
+unfolding instruction_or_fault fields_in operation_row is_shift operand_number value_of terms_of within_after scan_depth_after is_length_attribute read_term is_symbol_name is_letter digit term_value sum_of_values relocation
 balr_is c = refl
 
 pub branch_resolved : BranchIsResolved

@@ -16,12 +16,12 @@ use Rattle.cx_translate.specs.declared.faults.TransFault.{TransFault}
 use Rattle.cx_translate.specs.declared.words.Word.{Word}
 use Rattle.cx_translate.specs.Call.{list_of, pointers_of}
 use Rattle.cx_translate.specs.Expansion.{call, label, load, made_in, made_item, made_of, stmt, stores}
-use Rattle.cx_translate.specs.Refusals.{command_in, fault_in, fault_of}
+use Rattle.cx_translate.specs.Refusals.{command_in, fault_in, refusal_of}
 use Rattle.cx_translate.specs.Sections.{name_at, bases, begins_exec, begins_section, begins_storage, place_after, continuation_count, is_end, lines, insert_items, put_before, put_after, storage_fields, with_bases, with_eib, with_storage}
 use Rattle.cx_translate.specs.Translation.{continues_exec, expanded_items, expansion, fault_at, statement_faults, translation, translation_of}
 use Rattle.cx_translate.specs.Facts.AllFaults.{translated_so}
 use Rattle.cx_translate.specs.Words.{words_of}
-use Rattle.cx_translate.specs.Facts.Found.{bases_after, continued, eib_before, eib_section, fault_in_stmt, fault_of_command, line_of, made_by, storage_before, storage_after, storage_section}
+use Rattle.cx_translate.specs.Facts.Found.{bases_after, continued, eib_before, eib_section, fault_in_stmt, fault_of_command, listed_line, made_by, storage_before, storage_after, storage_section}
 use Rattle.cx_asm_execution.specs.MadeLines.{IsMade}
 use Rattle.cx_asm_execution.proofs.Together.{StandTogether}
 
@@ -273,7 +273,7 @@ kept_before : (p : Item → Bool) (part items : List Item) (made : List Stmt) (p
 kept_before p part items made place d none found there =
     let at : IsBeside there.before part place = found_beside p there.before part there.after place d none (ap (position p) (sym there.is) ∙ found) in
     subst (λ k. StandTogether part (put_before made place k)) (sym there.is)
-    (put_beside part there.before there.after (lines (line_of (slice_get (there.before ++ part ++ there.after) place)) made) place at)
+    (put_beside part there.before there.after (lines (listed_line (slice_get (there.before ++ part ++ there.after) place)) made) place at)
 
 kept_after : (p : Item → Bool) (part items : List Item) (made : List Stmt) (place : ℕ) (d : Item) → Begins part → HaveNot p part → position p items ≡ Some place → StandTogether part items
     → StandTogether part (put_after made place items)
@@ -282,7 +282,7 @@ kept_after p [] items made place d begun none found there = nothing_together (pu
 kept_after p (y ∷ part) items made place d begun none found there =
     let all = there.before ++ (y ∷ part) ++ there.after in
     let at : IsBeside there.before (y ∷ part) place = found_beside p there.before (y ∷ part) there.after place d none (ap (position p) (sym there.is) ∙ found) in
-    let added = lines (line_of (slice_get all place)) made in
+    let added = lines (listed_line (slice_get all place)) made in
     subst (λ k. StandTogether (y ∷ part) (put_after made place k)) (sym there.is)
     (⊎_elim
     (λ le. put_before_them (y ∷ part) there.before there.after added (place_after all place) le)
@@ -364,17 +364,17 @@ record IsNamed (line : ℕ) (words : List Word) : Type 0 where
   found : command_in words ≡ Some (command, named)
   accepted : fault_in line command (take 1 words) (take named (drop 1 words)) (drop named (drop 1 words)) ≡ None
 
-named_so : (line : ℕ) (words : List Word) → fault_of line words ≡ None → IsNamed line words
-unfolding fault_of
+named_so : (line : ℕ) (words : List Word) → refusal_of line words ≡ None → IsNamed line words
+unfolding refusal_of
 named_so line words e = go (command_in words) refl e
   where
     go : (found : Option (Command × ℕ)) → command_in words ≡ found → fault_of_command line words found ≡ None → IsNamed line words
     go None is e = absurd (cc)
     go (Some found) is e = record { command = found.0; named = found.1; found = is; accepted = e }
 
-faultless : (item : Item) (exec : Stmt) → item.stmt ≡ Some exec → begins_exec item ≡ true → fault_at item ≡ None → fault_of item.line (words_of exec.operand) ≡ None
+faultless : (item : Item) (exec : Stmt) → item.stmt ≡ Some exec → begins_exec item ≡ true → fault_at item ≡ None → refusal_of item.line (words_of exec.operand) ≡ None
 unfolding fault_at
-faultless item exec is begins e = (let same : cond (begins_exec item) (fault_in_stmt item.line item.stmt) None ≡ fault_of item.line (words_of exec.operand) = rw (begins, is) refl in sym same ∙ e)
+faultless item exec is begins e = (let same : cond (begins_exec item) (fault_in_stmt item.line item.stmt) None ≡ refusal_of item.line (words_of exec.operand) = rw (begins, is) refl in sym same ∙ e)
 
 -- ---- the translation
 has_exec : (before : List Item) (item : Item) (rest : List Item) → begins_exec item ≡ true → list_any begins_exec (before ++ (item ∷ rest)) ≡ true
@@ -427,5 +427,5 @@ made_items item exec items made =
 
 pub no_fault_in : (item : Item) (exec : Stmt) (items : List Item) (made : IsMade item exec items)
     → fault_in item.line made.command (take 1 (words_of exec.operand)) (take made.named (drop 1 (words_of exec.operand))) (words_after exec made.named) ≡ None
-unfolding fault_of
+unfolding refusal_of
 no_fault_in item exec items made = sym (ap (fault_of_command item.line (words_of exec.operand)) made.found) ∙ made.accepted

@@ -9,8 +9,8 @@ use Rattle.std.proofs.Common.{Result, ◌≡◌, ◌<◌, ℕ, ◌+◌, ◌*◌,
 use Rattle.std.proofs.lemmas.Bool.Decides.{nat_tests}
 use Rattle.cx_ebcdic.specs.Facts.Names.{is_name-decides}
 use Rattle.cx_ebcdic.specs.Lookup.{each_some}
-use Rattle.cx_source.specs.Lines.{is_letter, is_name, is_name_character}
-use Rattle.cx_source.specs.Marks.{depth_after, first_from, is_mark, lies_outside, scan_after, within_after}
+use Rattle.cx_source.specs.Lines.{is_letter, is_symbol_name, is_symbol_name_character}
+use Rattle.cx_source.specs.Marks.{scan_depth_after, first_from, is_mark, lies_outside, scan_after, within_after}
 use Rattle.cx_source.specs.declared.marks.Delimiter.TheVariants.{Parenthesis}
 use Rattle.cx_source.specs.declared.marks.Scan.{Scan}
 use Rattle.cx_asm_expressions.specs.Digits.{bound, is_digit, number_in}
@@ -29,7 +29,7 @@ use Rattle.cx_asm_expressions.specs.declared.terms.Sign.TheVariants.{Plus}
 use Rattle.cx_asm_expressions.specs.declared.terms.TermKind.TheVariants.{Decimal, Symbol}
 use Rattle.cx_asm_expressions.specs.declared.values.Value.{Value}
 use Rattle.cx_storage.specs.Address.{address_after}
-use Rattle.cx_asm_operands.specs.Addresses.{address as at_register, address_in, number_within, implied_address}
+use Rattle.cx_asm_operands.specs.Addresses.{address as at_register, address_by_bases, number_within, implied_address}
 use Rattle.cx_asm_operands.specs.Bases.{Bases}
 use Rattle.cx_asm_operands.specs.Context.{Context, expression_value}
 use Rattle.cx_asm_operands.specs.Checking.{both_or_lower_fault, then_check}
@@ -42,16 +42,13 @@ use Rattle.cx_asm_execution.proofs.Words.{HasSomeList, LieAfter, LiesAfter, List
 use Rattle.cx_asm_execution.proofs.ArgumentLemmas.{both_ok}
 use Rattle.cx_asm_laws.specs.Facts.Plain.{ArePlain, decimal_plain, decimal_read, decimal_term, neither, other, plain_part}
 
-list_name : List ℕ
-list_name = codes "DFHEIPL"
-
 -- ---- the terms
 symbol_term : read_term (part_of Plus (codes "DFHEIPL")) ≡ Some (term_of Plus Symbol (codes "DFHEIPL"))
-unfolding read_term is_name is_letter is_name_character
+unfolding read_term is_symbol_name is_letter is_symbol_name_character
 symbol_term = refl
 
 parts_are : (text : List ℕ) → ArePlain text → parts_of (codes "DFHEIPL+" ++ text) ≡ part_of Plus (codes "DFHEIPL") ∷ part_of Plus text ∷ []
-unfolding within_after depth_after
+unfolding within_after scan_depth_after
 parts_are text plain =
     ap (λ k. part_of Plus (codes "DFHEIPL") ∷ k) (plain_part Plus (record { within = false; depth = 0; before = 76; last = 43 }) [] text plain)
 
@@ -62,7 +59,7 @@ terms_are text plain all some =
     ap (λ k. each_some (map read_term k)) (parts_are text plain) ∙ rw (symbol_term, decimal_term text plain all some) refl
 
 one_term : terms_of (codes "DFHEIPL") ≡ Some (term_of Plus Symbol (codes "DFHEIPL") ∷ [])
-unfolding terms_of within_after depth_after read_term is_name is_letter is_name_character
+unfolding terms_of within_after scan_depth_after read_term is_symbol_name is_letter is_symbol_name_character
 one_term = refl
 
 -- ---- the sum
@@ -186,11 +183,11 @@ IsAlone : Context → List ℕ → Type 0
 IsAlone c text = (takes : Bool) → operand_in takes c text ≡ Some (operand (expression_value c text) [])
 
 list_alone : (c : Context) → IsAlone c (codes "DFHEIPL")
-unfolding IsAlone operand_in within_after depth_after
+unfolding IsAlone operand_in within_after scan_depth_after
 list_alone c takes = refl
 
 word_alone : (c : Context) (text : List ℕ) → ArePlain text → IsAlone c (codes "DFHEIPL+" ++ text)
-unfolding IsAlone operand_in within_after depth_after
+unfolding IsAlone operand_in within_after scan_depth_after
 word_alone c text plain takes =
     let tail = no_parenthesis (record { within = false; depth = 0; before = 76; last = 43 }) text plain in
     let same : (1 + (1 + (1 + (1 + (1 + (1 + (1 + (1 + length text))))))) == length (codes "DFHEIPL+" ++ text)) ≡ true = grind (arith, nat_tests) in
@@ -281,7 +278,7 @@ unknown_symbol find here value none e =
     let bad = rw none at terms in absurd (cc)
 
 base_0 : (bases : Bases) (value : Value) (address : Address) → value.section ≡ None → implied_address bases value ≡ Ok address → address.base ≡ 0
-base_0 bases value address none e = go (number_within 4095 value.number) (subst (λ s. address_in bases s value.number ≡ Ok address) none e)
+base_0 bases value address none e = go (number_within 4095 value.number) (subst (λ s. address_by_bases bases s value.number ≡ Ok address) none e)
   where
     go : (o : Option ℕ) → ok_or (option_map (at_register 0) o) ValueOutOfRange ≡ Ok address → address.base ≡ 0
     go None e = absurd (cc)

@@ -5,7 +5,7 @@
 use Rattle.std.specs.Prelude.{◌≡◌, ◌≢◌, ℕ, pos, ◌+◌, ◌<◌, true, Ok, Some, List, [], ◌∷◌, ◌++◌, codes, is_some, length, map, slice_get, slice_set, take}
 use Rattle.std.specs.List.{AllByRecursion, Contains}
 use Rattle.cx_asm_execution.specs.Arrives.{Arrives}
-use Rattle.cx_asm_execution.specs.Expansion.{Argument, ImpliedAddress, Statement, argument_address, block_bytes, instructions_made as made_code, address_reached, words_of}
+use Rattle.cx_asm_execution.specs.Expansion.{Argument, ImpliedAddress, Statement, argument_address, resolved_block_bytes, instructions_made as made_code, address_reached, words_of_list}
 use Rattle.cx_asm_execution.specs.Stands.{IsApart, IsMachine, code_length, list_length}
 use Rattle.cx_code.specs.declared.disassembly.Line.{Line}
 use Rattle.cx_code.specs.Spelling.{Instruction}
@@ -41,7 +41,7 @@ use Rattle.cx_asm_operands.specs.Forms.{operands_of}
 use Rattle.cx_asm_pass2.specs.Whole.{whole_of}
 use Rattle.cx_asm.specs.Assembly.{AssemblyParts, assembly_of}
 use Rattle.cx_asm_execution.specs.Arguments.{HoldsBase, IsAddressed, Sections}
-use Rattle.cx_asm_execution.specs.MadeLines.{AreResolved, IsMade, Site, bases_of, lines_after, call_of, code_lines, context_in, list_in, site_of}
+use Rattle.cx_asm_execution.specs.MadeLines.{AreResolved, IsMade, Site, bases_of, lines_after, statements_of_call, code_lines, context_in, list_in, site_of}
 
 -- ---- the statement
 -- The statement that a call is of, which is at an offset: what the translator has put into the block, and the addresses
@@ -51,7 +51,7 @@ pub record IsStatement (site : Site) (at : ℕ) (s : Statement) : Type 0 where
   pub first : s.first ≡ first_byte site.command site.words
   pub second : s.second ≡ second_byte site.words
   pub conditions : s.conditions ≡ listed_of site.words
-  pub resolved : AreResolved site (lines_after site []) at (call_of site) (made_code s)
+  pub resolved : AreResolved site (lines_after site []) at (statements_of_call site) (made_code s)
 
 -- ---- arriving
 -- n bytes from an address on are the same in two storages
@@ -69,12 +69,12 @@ pub record IsReady (loaded : Storage) (program : ℕ) (sections : Sections) (sit
   pub control : (name : List ℕ) (offset : ℕ) → (whole_of site.source).control ≡ Some name
       → sections.place name (pos offset) ≡ address_after program offset
   pub bases : AllByRecursion (λ (p : ImpliedAddress). (p.base ≢ 0) × HoldsBase sections m.regs (bases_of site) p.base)
-      (s.block ∷ s.last ∷ s.list ∷ s.entry ∷ map (λ a. a.word) (words_of s))
+      (s.block ∷ s.last ∷ s.list ∷ s.entry ∷ map (λ a. a.word) (words_of_list s))
   pub other : s.entry.base ≢ 1
   pub there : is_some (span m.storage (address_reached m.regs s.list) list_length) ≡ true
   pub kept : AllByRecursion (λ (part : ℕ × ℕ). AreKept loaded m.storage part.0 part.1
       × IsApart (address_reached m.regs s.list) part.0 part.1)
-      ((m.next, code_length (made_code s)) ∷ (address_reached m.regs s.block, length (block_bytes s))
+      ((m.next, code_length (made_code s)) ∷ (address_reached m.regs s.block, length (resolved_block_bytes s))
       ∷ (address_reached m.regs s.entry, 4) ∷ [])
 
 -- ---- pointers
@@ -92,12 +92,13 @@ pub record IsPointer (command : Command) (words : List Word) (earlier : List Com
 -- the call, since a command has one pointer at most, that register gets the word at the address that the argument had
 -- when it was handed over, with the registers at that time, and all else stays. Storage holds the load's four bytes as
 -- they were loaded, and the argument's base register, then and now, its USING's base.
-pub record ComesBack (site : Site) (image : Image) (at : ℕ) (s : Statement) (earlier : List CommandOption)
+pub record PointerComesBack (site : Site) (image : Image) (at : ℕ) (s : Statement) (earlier : List CommandOption)
     (register : List ℕ) : Type 0 where
   pub argument : Argument
   pub handed : slice_get s.arguments (length (arguments_handed earlier site.words)) ≡ Some argument
   pub number : ℕ
-  pub named : register_in (context_in site (lines_after site (call_of site)) (load register)) register ≡ Ok number
+  pub named : register_in (context_in site (lines_after site (statements_of_call site)) (load register)) register
+      ≡ Ok number
   pub gets : (before loaded : Storage) (program : Loaded) (sections : Sections) (regs : List ℕ) (m : Machine) (word : ℕ)
       → IsFit image → IsLoaded before image program loaded → HoldsBase sections regs (bases_of site) argument.base
       → IsMachine m → m.next ≡ address_after program.at (at + code_length (made_code s))
@@ -116,7 +117,7 @@ pub record CallArrives (site : Site) (assembly : AssemblyParts) (name : List ℕ
   pub statement : Statement
   pub is : IsStatement site at statement
   pub loads : List Instruction
-  pub loaded : AreResolved site (lines_after site (call_of site)) (at + code_length (made_code statement))
+  pub loaded : AreResolved site (lines_after site (statements_of_call site)) (at + code_length (made_code statement))
       (map load (pointers_of (row_of site.command).options site.words)) loads
   pub front : List Line
   pub back : List Line
@@ -124,7 +125,7 @@ pub record CallArrives (site : Site) (assembly : AssemblyParts) (name : List ℕ
   pub named : (symbol : List ℕ) → symbol_name name ≡ Some symbol
       → (whole_of site.source).find symbol ≡ location_counter (whole_of site.source).control at 2
   pub places : (sections : Sections) (regs : List ℕ) (k : ℕ) (text : List ℕ) (a : Argument)
-      → slice_get (list_in site) k ≡ Some text → slice_get (words_of statement) k ≡ Some a
+      → slice_get (list_in site) k ≡ Some text → slice_get (words_of_list statement) k ≡ Some a
       → IsAddressed sections regs (context_in site (lines_after site (stores 0 (take k (list_in site))))
       (stmt [] (codes "LA") (codes "0," ++ text))) text a.index (address a.base a.displacement)
   pub arrives : (storage loaded : Storage) (program : Loaded) (sections : Sections) (m : Machine)
@@ -132,7 +133,7 @@ pub record CallArrives (site : Site) (assembly : AssemblyParts) (name : List ℕ
       → IsReady loaded program.at sections site at statement m → (after : Machine) × Arrives m statement after
   pub returns : (earlier : List CommandOption) (register : List ℕ) → IsPointer site.command site.words earlier register
       → operands_of (register ++ codes ",DFHEITP") ≡ register ∷ codes "DFHEITP" ∷ []
-      → ComesBack site assembly.section.image at statement earlier register
+      → PointerComesBack site assembly.section.image at statement earlier register
 
 pub record CommandArrives (translated : Source) (assembly : AssemblyParts) (item : Item) (exec : Stmt) : Type 0 where
   pub made : IsMade item exec translated.items

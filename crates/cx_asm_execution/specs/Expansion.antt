@@ -42,8 +42,8 @@ pub record Statement : Type 0 where
   pub entry : ImpliedAddress
 
 -- what the words of the list hold: the block, whose address is handed over as an argument is, and the arguments
-abbrev pub words_of : Statement → List Argument
-words_of s =
+abbrev pub words_of_list : Statement → List Argument
+words_of_list s =
     record { index = 0; base = s.block.base; displacement = s.block.displacement; word = s.head } ∷ s.arguments
 
 -- an instruction with a register and an implied address
@@ -51,9 +51,10 @@ abbrev pub of_place : Op → ℕ → ImpliedAddress → Instruction
 of_place op register place = instruction op (Rx register 0 place.base place.displacement)
 
 -- LA 0 of the address and ST 0 into its word, for each of them
-abbrev pub stores : List Argument → List Instruction
-stores [] = []
-stores (a ∷ rest) = instruction op.La (Rx 0 a.index a.base a.displacement) ∷ of_place op.St 0 a.word ∷ stores rest
+abbrev pub store_instructions : List Argument → List Instruction
+store_instructions [] = []
+store_instructions (a ∷ rest) =
+    instruction op.La (Rx 0 a.index a.base a.displacement) ∷ of_place op.St 0 a.word ∷ store_instructions rest
 
 -- OI of the last word's first byte with 80, LA 1 of the list, L 15 of the entry's address, BALR 14,15
 abbrev pub branch : Statement → List Instruction
@@ -63,11 +64,11 @@ branch s =
 
 -- the instructions made
 unfoldable pub instructions_made : Statement → List Instruction
-instructions_made s = stores (words_of s) ++ branch s
+instructions_made s = store_instructions (words_of_list s) ++ branch s
 
 -- the block: the function value, the option bytes, and two bytes for each condition
-unfoldable pub block_bytes : Statement → List ℕ
-block_bytes s =
+unfoldable pub resolved_block_bytes : Statement → List ℕ
+resolved_block_bytes s =
     (row_of s.command).function / 256 ∷ (row_of s.command).function % 256 ∷ s.first ∷ s.second
     ∷ flat_map (λ listed. listed.number ∷ listed.label ∷ []) s.conditions
 

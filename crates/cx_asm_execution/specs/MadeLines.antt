@@ -3,7 +3,7 @@
 -- Address Register"; that they are resolved lines is this product's own).
 use Rattle.std.specs.Prelude.{◌≡◌, ℕ, ◌+◌, ◌-◌, Ok, Some, None, option_map, List, [], ◌∷◌, ◌++◌, drop, fold, length, reverse}
 use Rattle.cx_code.specs.declared.disassembly.Line.{Line}
-use Rattle.cx_code.specs.declared.disassembly.What.TheVariants.{Code}
+use Rattle.cx_code.specs.declared.disassembly.LineContent.TheVariants.{Code}
 use Rattle.cx_code.specs.Spelling.{Instruction}
 use Rattle.cx_code.specs.Table.{length_of}
 use Rattle.cx_base.specs.declared.commands.Command.{Command}
@@ -13,7 +13,7 @@ use Rattle.cx_source.specs.declared.source.Stmt.{Stmt}
 use Rattle.cx_translate.specs.declared.words.Word.{Word}
 use Rattle.cx_translate.specs.Call.{list_of}
 use Rattle.cx_translate.specs.Expansion.{call, label, made_item, made_of, stores}
-use Rattle.cx_translate.specs.Refusals.{command_in, fault_of}
+use Rattle.cx_translate.specs.Refusals.{command_in, refusal_of}
 use Rattle.cx_translate.specs.Sections.{lines}
 use Rattle.cx_translate.specs.Words.{words_of}
 use Rattle.cx_asm_operations.specs.Operations.{operation_named}
@@ -33,7 +33,7 @@ pub record IsMade (item : Item) (exec : Stmt) (items : List Item) : Type 0 where
   pub command : Command
   pub named : ℕ
   pub found : command_in (words_of exec.operand) ≡ Some (command, named)
-  pub accepted : fault_of item.line (words_of exec.operand) ≡ None
+  pub accepted : refusal_of item.line (words_of exec.operand) ≡ None
   pub before : List Item
   pub after : List Item
   pub is : items ≡ before ++ lines item.line (made_of exec.name (words_of exec.operand)) ++ after
@@ -61,8 +61,8 @@ site_of {item} {exec} source made =
 abbrev pub list_in : Site → List (List ℕ)
 list_in site = list_of site.command site.words
 
-abbrev pub call_of : Site → List Stmt
-call_of site = stores 0 (list_in site) ++ call (length (list_in site) - 1)
+abbrev pub statements_of_call : Site → List Stmt
+statements_of_call site = stores 0 (list_in site) ++ call (length (list_in site) - 1)
 
 -- ---- what they are resolved to
 -- the bases in use after the first lines

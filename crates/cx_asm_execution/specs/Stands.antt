@@ -7,7 +7,7 @@ use Rattle.cx_base.specs.Arguments.{arguments_in}
 use Rattle.cx_base.specs.Commands.{row_of}
 use Rattle.cx_base.specs.Eistg.{eistg_field}
 use Rattle.cx_base.specs.Legal.{is_legal, is_legal_list, lists_conditions}
-use Rattle.cx_storage.specs.Storage.{Storage, span, IsSound}
+use Rattle.cx_storage.specs.Storage.{Storage, span, IsSoundStorage}
 use Rattle.cx_storage.specs.Address.{address_after, distance}
 use Rattle.cx_storage.specs.Word.{word_at}
 use Rattle.cx_code.specs.Table.{length_of}
@@ -15,13 +15,13 @@ use Rattle.cx_code.specs.Spelling.{Instruction, IsWellFormed, spelling}
 use Rattle.cx_exec.specs.Machine.{Machine}
 use Rattle.cx_exec.specs.Step.{entry}
 use Rattle.cx_region_state.specs.Call.{has_label, has_resp}
-use Rattle.cx_asm_execution.specs.Expansion.{ImpliedAddress, Statement, instructions_made, words_of, block_bytes, address_reached}
+use Rattle.cx_asm_execution.specs.Expansion.{ImpliedAddress, Statement, instructions_made, words_of_list, resolved_block_bytes, address_reached}
 
 -- What every processor and store are: sixteen registers, an address below 2^24, and areas that don't meet.
 pub record IsMachine (m : Machine) : Type 0 where
   pub regs : length m.regs ≡ 16
   pub next : m.next < 2 ^ 24
-  pub storage : IsSound m.storage
+  pub storage : IsSoundStorage m.storage
 
 -- The block is that of a legal call with as many arguments as the statement has.
 pub record IsLegal (s : Statement) : Type 0 where
@@ -39,9 +39,10 @@ AreAt s a (i ∷ rest) =
     IsWellFormed i × (span s a (length_of i.op) ≡ Some (spelling i)) × AreAt s (address_after a (length_of i.op)) rest
 
 -- The instructions are at the next address, the block at its place, and the entry's address in its word.
-pub record Stands (m : Machine) (s : Statement) : Type 0 where
+pub record StandsInStorage (m : Machine) (s : Statement) : Type 0 where
   pub instructions : AreAt m.storage m.next (instructions_made s)
-  pub block : span m.storage (address_reached m.regs s.block) (length (block_bytes s)) ≡ Some (block_bytes s)
+  pub block : span m.storage (address_reached m.regs s.block) (length (resolved_block_bytes s))
+      ≡ Some (resolved_block_bytes s)
   pub entry : word_at m.storage (address_reached m.regs s.entry) ≡ Some entry
 
 -- a base register and a displacement reach word k of the list at an address; register 0 is no base
@@ -50,10 +51,10 @@ IsWord regs list k place = (place.base ≢ 0) × (address_reached regs place ≡
 
 -- The base registers of what is made around the arguments are not 0, and that of the entry's word is not 1, which gets
 -- the list's address before; and with what they hold, each word of the list is reached.
-pub record IsAddressed (m : Machine) (s : Statement) : Type 0 where
+pub record IsListAddressed (m : Machine) (s : Statement) : Type 0 where
   pub block : s.block.base ≢ 0
   pub words : AllByRecursion (λ e. IsWord m.regs (address_reached m.regs s.list) e.0 e.1.word)
-      (enumerate_from 0 (words_of s))
+      (enumerate_from 0 (words_of_list s))
   pub last : IsWord m.regs (address_reached m.regs s.list) (length s.arguments) s.last
   pub list : s.list.base ≢ 0
   pub entry : s.entry.base ≢ 0
@@ -77,7 +78,7 @@ pub record IsClear (m : Machine) (s : Statement) : Type 0 where
   pub even : m.next % 2 ≡ 0
   pub outside : (k : ℕ) → k < length (instructions_made s) → address_after m.next (4 * k) ≢ entry
   pub there : is_some (span m.storage (address_reached m.regs s.list) list_length) ≡ true
-  pub room : 4 * length (words_of s) ≤ list_length
+  pub room : 4 * length (words_of_list s) ≤ list_length
   pub code : IsApart (address_reached m.regs s.list) m.next (code_length (instructions_made s))
-  pub block : IsApart (address_reached m.regs s.list) (address_reached m.regs s.block) (length (block_bytes s))
+  pub block : IsApart (address_reached m.regs s.list) (address_reached m.regs s.block) (length (resolved_block_bytes s))
   pub entry : IsApart (address_reached m.regs s.list) (address_reached m.regs s.entry) 4

@@ -49,8 +49,8 @@ pub fn loads_give_words()
     cx_exec::laws::spelled_is_fetched();
 }
 
-/// Where the program of an accepted source is loaded, each resolved line that shares no byte with a relocated word is in
-/// storage at its place: its bytes are those of the span there.
+/// Where the program of an accepted source is loaded, each resolved line that shares no byte with a relocated word is
+/// in storage at its place: its bytes are those of the span there.
 pub fn lines_are_loaded()
     ensures { LinesAreLoaded }
 {
@@ -79,7 +79,8 @@ pub fn the_head_is_laid_out()
     ensures { HeadIsLaidOut }
 {}
 
-/// A call is of one statement: where its made statements are, its command and its words determine it.
+/// The call that an EXEC statement makes is determined by where its made statements are in the source, its command and
+/// its words.
 #[tactic(auto, using(crate::proofs::OneLemmas::statements_decide))]
 pub fn a_statement_is_one()
     ensures { (site : Site) (at other : ℕ) (s t : Statement) → IsStatement site at s → IsStatement site other t

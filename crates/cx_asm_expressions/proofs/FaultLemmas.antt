@@ -1,21 +1,15 @@
 -- The lowest of several faults, found one after the other.
-use Rattle.std.proofs.Common.{◌≡◌, ℕ, ◌+◌, ◌<◌, length, get_or, drop, add-one, Option, Some, None, List, [], ◌++◌, refl, append-nil, append_assoc, arith}
+use Rattle.std.proofs.Common.{◌≡◌, ℕ, ◌+◌, ◌<◌, length, get_or, drop, add-one, Option, Some, None, List, [], ◌++◌, append-nil, append_assoc}
 use Rattle.std.specs.List.{cons_option}
-use Rattle.std.proofs.lemmas.Bool.Decides.{nat_tests}
 use Rattle.std.specs.Result.{result_err}
 use Rattle.cx_asm_expressions.proofs.TermLemmas.{drop_item}
 use Rattle.cx_asm_expressions.specs.Terms.{Term}
 use Rattle.cx_asm_expressions.specs.TermValues.{term_value}
 use Rattle.cx_asm_expressions.specs.declared.values.Value.{Value}
+use Rattle.cx_asm_expressions.specs.Facts.Faults.{lower_in_turn}
 use Rattle.cx_asm_expressions.specs.Faults.{lower}
 use Rattle.cx_asm_expressions.specs.Expressions.{lowest_fault}
 use Rattle.cx_asm_expressions.specs.declared.faults.FaultKind.{FaultKind}
-
-pub lower_in_turn : (a b c : Option FaultKind) → lower (lower a b) c ≡ lower a (lower b c)
-lower_in_turn None b c = refl
-lower_in_turn (Some a) None c = refl
-lower_in_turn (Some a) (Some b) None = refl
-lower_in_turn (Some a) (Some b) (Some c) = grind (arith, nat_tests)
 
 pub put_one : {X : Type 0} (front : List X) (one : Option X) (rest : List X) → (front ++ cons_option one []) ++ rest ≡ front ++ cons_option one rest
 put_one front None rest = simp append-nil

@@ -3,7 +3,7 @@ use Rattle.std.proofs.Common.{◌≡◌, ℕ, true, List, [], ◌∷◌, length,
 use Rattle.std.specs.Prelude.{slice_index, ◌==◌, ◌↔◌}
 use Rattle.std.proofs.lemmas.Bool.Decides.{nat_tests}
 use Rattle.cx_ebcdic.specs.Facts.Lookup.{find_passes}
-use Rattle.cx_asm_expressions.specs.Kinds.{kind_of, kinds, row_of}
+use Rattle.cx_asm_expressions.specs.Kinds.{kind_of, kinds, row_of_kind}
 use Rattle.cx_asm_expressions.specs.declared.kinds.ConstantKind.{ConstantKind}
 use Rattle.cx_asm_expressions.specs.declared.kinds.ConstantKind.TheVariants.{Character, Hexadecimal, Binary, Fullword, Halfword, Packed, Address, External, Doubleword}
 
@@ -14,7 +14,7 @@ no_kind_in [] e = refl
 no_kind_in (c ∷ rest) e = absurd (omega arith)
 
 -- each type is found by its letter
-pub kind_of_letter : (kind : ConstantKind) → kind_of (row_of kind).letter ≡ Some kind
+pub kind_of_letter : (kind : ConstantKind) → kind_of (row_of_kind kind).letter ≡ Some kind
 unfolding kind_of
 kind_of_letter Character = refl
 kind_of_letter Hexadecimal = refl
@@ -26,14 +26,14 @@ kind_of_letter Address = refl
 kind_of_letter External = refl
 kind_of_letter Doubleword = refl
 
-passes : (letter : ℕ) (kind : ConstantKind) → kind_of letter ≡ Some kind → ((row_of kind).letter == letter) ≡ true
+passes : (letter : ℕ) (kind : ConstantKind) → kind_of letter ≡ Some kind → ((row_of_kind kind).letter == letter) ≡ true
 unfolding kind_of
-passes letter kind e = find_passes (λ k. (row_of k).letter == letter) kinds kind e
+passes letter kind e = find_passes (λ k. (row_of_kind k).letter == letter) kinds kind e
 
 same_letter : (a b : ℕ) → (a == b) ≡ true → a ≡ b
 same_letter a b e = grind (arith, nat_tests)
 
 -- a letter stands for a type exactly where it is that type's letter
-pub kind_by_letter : (letter : ℕ) (kind : ConstantKind) → (kind_of letter ≡ Some kind) ↔ ((row_of kind).letter ≡ letter)
+pub kind_by_letter : (letter : ℕ) (kind : ConstantKind) → (kind_of letter ≡ Some kind) ↔ ((row_of_kind kind).letter ≡ letter)
 kind_by_letter letter kind =
-    (λ e. same_letter (row_of kind).letter letter (passes letter kind e), λ e. subst (λ l. kind_of l ≡ Some kind) e (kind_of_letter kind))
+    (λ e. same_letter (row_of_kind kind).letter letter (passes letter kind e), λ e. subst (λ l. kind_of l ≡ Some kind) e (kind_of_letter kind))

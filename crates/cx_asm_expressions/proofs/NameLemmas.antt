@@ -1,27 +1,24 @@
 -- A name's characters are ASCII, so that a name is a text.
-use Rattle.std.proofs.Common.{◌≡◌, ℕ, ◌<◌, zero, suc, Bool, true, false, ◌&&◌, List, [], ◌∷◌, refl, arith}
+use Rattle.std.proofs.Common.{◌≡◌, ℕ, ◌<◌, zero, suc, true, ◌&&◌, List, [], ◌∷◌, arith}
+use Rattle.std.proofs.lemmas.Bool.{and_parts}
 use Rattle.std.specs.Prelude.{slice_index}
 use Rattle.std.specs.List.{list_all}
 use Rattle.std.specs.Str.{IsAscii, IsUtf8}
 use Rattle.std.proofs.lemmas.Str.{IsUtf8-from_ascii}
 use Rattle.std.proofs.lemmas.Bool.Decides.{nat_tests}
-use Rattle.cx_source.specs.Lines.{is_letter, is_name_character, is_name}
+use Rattle.cx_source.specs.Lines.{is_letter, is_symbol_name_character, is_symbol_name}
 
-both : (a b : Bool) → (a && b) ≡ true → (a ≡ true) × (b ≡ true)
-both true b e = (refl, e)
-both false b e = cc
-
-small : (c : ℕ) → is_name_character c ≡ true → c < 128
-unfolding is_name_character is_letter
+small : (c : ℕ) → is_symbol_name_character c ≡ true → c < 128
+unfolding is_symbol_name_character is_letter
 small c e = grind (arith, nat_tests)
 
-all_small : (text : List ℕ) → list_all is_name_character text ≡ true → IsAscii text
+all_small : (text : List ℕ) → list_all is_symbol_name_character text ≡ true → IsAscii text
 all_small [] e i = omega arith
-all_small (c ∷ cs) e zero = small c (both (is_name_character c) (list_all is_name_character cs) e).0
-all_small (c ∷ cs) e (suc i) = all_small cs (both (is_name_character c) (list_all is_name_character cs) e).1 i
+all_small (c ∷ cs) e zero = small c (and_parts (is_symbol_name_character c) (list_all is_symbol_name_character cs) e).0
+all_small (c ∷ cs) e (suc i) = all_small cs (and_parts (is_symbol_name_character c) (list_all is_symbol_name_character cs) e).1 i
 
-pub names_are_text : (text : List ℕ) → is_name text ≡ true → IsUtf8 text
-unfolding is_name
+pub names_are_text : (text : List ℕ) → is_symbol_name text ≡ true → IsUtf8 text
+unfolding is_symbol_name
 names_are_text text e =
-    let first : (is_letter (slice_index text 0) && list_all is_name_character text) ≡ true = (both _ _ e).0 in
-    IsUtf8-from_ascii text (all_small text (both _ _ first).1)
+    let first : (is_letter (slice_index text 0) && list_all is_symbol_name_character text) ≡ true = (and_parts _ _ e).0 in
+    IsUtf8-from_ascii text (all_small text (and_parts _ _ first).1)

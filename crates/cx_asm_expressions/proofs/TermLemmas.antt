@@ -5,7 +5,7 @@ use Rattle.std.specs.List.{slice_range}
 use Rattle.std.proofs.lemmas.List.{length-drop, take_more, get_or-drop}
 use Rattle.std.proofs.Math.Seq.{drop-cons}
 use Rattle.std.proofs.lemmas.Grind.{common_steps, pieces}
-use Rattle.cx_asm_expressions.specs.Terms.{Part, part_of, parts_from, is_sign}
+use Rattle.cx_asm_expressions.specs.Terms.{Part, part_of, expression_parts_from, is_sign}
 use Rattle.cx_asm_expressions.specs.declared.terms.Sign.{Sign}
 use Rattle.cx_asm_expressions.specs.declared.terms.Sign.TheVariants.{Plus, Minus}
 use Rattle.cx_source.specs.Marks.{outside_apostrophes, outside_from, scan_after}
@@ -40,8 +40,8 @@ drop_item xs i x within is = drop-cons xs i x within ∙ ap (λ y. y ∷ drop (s
 
 step_cut : (sign : Sign) (part text : List ℕ) (outs : List Bool) (i : ℕ) (out : Bool) → i < length text → i < length outs → out ≡ get_or outs i out
     → (out && is_sign (get_or text i 0)) ≡ true
-    → parts_from sign part (drop i text) (drop i outs)
-    ≡ part_of sign part ∷ parts_from (sign_of (get_or text i 0)) [] (drop (suc i) text) (drop (suc i) outs)
+    → expression_parts_from sign part (drop i text) (drop i outs)
+    ≡ part_of sign part ∷ expression_parts_from (sign_of (get_or text i 0)) [] (drop (suc i) text) (drop (suc i) outs)
 step_cut sign part text outs i out within inside at_i cut =
     let one = drop-cons text i 0 within in
     let other = drop_item outs i out inside at_i in
@@ -49,8 +49,8 @@ step_cut sign part text outs i out within inside at_i cut =
 
 step_kept : (sign : Sign) (part text : List ℕ) (outs : List Bool) (i : ℕ) (out : Bool) → i < length text → i < length outs → out ≡ get_or outs i out
     → (out && is_sign (get_or text i 0)) ≡ false
-    → parts_from sign part (drop i text) (drop i outs)
-    ≡ parts_from sign (part ++ get_or text i 0 ∷ []) (drop (suc i) text) (drop (suc i) outs)
+    → expression_parts_from sign part (drop i text) (drop i outs)
+    ≡ expression_parts_from sign (part ++ get_or text i 0 ∷ []) (drop (suc i) text) (drop (suc i) outs)
 step_kept sign part text outs i out within inside at_i kept =
     let one = drop-cons text i 0 within in
     let other = drop_item outs i out inside at_i in
@@ -73,9 +73,9 @@ range_none text i = grind (arith, common_steps, pieces)
 -- a sign ends a part
 pub cut_more : (found : List Part) (sign : Sign) (start : ℕ) (text : List ℕ) (outs : List Bool) (i : ℕ) (out : Bool) (whole : List Part)
     → i < length text → i < length outs → out ≡ get_or outs i out → (out && is_sign (get_or text i 0)) ≡ true
-    → found ++ parts_from sign (slice_range text start i) (drop i text) (drop i outs) ≡ whole
+    → found ++ expression_parts_from sign (slice_range text start i) (drop i text) (drop i outs) ≡ whole
     → (found ++ part_of sign (slice_range text start i) ∷ [])
-    ++ parts_from (sign_of (get_or text i 0)) (slice_range text (i + 1) (i + 1)) (drop (i + 1) text) (drop (i + 1) outs) ≡ whole
+    ++ expression_parts_from (sign_of (get_or text i 0)) (slice_range text (i + 1) (i + 1)) (drop (i + 1) text) (drop (i + 1) outs) ≡ whole
 cut_more found sign start text outs i out whole within inside at_i cut e =
     let step = step_cut sign (slice_range text start i) text outs i out within inside at_i cut in
     rw (range_none text i, append_assoc, add-one) (rw step at e)
@@ -83,8 +83,8 @@ cut_more found sign start text outs i out whole within inside at_i cut e =
 -- any other character belongs to the part
 pub kept_more : (found : List Part) (sign : Sign) (start : ℕ) (text : List ℕ) (outs : List Bool) (i : ℕ) (out : Bool) (whole : List Part)
     → start ≤ i → i < length text → i < length outs → out ≡ get_or outs i out → (out && is_sign (get_or text i 0)) ≡ false
-    → found ++ parts_from sign (slice_range text start i) (drop i text) (drop i outs) ≡ whole
-    → found ++ parts_from sign (slice_range text start (i + 1)) (drop (i + 1) text) (drop (i + 1) outs) ≡ whole
+    → found ++ expression_parts_from sign (slice_range text start i) (drop i text) (drop i outs) ≡ whole
+    → found ++ expression_parts_from sign (slice_range text start (i + 1)) (drop (i + 1) text) (drop (i + 1) outs) ≡ whole
 kept_more found sign start text outs i out whole begun within inside at_i kept e =
     let step = step_kept sign (slice_range text start i) text outs i out within inside at_i kept in
     rw (range_more text start i begun within, add-one) (rw step at e)

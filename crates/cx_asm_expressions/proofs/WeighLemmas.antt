@@ -1,5 +1,6 @@
 -- The section of a sum is where it weighs.
-use Rattle.std.proofs.Common.{◌≡◌, ◌≢◌, ℕ, Bool, true, false, not, ◌&&◌, ◌||◌, map, Option, Some, None, List, [], ◌∷◌, cond, unwrap_or, refl, sym, ap, subst, ◌∙◌, ◌⊎◌, inl, inr, ⊎_elim, arith, rules}
+use Rattle.std.proofs.Common.{◌≡◌, ◌≢◌, ℕ, Bool, true, false, not, ◌||◌, map, Option, Some, None, List, [], ◌∷◌, cond, unwrap_or, refl, sym, ap, subst, ◌∙◌, ◌⊎◌, inl, inr, ⊎_elim, arith, rules}
+use Rattle.std.proofs.lemmas.Bool.{and_parts, cases_Bool}
 use Rattle.std.specs.Prelude.{ℤ, pos, ◌+ℤ◌, ◌↔◌}
 use Rattle.std.specs.Ordering.{int_eq}
 use Rattle.std.specs.List.{cons_option, filter, find, list_all, list_any}
@@ -24,25 +25,13 @@ same_name a b e = search rules
 pub alike : (a : List ℕ) → is_same a a ≡ true
 alike a = search rules
 
-either : (b : Bool) → (b ≡ true) ⊎ (b ≡ false)
-either true = inl refl
-either false = inr refl
-
-both : (a b : Bool) → (a && b) ≡ true → (a ≡ true) × (b ≡ true)
-both true b e = (refl, e)
-both false b e = cc
-
 apart : (b : Bool) → not b ≡ true → b ≡ false
 apart true e = cc
 apart false e = refl
 
-away : (b : Bool) → b ≡ false → not b ≡ true
-away true e = cc
-away false e = refl
-
 -- names that differ one way differ the other
 turned : (a b : List ℕ) → is_same a b ≡ false → is_same b a ≡ false
-turned a b e = ⊎_elim (λ s. let h : a ≡ b = sym (same_name b a s) in let t : is_same a b ≡ true = subst (λ x. is_same a x ≡ true) h (alike a) in cc) (λ d. d) (either (is_same b a))
+turned a b e = ⊎_elim (λ s. let h : a ≡ b = sym (same_name b a s) in let t : is_same a b ≡ true = subst (λ x. is_same a x ≡ true) h (alike a) in cc) (λ d. d) (cases_Bool (is_same b a))
 
 abbrev at : List ℕ → Weights → ℤ
 at name entries = unwrap_or (lookup (is_same name) entries) (pos 0)
@@ -63,19 +52,19 @@ moved a b c = omega (arith, ints)
 
 -- what is put on a section's weight is found there, and nowhere else
 at_put : (q name : List ℕ) (more : ℤ) (es : Weights) → at q (put name more es) ≡ at q es +ℤ cond (is_same q name) more (pos 0)
-at_put q name more [] = ⊎_elim (λ s. rw s (sym (zero_first more))) (λ d. rw d (sym (zero_last (pos 0)))) (either (is_same q name))
+at_put q name more [] = ⊎_elim (λ s. rw s (sym (zero_first more))) (λ d. rw d (sym (zero_last (pos 0)))) (cases_Bool (is_same q name))
 at_put q name more (e ∷ es) =
     ⊎_elim
     (λ s. let h : name ≡ e.0 = same_name name e.0 s in
     ⊎_elim (λ t. let u : is_same q name ≡ true = subst (λ x. is_same q x ≡ true) (sym h) t in rw (s, t, u) (refl))
     (λ t. let u : is_same q name ≡ false = subst (λ x. is_same q x ≡ false) (sym h) t in rw (s, t, u) (sym (zero_last (at q es))))
-    (either (is_same q e.0)))
+    (cases_Bool (is_same q e.0)))
     (λ d.
     ⊎_elim (λ t. let h : q ≡ e.0 = same_name q e.0 t in
     let u : is_same q name ≡ false = subst (λ x. is_same x name ≡ false) (sym h) (turned name e.0 d) in rw (d, t, u) (sym (zero_last e.1)))
     (λ t. let inner : at q (e ∷ put name more es) ≡ at q (e ∷ es) +ℤ cond (is_same q name) more (pos 0) = rw t (at_put q name more es) in rw d inner)
-    (either (is_same q e.0)))
-    (either (is_same name e.0))
+    (cases_Bool (is_same q e.0)))
+    (cases_Bool (is_same name e.0))
 
 in_put : (q : List ℕ) (section : Option (List ℕ)) (more : ℤ) (es : Weights) → at q (put_in section more es) ≡ at q es +ℤ cond (stands_in q section) more (pos 0)
 in_put q None more es = sym (zero_last (at q es))
@@ -101,13 +90,13 @@ all_put : (name first : List ℕ) (more : ℤ) (es : Weights) → is_same name f
     → list_all (λ d. not (is_same d.0 first)) (put name more es) ≡ true
 all_put name first more [] d a = rw d refl
 all_put name first more (e ∷ es) d a =
-    let parts = both (not (is_same e.0 first)) (list_all (λ d. not (is_same d.0 first)) es) a in
-    ⊎_elim (λ s. rw s (rw parts.0 parts.1)) (λ t. rw t (rw parts.0 (all_put name first more es d parts.1))) (either (is_same name e.0))
+    let parts = and_parts (not (is_same e.0 first)) (list_all (λ d. not (is_same d.0 first)) es) a in
+    ⊎_elim (λ s. rw s (rw parts.0 parts.1)) (λ t. rw t (rw parts.0 (all_put name first more es d parts.1))) (cases_Bool (is_same name e.0))
 
 apart_put : (name : List ℕ) (more : ℤ) (es : Weights) → AreApart es → AreApart (put name more es)
 apart_put name more [] a = (refl, tt)
 apart_put name more (e ∷ es) a =
-    ⊎_elim (λ s. rw s (a.0, a.1)) (λ d. rw d (all_put name e.0 more es d a.0, apart_put name more es a.1)) (either (is_same name e.0))
+    ⊎_elim (λ s. rw s (a.0, a.1)) (λ d. rw d (all_put name e.0 more es d a.0, apart_put name more es a.1)) (cases_Bool (is_same name e.0))
 
 apart_put_in : (section : Option (List ℕ)) (more : ℤ) (es : Weights) → AreApart es → AreApart (put_in section more es)
 apart_put_in None more es a = a
@@ -128,15 +117,15 @@ loaded e h = λ z. grind (arith, ints)
 head_passes : (p : List ℕ × ℤ → Bool) (es : Weights) (f : List ℕ × ℤ) (fs : Weights) → list_all p es ≡ true → filter is_heavy es ≡ f ∷ fs → p f ≡ true
 head_passes p [] f fs a e = cc
 head_passes p (x ∷ es) f fs a e =
-    let parts = both (p x) (list_all p es) a in
+    let parts = and_parts (p x) (list_all p es) a in
     ⊎_elim (λ h. let g : x ∷ filter is_heavy es ≡ f ∷ fs = rw h at e in let w : x ≡ f = cc in subst (λ y. p y ≡ true) w parts.0)
-    (λ h. head_passes p es f fs parts.1 (rw h at e)) (either (is_heavy x))
+    (λ h. head_passes p es f fs parts.1 (rw h at e)) (cases_Bool (is_heavy x))
 
 head_heavy : (es : Weights) (f : List ℕ × ℤ) (fs : Weights) → filter is_heavy es ≡ f ∷ fs → is_heavy f ≡ true
 head_heavy [] f fs e = cc
 head_heavy (x ∷ es) f fs e =
     ⊎_elim (λ h. let g : x ∷ filter is_heavy es ≡ f ∷ fs = rw h at e in let w : x ≡ f = cc in subst (λ y. is_heavy y ≡ true) w h)
-    (λ h. head_heavy es f fs (rw h at e)) (either (is_heavy x))
+    (λ h. head_heavy es f fs (rw h at e)) (cases_Bool (is_heavy x))
 
 -- without a heavy entry nothing weighs anything
 none_heavy : (es : Weights) → filter is_heavy es ≡ [] → (q : List ℕ) → at q es ≡ pos 0
@@ -144,7 +133,7 @@ none_heavy [] e q = refl
 none_heavy (x ∷ es) e q =
     ⊎_elim (λ h. let g : x ∷ filter is_heavy es ≡ [] = rw h at e in cc)
     (λ h. let g : filter is_heavy es ≡ [] = rw h at e in
-    ⊎_elim (λ s. rw s (light x h)) (λ d. rw d (none_heavy es g q)) (either (is_same q x.0))) (either (is_heavy x))
+    ⊎_elim (λ s. rw s (light x h)) (λ d. rw d (none_heavy es g q)) (cases_Bool (is_same q x.0))) (cases_Bool (is_heavy x))
 
 own : (x : List ℕ × ℤ) (es : Weights) → at x.0 (x ∷ es) ≡ x.1
 own x es = ap (λ b. unwrap_or (cond b (Some x.1) (lookup (is_same x.0) es)) (pos 0)) (alike x.0)
@@ -157,7 +146,7 @@ head_at (x ∷ es) f fs a e =
     subst (λ y. at y.0 (x ∷ es) ≡ y.1) w (own x es))
     (λ h. let g : filter is_heavy es ≡ f ∷ fs = rw h at e in
     let d : is_same f.0 x.0 ≡ false = apart (is_same f.0 x.0) (head_passes (λ y. not (is_same y.0 x.0)) es f fs a.0 g) in
-    rw d (head_at es f fs a.1 g)) (either (is_heavy x))
+    rw d (head_at es f fs a.1 g)) (cases_Bool (is_heavy x))
 
 -- where one entry is heavy no other name weighs anything
 one_heavy : (es : Weights) (f : List ℕ × ℤ) → filter is_heavy es ≡ f ∷ [] → (q : List ℕ) → is_same q f.0 ≡ false → at q es ≡ pos 0
@@ -167,14 +156,14 @@ one_heavy (x ∷ es) f e q d =
     let n : filter is_heavy es ≡ [] = cc in
     let u : is_same q x.0 ≡ false = subst (λ y. is_same q y.0 ≡ false) (sym w) d in rw u (none_heavy es n q))
     (λ h. let g : filter is_heavy es ≡ f ∷ [] = rw h at e in
-    ⊎_elim (λ s. rw s (light x h)) (λ t. rw t (one_heavy es f g q d)) (either (is_same q x.0))) (either (is_heavy x))
+    ⊎_elim (λ s. rw s (light x h)) (λ t. rw t (one_heavy es f g q d)) (cases_Bool (is_same q x.0))) (cases_Bool (is_heavy x))
 
 second_passes : (p : List ℕ × ℤ → Bool) (es : Weights) (f g : List ℕ × ℤ) (fs : Weights) → list_all p es ≡ true → filter is_heavy es ≡ f ∷ g ∷ fs → p g ≡ true
 second_passes p [] f g fs a e = cc
 second_passes p (x ∷ es) f g fs a e =
-    let parts = both (p x) (list_all p es) a in
+    let parts = and_parts (p x) (list_all p es) a in
     ⊎_elim (λ h. let k : x ∷ filter is_heavy es ≡ f ∷ g ∷ fs = rw h at e in let n : filter is_heavy es ≡ g ∷ fs = cc in head_passes p es g fs parts.1 n)
-    (λ h. second_passes p es f g fs parts.1 (rw h at e)) (either (is_heavy x))
+    (λ h. second_passes p es f g fs parts.1 (rw h at e)) (cases_Bool (is_heavy x))
 
 -- of two heavy entries the second has a different name, and weighs what the entry says
 two_heavy : (es : Weights) (f g : List ℕ × ℤ) (fs : Weights) → AreApart es → filter is_heavy es ≡ f ∷ g ∷ fs
@@ -189,7 +178,7 @@ two_heavy (x ∷ es) f g fs a e =
     let rest = two_heavy es f g fs a.1 k in
     let all : list_all (λ y. not (is_same y.0 x.0)) es ≡ true = a.0 in
     let d : is_same g.0 x.0 ≡ false = apart (is_same g.0 x.0) (second_passes (λ y. not (is_same y.0 x.0)) es f g fs all k) in
-    (rest.0, rw d rest.1, rest.2)) (either (is_heavy x))
+    (rest.0, rw d rest.1, rest.2)) (cases_Bool (is_heavy x))
 
 -- ---- the entries of a sum
 in_values : (q : List ℕ) (values : List Signed) → at q (weights_from [] values) ≡ weight q values
@@ -213,14 +202,14 @@ by_cases values (Some s) w = (w s ∙ ap (λ b. cond b (pos 1) (pos 0)) (alike s
 in_one : (values : List Signed) (section : Option (List ℕ)) → WeighsBy values section → Weighs values section
 in_one values None w name = w name
 in_one values (Some s) w name =
-    ⊎_elim (λ same. let h : name ≡ s = same_name name s same in rw same (ap (λ n. weight n values) h ∙ w.0)) (λ d. rw d (w.1 name d)) (either (is_same name s))
+    ⊎_elim (λ same. let h : name ≡ s = same_name name s same in rw same (ap (λ n. weight n values) h ∙ w.0)) (λ d. rw d (w.1 name d)) (cases_Bool (is_same name s))
 
 decides_by : (values : List Signed) (a b : Option (List ℕ)) → WeighsBy values a → WeighsBy values b → a ≡ b
 decides_by values None None one other = refl
 decides_by values None (Some t) one other = absurd (one_is_not_zero (sym other.0 ∙ one t))
 decides_by values (Some s) None one other = absurd (one_is_not_zero (sym one.0 ∙ other s))
 decides_by values (Some s) (Some t) one other =
-    ⊎_elim (λ same. ap Some (same_name s t same)) (λ d. absurd (one_is_not_zero (sym one.0 ∙ other.1 s d))) (either (is_same s t))
+    ⊎_elim (λ same. ap Some (same_name s t same)) (λ d. absurd (one_is_not_zero (sym one.0 ∙ other.1 s d))) (cases_Bool (is_same s t))
 
 -- two sections that a sum weighs in are one
 pub decides : (values : List Signed) (a b : Option (List ℕ)) → Weighs values a → Weighs values b → a ≡ b
@@ -242,7 +231,7 @@ weighed : (values : List Signed) (heavy : Weights) → filter is_heavy (weights_
     → section_in heavy ≡ Some section → WeighsBy values section
 weighed values [] e None is = λ q. sym (in_values q values) ∙ none_heavy (weights_from [] values) e q
 weighed values [] e (Some s) is = cc
-weighed values (f ∷ []) e section is = one_weighed values f e section (either (int_eq f.1 (pos 1))) is
+weighed values (f ∷ []) e section is = one_weighed values f e section (cases_Bool (int_eq f.1 (pos 1))) is
 weighed values (f ∷ g ∷ fs) e section is = cc
 
 found : (values : List Signed) (heavy : Weights) → filter is_heavy (weights_from [] values) ≡ heavy → (section : Option (List ℕ))
@@ -257,7 +246,7 @@ found values (f ∷ []) e (Some s) w =
     let one : f.1 ≡ pos 1 = at_f ∙ ap (λ q. weight q values) h ∙ w.0 in
     let counts : int_eq f.1 (pos 1) ≡ true = ap (λ z. int_eq z (pos 1)) one in
     rw counts (ap (λ q. Some (Some q)) h))
-    (λ d. absurd (loaded f (head_heavy (weights_from [] values) f [] e) (at_f ∙ w.1 f.0 d))) (either (is_same f.0 s))
+    (λ d. absurd (loaded f (head_heavy (weights_from [] values) f [] e) (at_f ∙ w.1 f.0 d))) (cases_Bool (is_same f.0 s))
 found values (f ∷ g ∷ fs) e None w =
     absurd (loaded f (head_heavy (weights_from [] values) f (g ∷ fs) e) (sym (head_at (weights_from [] values) f (g ∷ fs) (apart_values [] values tt) e) ∙ in_values f.0 values ∙ w f.0))
 found values (f ∷ g ∷ fs) e (Some s) w =
@@ -267,7 +256,7 @@ found values (f ∷ g ∷ fs) e (Some s) w =
     ⊎_elim (λ same. let h : f.0 ≡ s = same_name f.0 s same in
     let d : is_same g.0 s ≡ false = subst (λ q. is_same g.0 q ≡ false) h two.0 in
     absurd (loaded g two.2 (at_g ∙ w.1 g.0 d)))
-    (λ d. absurd (loaded f (head_heavy (weights_from [] values) f (g ∷ fs) e) (at_f ∙ w.1 f.0 d))) (either (is_same f.0 s))
+    (λ d. absurd (loaded f (head_heavy (weights_from [] values) f (g ∷ fs) e) (at_f ∙ w.1 f.0 d))) (cases_Bool (is_same f.0 s))
 
 -- ---- the sections that may be answered
 abbrev IsAmong : List (List ℕ) → Option (List ℕ) → Type 0
@@ -315,7 +304,7 @@ find_none p (n ∷ names) s e h = go (p (Some n)) refl (λ rest there. find_none
     go true passes more e = cc
     go false fails more e =
         ⊎_elim (λ same. ap (λ k. p (Some k)) (same_name s n same) ∙ fails)
-        (λ d. more e (let there : (false || list_any (is_same s) names) ≡ true = rw d at h in there)) (either (is_same s n))
+        (λ d. more e (let there : (false || list_any (is_same s) names) ≡ true = rw d at h in there)) (cases_Bool (is_same s n))
 
 none_any : (p : Option (List ℕ) → Bool) (names : List (List ℕ)) (section : Option (List ℕ)) → find p (None ∷ map Some names) ≡ None → IsAmong names section → p section ≡ false
 none_any p names section e h = go (p None) refl e section h
@@ -328,9 +317,9 @@ none_any p names section e h = go (p None) refl e section h
 all_give : (q : List ℕ → Bool) (names : List (List ℕ)) (name : List ℕ) → list_all q names ≡ true → list_any (is_same name) names ≡ true → q name ≡ true
 all_give q [] name a h = cc
 all_give q (n ∷ names) name a h =
-    let parts = both (q n) (list_all q names) a in
+    let parts = and_parts (q n) (list_all q names) a in
     ⊎_elim (λ same. ap q (same_name name n same) ∙ parts.0)
-    (λ d. all_give q names name parts.1 (let there : (false || list_any (is_same name) names) ≡ true = rw d at h in there)) (either (is_same name n))
+    (λ d. all_give q names name parts.1 (let there : (false || list_any (is_same name) names) ≡ true = rw d at h in there)) (cases_Bool (is_same name n))
 
 all_true : (q : List ℕ → Bool) (names : List (List ℕ)) → ((name : List ℕ) → q name ≡ true) → list_all q names ≡ true
 all_true q [] h = refl
@@ -355,14 +344,14 @@ absent name (v ∷ vs) h = one_more name v vs ∙ go v.value.section (unit v.sig
 other_section : (name : List ℕ) (names : List (List ℕ)) (section : Option (List ℕ)) → list_any (is_same name) names ≡ false → IsAmong names section → stands_in name section ≡ false
 other_section name names None none among = refl
 other_section name names (Some s) none among =
-    ⊎_elim (λ same. let no : true ≡ false = sym among ∙ ap (λ k. list_any (is_same k) names) (sym (same_name name s same)) ∙ none in cc) (λ d. d) (either (is_same name s))
+    ⊎_elim (λ same. let no : true ≡ false = sym among ∙ ap (λ k. list_any (is_same k) names) (sym (same_name name s same)) ∙ none in cc) (λ d. d) (cases_Bool (is_same name s))
 
 -- ---- the section that is answered
 weighs_true : (values : List Signed) (section : Option (List ℕ)) → weighs_in values section ≡ true → IsAmong (sections_of values) section → Weighs values section
 weighs_true values section all among name =
     ⊎_elim (λ there. equal_is _ _ (all_give (λ n. int_eq (weight n values) (cond (stands_in n section) (pos 1) (pos 0))) (sections_of values) name all there))
     (λ none. absent name values none ∙ sym (ap (λ b. cond b (pos 1) (pos 0)) (other_section name (sections_of values) section none among)))
-    (either (list_any (is_same name) (sections_of values)))
+    (cases_Bool (list_any (is_same name) (sections_of values)))
 
 true_weighs : (values : List Signed) (section : Option (List ℕ)) → Weighs values section → weighs_in values section ≡ true
 true_weighs values section w =
@@ -373,7 +362,7 @@ weighs_among values None w = tt
 weighs_among values (Some s) w =
     ⊎_elim (λ there. there)
     (λ none. absurd (one_is_not_zero (sym (w s ∙ ap (λ b. cond b (pos 1) (pos 0)) (alike s)) ∙ absent s values none)))
-    (either (list_any (is_same s) (sections_of values)))
+    (cases_Bool (list_any (is_same s) (sections_of values)))
 
 relocated : (values : List Signed) (section : Option (List ℕ)) → relocation values ≡ Some section → Weighs values section
 unfolding relocation

@@ -1,16 +1,17 @@
 -- The terms of an expression written again are its text.
-use Rattle.std.proofs.Common.{◌≡◌, ℕ, ◌+◌, ◌-◌, ◌<◌, Bool, true, false, ◌&&◌, Option, Some, None, List, [], ◌∷◌, ◌++◌, length, map, drop, take, get_or, cond, refl, sym, ap, subst, ◌∙◌, ◌⊎◌, inl, inr, ⊎_elim, append-nil, append_assoc, arith}
+use Rattle.std.proofs.Common.{◌≡◌, ℕ, ◌+◌, ◌-◌, ◌<◌, Bool, true, false, ◌&&◌, Option, Some, None, List, [], ◌∷◌, ◌++◌, length, map, drop, take, get_or, cond, refl, sym, ap, subst, ◌∙◌, ⊎_elim, append-nil, append_assoc, arith}
+use Rattle.std.proofs.lemmas.Bool.{and_parts, cases_Bool}
 use Rattle.std.specs.Prelude.{◌==◌, slice_index, option_and_then, option_map}
 use Rattle.std.proofs.lemmas.List.{take_more}
 use Rattle.std.proofs.Math.Seq.{take-length}
 use Rattle.std.proofs.lemmas.Bool.Decides.{nat_tests}
 use Rattle.std.specs.List.{flat_map}
 use Rattle.cx_ebcdic.specs.Lookup.{each_some}
-use Rattle.cx_source.specs.Lines.{is_name}
+use Rattle.cx_source.specs.Lines.{is_symbol_name}
 use Rattle.cx_source.specs.Marks.{outside_apostrophes}
 use Rattle.cx_asm_expressions.specs.Digits.{is_number}
 use Rattle.cx_asm_expressions.specs.Texts.{before_apostrophe}
-use Rattle.cx_asm_expressions.specs.Terms.{Part, Term, is_sign, parts_from, parts_of, term_of, self_defining, quoted_term, read_term, terms_of, is_short_number, is_short_text, written_sign, term_text}
+use Rattle.cx_asm_expressions.specs.Terms.{Part, Term, is_sign, expression_parts_from, parts_of, term_of, self_defining, quoted_term, read_term, terms_of, is_short_number, is_short_text, written_sign, term_text}
 use Rattle.cx_asm_expressions.specs.declared.terms.Sign.{Sign}
 use Rattle.cx_asm_expressions.specs.declared.terms.Sign.TheVariants.{Plus}
 use Rattle.cx_asm_expressions.specs.declared.terms.TermKind.TheVariants.{Symbol, Decimal}
@@ -18,7 +19,7 @@ use Rattle.cx_asm_expressions.proofs.TermLemmas.{sign_of}
 
 -- a symbol or a decimal
 abbrev plain_term : Sign → List ℕ → Option Term
-plain_term sign text = cond (is_name text) (Some (term_of sign Symbol text)) (cond (is_number 10 text) (Some (term_of sign Decimal text)) None)
+plain_term sign text = cond (is_symbol_name text) (Some (term_of sign Symbol text)) (cond (is_number 10 text) (Some (term_of sign Decimal text)) None)
 
 -- a part after its sign
 abbrev part_text : Part → List ℕ
@@ -27,27 +28,19 @@ part_text part = written_sign part.sign ++ part.text
 is_equal : (a b : ℕ) → (a == b) ≡ true → a ≡ b
 is_equal a b e = grind (arith, nat_tests)
 
-either : (b : Bool) → (b ≡ true) ⊎ (b ≡ false)
-either true = inl refl
-either false = inr refl
-
-both : (a b : Bool) → (a && b) ≡ true → (a ≡ true) × (b ≡ true)
-both true b e = (refl, e)
-both false b e = cc
-
 sign_again : (c : ℕ) → is_sign c ≡ true → written_sign (sign_of c) ≡ c ∷ []
 sign_again c e =
     ⊎_elim (λ m. let h : c ≡ 45 = is_equal c 45 m in rw m (ap (λ x. x ∷ []) (sym h)))
-    (λ d. let h : c ≡ 43 = grind (arith, nat_tests) in rw d (ap (λ x. x ∷ []) (sym h))) (either (c == 45))
+    (λ d. let h : c ≡ 43 = grind (arith, nat_tests) in rw d (ap (λ x. x ∷ []) (sym h))) (cases_Bool (c == 45))
 
-parts_again : (sign : Sign) (text after : List ℕ) (outs : List Bool) → flat_map part_text (parts_from sign text after outs) ≡ written_sign sign ++ (text ++ after)
+parts_again : (sign : Sign) (text after : List ℕ) (outs : List Bool) → flat_map part_text (expression_parts_from sign text after outs) ≡ written_sign sign ++ (text ++ after)
 parts_again sign text [] outs = simp append-nil
 parts_again sign text (c ∷ after) [] = parts_again sign (text ++ c ∷ []) after [] ∙ simp append_assoc
 parts_again sign text (c ∷ after) (out ∷ outs) =
-    ⊎_elim (λ cut. let s : is_sign c ≡ true = (both out (is_sign c) cut).1 in
-    let rest : flat_map part_text (parts_from (sign_of c) [] after outs) ≡ c ∷ after = parts_again (sign_of c) [] after outs ∙ ap (λ w. w ++ after) (sign_again c s) in
+    ⊎_elim (λ cut. let s : is_sign c ≡ true = (and_parts out (is_sign c) cut).1 in
+    let rest : flat_map part_text (expression_parts_from (sign_of c) [] after outs) ≡ c ∷ after = parts_again (sign_of c) [] after outs ∙ ap (λ w. w ++ after) (sign_again c s) in
     rw (cut, rest) (simp append_assoc))
-    (λ kept. rw kept (parts_again sign (text ++ c ∷ []) after outs ∙ simp append_assoc)) (either (out && is_sign c))
+    (λ kept. rw kept (parts_again sign (text ++ c ∷ []) after outs ∙ simp append_assoc)) (cases_Bool (out && is_sign c))
 
 -- a term that a part writes is written as that part is
 abbrev Again : Part → Option Term → Type 0
@@ -100,11 +93,11 @@ defined_again : (part : Part) (letter : ℕ) (after body : List ℕ) → part.te
     → Again part (self_defining part.sign letter body)
 defined_again part letter after body text ends =
     again_if part (letter == 88 && is_short_number 16 8 body) _ _
-    (λ holds. quote 88 (is_equal _ _ (both (letter == 88) _ holds).0))
+    (λ holds. quote 88 (is_equal _ _ (and_parts (letter == 88) _ holds).0))
     (λ fails. again_if part (letter == 66 && is_short_number 2 32 body) _ _
-    (λ holds. quote 66 (is_equal _ _ (both (letter == 66) _ holds).0))
+    (λ holds. quote 66 (is_equal _ _ (and_parts (letter == 66) _ holds).0))
     (λ fails2. again_if part (letter == 67 && is_short_text body) _ _
-    (λ holds. quote 67 (is_equal _ _ (both (letter == 67) _ holds).0)) (λ fails3. tt)))
+    (λ holds. quote 67 (is_equal _ _ (and_parts (letter == 67) _ holds).0)) (λ fails3. tt)))
   where
     quote : (c : ℕ) → letter ≡ c → written_sign part.sign ++ (c ∷ 39 ∷ (body ++ 39 ∷ [])) ≡ written_sign part.sign ++ part.text
     quote c is = ap (λ w. written_sign part.sign ++ w) (ap (λ w. c ∷ 39 ∷ w) ends ∙ ap (λ x. x ∷ 39 ∷ after) (sym is) ∙ sym text)
@@ -112,12 +105,12 @@ defined_again part letter after body text ends =
 quoted_again : (part : Part) (letter : ℕ) (after : List ℕ) → part.text ≡ letter ∷ 39 ∷ after → Again part (quoted_term part.sign letter after)
 quoted_again part letter after text =
     again_if part (letter == 76) _ _
-    (λ l. again_if part (is_name after) _ _
+    (λ l. again_if part (is_symbol_name after) _ _
     (λ holds. ap (λ w. written_sign part.sign ++ w) (ap (λ x. x ∷ 39 ∷ after) (sym (is_equal _ _ l)) ∙ sym text)) (λ fails. tt))
     (λ fails. again_and part (before_apostrophe after) (self_defining part.sign letter) (λ body c. defined_again part letter after body text (closed_again after body c)))
 
 plain_again : (part : Part) → Again part (plain_term part.sign part.text)
-plain_again part = again_if part (is_name part.text) _ _ (λ holds. refl) (λ fails. again_if part (is_number 10 part.text) _ _ (λ holds. refl) (λ fails2. tt))
+plain_again part = again_if part (is_symbol_name part.text) _ _ (λ holds. refl) (λ fails. again_if part (is_number 10 part.text) _ _ (λ holds. refl) (λ fails2. tt))
 
 read_again : (part : Part) → Again part (read_term part)
 unfolding read_term
@@ -125,7 +118,7 @@ read_again part =
     again_if part (slice_index part.text 1 == 39) _ _
     (λ q. quoted_again part (slice_index part.text 0) (drop 2 part.text) (two_front part.text (is_equal _ _ q)))
     (λ fails. again_if part (slice_index part.text 0 == 42 && length part.text == 1) _ _
-    (λ star. let parts = both (slice_index part.text 0 == 42) (length part.text == 1) star in
+    (λ star. let parts = and_parts (slice_index part.text 0 == 42) (length part.text == 1) star in
     ap (λ w. written_sign part.sign ++ w) (one_only part.text (is_equal _ _ parts.0) (is_equal _ _ parts.1)))
     (λ fails2. plain_again part))
 

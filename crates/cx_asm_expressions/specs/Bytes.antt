@@ -5,7 +5,7 @@ use Rattle.std.specs.Option.{option_map_or}
 use Rattle.cx_asm_expressions.specs.Faults.{lowest}
 use Rattle.cx_asm_expressions.specs.Weights.{stands_in}
 use Rattle.cx_asm_expressions.specs.Expressions.{value_of}
-use Rattle.cx_asm_expressions.specs.Kinds.{integer_bytes, is_below, row_of}
+use Rattle.cx_asm_expressions.specs.Kinds.{integer_bytes, is_below, row_of_kind}
 use Rattle.cx_asm_expressions.specs.Items.{Constant, values_in, value_length}
 use Rattle.cx_asm_expressions.specs.declared.values.Value.{Value}
 use Rattle.cx_asm_expressions.specs.declared.kinds.ConstantKind.{ConstantKind}
@@ -25,9 +25,9 @@ copy_of_constant bytes is_relocated = record { bytes = bytes; is_relocated = is_
 -- the lowest fault of all values, or their bytes, one after the other
 abbrev pub plain_made : ConstantKind → Option ℕ → List ℕ → Result CopyOfConstant FaultKind
 plain_made kind modifier body =
-    let values = values_in (row_of kind).style body in
-    let faults = map (λ value. (row_of kind).fault value (value_length kind modifier value)) values in
-    let bytes = flat_map (λ value. (row_of kind).bytes value (value_length kind modifier value)) values in
+    let values = values_in (row_of_kind kind).style body in
+    let faults = map (λ value. (row_of_kind kind).fault value (value_length kind modifier value)) values in
+    let bytes = flat_map (λ value. (row_of_kind kind).bytes value (value_length kind modifier value)) values in
     option_map_or Err (lowest faults) (Ok (copy_of_constant bytes false))
 
 -- ---- an address of n bytes
@@ -55,6 +55,6 @@ body_made find here control kind modifier (Some body) = plain_made kind modifier
 
 -- One copy of a constant, where `find` knows the symbols, `here` is where the location counter is and `control` is the
 -- control section; or the lowest fault of its values.
-unfoldable pub made_of : (List ℕ → Option Value) → Option Value → Option (List ℕ) → Constant
+unfoldable pub constant_copy : (List ℕ → Option Value) → Option Value → Option (List ℕ) → Constant
     → Result CopyOfConstant FaultKind
-made_of find here control item = body_made find here control item.kind item.modifier item.value
+constant_copy find here control item = body_made find here control item.kind item.modifier item.value

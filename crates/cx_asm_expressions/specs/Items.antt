@@ -9,7 +9,7 @@ use Rattle.cx_source.specs.declared.marks.Delimiter.TheVariants.{Closing}
 use Rattle.cx_asm_expressions.specs.Digits.{at_most, is_digit, number_in}
 use Rattle.cx_asm_expressions.specs.Texts.{before_apostrophe}
 use Rattle.cx_asm_expressions.specs.TermValues.{greatest}
-use Rattle.cx_asm_expressions.specs.Kinds.{kind_of, row_of}
+use Rattle.cx_asm_expressions.specs.Kinds.{kind_of, row_of_kind}
 use Rattle.cx_asm_expressions.specs.Fields.{fields}
 use Rattle.cx_asm_expressions.specs.declared.kinds.ConstantKind.{ConstantKind}
 use Rattle.cx_asm_expressions.specs.declared.kinds.Style.{Style}
@@ -50,8 +50,8 @@ abbrev pub value_in : Bool → ConstantKind → Bool → List ℕ → Option (Op
 value_in is_ds kind modified value =
     if length value == 0 then (if is_ds then Some None else None)
     else option_and_then
-    (λ body. if not (length body == 0) && (row_of kind).is_whole modified body then Some (Some body) else None)
-    (body_in (row_of kind).style value)
+    (λ body. if not (length body == 0) && (row_of_kind kind).is_whole modified body then Some (Some body) else None)
+    (body_in (row_of_kind kind).style value)
 
 -- ---- the limits
 abbrev pub duplication_in : List ℕ → Option ℕ
@@ -61,7 +61,7 @@ duplication_in digits = if length digits == 0 then Some 1 else at_most greatest 
 abbrev pub modifier_in : Bool → ConstantKind → Option (List ℕ) → Option (Option ℕ)
 modifier_in is_ds kind None = Some None
 modifier_in is_ds kind (Some digits) =
-    let most = if is_ds then (row_of kind).greatest_in_ds else (row_of kind).greatest_in_dc in
+    let most = if is_ds then (row_of_kind kind).greatest_in_ds else (row_of_kind kind).greatest_in_dc in
     option_map Some
     (option_and_then (λ number. if number == 0 then None else Some number) (at_most most (number_in 10 digits)))
 
@@ -80,7 +80,7 @@ abbrev pub with_modifier : Bool → List ℕ → ConstantKind → List ℕ → R
 with_modifier is_ds duplication kind rest =
     if slice_index rest 0 == byte "L" then
     (let digits = take_while (is_digit 10) (drop 1 rest) in
-    if not ((row_of kind).greatest_in_dc == 0) && not (length digits == 0)
+    if not ((row_of_kind kind).greatest_in_dc == 0) && not (length digits == 0)
     then with_value is_ds duplication kind (Some digits) (after_digits (drop 1 rest)) else Err BadOperand)
     else with_value is_ds duplication kind None rest
 
@@ -96,7 +96,7 @@ constant_in is_ds text =
 -- ---- alignment and length
 -- A length modifier takes the alignment away.
 abbrev pub alignment_of : Constant → ℕ
-alignment_of item = if is_some item.modifier then 1 else (row_of item.kind).alignment
+alignment_of item = if is_some item.modifier then 1 else (row_of_kind item.kind).alignment
 
 -- the values of a constant: several only in F, H and P
 abbrev pub values_in : Style → List ℕ → List (List ℕ)
@@ -105,13 +105,13 @@ values_in style body = body ∷ []
 
 -- the length of one value: the modifier, or its own
 abbrev pub value_length : ConstantKind → Option ℕ → List ℕ → ℕ
-value_length kind modifier value = unwrap_or modifier ((row_of kind).own_length value)
+value_length kind modifier value = unwrap_or modifier ((row_of_kind kind).own_length value)
 
 -- the length of one copy: of all its values, without duplication
 unfoldable pub length_of : Constant → ℕ
 length_of item =
-    option_map_or (λ body. sum_by (value_length item.kind item.modifier) (values_in (row_of item.kind).style body))
-    item.value (unwrap_or item.modifier (row_of item.kind).alignment)
+    option_map_or (λ body. sum_by (value_length item.kind item.modifier) (values_in (row_of_kind item.kind).style body))
+    item.value (unwrap_or item.modifier (row_of_kind item.kind).alignment)
 
 -- the length of all copies
 abbrev pub size_of : Constant → ℕ

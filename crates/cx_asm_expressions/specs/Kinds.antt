@@ -49,16 +49,16 @@ half_bytes kind value (suc r) =
 
 -- ---- binary numbers
 -- binary numbers have 1 to 4 bytes
-abbrev pub is_word : ℕ → Bool
-is_word n = nat_le 1 n && nat_le n 4
+abbrev pub is_binary_length : ℕ → Bool
+is_binary_length n = nat_le 1 n && nat_le n 4
 
 -- a number of n bytes, from the least signed one up to a bound
 abbrev pub is_below : ℕ → ℤ → ℕ → Bool
-is_below n number high = is_word n && int_le (neg_ℤ (pos (2 ^ (8 * n - 1)))) number && int_lt number (pos high)
+is_below n number high = is_binary_length n && int_le (neg_ℤ (pos (2 ^ (8 * n - 1)))) number && int_lt number (pos high)
 
 -- the lowest n bytes of a number in two's complement, the highest of them first
 abbrev pub integer_bytes : ℕ → ℤ → List ℕ
-integer_bytes n number = if is_word n then big_bytes n (low_bytes w128 n number) else []
+integer_bytes n number = if is_binary_length n then big_bytes n (low_bytes w128 n number) else []
 
 -- the number that a decimal writes; None beyond the bound of all numbers
 abbrev pub bounded_decimal : List ℕ → Option ℤ
@@ -93,7 +93,7 @@ character_bytes value n = take n (map code (characters value) ++ replicate n 64)
 -- text is whole, by whether it has a modifier: without one the values of P are decimals, since they give the length;
 -- the length that a value gives itself: the bytes that hold its characters, its half bytes, its bits, or its digits
 -- with the sign, half a byte each, else that of its type; its fault in n bytes, and else its bytes.
-pub record Row : Type 0 where
+pub record KindRow : Type 0 where
   pub letter : ℕ
   pub alignment : ℕ
   pub greatest_in_dc : ℕ
@@ -104,9 +104,9 @@ pub record Row : Type 0 where
   pub fault : List ℕ → ℕ → Option FaultKind
   pub bytes : List ℕ → ℕ → List ℕ
 
-abbrev pub row : ℕ → ℕ → ℕ → ℕ → Style → (Bool → List ℕ → Bool) → (List ℕ → ℕ)
-    → (List ℕ → ℕ → Option FaultKind) → (List ℕ → ℕ → List ℕ) → Row
-row letter alignment in_dc in_ds style is_whole own_length fault bytes =
+abbrev pub kind_row : ℕ → ℕ → ℕ → ℕ → Style → (Bool → List ℕ → Bool) → (List ℕ → ℕ)
+    → (List ℕ → ℕ → Option FaultKind) → (List ℕ → ℕ → List ℕ) → KindRow
+kind_row letter alignment in_dc in_ds style is_whole own_length fault bytes =
     record {
       letter = letter;
       alignment = alignment;
@@ -119,25 +119,27 @@ row letter alignment in_dc in_ds style is_whole own_length fault bytes =
       bytes = bytes;
     }
 
-abbrev pub row_of : ConstantKind → Row
-row_of Character =
-    row (byte "C") 1 256 65535 Text (λ _. is_paired) (λ v. length (characters v)) (bad_unless has_codes) character_bytes
-row_of Hexadecimal =
-    row (byte "X") 1 256 65535 Text is_whole_text (λ v. (length v + 1) / 2) (bad_unless (is_number 16))
+abbrev pub row_of_kind : ConstantKind → KindRow
+row_of_kind Character =
+    kind_row (byte "C") 1 256 65535 Text (λ _. is_paired) (λ v. length (characters v))
+    (bad_unless has_codes) character_bytes
+row_of_kind Hexadecimal =
+    kind_row (byte "X") 1 256 65535 Text is_whole_text (λ v. (length v + 1) / 2) (bad_unless (is_number 16))
     (half_bytes Hexadecimal)
-row_of Binary =
-    row (byte "B") 1 256 256 Text is_whole_text (λ v. (length v + 7) / 8) (bad_unless (is_number 2)) (half_bytes Binary)
-row_of Fullword = row (byte "F") 4 4 4 Values is_whole_text (λ v. 4) integer_fault decimal_bytes
-row_of Halfword = row (byte "H") 2 4 4 Values is_whole_text (λ v. 2) integer_fault decimal_bytes
-row_of Packed =
-    row (byte "P") 1 16 16 Values
+row_of_kind Binary =
+    kind_row (byte "B") 1 256 256 Text is_whole_text (λ v. (length v + 7) / 8) (bad_unless (is_number 2))
+    (half_bytes Binary)
+row_of_kind Fullword = kind_row (byte "F") 4 4 4 Values is_whole_text (λ v. 4) integer_fault decimal_bytes
+row_of_kind Halfword = kind_row (byte "H") 2 4 4 Values is_whole_text (λ v. 2) integer_fault decimal_bytes
+row_of_kind Packed =
+    kind_row (byte "P") 1 16 16 Values
     (λ modified v. is_whole_text modified v && (modified || list_all is_decimal (fields v)))
     (λ v. length (without_sign v) / 2 + 1) (bad_unless is_decimal) (half_bytes Packed)
-row_of Address = row (byte "A") 4 4 4 Expression (λ _ v. true) (λ v. 4) (λ v n. None) (λ v n. [])
-row_of External =
-    row (byte "V") 4 0 0 Expression (λ _ v. true) (λ v. 4) (bad_unless (λ v. bytes_eq v (codes "DFHEI1")))
+row_of_kind Address = kind_row (byte "A") 4 4 4 Expression (λ _ v. true) (λ v. 4) (λ v n. None) (λ v n. [])
+row_of_kind External =
+    kind_row (byte "V") 4 0 0 Expression (λ _ v. true) (λ v. 4) (bad_unless (λ v. bytes_eq v (codes "DFHEI1")))
     (λ v n. 0 ∷ 0 ∷ 8 ∷ 0 ∷ [])
-row_of Doubleword = row (byte "D") 8 0 0 Nothing is_whole_text (λ v. 8) (λ v n. None) (λ v n. [])
+row_of_kind Doubleword = kind_row (byte "D") 8 0 0 Nothing is_whole_text (λ v. 8) (λ v n. None) (λ v n. [])
 
 -- every type
 abbrev pub kinds : List ConstantKind
@@ -145,4 +147,4 @@ kinds = Character ∷ Hexadecimal ∷ Binary ∷ Fullword ∷ Halfword ∷ Packe
 
 -- the type that a letter stands for
 unfoldable pub kind_of : ℕ → Option ConstantKind
-kind_of letter = find (λ kind. (row_of kind).letter == letter) kinds
+kind_of letter = find (λ kind. (row_of_kind kind).letter == letter) kinds

@@ -12,6 +12,8 @@ pub mod Kinds
 pub mod Items
 pub mod Bytes
 pub mod Laws
+-- Lemmas for the crates above.
+pub mod Facts
 -- Words of private functions.
 pub mod Parts
 pub use Rattle.cx_ebcdic.specs.Characters

@@ -2,7 +2,7 @@
 use Rattle.std.specs.Prelude.{ℕ, Bool, not, ◌&&◌, ◌||◌, ◌==◌, nat_le, if◌then◌else◌, Option, Some, None, List, [], ◌∷◌, ◌++◌, length, map, drop, slice_index, option_and_then, codes}
 use Rattle.std.specs.Str.{byte}
 use Rattle.cx_ebcdic.specs.Lookup.{each_some}
-use Rattle.cx_source.specs.Lines.{is_name}
+use Rattle.cx_source.specs.Lines.{is_symbol_name}
 use Rattle.cx_source.specs.Marks.{outside_apostrophes}
 use Rattle.cx_asm_expressions.specs.Digits.{is_number}
 use Rattle.cx_asm_expressions.specs.Texts.{before_apostrophe, is_paired, characters, has_codes}
@@ -33,16 +33,17 @@ is_sign c = c == byte "+" || c == byte "-"
 
 -- The parts between signs. With each character comes whether it lies outside apostrophes; `text` is what there is of
 -- the first part already.
-abbrev pub parts_from : Sign → List ℕ → List ℕ → List Bool → List Part
-parts_from sign text [] outs = part_of sign text ∷ []
-parts_from sign text (c ∷ after) [] = parts_from sign (text ++ c ∷ []) after []
-parts_from sign text (c ∷ after) (out ∷ outs) =
-    if out && is_sign c then part_of sign text ∷ parts_from (if c == byte "-" then Minus else Plus) [] after outs
-    else parts_from sign (text ++ c ∷ []) after outs
+abbrev pub expression_parts_from : Sign → List ℕ → List ℕ → List Bool → List Part
+expression_parts_from sign text [] outs = part_of sign text ∷ []
+expression_parts_from sign text (c ∷ after) [] = expression_parts_from sign (text ++ c ∷ []) after []
+expression_parts_from sign text (c ∷ after) (out ∷ outs) =
+    if out && is_sign c
+    then part_of sign text ∷ expression_parts_from (if c == byte "-" then Minus else Plus) [] after outs
+    else expression_parts_from sign (text ++ c ∷ []) after outs
 
 -- the parts of an expression, cut at the signs that lie outside apostrophes; before the first comes a plus
 abbrev pub parts_of : List ℕ → List Part
-parts_of text = parts_from Plus [] text (outside_apostrophes text)
+parts_of text = expression_parts_from Plus [] text (outside_apostrophes text)
 
 -- 1 to `most` digits of a base
 abbrev pub is_short_number : ℕ → ℕ → List ℕ → Bool
@@ -62,7 +63,7 @@ self_defining sign letter body =
 -- what a letter and an apostrophe begin
 abbrev pub quoted_term : Sign → ℕ → List ℕ → Option Term
 quoted_term sign letter after =
-    if letter == byte "L" then (if is_name after then Some (term_of sign LengthOf after) else None)
+    if letter == byte "L" then (if is_symbol_name after then Some (term_of sign LengthOf after) else None)
     else option_and_then (self_defining sign letter) (before_apostrophe after)
 
 -- The term that a part writes, if it writes one: a letter and an apostrophe begin it, or it is an asterisk, a symbol
@@ -71,7 +72,7 @@ unfoldable pub read_term : Part → Option Term
 read_term part =
     if slice_index part.text 1 == byte "'" then quoted_term part.sign (slice_index part.text 0) (drop 2 part.text)
     else (if slice_index part.text 0 == byte "*" && length part.text == 1 then Some (term_of part.sign Here [])
-    else (if is_name part.text then Some (term_of part.sign Symbol part.text)
+    else (if is_symbol_name part.text then Some (term_of part.sign Symbol part.text)
     else (if is_number 10 part.text then Some (term_of part.sign Decimal part.text) else None)))
 
 -- the terms of an expression; None where a part writes none

@@ -20,13 +20,13 @@ is_doubled mark opened (c ∷ cs) =
 abbrev pub is_paired : List ℕ → Bool
 is_paired body = is_doubled (byte "'") false body && is_doubled (byte "&") false body
 
-abbrev pub is_mark : ℕ → Bool
-is_mark c = c == byte "'" || c == byte "&"
+abbrev pub is_doubled_mark : ℕ → Bool
+is_doubled_mark c = c == byte "'" || c == byte "&"
 
 -- the characters, of two apostrophes or ampersands one
 abbrev pub single : Bool → List ℕ → List ℕ
 single opened [] = []
-single opened (c ∷ cs) = if opened && is_mark c then single false cs else c ∷ single (is_mark c) cs
+single opened (c ∷ cs) = if opened && is_doubled_mark c then single false cs else c ∷ single (is_doubled_mark c) cs
 
 abbrev pub characters : List ℕ → List ℕ
 characters body = single false body

@@ -10,8 +10,8 @@ ghost use Rattle.cx_asm_expressions.specs.Expressions.{Answers};
 ghost use Rattle.cx_asm_expressions.specs.Items.{value_length, values_in};
 ghost use Rattle.cx_asm_expressions.specs.Weights.{stands_in};
 ghost use Rattle.cx_asm_expressions.specs.Texts.{characters, code};
-ghost use Rattle.cx_asm_expressions.specs.Bytes.{copy_of_constant, made_of, address_constant, plain_made};
-ghost use Rattle.cx_asm_expressions.specs.Kinds.{bit_from_right, bits_from_right, bounded_decimal, character_bytes, digit_from_right, half_byte, half_bytes, integer_bytes, integer_fault, is_below, packed_from_right, row_of};
+ghost use Rattle.cx_asm_expressions.specs.Bytes.{copy_of_constant, constant_copy, address_constant, plain_made};
+ghost use Rattle.cx_asm_expressions.specs.Kinds.{bit_from_right, bits_from_right, bounded_decimal, character_bytes, digit_from_right, half_byte, half_bytes, integer_bytes, integer_fault, is_below, packed_from_right, row_of_kind};
 
 use crate::digits::{digit, is_number, number};
 use crate::expressions::value_of;
@@ -21,7 +21,7 @@ use crate::items::Constant;
 use crate::kinds::{ConstantKind, Style};
 use crate::lengths::value_length;
 use crate::symbols::SymbolTable;
-use crate::texts::{code, has_codes, is_mark, repeats};
+use crate::texts::{code, has_codes, is_doubled_mark, repeats};
 use crate::values::Value;
 use byteorder::{BigEndian, ByteOrder};
 use cx_ebcdic::Name8;
@@ -34,7 +34,7 @@ const BLANK: u8 = 0x40;
 /// The entry of commands, an address that isn't relocated.
 const COMMAND_ENTRY: [u8; 4] = [0, 0, 8, 0];
 
-/// The bytes of one copy of a constant.
+/// The bytes of one copy of a constant, and whether they are a word to which the load address is added.
 #[derive(Debug, Drop)]
 pub struct ConstantBytes {
     bytes: Vec<u8>,
@@ -60,7 +60,7 @@ impl ConstantBytes {
         }
     }
 
-    /// The bytes.
+    /// The bytes of the copy, in their order; none of a constant without a value.
     pub fn as_slice(&self) -> &[u8]
         ensures { result.now ≡ self.now.bytes }
     {
@@ -74,7 +74,7 @@ impl ConstantBytes {
         self.is_relocated
     }
 
-    /// The bytes as a `Vec`.
+    /// The bytes as a `Vec`, without the rest. It takes no memory.
     pub fn into_vec(self) -> Vec<u8>
         ensures { result.items ≡ self.bytes }
     {
@@ -94,7 +94,7 @@ fn codes_of(alloc: Global, body: &[u8]) -> Result<Vec<u8>, AllocError>
             opened = false;
         } else {
             found.push(code(*c))?;
-            opened = is_mark(*c);
+            opened = is_doubled_mark(*c);
         }
     }
     Ok(found)
@@ -286,7 +286,7 @@ fn bad_unless(good: bool) -> Option<FaultKind>
 
 /// The fault of one value.
 fn fault_of_value(kind: ConstantKind, modifier: Option<u16>, value: &[u8]) -> Option<FaultKind>
-    ensures { result ≡ (row_of kind).fault value.now (value_length kind modifier value.now) }
+    ensures { result ≡ (row_of_kind kind).fault value.now (value_length kind modifier value.now) }
 {
     match kind {
         ConstantKind::Character => bad_unless(has_codes(value)),
@@ -309,7 +309,7 @@ fn bytes_of_value(
     value: &[u8],
 ) -> Result<Vec<u8>, AllocError>
     ensures { let n = value_length kind modifier value.now in
-        IfOk result (λ found. found.items ≡ (row_of kind).bytes value.now n) }
+        IfOk result (λ found. found.items ≡ (row_of_kind kind).bytes value.now n) }
 {
     let n = value_length(kind, modifier, value);
     match kind {
@@ -328,7 +328,7 @@ fn bytes_of_value(
 /// The lowest fault of values.
 fn values_fault(kind: ConstantKind, modifier: Option<u16>, values: &[&[u8]]) -> Option<FaultKind>
     ensures { let values = map (λ value. value.now) values.now in
-        result ≡ lowest (map (λ value. (row_of kind).fault value (value_length kind modifier value)) values) }
+        result ≡ lowest (map (λ value. (row_of_kind kind).fault value (value_length kind modifier value)) values) }
 {
     let mut fault = None;
     for value in values {
@@ -346,7 +346,7 @@ fn values_bytes(
 ) -> Result<Vec<u8>, AllocError>
     ensures { let values = map (λ value. value.now) values.now in
         IfOk result (λ found. found.items
-        ≡ flat_map (λ value. (row_of kind).bytes value (value_length kind modifier value)) values) }
+        ≡ flat_map (λ value. (row_of_kind kind).bytes value (value_length kind modifier value)) values) }
 {
     let mut found = Vec::new(alloc);
     for value in values {
@@ -431,7 +431,7 @@ impl Constant<'_> {
     /// ValueOutOfRange for F and H outside their range and an absolute address of n bytes outside -2^(8n-1) to
     /// 2^(8n)-1; NotRelocatable for a place that has not 4 bytes or isn't in the control section; the faults of
     /// `value_of`. Memory comes only where an allocation failed.
-    #[tactic(auto, unfolding(crate::specs::Bytes::made_of))]
+    #[tactic(auto, unfolding(crate::specs::Bytes::constant_copy))]
     pub fn bytes(
         &self,
         alloc: Global,
@@ -439,7 +439,7 @@ impl Constant<'_> {
         here: Option<&Value>,
         control: Option<Name8>,
     ) -> Result<ConstantBytes, TermFault>
-        ensures { Answers (made_of (find_in symbols.now) (option_copied here.entry) control self.now) result }
+        ensures { Answers (constant_copy (find_in symbols.now) (option_copied here.entry) control self.now) result }
     {
         let kind = self.kind();
         let modifier = self.modifier();

@@ -17,17 +17,17 @@ use crate::weights::relocation;
 use cx_ebcdic::Name8;
 use std::alloc::{AllocError, Global};
 
-/// The value of a term, with the sign before it.
+/// The value of a term, with the sign before it: what is added, or subtracted, in an expression.
 #[derive(Clone, Copy, Debug, PartialEq, Eq)]
 pub struct Signed {
-    /// The sign.
+    /// The sign before the term.
     pub sign: Sign,
-    /// The value of the term.
+    /// The value of the term, without the sign.
     pub value: Value,
 }
 
 /// The lowest fault of terms, if one has any.
-#[tactic(auto, using(crate::proofs::FaultLemmas::lower_in_turn))]
+#[tactic(auto, using(crate::specs::Facts::Faults::lower_in_turn))]
 fn lowest_fault(
     terms: &[Term<'_>],
     symbols: &SymbolTable,

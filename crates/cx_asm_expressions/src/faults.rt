@@ -10,7 +10,7 @@ use thiserror::Error;
 /// A kind of fault. Of several faults the one with the lowest number is answered.
 #[derive(Clone, Copy, Debug, PartialEq, Eq, Error)]
 pub enum FaultKind {
-    /// No such operation.
+    /// The operation isn't in the table of operations.
     #[error("UnknownOperation")]
     UnknownOperation,
     /// A symbol that no statement defines.
@@ -22,22 +22,22 @@ pub enum FaultKind {
     /// An address that no base register reaches.
     #[error("NoAddressability")]
     NoAddressability,
-    /// An operand that can't be read.
+    /// An operand that can't be read, or a statement where it isn't allowed.
     #[error("BadOperand")]
     BadOperand,
-    /// A value outside its limits.
+    /// A value, a length or a number of copies outside its limits.
     #[error("ValueOutOfRange")]
     ValueOutOfRange,
-    /// A value that is no place in the section it should be in.
+    /// A value that is neither absolute nor a place in one section, or no place in the section that it should be in.
     #[error("NotRelocatable")]
     NotRelocatable,
-    /// A program that is too long.
+    /// A control section of more than 65,536 bytes.
     #[error("TooLarge")]
     TooLarge,
 }
 
 impl FaultKind {
-    /// Its number, 1 to 8.
+    /// Its number: 1 of UnknownOperation to 8 of TooLarge, in the order in which the kinds are declared.
     pub fn number(self) -> u8
         ensures { result ≡ (fault_row self).0 }
     {
@@ -53,7 +53,7 @@ impl FaultKind {
         }
     }
 
-    /// Its name.
+    /// Its name, as `BadOperand`.
     pub fn name(self) -> &'static str
         ensures { result.now ≡ (fault_row self).1 }
     {
@@ -81,7 +81,8 @@ pub fn lower_of(one: FaultKind, other: FaultKind) -> FaultKind
     }
 }
 
-/// The one of two faults with the lower number, where there is any.
+/// The one of two faults with the lower number; the other where one isn't there, None where neither is. It takes no
+/// memory.
 pub fn lower(one: Option<FaultKind>, other: Option<FaultKind>) -> Option<FaultKind>
     ensures { result ≡ lower one other }
 {
@@ -92,10 +93,10 @@ pub fn lower(one: Option<FaultKind>, other: Option<FaultKind>) -> Option<FaultKi
     }
 }
 
-/// Why a call that takes memory gives no value.
+/// Why a call that may take memory gives no value: a fault of what it reads, or a failed allocation.
 #[derive(Clone, Copy, Debug, PartialEq, Eq, Error)]
 pub enum TermFault {
-    /// The text is at fault.
+    /// What is read has this fault.
     #[error("{0}")]
     Refused(FaultKind),
     /// An allocation failed.

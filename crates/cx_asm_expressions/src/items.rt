@@ -4,7 +4,7 @@ ghost use Rattle.std.specs.Prelude.{◌≡◌, ◌≤◌, ◌<◌, ◌^◌, is_s
 ghost use Rattle.std.specs.List.{prefix_len, take_while};
 ghost use Rattle.std.specs.Option.{option_map};
 ghost use Rattle.cx_asm_expressions.specs.Digits.{at_most, bound, is_digit, number_in};
-ghost use Rattle.cx_asm_expressions.specs.Kinds.{kind_of, row_of};
+ghost use Rattle.cx_asm_expressions.specs.Kinds.{kind_of, row_of_kind};
 ghost use Rattle.cx_asm_expressions.specs.Items.{after_digits, body_in, constant, constant_in, duplication_in, modifier_in, parenthesized_body, value_in, with_modifier, with_value};
 
 use crate::digits::{is_digit, number};
@@ -16,7 +16,8 @@ use crate::texts::{APOSTROPHE, closed, is_doubled, is_paired};
 use cx_source::{Delimiter, first_mark};
 use std::marker::Model;
 
-/// One item of a DC, a DS or a literal: its duplication factor, type, length modifier and nominal value.
+/// One item of a DC, a DS or a literal: its duplication factor, type, length modifier and nominal value (GC33-4010, "DC
+/// -- Define Constant").
 #[derive(Debug, Drop)]
 pub struct Constant<'a> {
     duplication: u32,
@@ -87,7 +88,7 @@ fn body_in(style: Style, value: &[u8]) -> Option<&[u8]>
 
 /// Whether a value's text is whole.
 fn is_whole(kind: ConstantKind, modified: bool, body: &[u8]) -> bool
-    ensures { result ≡ (row_of kind).is_whole modified body.now }
+    ensures { result ≡ (row_of_kind kind).is_whole modified body.now }
 {
     match kind {
         ConstantKind::Character => is_paired(body),
@@ -244,28 +245,28 @@ impl<'a> Constant<'a> {
         })
     }
 
-    /// How many copies there are, perhaps none.
+    /// Its duplication factor: how many copies there are, 0 to 4,294,967,295; 1 where none is written.
     pub fn duplication(&self) -> u32
         ensures { result ≡ self.now.duplication }
     {
         self.duplication
     }
 
-    /// Its type.
+    /// Its type, by its letter.
     pub fn kind(&self) -> ConstantKind
         ensures { result ≡ self.now.kind }
     {
         self.kind
     }
 
-    /// Its length modifier, if it has one.
+    /// Its length modifier, in bytes; None where none is written.
     pub fn modifier(&self) -> Option<u16>
         ensures { result ≡ self.now.modifier }
     {
         self.modifier
     }
 
-    /// Its nominal value without apostrophes or parentheses, if it has one.
+    /// Its nominal value without the apostrophes or parentheses round it; None where none is written.
     pub fn value(&self) -> Option<&[u8]>
         ensures { option_map (λ body. body.now) result ≡ self.now.value }
     {

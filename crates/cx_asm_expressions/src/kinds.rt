@@ -1,32 +1,32 @@
 //! The types of constants.
 
 ghost use Rattle.std.specs.Prelude.{◌≡◌, ◌<◌, ◌≤◌, ◌^◌, ◌==◌, if◌then◌else◌, not};
-ghost use Rattle.cx_asm_expressions.specs.Kinds.{kind_of, row_of};
+ghost use Rattle.cx_asm_expressions.specs.Kinds.{kind_of, row_of_kind};
 
 /// A type of constant (GC33-4010, "DC -- Define Constant").
 #[derive(Clone, Copy, Debug, PartialEq, Eq)]
 pub enum ConstantKind {
-    /// C: characters.
+    /// C: characters, a byte each, in EBCDIC.
     Character,
-    /// X: hexadecimal digits.
+    /// X: hexadecimal digits, two to a byte.
     Hexadecimal,
-    /// B: binary digits.
+    /// B: binary digits, eight to a byte.
     Binary,
-    /// F: fullwords.
+    /// F: binary numbers of 4 bytes each, or as many as a length modifier says.
     Fullword,
-    /// H: halfwords.
+    /// H: binary numbers of 2 bytes each, or as many as a length modifier says.
     Halfword,
-    /// P: packed decimals.
+    /// P: packed decimals, two digits to a byte, the sign in the last half byte.
     Packed,
-    /// A: an address.
+    /// A: the value of an expression, in 4 bytes or as many as a length modifier says.
     Address,
-    /// V: an external address.
+    /// V: the address of a symbol outside, in 4 bytes: DFHEI1's alone, X'800'.
     External,
-    /// D: a doubleword, of DS alone.
+    /// D: doublewords of storage, of DS alone.
     Doubleword,
 }
 
-/// How the value of a constant is written.
+/// How the value of a constant is written after its letter and length modifier.
 #[derive(Clone, Copy, Debug, PartialEq, Eq)]
 pub enum Style {
     /// One text in apostrophes.
@@ -35,14 +35,14 @@ pub enum Style {
     Values,
     /// One expression in parentheses.
     Expression,
-    /// Not at all.
+    /// No value is written.
     Nothing,
 }
 
 impl ConstantKind {
-    /// Its letter.
+    /// The letter that stands for it in a DC, a DS or a literal, as `C` (ASCII).
     pub fn letter(self) -> u8
-        ensures { result ≡ (row_of self).letter }
+        ensures { result ≡ (row_of_kind self).letter }
     {
         match self {
             ConstantKind::Character => b'C',
@@ -57,7 +57,7 @@ impl ConstantKind {
         }
     }
 
-    /// The type that a letter stands for, if it stands for one.
+    /// The type that a letter (ASCII, a capital) stands for; None where it stands for none.
     #[tactic(auto, unfolding(crate::specs::Kinds::kind_of))]
     pub fn from_letter(letter: u8) -> Option<ConstantKind>
         ensures { result ≡ kind_of letter }
@@ -76,9 +76,9 @@ impl ConstantKind {
         }
     }
 
-    /// The boundary that it is aligned to.
+    /// The boundary that it is aligned to, in bytes, where it has no length modifier: 1, 2, 4 or 8.
     pub fn alignment(self) -> u32
-        ensures { result ≡ (row_of self).alignment }
+        ensures { result ≡ (row_of_kind self).alignment }
     {
         match self {
             ConstantKind::Fullword | ConstantKind::Address | ConstantKind::External => 4,
@@ -88,9 +88,9 @@ impl ConstantKind {
         }
     }
 
-    /// Its own length, where its value doesn't give one.
+    /// How many bytes a constant of it has that has neither a value nor a length modifier: as many as it is aligned to.
     pub fn own_length(self) -> usize
-        ensures length { result ≡ (row_of self).alignment }
+        ensures length { result ≡ (row_of_kind self).alignment }
         ensures bound { result ≤ 8 }
     {
         match self {
@@ -101,9 +101,9 @@ impl ConstantKind {
         }
     }
 
-    /// The greatest length modifier, in DS or in DC; 0 where it takes none.
+    /// The greatest length modifier, in bytes, in DS (`is_ds`) or in DC and literals; 0 where it takes none.
     pub fn greatest_modifier(self, is_ds: bool) -> u128
-        ensures greatest { result ≡ (if is_ds then (row_of self).greatest_in_ds else (row_of self).greatest_in_dc) }
+        ensures greatest { result ≡ (if is_ds then (row_of_kind self).greatest_in_ds else (row_of_kind self).greatest_in_dc) }
         ensures bound { result < 2 ^ 16 }
     {
         match self {
@@ -117,16 +117,16 @@ impl ConstantKind {
         }
     }
 
-    /// Whether it takes a length modifier.
+    /// Whether it takes a length modifier; V and D take none.
     pub fn takes_modifier(self) -> bool
-        ensures { result ≡ not ((row_of self).greatest_in_dc == 0) }
+        ensures { result ≡ not ((row_of_kind self).greatest_in_dc == 0) }
     {
         !matches!(self, ConstantKind::External | ConstantKind::Doubleword)
     }
 
-    /// How its value is written.
+    /// How its value is written after its letter and length modifier.
     pub fn style(self) -> Style
-        ensures { result ≡ (row_of self).style }
+        ensures { result ≡ (row_of_kind self).style }
     {
         match self {
             ConstantKind::Character | ConstantKind::Hexadecimal | ConstantKind::Binary => {

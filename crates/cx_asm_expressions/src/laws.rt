@@ -5,7 +5,7 @@ ghost use Rattle.std.specs.List.{flat_map};
 ghost use Rattle.std.specs.Str.{byte};
 ghost use Rattle.cx_asm_expressions.specs.Digits.{is_number, number_in};
 ghost use Rattle.cx_asm_expressions.specs.Faults.{lowest};
-ghost use Rattle.cx_asm_expressions.specs.Kinds.{kind_of, row_of};
+ghost use Rattle.cx_asm_expressions.specs.Kinds.{kind_of, row_of_kind};
 ghost use Rattle.cx_asm_expressions.specs.Laws.FaultLaws.{IsLowest};
 ghost use Rattle.cx_asm_expressions.specs.declared.faults.FaultKind.{FaultKind};
 ghost use Rattle.cx_asm_expressions.specs.declared.kinds.ConstantKind.{ConstantKind};
@@ -54,5 +54,5 @@ pub fn the_lowest_fault_is_lowest()
 #[tactic(auto, using(crate::proofs::KindLemmas::kind_by_letter))]
 pub fn types_are_known_by_their_letters()
     ensures { (letter : ℕ) (kind : ConstantKind)
-        → (kind_of letter ≡ Some kind) ↔ ((row_of kind).letter ≡ letter) }
+        → (kind_of letter ≡ Some kind) ↔ ((row_of_kind kind).letter ≡ letter) }
 {}

@@ -3,7 +3,7 @@
 ghost use Rattle.std.specs.Prelude.{◌≡◌, ◌≤◌, ◌<◌, ◌+◌, ◌-◌, ◌*◌, ◌/◌, ◌^◌, length, sum_by};
 ghost use Rattle.cx_asm_expressions.specs.Fields.{fields};
 ghost use Rattle.cx_asm_expressions.specs.Items.{alignment_of, length_of, size_of, value_length};
-ghost use Rattle.cx_asm_expressions.specs.Kinds.{row_of};
+ghost use Rattle.cx_asm_expressions.specs.Kinds.{row_of_kind};
 
 use crate::fields::packed_length;
 use crate::items::Constant;
@@ -23,7 +23,7 @@ fn rounded_up(count: usize, each: u8) -> usize
 
 /// The length that a value gives itself.
 fn natural_length(kind: ConstantKind, value: &[u8]) -> usize
-    ensures length { result ≡ (row_of kind).own_length value.now }
+    ensures length { result ≡ (row_of_kind kind).own_length value.now }
     ensures bound { result ≤ length value.now + 8 }
 {
     match kind {
@@ -66,8 +66,8 @@ fn fields_length(kind: ConstantKind, modifier: Option<u16>, body: &[u8]) -> u128
 }
 
 impl Constant<'_> {
-    /// The boundary that it is aligned to: 1, 2, 4 or 8. A length modifier takes the alignment away. It takes no
-    /// memory.
+    /// The boundary that it is aligned to, in bytes: 1, 2, 4 or 8. A length modifier takes the alignment away. It takes
+    /// no memory.
     pub fn alignment(&self) -> u32
         ensures { result ≡ alignment_of self.now }
     {
@@ -78,7 +78,7 @@ impl Constant<'_> {
         }
     }
 
-    /// The number of bytes of one copy: of all its values, without duplication. It takes no memory.
+    /// The number of bytes of one copy: of all its values, without duplication; below 2^84. It takes no memory.
     #[tactic(auto, unfolding(crate::specs::Items::length_of))]
     pub fn length(&self) -> u128
         ensures length { result ≡ length_of self.now }
@@ -98,7 +98,7 @@ impl Constant<'_> {
         }
     }
 
-    /// The number of bytes of all copies. It takes no memory.
+    /// The number of bytes of all copies: the length as often as the duplication factor says. It takes no memory.
     pub fn size(&self) -> u128
         ensures { result ≡ size_of self.now }
     {

@@ -8,7 +8,7 @@ ghost use Rattle.cx_asm_expressions.specs.Symbols.{Defines, find_in};
 use crate::faults::{FaultKind, TermFault};
 use crate::values::Value;
 use cx_ebcdic::Name8;
-use cx_source::is_name;
+use cx_source::is_symbol_name;
 use indexmap::IndexMap;
 use std::alloc::{AllocError, Global};
 use std::marker::Model;
@@ -19,7 +19,7 @@ use std::marker::Model;
 pub fn symbol_name(text: &[u8]) -> Option<Name8>
     ensures { result ≡ symbol_name text.now }
 {
-    if !is_name(text) {
+    if !is_symbol_name(text) {
         return None;
     }
     let Ok(name) = str::from_utf8(text) else {
@@ -43,7 +43,7 @@ impl Model for SymbolTable {
 }
 
 impl SymbolTable {
-    /// No symbol yet. It takes no memory.
+    /// A table without a symbol. It takes no memory.
     pub fn new(alloc: Global) -> SymbolTable
         ensures { result ≡ [] }
     {
@@ -52,14 +52,14 @@ impl SymbolTable {
         }
     }
 
-    /// The value of the symbol of a name; None where there is no such symbol. It takes no memory.
+    /// The value of the symbol with this name; None where the table has no such symbol. It takes no memory.
     pub fn get(&self, name: Name8) -> Option<Value>
         ensures { result ≡ find_in self.now name }
     {
         self.symbols.get(&name).copied()
     }
 
-    /// Defines a symbol.
+    /// Defines the symbol with this name, which has this value from then on.
     ///
     /// DuplicateSymbol comes exactly where the name is a symbol's already, and Memory only where an allocation failed;
     /// then all is as before.

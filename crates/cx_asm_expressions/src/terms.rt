@@ -7,11 +7,11 @@ ghost use Rattle.cx_asm_expressions.specs.Terms.{is_short_number, is_short_text,
 
 use crate::digits::is_number;
 use crate::texts::{APOSTROPHE, character_count, closed, has_codes, is_paired};
-use cx_source::{is_name, outside};
+use cx_source::{is_symbol_name, outside};
 use std::alloc::{AllocError, Global};
 use std::marker::Model;
 
-/// The sign before a term.
+/// The sign before a term of an expression.
 #[derive(Clone, Copy, Debug, PartialEq, Eq)]
 pub enum Sign {
     /// The term is added.
@@ -20,22 +20,22 @@ pub enum Sign {
     Minus,
 }
 
-/// What a term is.
+/// What a term is (GC33-4010, "Terms").
 #[derive(Clone, Copy, Debug, PartialEq, Eq)]
 pub enum TermKind {
-    /// A symbol.
+    /// A symbol: its value.
     Symbol,
-    /// A decimal self-defining term.
+    /// A decimal self-defining term, whose value is at most 4,294,967,295.
     Decimal,
-    /// A hexadecimal one, X'..'.
+    /// A hexadecimal one, X'..', of 1 to 8 digits.
     Hexadecimal,
-    /// A binary one, B'..'.
+    /// A binary one, B'..', of 1 to 32 digits.
     Binary,
-    /// A character one, C'..'.
+    /// A character one, C'..', of 1 to 4 characters, by their codes in EBCDIC.
     Characters,
-    /// The location counter, `*`.
+    /// `*`: where the location counter is.
     Here,
-    /// A symbol's length attribute, L'..
+    /// L' and a symbol: the symbol's length attribute.
     LengthOf,
 }
 
@@ -139,21 +139,22 @@ impl<'a> Term<'a> {
         Term { sign, kind, text }
     }
 
-    /// Its sign.
+    /// The sign before it; of the first term it is a plus.
     pub fn sign(&self) -> Sign
         ensures { result ≡ self.now.sign }
     {
         self.sign
     }
 
-    /// What it is.
+    /// Which kind of term it is, which says how its text is read.
     pub fn kind(&self) -> TermKind
         ensures { result ≡ self.now.kind }
     {
         self.kind
     }
 
-    /// The symbol, the digits or the characters that it is written with.
+    /// The symbol, the digits or the characters that it is written with, without a prefix such as `X'` or `L'` and
+    /// without the apostrophes round them; empty of `*`.
     pub fn text(&self) -> &[u8]
         ensures { result.now ≡ self.now.text }
     {
@@ -180,7 +181,7 @@ impl<'a> Term<'a> {
         ensures { result ≡ quoted_term sign letter after.now }
     {
         if letter == b'L' {
-            if is_name(after) {
+            if is_symbol_name(after) {
                 return Some(Term::new(sign, TermKind::LengthOf, after));
             }
             return None;
@@ -203,7 +204,7 @@ impl<'a> Term<'a> {
             let (_, nothing) = text.split_at(1);
             return Some(Term::new(part.sign, TermKind::Here, nothing));
         }
-        if is_name(text) {
+        if is_symbol_name(text) {
             Some(Term::new(part.sign, TermKind::Symbol, text))
         } else if is_number(text, 10) {
             Some(Term::new(part.sign, TermKind::Decimal, text))
@@ -216,7 +217,7 @@ impl<'a> Term<'a> {
 /// The terms of an expression, or None where a part of it is no term: sums and differences of symbols, decimals, X'..',
 /// B'..' and C'..' of at most 4 bytes, `*`, and L' before a symbol (GC33-4010, "Terms"). No sign precedes the first.
 ///
-/// Memory comes only where an allocation failed.
+/// An error comes only where an allocation failed.
 #[tactic(auto, unfolding(crate::specs::Terms::terms_of))]
 pub fn terms_of(alloc: Global, text: &[u8]) -> Result<Option<Vec<Term<'_>>>, AllocError>
     ensures { let due = terms_of text.now in

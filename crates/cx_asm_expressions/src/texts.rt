@@ -3,7 +3,7 @@
 ghost use Rattle.std.specs.Prelude.{◌≡◌, ◌≤◌, ◌&&◌, false, length};
 ghost use Rattle.std.specs.Option.{option_map};
 ghost use Rattle.cx_asm_expressions.specs.Digits.{at_most, bound};
-ghost use Rattle.cx_asm_expressions.specs.Texts.{character_number, characters, before_apostrophe, code, has_codes, is_doubled, is_mark, is_paired};
+ghost use Rattle.cx_asm_expressions.specs.Texts.{character_number, characters, before_apostrophe, code, has_codes, is_doubled, is_doubled_mark, is_paired};
 
 use crate::digits::BOUND;
 use cx_ebcdic::to_ebcdic;
@@ -49,17 +49,17 @@ pub(crate) fn is_paired(body: &[u8]) -> bool
 }
 
 /// Whether a character has to be written twice.
-pub(crate) fn is_mark(c: u8) -> bool
-    ensures { result ≡ is_mark c }
+pub(crate) fn is_doubled_mark(c: u8) -> bool
+    ensures { result ≡ is_doubled_mark c }
 {
     c == APOSTROPHE || c == AMPERSAND
 }
 
 /// Whether a character is the second of two apostrophes or ampersands; `opened` says that the one before is a first.
 pub(crate) fn repeats(opened: bool, c: u8) -> bool
-    ensures { result ≡ (opened && is_mark c) }
+    ensures { result ≡ (opened && is_doubled_mark c) }
 {
-    opened && is_mark(c)
+    opened && is_doubled_mark(c)
 }
 
 /// How many characters a text has, of two apostrophes or ampersands one.
@@ -74,7 +74,7 @@ pub(crate) fn character_count(body: &[u8]) -> usize
             opened = false;
         } else {
             count += 1;
-            opened = is_mark(*c);
+            opened = is_doubled_mark(*c);
         }
     }
     count
@@ -108,7 +108,7 @@ pub(crate) fn character_number(body: &[u8]) -> Option<u128>
             if number > BOUND {
                 return None;
             }
-            opened = is_mark(*c);
+            opened = is_doubled_mark(*c);
         }
     }
     Some(number)

@@ -11,9 +11,9 @@ use cx_ebcdic::Name8;
 pub struct Value {
     /// The section that it is an offset in; None of an absolute number.
     pub section: Option<Name8>,
-    /// The number or the offset.
+    /// The number, or the offset in the section, in bytes.
     pub number: i128,
-    /// The length attribute.
+    /// The length attribute, in bytes.
     pub length: u128,
 }
 

@@ -5,10 +5,10 @@ use Rattle.std.specs.List.{list_any, AllByRecursion}
 use Rattle.std.proofs.lemmas.Bool.{cases_Bool, leb-true, ltb-true}
 use Rattle.std.proofs.lemmas.List.{get_or-take, get_or-drop, ext_get_or}
 use Rattle.cx_code.specs.declared.disassembly.Line.{Line}
-use Rattle.cx_code.specs.Lines.{lines, line_of}
+use Rattle.cx_code.specs.Lines.{lines, disassembled_line}
 use Rattle.cx_asm_image.specs.Assembled.{AssembledParts, IsAssembled}
 use Rattle.cx_asm_image.specs.Laws.Cover.{covers, StandsIn, IsTextOf, as_data}
-use Rattle.cx_asm_image.specs.Resolved.{bytes_of, size_of, end_of, AreApart, is_code}
+use Rattle.cx_asm_image.specs.Resolved.{bytes_of, size_of, offset_after, AreApart, is_code}
 use Rattle.cx_asm_image.specs.Spans.{span_of}
 
 -- a line at or past an offset
@@ -17,14 +17,14 @@ starts_after from [] size j d apart h = absurd (omega arith)
 starts_after from (l ∷ ls) size zero d apart h = apart.0
 starts_after from (l ∷ ls) size (suc j) d apart h =
     let first = apart.0 in
-    let rest = starts_after (end_of l) ls size j d apart.1 (omega arith) in
+    let rest = starts_after (offset_after l) ls size j d apart.1 (omega arith) in
     omega arith
 
-pub ascend : (from : ℕ) (ls : List Line) (size i j : ℕ) (d : Line) → AreApart from ls size → i < j → j < length ls → end_of (get_or ls i d) ≤ (get_or ls j d).at
+pub ascend : (from : ℕ) (ls : List Line) (size i j : ℕ) (d : Line) → AreApart from ls size → i < j → j < length ls → offset_after (get_or ls i d) ≤ (get_or ls j d).at
 ascend from [] size i j d apart before h = absurd (omega arith)
 ascend from (l ∷ ls) size i zero d apart before h = absurd (omega arith)
-ascend from (l ∷ ls) size zero (suc j) d apart before h = starts_after (end_of l) ls size j d apart.1 (omega arith)
-ascend from (l ∷ ls) size (suc i) (suc j) d apart before h = ascend (end_of l) ls size i j d apart.1 (omega arith) (omega arith)
+ascend from (l ∷ ls) size zero (suc j) d apart before h = starts_after (offset_after l) ls size j d apart.1 (omega arith)
+ascend from (l ∷ ls) size (suc i) (suc j) d apart before h = ascend (offset_after l) ls size i j d apart.1 (omega arith) (omega arith)
 
 -- a byte that a line covers is known
 both : (a b : Bool) → (a && b) ≡ true → (a ≡ true) × (b ≡ true)
@@ -33,9 +33,9 @@ both false b e = absurd (cc)
 
 known : (text : List ℕ) (l : Line) (k : ℕ) → StandsIn text l → covers k l ≡ true → get_or text k 0 ≡ get_or (bytes_of l.what) (k - l.at) 0
 known text l k stand e =
-    let parts = both (nat_le l.at k) (nat_lt k (end_of l)) e in
+    let parts = both (nat_le l.at k) (nat_lt k (offset_after l)) e in
     let low = leb-true l.at k parts.0 in
-    let high = ltb-true k (end_of l) parts.1 in
+    let high = ltb-true k (offset_after l) parts.1 in
     let place : l.at + (k - l.at) ≡ k = omega arith in
     ap (λ (n : ℕ). get_or text n 0) (sym place)
     ∙ sym (get_or-drop l.at text (k - l.at) 0)
@@ -60,8 +60,8 @@ text_decides ls size one other first second = ext_get_or 0 one other (first.long
     ]
 
 -- a span called data has no instruction
-never_code : (text : List ℕ) (l : Line) → is_code (line_of text (as_data (span_of l))).what ≡ false
-unfolding line_of
+never_code : (text : List ℕ) (l : Line) → is_code (disassembled_line text (as_data (span_of l))).what ≡ false
+unfolding disassembled_line
 never_code text l = refl
 
 pub data_differs : (text : List ℕ) (ls : List Line) → list_any (λ (line : Line). is_code line.what) ls ≡ true → lines text (map as_data (map span_of ls)) ≢ ls

@@ -6,16 +6,16 @@ use Rattle.std.specs.List.{list_any, AllByRecursion}
 use Rattle.std.proofs.lemmas.List.{append_assoc, length-append, length-replicate, take_at, drop_at, drop_more, get_or_append_left, get_or-append_right}
 use Rattle.cx_code.specs.declared.image.Span.{Span}
 use Rattle.cx_code.specs.declared.disassembly.Line.{Line}
-use Rattle.cx_code.specs.declared.disassembly.What.{What}
-use Rattle.cx_code.specs.declared.disassembly.What.TheVariants.{Code, Data, Space}
+use Rattle.cx_code.specs.declared.disassembly.LineContent.{LineContent}
+use Rattle.cx_code.specs.declared.disassembly.LineContent.TheVariants.{Code, Data, Space}
 use Rattle.cx_code.specs.Spelling.{Instruction, IsWellFormed, spelling, Spells}
 use Rattle.cx_code.specs.Reading.{canonical}
-use Rattle.cx_code.specs.Lines.{lines, line_of, what_in}
-use Rattle.cx_asm_image.specs.Resolved.{bytes_of, size_of, end_of, end_after, AreApart}
-use Rattle.cx_asm_image.specs.Text.{text_from, text_of}
+use Rattle.cx_code.specs.Lines.{lines, disassembled_line, what_in}
+use Rattle.cx_asm_image.specs.Resolved.{bytes_of, size_of, offset_after, end_after, AreApart}
+use Rattle.cx_asm_image.specs.Text.{text_from, section_text}
 use Rattle.cx_asm_image.specs.Spans.{kind_of, span_of}
 use Rattle.cx_asm_image.specs.Assembled.{AssembledParts, IsAssembled}
-use Rattle.cx_asm_image.specs.Laws.Cover.{AreWellFormed, IsSound, covers, StandsIn, IsTextOf}
+use Rattle.cx_asm_image.specs.Laws.Cover.{AreWellFormed, HasWellFormed, covers, StandsIn, IsTextOf}
 use Rattle.cx_asm_image.specs.Facts.Apart.{apart_with, end_with}
 use Rattle.cx_asm_image.specs.Parts.Making.{IsSpelled, AreSpelled, GoesOn, IsEndOf}
 
@@ -30,13 +30,13 @@ pushed ls end l size is h e = rw e record {
 }
 
 -- as many bytes as the line's size
-pub length_bytes : (what : What) → length (bytes_of what) ≡ size_of what
+pub length_bytes : (what : LineContent) → length (bytes_of what) ≡ size_of what
 length_bytes (Code i) = refl
 length_bytes (Data bytes) = refl
 length_bytes (Space n) = length-replicate {A = ℕ} n 0
 
 -- a text goes on
-length_made : (t : List ℕ) (l : Line) → length t ≤ l.at → length ((t ++ zeros (l.at - length t)) ++ bytes_of l.what) ≡ end_of l
+length_made : (t : List ℕ) (l : Line) → length t ≤ l.at → length ((t ++ zeros (l.at - length t)) ++ bytes_of l.what) ≡ offset_after l
 length_made t l h =
     let a = length-append (t ++ zeros (l.at - length t)) (bytes_of l.what) in
     let b = length-append t (zeros (l.at - length t)) in
@@ -47,18 +47,12 @@ length_made t l h =
 pub goes_on : (all rest : List Line) (size : ℕ) (t made : List ℕ) (l : Line) → GoesOn all (l ∷ rest) size t → IsSpelled l.what
     → made ≡ (t ++ zeros (l.at - length t)) ++ bytes_of l.what → GoesOn all rest size made
 goes_on all rest size t made l on spelled e =
-    let long : length made ≡ end_of l = ap length e ∙ length_made t l on.apart.0 in
+    let long : length made ≡ offset_after l = ap length e ∙ length_made t l on.apart.0 in
     record {
-      so_far = rw (long, e, append_assoc (t ++ zeros (l.at - length t)) (bytes_of l.what) (text_from (end_of l) rest size), append_assoc t (zeros (l.at - length t)) (bytes_of l.what ++ text_from (end_of l) rest size)) on.so_far;
+      so_far = rw (long, e, append_assoc (t ++ zeros (l.at - length t)) (bytes_of l.what) (text_from (offset_after l) rest size), append_assoc t (zeros (l.at - length t)) (bytes_of l.what ++ text_from (offset_after l) rest size)) on.so_far;
       apart = rw long on.apart.1;
       spelled = λ left. on.spelled (spelled, left);
     }
-
-pub begins : (all : List Line) (size : ℕ) → AreApart 0 all size → GoesOn all all size []
-begins all size apart = record { so_far = refl; apart = apart; spelled = λ left. left }
-
-pub ended : (all : List Line) (size : ℕ) (t : List ℕ) → GoesOn all [] size t → (t ++ zeros (size - length t) ≡ text_from 0 all size) × AreSpelled all
-ended all size t on = (on.so_far, on.spelled tt)
 
 -- the line at an index, and those after it
 pub goes_on_at : (all : List Line) (size i : ℕ) (t made : List ℕ) (l : Line) → GoesOn all (drop i all) size t → i < length all → l ≡ get_or all i l
@@ -67,23 +61,17 @@ goes_on_at all size i t made l on h e spelled text =
     let there : drop i all ≡ l ∷ drop (i + 1) all = drop_more all i l h ∙ ap (λ (k : Line). k ∷ drop (i + 1) all) (sym e) in
     goes_on all (drop (i + 1) all) size t made l (rw there at on) spelled text
 
-pub after_at : (all : List Line) (size i : ℕ) (t : List ℕ) (l : Line) → GoesOn all (drop i all) size t → i < length all → l ≡ get_or all i l
-    → length t ≤ l.at
-after_at all size i t l on h e =
-    let there : drop i all ≡ l ∷ drop (i + 1) all = drop_more all i l h ∙ ap (λ (k : Line). k ∷ drop (i + 1) all) (sym e) in
-    (rw there at on).apart.0
-
 -- the line of a span whose bytes are in the text
-what_read : (text : List ℕ) (at : ℕ) (what : What) → IsSpelled what → ((found : List ℕ) (j : Instruction) → Spells j found → canonical found ≡ Some j)
+what_read : (text : List ℕ) (at : ℕ) (what : LineContent) → IsSpelled what → ((found : List ℕ) (j : Instruction) → Spells j found → canonical found ≡ Some j)
     → take (size_of what) (drop at text) ≡ bytes_of what → what_in text (record { start = at; len = size_of what; kind = kind_of what }) (kind_of what) ≡ what
 what_read text at (Code i) spelled law e = rw (e, law (spelling i) i spelled) refl
 what_read text at (Data b) spelled law e = rw e refl
 what_read text at (Space n) spelled law e = refl
 
 line_read : (text : List ℕ) (l : Line) → IsSpelled l.what → ((found : List ℕ) (j : Instruction) → Spells j found → canonical found ≡ Some j)
-    → StandsIn text l → line_of text (span_of l) ≡ l
-unfolding line_of
-line_read text l spelled law e = ap (λ (what : What). record { at = l.at; what = what }) (what_read text l.at l.what spelled law e)
+    → StandsIn text l → disassembled_line text (span_of l) ≡ l
+unfolding disassembled_line
+line_read text l spelled law e = ap (λ (what : LineContent). record { at = l.at; what = what }) (what_read text l.at l.what spelled law e)
 
 pub lines_read : (text : List ℕ) (ls : List Line) → AreSpelled ls → ((found : List ℕ) (j : Instruction) → Spells j found → canonical found ≡ Some j)
     → AllByRecursion (StandsIn text) ls → lines text (map span_of ls) ≡ ls
@@ -98,7 +86,7 @@ all_spelled : ((i : Instruction) → IsWellFormed i → Spells i (spelling i)) �
 all_spelled law [] sound = tt
 all_spelled law (l ∷ ls) sound = (one l.what sound.0, all_spelled law ls sound.1)
   where
-    one : (what : What) → IsSound what → IsSpelled what
+    one : (what : LineContent) → HasWellFormed what → IsSpelled what
     one (Code i) sound = law i sound
     one (Data bytes) sound = sound
     one (Space n) sound = sound
@@ -120,14 +108,14 @@ pub all_stand : (pre : List ℕ) (from : ℕ) (ls : List Line) (size : ℕ) → 
 all_stand pre from [] size e apart = tt
 all_stand pre from (l ∷ ls) size e apart =
     let made = (pre ++ zeros (l.at - from)) ++ bytes_of l.what in
-    let long : length ((pre ++ zeros (l.at - from)) ++ bytes_of l.what) ≡ end_of l =
-    subst (λ (n : ℕ). length ((pre ++ zeros (l.at - n)) ++ bytes_of l.what) ≡ end_of l) e (length_made pre l (let h = apart.0 in omega arith)) in
-    let whole : ((pre ++ zeros (l.at - from)) ++ bytes_of l.what) ++ text_from (end_of l) ls size
-    ≡ pre ++ (zeros (l.at - from) ++ (bytes_of l.what ++ text_from (end_of l) ls size)) =
-    append_assoc (pre ++ zeros (l.at - from)) (bytes_of l.what) (text_from (end_of l) ls size)
-    ∙ append_assoc pre (zeros (l.at - from)) (bytes_of l.what ++ text_from (end_of l) ls size) in (
-      stands pre from l (text_from (end_of l) ls size) e apart.0,
-      subst (λ (t : List ℕ). AllByRecursion (StandsIn t) ls) whole (all_stand ((pre ++ zeros (l.at - from)) ++ bytes_of l.what) (end_of l) ls size long apart.1),
+    let long : length ((pre ++ zeros (l.at - from)) ++ bytes_of l.what) ≡ offset_after l =
+    subst (λ (n : ℕ). length ((pre ++ zeros (l.at - n)) ++ bytes_of l.what) ≡ offset_after l) e (length_made pre l (let h = apart.0 in omega arith)) in
+    let whole : ((pre ++ zeros (l.at - from)) ++ bytes_of l.what) ++ text_from (offset_after l) ls size
+    ≡ pre ++ (zeros (l.at - from) ++ (bytes_of l.what ++ text_from (offset_after l) ls size)) =
+    append_assoc (pre ++ zeros (l.at - from)) (bytes_of l.what) (text_from (offset_after l) ls size)
+    ∙ append_assoc pre (zeros (l.at - from)) (bytes_of l.what ++ text_from (offset_after l) ls size) in (
+      stands pre from l (text_from (offset_after l) ls size) e apart.0,
+      subst (λ (t : List ℕ). AllByRecursion (StandsIn t) ls) whole (all_stand ((pre ++ zeros (l.at - from)) ++ bytes_of l.what) (offset_after l) ls size long apart.1),
     )
 
 -- the text's length
@@ -136,10 +124,10 @@ length_text from [] size apart =
     let c : length (zeros (size - from)) ≡ size - from = length-replicate {A = ℕ} (size - from) 0 in
     omega (arith, apart)
 length_text from (l ∷ ls) size apart =
-    let rest = length_text (end_of l) ls size apart.1 in
+    let rest = length_text (offset_after l) ls size apart.1 in
     let first = apart.0 in
-    let a = length-append (zeros (l.at - from)) (bytes_of l.what ++ text_from (end_of l) ls size) in
-    let b = length-append (bytes_of l.what) (text_from (end_of l) ls size) in
+    let a = length-append (zeros (l.at - from)) (bytes_of l.what ++ text_from (offset_after l) ls size) in
+    let b = length-append (bytes_of l.what) (text_from (offset_after l) ls size) in
     let c : length (zeros (l.at - from)) ≡ l.at - from = length-replicate {A = ℕ} (l.at - from) 0 in
     let d = length_bytes l.what in
     omega arith
@@ -154,10 +142,10 @@ neither : (a b : Bool) → (a || b) ≡ false → (a ≡ false) × (b ≡ false)
 neither true b e = absurd (cc)
 neither false b e = (refl, e)
 
-uncovered : (k : ℕ) (l : Line) → covers k l ≡ false → l.at ≤ k → end_of l ≤ k
-uncovered k l e h = elim (cases_lt k (end_of l)) [
+uncovered : (k : ℕ) (l : Line) → covers k l ≡ false → l.at ≤ k → offset_after l ≤ k
+uncovered k l e h = elim (cases_lt k (offset_after l)) [
   | inl below ↦
-      let yes : covers k l ≡ true = and_from _ _ (le-leb l.at k h) (lt-ltb k (end_of l) below) in
+      let yes : covers k l ≡ true = and_from _ _ (le-leb l.at k h) (lt-ltb k (offset_after l) below) in
       absurd (cc)
   | inr after ↦ after
 ]
@@ -171,16 +159,16 @@ gap from (l ∷ ls) size k at apart e none =
     let c : length (zeros (l.at - from)) ≡ l.at - from = length-replicate {A = ℕ} (l.at - from) 0 in
     let d = length_bytes l.what in
     elim (cases_lt k (l.at - from)) [
-      | inl below ↦ get_or_append_left (zeros (l.at - from)) (bytes_of l.what ++ text_from (end_of l) ls size) 0 k (omega arith) ∙ zeros_at (l.at - from) k
+      | inl below ↦ get_or_append_left (zeros (l.at - from)) (bytes_of l.what ++ text_from (offset_after l) ls size) 0 k (omega arith) ∙ zeros_at (l.at - from) k
       | inr over ↦
           let after = uncovered at l parts.0 (omega arith) in
-          get_or-append_right (zeros (l.at - from)) (bytes_of l.what ++ text_from (end_of l) ls size) (l.at - from) k 0 c over
-          ∙ get_or-append_right (bytes_of l.what) (text_from (end_of l) ls size) (size_of l.what) (k - (l.at - from)) 0 d (omega arith)
-          ∙ gap (end_of l) ls size (k - (l.at - from) - size_of l.what) at apart.1 (omega arith) parts.1
+          get_or-append_right (zeros (l.at - from)) (bytes_of l.what ++ text_from (offset_after l) ls size) (l.at - from) k 0 c over
+          ∙ get_or-append_right (bytes_of l.what) (text_from (offset_after l) ls size) (size_of l.what) (k - (l.at - from)) 0 d (omega arith)
+          ∙ gap (offset_after l) ls size (k - (l.at - from) - size_of l.what) at apart.1 (omega arith) parts.1
     ]
 
-pub is_text : (ls : List Line) (size : ℕ) → AreApart 0 ls size → IsTextOf ls size (text_of ls size)
-unfolding text_of
+pub is_text : (ls : List Line) (size : ℕ) → AreApart 0 ls size → IsTextOf ls size (section_text ls size)
+unfolding section_text
 is_text ls size apart = record {
   long = (let e = length_text 0 ls size apart in omega arith);
   stand = all_stand [] 0 ls size refl apart;
@@ -188,13 +176,13 @@ is_text ls size apart = record {
 }
 
 pub come_back : ((i : Instruction) → IsWellFormed i → Spells i (spelling i)) → ((found : List ℕ) (j : Instruction) → (canonical found ≡ Some j) ↔ Spells j found)
-    → (ls : List Line) (size : ℕ) → AreApart 0 ls size → AreWellFormed ls → lines (text_of ls size) (map span_of ls) ≡ ls
+    → (ls : List Line) (size : ℕ) → AreApart 0 ls size → AreWellFormed ls → lines (section_text ls size) (map span_of ls) ≡ ls
 come_back spells law ls size apart sound =
-    lines_read (text_of ls size) ls (all_spelled spells ls sound) (λ found j is. (law found j).1 is) (is_text ls size apart).stand
+    lines_read (section_text ls size) ls (all_spelled spells ls sound) (λ found j is. (law found j).1 is) (is_text ls size apart).stand
 
 -- the parts that are made
 pub is_assembled : (ls : List Line) (size : ℕ) (text : List ℕ) (spans : List Span) (entry : ℕ) (relocs : List ℕ) (stg_len : ℕ)
-    → AreApart 0 ls size → size ≤ 65536 → AreSpelled ls → text ≡ text_of ls size → spans ≡ map span_of ls
+    → AreApart 0 ls size → size ≤ 65536 → AreSpelled ls → text ≡ section_text ls size → spans ≡ map span_of ls
     → ((found : List ℕ) (j : Instruction) → (canonical found ≡ Some j) ↔ Spells j found)
     → IsAssembled (record { resolved = ls; spans = spans; image = record { text = text; entry = entry; relocs = relocs; stg_len = stg_len } })
 is_assembled ls size text spans entry relocs stg_len apart fits spelled is are law =
@@ -204,7 +192,7 @@ is_assembled ls size text spans entry relocs stg_len apart fits spelled is are l
       apart = rw long apart;
       text = rw long is;
       spans = are;
-      round_trip = rw (is, are) (lines_read (text_of ls size) ls spelled (λ found j spells. (law found j).1 spells) known.stand);
+      round_trip = rw (is, are) (lines_read (section_text ls size) ls spelled (λ found j spells. (law found j).1 spells) known.stand);
       short = rw long fits;
     }
 

@@ -3,12 +3,12 @@ use Rattle.cx_code.specs.declared.image.Span.{Span}
 use Rattle.cx_code.specs.declared.image.SpanKind.{SpanKind}
 use Rattle.cx_code.specs.declared.image.SpanKind.TheVariants as kinds
 use Rattle.cx_code.specs.declared.disassembly.Line.{Line}
-use Rattle.cx_code.specs.declared.disassembly.What.{What}
-use Rattle.cx_code.specs.declared.disassembly.What.TheVariants.{Code, Data, Space}
+use Rattle.cx_code.specs.declared.disassembly.LineContent.{LineContent}
+use Rattle.cx_code.specs.declared.disassembly.LineContent.TheVariants.{Code, Data, Space}
 use Rattle.cx_asm_image.specs.Resolved.{size_of}
 
 -- the kind of what is at a place
-abbrev pub kind_of : What → SpanKind
+abbrev pub kind_of : LineContent → SpanKind
 kind_of (Code i) = kinds.Code
 kind_of (Data bytes) = kinds.Data
 kind_of (Space n) = kinds.Space

@@ -5,7 +5,7 @@ ghost use Rattle.cx_asm_image.specs.Assembled.{IsAssembled, assembled_parts};
 ghost use Rattle.cx_asm_image.specs.Laws.Cover.{IsTextOf};
 ghost use Rattle.cx_asm_image.specs.Resolved.{AreApart};
 
-use crate::text::{spans_of, text_of};
+use crate::text::{section_text, spans_of};
 use cx_code::{Bytes, Image, Line, Offsets, Span, disassemble};
 use std::alloc::{AllocError, Global};
 use std::marker::Model;
@@ -46,7 +46,7 @@ impl Assembled {
         ensures { IfOk result (λ made. made ≡ assembled_parts resolved.items size relocs entry stg_len) }
     {
         let alloc = *resolved.allocator();
-        let text = text_of(alloc, resolved.as_slice(), size)?;
+        let text = section_text(alloc, resolved.as_slice(), size)?;
         let spans = spans_of(alloc, resolved.as_slice(), size)?;
         cx_code::laws::canonical_is();
         Ok(Assembled {
@@ -96,7 +96,7 @@ impl Assembled {
         self.resolved.as_slice()
     }
 
-    /// The image alone. It takes no memory.
+    /// The image, without the rest. It takes no memory.
     pub fn into_image(self) -> Image
         ensures { result ≡ self.image }
     {

@@ -7,24 +7,24 @@ ghost use Rattle.cx_code.specs.Lines.{lines};
 ghost use Rattle.cx_asm_image.specs.Assembled.{AssembledParts, IsAssembled};
 ghost use Rattle.cx_asm_image.specs.Laws.Cover.{AreWellFormed, IsTextOf, as_data};
 ghost use Rattle.cx_asm_image.specs.Relocated.{words_at};
-ghost use Rattle.cx_asm_image.specs.Resolved.{AreApart, end_of, is_code};
+ghost use Rattle.cx_asm_image.specs.Resolved.{AreApart, offset_after, is_code};
 ghost use Rattle.cx_asm_image.specs.Spans.{span_of};
-ghost use Rattle.cx_asm_image.specs.Text.{text_of};
+ghost use Rattle.cx_asm_image.specs.Text.{section_text};
 
 /// Lines that don't overlap in a section ascend: each ends at or before the place of every later one, and in the
 /// section.
 pub fn lines_ascend()
     ensures ascend { (all : List Line) (size i j : ℕ) (any : Line) → AreApart 0 all size → i < j
         → j < length all
-        → end_of (get_or all i any) ≤ (get_or all j any).at }
+        → offset_after (get_or all i any) ≤ (get_or all j any).at }
     ensures within { (all : List Line) (size i : ℕ) (any : Line) → AreApart 0 all size → i < length all
-        → end_of (get_or all i any) ≤ size }
+        → offset_after (get_or all i any) ≤ size }
 {}
 
 /// The text of lines that don't overlap has the section's size, each line's bytes are at its place, and every byte that
 /// no line covers is zero; and no other text is so.
 pub fn the_text_is_decided_by_its_bytes()
-    ensures is { (all : List Line) (size : ℕ) → AreApart 0 all size → IsTextOf all size (text_of all size) }
+    ensures is { (all : List Line) (size : ℕ) → AreApart 0 all size → IsTextOf all size (section_text all size) }
     ensures decides { (resolved : List Line) (size : ℕ) (one other : List ℕ) → IsTextOf resolved size one
         → IsTextOf resolved size other → one ≡ other }
 {}
@@ -39,7 +39,7 @@ pub fn words_stand_one_after_the_other()
 /// spans is these lines.
 pub fn lines_come_back()
     ensures { (resolved : List Line) (size : ℕ) → AreApart 0 resolved size → AreWellFormed resolved
-        → lines (text_of resolved size) (map span_of resolved) ≡ resolved }
+        → lines (section_text resolved size) (map span_of resolved) ≡ resolved }
 {
     cx_code::laws::canonical_is();
     cx_code::laws::every_spelling();

@@ -5,7 +5,8 @@ ghost use Rattle.cx_asm_image.specs.Relocated.{words_at};
 
 use std::alloc::AllocError;
 
-/// Appends the offsets of `count` fullwords, one after the other, the first of them at an offset.
+/// Appends the offsets of `count` fullwords, in bytes: the first is `at`, each further one 4 more. They end at or
+/// before offset 65,536.
 ///
 /// An error comes only where an allocation failed.
 pub fn push_words(relocs: &mut Vec<u32>, at: u32, count: u32) -> Result<(), AllocError>

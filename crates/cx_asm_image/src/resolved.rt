@@ -1,23 +1,23 @@
 //! Resolved lines, appended in address order.
 
 ghost use Rattle.std.specs.Prelude.{◌≡◌, ◌↔◌, ◌≤◌, ◌++◌, ◌∷◌, [], ℕ, IsTrue, OnOk, OnErr};
-ghost use Rattle.cx_asm_image.specs.Resolved.{AreApart, end_after, end_of, size_of};
+ghost use Rattle.cx_asm_image.specs.Resolved.{AreApart, end_after, offset_after, size_of};
 
-use cx_code::{Line, What, encode};
+use cx_code::{Line, LineContent, encode};
 use std::alloc::{AllocError, Global};
 use std::marker::Model;
 
-/// The most bytes that a text may have.
+/// The most bytes that the text of a program may have.
 pub const LARGEST_TEXT: u32 = 65_536;
 
 /// How many bytes are there.
-pub(crate) fn size_of(what: &What) -> usize
+pub(crate) fn size_of(what: &LineContent) -> usize
     ensures { result ≡ size_of what.now }
 {
     match what {
-        What::Code(inst) => encode(inst).as_slice().len(),
-        What::Data(bytes) => bytes.as_slice().len(),
-        What::Space(count) => *count as usize,
+        LineContent::Code(inst) => encode(inst).as_slice().len(),
+        LineContent::Data(bytes) => bytes.as_slice().len(),
+        LineContent::Space(count) => *count as usize,
     }
 }
 
@@ -41,7 +41,7 @@ impl Model for ResolvedLines {
 }
 
 impl ResolvedLines {
-    /// No line yet. It takes no memory.
+    /// A list without a line. It takes no memory.
     pub fn new(alloc: Global) -> ResolvedLines
         ensures { result ≡ [] }
     {
@@ -51,7 +51,7 @@ impl ResolvedLines {
         }
     }
 
-    /// The offset after the last line, 0 where there is none.
+    /// The offset of the byte after the last line, 0 where there is no line.
     pub fn end(&self) -> u32
         ensures value { result ≡ end_after 0 self.now }
         ensures apart { AreApart 0 self.now result }
@@ -59,22 +59,22 @@ impl ResolvedLines {
         self.end
     }
 
-    /// Whether a line may be appended: whether it begins at or past the end of those before it, and ends in the largest
-    /// text. It takes no memory.
+    /// Whether a line may be appended: whether it begins at or past the end of those before it, and ends at or before
+    /// offset 65,536. It takes no memory.
     pub fn has_place_for(&self, line: &Line) -> bool
-        ensures { IsTrue result ↔ ((end_after 0 self.now ≤ line.now.at) × (end_of line.now ≤ 65536)) }
+        ensures { IsTrue result ↔ ((end_after 0 self.now ≤ line.now.at) × (offset_after line.now ≤ 65536)) }
     {
         let size = size_of(&line.what);
         let largest = LARGEST_TEXT as usize;
         self.end <= line.at && size <= largest && line.at as usize + size <= largest
     }
 
-    /// Appends a line. It begins at or past the end of those before it, and ends in the largest text.
+    /// Appends a line. It begins at or past the end of those before it, and ends at or before offset 65,536.
     ///
     /// An error comes only where an allocation failed; then all is as before.
     pub fn push(&mut self, line: Line) -> Result<(), AllocError>
         requires after { end_after 0 self.old ≤ line.at }
-        requires fits { end_of line ≤ 65536 }
+        requires fits { offset_after line ≤ 65536 }
         ensures pushed { OnOk result (self.new ≡ self.old ++ line ∷ []) }
         ensures err { OnErr result (self.new ≡ self.old) }
     {

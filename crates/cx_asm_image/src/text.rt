@@ -1,32 +1,32 @@
 //! Text and spans of resolved lines.
 
 ghost use Rattle.std.specs.Prelude.{◌≡◌, ◌≤◌, ◌+◌, ◌-◌, ◌++◌, IfOk, OnOk, length, map, replicate};
-ghost use Rattle.cx_asm_image.specs.Resolved.{AreApart, bytes_of, end_of, size_of};
+ghost use Rattle.cx_asm_image.specs.Resolved.{AreApart, bytes_of, offset_after, size_of};
 ghost use Rattle.cx_asm_image.specs.Parts.Making.{AreSpelled, IsSpelled};
 ghost use Rattle.cx_asm_image.specs.Spans.{kind_of, span_of};
-ghost use Rattle.cx_asm_image.specs.Text.{text_of};
+ghost use Rattle.cx_asm_image.specs.Text.{section_text};
 
 use crate::resolved::size_of;
-use cx_code::{Line, Span, SpanKind, What, encode};
+use cx_code::{Line, LineContent, Span, SpanKind, encode};
 use std::alloc::{AllocError, Global};
 
 /// Appends the bytes that are there.
-fn push_bytes(text: &mut Vec<u8>, what: &What) -> Result<(), AllocError>
+fn push_bytes(text: &mut Vec<u8>, what: &LineContent) -> Result<(), AllocError>
     requires { length text.old.items + size_of what.now ≤ 65536 }
     ensures bytes { OnOk result (text.new.items ≡ text.old.items ++ bytes_of what.now) }
     ensures spelled { OnOk result (IsSpelled what.now) }
 {
     match what {
-        What::Code(inst) => text.extend_from_slice(encode(inst).as_slice()),
-        What::Data(bytes) => text.extend_from_slice(bytes.as_slice()),
-        What::Space(count) => text.resize(text.len() + *count as usize, 0),
+        LineContent::Code(inst) => text.extend_from_slice(encode(inst).as_slice()),
+        LineContent::Data(bytes) => text.extend_from_slice(bytes.as_slice()),
+        LineContent::Space(count) => text.resize(text.len() + *count as usize, 0),
     }
 }
 
 /// Appends zeros up to a line, and its bytes.
 fn push_line(text: &mut Vec<u8>, line: &Line) -> Result<(), AllocError>
     requires after { length text.old.items ≤ line.now.at }
-    requires fits { end_of line.now ≤ 65536 }
+    requires fits { offset_after line.now ≤ 65536 }
     ensures bytes { OnOk result (text.new.items
         ≡ (text.old.items ++ replicate (line.now.at - length text.old.items) 0) ++ bytes_of line.now.what) }
     ensures spelled { OnOk result (IsSpelled line.now.what) }
@@ -36,11 +36,11 @@ fn push_line(text: &mut Vec<u8>, line: &Line) -> Result<(), AllocError>
 }
 
 /// The text of lines that don't overlap in a section of a size.
-#[tactic(auto, unfolding(crate::specs::Text::text_of))]
-pub(crate) fn text_of(alloc: Global, lines: &[Line], size: u32) -> Result<Vec<u8>, AllocError>
+#[tactic(auto, unfolding(crate::specs::Text::section_text))]
+pub(crate) fn section_text(alloc: Global, lines: &[Line], size: u32) -> Result<Vec<u8>, AllocError>
     requires apart { AreApart 0 lines.now size }
     requires fits { size ≤ 65536 }
-    ensures text { IfOk result (λ text. text.items ≡ text_of lines.now size) }
+    ensures text { IfOk result (λ text. text.items ≡ section_text lines.now size) }
     ensures spelled { OnOk result (AreSpelled lines.now) }
 {
     let mut text = Vec::with_capacity(alloc, size as usize)?;
@@ -52,19 +52,19 @@ pub(crate) fn text_of(alloc: Global, lines: &[Line], size: u32) -> Result<Vec<u8
 }
 
 /// The kind of what is at a place.
-fn kind_of(what: &What) -> SpanKind
+fn kind_of(what: &LineContent) -> SpanKind
     ensures { result ≡ kind_of what.now }
 {
     match what {
-        What::Code(_) => SpanKind::Code,
-        What::Data(_) => SpanKind::Data,
-        What::Space(_) => SpanKind::Space,
+        LineContent::Code(_) => SpanKind::Code,
+        LineContent::Data(_) => SpanKind::Data,
+        LineContent::Space(_) => SpanKind::Space,
     }
 }
 
 /// A line's place and kind.
 fn span_of(line: &Line) -> Span
-    requires { end_of line.now ≤ 65536 }
+    requires { offset_after line.now ≤ 65536 }
     ensures { result ≡ span_of line.now }
 {
     Span {

@@ -14,12 +14,12 @@ use Rattle.cx_code.specs.declared.table.Format.{Format}
 use Rattle.cx_code.specs.declared.table.Format.TheVariants as format
 use Rattle.cx_code.specs.Text.{hex_pair}
 use Rattle.cx_code.specs.declared.disassembly.Line.{Line}
-use Rattle.cx_code.specs.declared.disassembly.What.{What}
-use Rattle.cx_code.specs.declared.disassembly.What.TheVariants.{Code, Data, Space}
+use Rattle.cx_code.specs.declared.disassembly.LineContent.{LineContent}
+use Rattle.cx_code.specs.declared.disassembly.LineContent.TheVariants.{Code, Data, Space}
 use Rattle.cx_source.specs.declared.source.Item.{Item}
 use Rattle.cx_source.specs.declared.source.Source.{Source}
 use Rattle.cx_source.specs.declared.source.Stmt.{Stmt}
-use Rattle.cx_asm_expressions.specs.Bytes.{copy_of_constant, made_of}
+use Rattle.cx_asm_expressions.specs.Bytes.{copy_of_constant, constant_copy}
 use Rattle.cx_asm_expressions.specs.Faults.{lowest}
 use Rattle.cx_asm_expressions.specs.Items.{constant, constant_in}
 use Rattle.cx_asm_expressions.specs.Names.{is_same, symbol_name}
@@ -33,7 +33,7 @@ use Rattle.cx_asm_pass1.specs.AllFaults.{place_faults}
 use Rattle.cx_asm_pass1.specs.Given.{location_counter}
 use Rattle.cx_asm_pass1.specs.Layout.{extent_of}
 use Rattle.cx_asm_pass1.specs.Locations.{all_pools, control_section, final_state, storage_length}
-use Rattle.cx_asm_pass1.specs.PassState.{PassState, after_line, at_start, fault_in, is_control, next_state, parts_in, place_in, role_in, state_after}
+use Rattle.cx_asm_pass1.specs.PassState.{PassState, after_line, state_at_start, statement_fault_in, is_control, next_state, parts_in, place_in, role_in, state_after}
 use Rattle.cx_asm_pass1.specs.Roles.{role_of}
 use Rattle.cx_asm_pass1.specs.declared.place.LineFault.{LineFault}
 use Rattle.cx_asm_pass1.specs.declared.place.Place.{Place}
@@ -46,14 +46,14 @@ use Rattle.cx_asm_operands.specs.Bases.{Bases, none_in_use}
 use Rattle.cx_asm_operands.specs.Directives.{bases_in, entry_in}
 use Rattle.cx_asm_operands.specs.Forms.{instruction_or_fault}
 use Rattle.cx_asm_image.specs.Assembled.{assembled_parts}
-use Rattle.cx_asm_image.specs.Resolved.{AreApart, bytes_of, end_of, size_of}
+use Rattle.cx_asm_image.specs.Resolved.{AreApart, bytes_of, offset_after, size_of}
 use Rattle.cx_asm_image.specs.Text.{text_from}
 use Rattle.cx_asm_pass2.specs.SecondFaults.{bases_after, bases_after_all, operand_fault, part_fault, second_fault, second_faults_after}
-use Rattle.cx_asm_pass2.specs.Statements.{PlacedStatement, end_of as end_statement_of, operation_of, placed_items, placed_statement, statements_of}
+use Rattle.cx_asm_pass2.specs.Statements.{PlacedStatement, first_end as end_statement_of, operation_of, placed_items, placed_statement, statements_of}
 use Rattle.cx_asm_pass2.specs.Whole.{Whole, instruction_context, item_made, whole_of}
-use Rattle.cx_asm.specs.Assembly.{assembly_faults, assembly_of, entry_by, made_of as assembly_made_of, second_faults_of, section_of, size_of as section_size, standing_of}
+use Rattle.cx_asm.specs.Assembly.{assembly_faults, assembly_of, entry_by, assembly_parts as assembly_made_of, second_faults_of, section_of, control_section_size as section_size, standing_of}
 use Rattle.cx_asm.specs.Resolving.{constant_standing, data_line, data_standing, empty_section, item_standing, items_standing, join_sections, last_pool, line, role_standing, space_line, space_standing, standing, standing_from, statement_standing}
-use Rattle.cx_asm_laws.specs.Facts.Hexadecimals.{AreBytes, constant_is, hex_length, hex_plain, made_is}
+use Rattle.cx_asm_laws.specs.Facts.Hexadecimals.{EachIsByte, constant_is, hex_length, hex_plain, made_is}
 use Rattle.cx_asm_laws.specs.Facts.Lines.{place_for, reverse_step, statements_are, statements_from}
 use Rattle.cx_asm_laws.specs.Laws.Again.{filled, space, statement, statement_of, statements_again}
 use Rattle.cx_asm_laws.proofs.LiteralLemmas.{all_joined}
@@ -91,7 +91,7 @@ quiet_lines (item ∷ items) before e = go item.stmt refl e (λ f. quiet_lines i
     go (Some s) is e more = absurd (cc)
 
 -- statements at their places, and END
-ArePlaced : List ℕ → ℕ → List What → List PlacedStatement → Type 0
+ArePlaced : List ℕ → ℕ → List LineContent → List PlacedStatement → Type 0
 ArePlaced section at [] [] = ⊥
 ArePlaced section at [] (s ∷ []) = s.stmt ≡ end_statement
 ArePlaced section at [] (s ∷ other ∷ more) = ⊥
@@ -99,12 +99,12 @@ ArePlaced section at (what ∷ whats) [] = ⊥
 ArePlaced section at (what ∷ whats) (s ∷ statements) =
     ((s.stmt ≡ statement_of what) × (s.place ≡ place_of section at what)) × ArePlaced section (at + size_of what) whats statements
 
-pub record Passed (section : List ℕ) (at : ℕ) (whats : List What) (items before : List Item) : Type 0 where
+pub record Passed (section : List ℕ) (at : ℕ) (whats : List LineContent) (items before : List Item) : Type 0 where
   last : IsAt section (end_from at whats) (state_after (reverse items ++ before))
   placed : ArePlaced section at whats (statements_from before items)
 
 module _ (known : Known) (section : List ℕ) where
-  passed : (items before : List Item) (at : ℕ) (whats : List What) → IsAt section at (state_after before) → AreSoundFrom at whats → end_from at whats ≤ 65536
+  passed : (items before : List Item) (at : ℕ) (whats : List LineContent) → IsAt section at (state_after before) → AreSoundFrom at whats → end_from at whats ≤ 65536
       → stated items ≡ map statement_of whats ++ end_statement ∷ [] → Passed section at whats items before
   unfolding ArePlaced
   passed [] before at [] is sound small e = absurd (cc)
@@ -112,9 +112,9 @@ module _ (known : Known) (section : List ℕ) where
   passed (item ∷ items) before at whats is sound small e =
       go item.stmt whats refl is sound small e (λ at' whats' is' sound' small' e'. passed items (item ∷ before) at' whats' is' sound' small' e')
     where
-      go : (o : Option Stmt) (whats : List What) → item.stmt ≡ o → IsAt section at (state_after before) → AreSoundFrom at whats → end_from at whats ≤ 65536
+      go : (o : Option Stmt) (whats : List LineContent) → item.stmt ≡ o → IsAt section at (state_after before) → AreSoundFrom at whats → end_from at whats ≤ 65536
           → cons_option o (stated items) ≡ map statement_of whats ++ end_statement ∷ []
-          → ((at' : ℕ) (whats' : List What) → IsAt section at' (state_after (item ∷ before)) → AreSoundFrom at' whats' → end_from at' whats' ≤ 65536
+          → ((at' : ℕ) (whats' : List LineContent) → IsAt section at' (state_after (item ∷ before)) → AreSoundFrom at' whats' → end_from at' whats' ≤ 65536
           → stated items ≡ map statement_of whats' ++ end_statement ∷ [] → Passed section at' whats' items (item ∷ before))
           → Passed section at whats (item ∷ items) before
       go None whats b is sound small e rec =
@@ -150,7 +150,7 @@ module _ (known : Known) (section : List ℕ) where
   abbrev csect : List ℕ → Stmt
   csect name = statement name (codes "CSECT") []
 
-  csect_next : (line : ℕ) (name : List ℕ) → symbol_name name ≡ Some section → IsAt section 0 (next_state line (csect name) at_start)
+  csect_next : (line : ℕ) (name : List ℕ) → symbol_name name ≡ Some section → IsAt section 0 (next_state line (csect name) state_at_start)
   unfolding next_state extent_of
   csect_next line name named =
       let role : role_in (csect name) ≡ Control = ap role_of csect_named in
@@ -164,10 +164,10 @@ module _ (known : Known) (section : List ℕ) where
         fault_is = rw (none role) refl;
       }
     where
-      none : role_in (csect name) ≡ Control → fault_in (csect name) at_start ≡ None
+      none : role_in (csect name) ≡ Control → statement_fault_in (csect name) state_at_start ≡ None
       none role = rw (role, named) refl
 
-  pub record Begun (items before : List Item) (whats : List What) : Type 0 where
+  pub record Begun (items before : List Item) (whats : List LineContent) : Type 0 where
     last : IsAt section (end_from 0 whats) (state_after (reverse items ++ before))
     first : PlacedStatement
     rest : List PlacedStatement
@@ -175,13 +175,13 @@ module _ (known : Known) (section : List ℕ) where
     begins : first.stmt.operation ≡ codes "CSECT"
     placed : ArePlaced section 0 whats rest
 
-  pub begun : (name : List ℕ) → symbol_name name ≡ Some section → (whats : List What) → AreSoundFrom 0 whats → end_from 0 whats ≤ 65536 → (items before : List Item) → state_after before ≡ at_start
+  pub begun : (name : List ℕ) → symbol_name name ≡ Some section → (whats : List LineContent) → AreSoundFrom 0 whats → end_from 0 whats ≤ 65536 → (items before : List Item) → state_after before ≡ state_at_start
       → stated items ≡ statements_again name whats → Begun items before whats
   begun name named whats sound small [] before start e = absurd (cc)
   begun name named whats sound small (item ∷ items) before start e = go item.stmt refl e (λ start' e'. begun name named whats sound small items (item ∷ before) start' e')
     where
       go : (o : Option Stmt) → item.stmt ≡ o → cons_option o (stated items) ≡ statements_again name whats
-          → (state_after (item ∷ before) ≡ at_start → stated items ≡ statements_again name whats → Begun items (item ∷ before) whats) → Begun (item ∷ items) before whats
+          → (state_after (item ∷ before) ≡ state_at_start → stated items ≡ statements_again name whats → Begun items (item ∷ before) whats) → Begun (item ∷ items) before whats
       go None b e rec =
           let more = rec (ap (λ o. after_line item.line o (state_after before)) b ∙ start) e in
           record {
@@ -195,7 +195,7 @@ module _ (known : Known) (section : List ℕ) where
       go (Some s) b e rec =
           let own : s ≡ csect name = cc in
           let rest : stated items ≡ map statement_of whats ++ end_statement ∷ [] = cc in
-          let next : state_after (item ∷ before) ≡ next_state item.line (csect name) at_start =
+          let next : state_after (item ∷ before) ≡ next_state item.line (csect name) state_at_start =
           ap (λ o. after_line item.line o (state_after before)) b ∙ ap (λ t. next_state item.line t (state_after before)) own ∙ ap (next_state item.line (csect name)) start in
           let more = passed items (item ∷ before) 0 whats (subst (IsAt section 0) (sym next) (csect_next item.line name named)) sound small rest in
           record {
@@ -224,7 +224,7 @@ data_line_is : (at : ℕ) (bytes : List ℕ) → 0 < length bytes → data_line 
 data_line_is at [] some = absurd (omega (arith, some))
 data_line_is at (byte ∷ bytes) some = refl
 
-pub lines_of : ℕ → List What → List Line
+pub lines_of : ℕ → List LineContent → List Line
 lines_of at [] = []
 lines_of at (what ∷ whats) = line at what ∷ lines_of (at + size_of what) whats
 
@@ -236,8 +236,8 @@ module _ (known : Known) (section : List ℕ) (whole : Whole) (control : whole.c
   within : is_control (Some section) whole.control ≡ true
   within = rw (control, same_section section) refl
 
-  good : (number at : ℕ) (what : What) → IsSoundAt at what → IsGood whole (placed_statement number (statement_of what) (place_of section at what))
-  unfolding statement_of made_of
+  good : (number at : ℕ) (what : LineContent) → IsSoundAt at what → IsGood whole (placed_statement number (statement_of what) (place_of section at what))
+  unfolding statement_of constant_copy
   good number at (Code i) sound =
       let s = placed_statement number (statement_of (Code i)) (place_of section at (Code i)) in
       record {
@@ -288,7 +288,7 @@ module _ (known : Known) (section : List ℕ) (whole : Whole) (control : whole.c
   same_statement : (s : PlacedStatement) (stmt : Stmt) (place : Place) → s.stmt ≡ stmt → s.place ≡ place → placed_statement s.line stmt place ≡ s
   same_statement s stmt place e f = ap (λ t. placed_statement s.line t place) (sym e) ∙ ap (placed_statement s.line s.stmt) (sym f)
 
-  all_good : (at : ℕ) (whats : List What) (statements : List PlacedStatement) → AreSoundFrom at whats → ArePlaced section at whats statements → AllByRecursion (IsGood whole) statements
+  all_good : (at : ℕ) (whats : List LineContent) (statements : List PlacedStatement) → AreSoundFrom at whats → ArePlaced section at whats statements → AllByRecursion (IsGood whole) statements
   unfolding ArePlaced
   all_good at [] [] sound placed = absurd placed
   all_good at [] (s ∷ []) sound placed = (good_end s placed, tt)
@@ -310,7 +310,7 @@ module _ (known : Known) (section : List ℕ) (whole : Whole) (control : whole.c
   unfolding statement_standing
   storage_stands all bases s is_ds item inside role items = rw (inside, role) (ap (items_standing whole is_ds s) items)
 
-  data_stands : (at : ℕ) (counter : Option Value) (bytes : List ℕ) → AreBytes bytes → 0 < length bytes
+  data_stands : (at : ℕ) (counter : Option Value) (bytes : List ℕ) → EachIsByte bytes → 0 < length bytes
       → data_standing whole counter (codes "X'" ++ flat_map hex_pair bytes ++ codes "'") at ≡ standing (line at (Data bytes) ∷ []) []
   data_stands at counter bytes are some =
       let many = hex_length bytes in
@@ -324,7 +324,7 @@ module _ (known : Known) (section : List ℕ) (whole : Whole) (control : whole.c
       let filled : (n == 0) ≡ false = grind (arith, nat_tests, some) in
       ap (space_standing at) (space_written n some most) ∙ ap (λ k. standing (space_line at k) []) (space_size n) ∙ rw filled refl
 
-  one_stands : (all : List PlacedStatement) (bases : Bases) (number at : ℕ) (what : What) → IsSoundAt at what
+  one_stands : (all : List PlacedStatement) (bases : Bases) (number at : ℕ) (what : LineContent) → IsSoundAt at what
       → statement_standing whole all bases (placed_statement number (statement_of what) (place_of section at what)) ≡ standing (line at what ∷ []) []
   unfolding statement_of
   one_stands all bases number at (Code i) sound =
@@ -347,7 +347,7 @@ module _ (known : Known) (section : List ℕ) (whole : Whole) (control : whole.c
       ap (λ k. cond (is_control s.place.section whole.control) (role_standing whole all bases s (role_of k)) empty_section) named
       ∙ ap (λ k. cond (is_control s.place.section whole.control) k empty_section) none ∙ either_empty (is_control s.place.section whole.control)
 
-  all_stand : (all : List PlacedStatement) → last_pool whole ≡ [] → (bases : Bases) (at : ℕ) (whats : List What) (statements : List PlacedStatement) → AreSoundFrom at whats
+  all_stand : (all : List PlacedStatement) → last_pool whole ≡ [] → (bases : Bases) (at : ℕ) (whats : List LineContent) (statements : List PlacedStatement) → AreSoundFrom at whats
       → ArePlaced section at whats statements → standing_from whole all bases statements ≡ standing (lines_of at whats) []
   unfolding ArePlaced lines_of
   all_stand all pool bases at [] [] sound placed = absurd placed
@@ -393,7 +393,7 @@ found_entry whole (s ∷ statements) h = go (bytes_eq s.stmt.operation (codes "E
 zero_of : (g : ℕ) → (g == 0) ≡ true → g ≡ 0
 zero_of g e = grind (arith, nat_tests, e)
 
-text_spaced : (from size g : ℕ) (whats : List What) → text_from from (lines_of from (space g ++ whats)) size ≡ replicate g 0 ++ text_from (from + g) (lines_of (from + g) whats) size
+text_spaced : (from size g : ℕ) (whats : List LineContent) → text_from from (lines_of from (space g ++ whats)) size ≡ replicate g 0 ++ text_from (from + g) (lines_of (from + g) whats) size
 unfolding lines_of
 text_spaced from size g whats = go (g == 0) refl
   where
@@ -411,12 +411,12 @@ filled_text from [] size apart =
 filled_text from (l ∷ ls) size apart =
     let at : from + (l.at - from) ≡ l.at = (let first = apart.0 in omega (arith, first)) in
     let none : l.at - l.at ≡ 0 = omega arith in
-    let more = filled_text (end_of l) ls size apart.1 in
-    text_spaced from size (l.at - from) (l.what ∷ filled (end_of l) ls size) ∙ ap (λ n. replicate (l.at - from) 0 ++ text_from n (lines_of n (l.what ∷ filled (end_of l) ls size)) size) at
-    ∙ ap (λ n. replicate (l.at - from) 0 ++ (replicate n 0 ++ (bytes_of l.what ++ text_from (end_of l) (lines_of (end_of l) (filled (end_of l) ls size)) size))) none
+    let more = filled_text (offset_after l) ls size apart.1 in
+    text_spaced from size (l.at - from) (l.what ∷ filled (offset_after l) ls size) ∙ ap (λ n. replicate (l.at - from) 0 ++ text_from n (lines_of n (l.what ∷ filled (offset_after l) ls size)) size) at
+    ∙ ap (λ n. replicate (l.at - from) 0 ++ (replicate n 0 ++ (bytes_of l.what ++ text_from (offset_after l) (lines_of (offset_after l) (filled (offset_after l) ls size)) size))) none
     ∙ ap (λ k. replicate (l.at - from) 0 ++ (bytes_of l.what ++ k)) more
 
-end_spaced : (from g : ℕ) (whats : List What) → end_from from (space g ++ whats) ≡ end_from (from + g) whats
+end_spaced : (from g : ℕ) (whats : List LineContent) → end_from from (space g ++ whats) ≡ end_from (from + g) whats
 end_spaced from g whats = go (g == 0) refl
   where
     go : (b : Bool) → (g == 0) ≡ b → end_from from (cond b [] (Space g ∷ []) ++ whats) ≡ end_from (from + g) whats
@@ -428,27 +428,27 @@ filled_end from [] size apart =
     ap (end_from from) (sym (append-nil (space (size - from)))) ∙ end_spaced from (size - from) [] ∙ omega (arith, apart)
 filled_end from (l ∷ ls) size apart =
     let at : from + (l.at - from) ≡ l.at = (let first = apart.0 in omega (arith, first)) in
-    end_spaced from (l.at - from) (l.what ∷ filled (end_of l) ls size) ∙ ap (λ n. end_from (n + size_of l.what) (filled (end_of l) ls size)) at ∙ filled_end (end_of l) ls size apart.1
+    end_spaced from (l.at - from) (l.what ∷ filled (offset_after l) ls size) ∙ ap (λ n. end_from (n + size_of l.what) (filled (offset_after l) ls size)) at ∙ filled_end (offset_after l) ls size apart.1
 
 -- ---- a line that can be written
-abbrev pub IsRight : Line → What → Type 0
+abbrev pub IsRight : Line → LineContent → Type 0
 IsRight l (Code i) = IsWellFormed i × (l.at % 2 ≡ 0)
-IsRight l (Data bytes) = AreBytes bytes × (0 < length bytes)
+IsRight l (Data bytes) = EachIsByte bytes × (0 < length bytes)
 IsRight l (Space n) = 1 ≤ n
 
 -- ---- no space is longer than 65,535 bytes
-abbrev pub IsShort : What → Type 0
+abbrev pub IsShort : LineContent → Type 0
 IsShort (Space n) = n ≤ 65535
 IsShort what = ⊤
 
-abbrev pub HasBytes : What → Type 0
+abbrev pub HasBytes : LineContent → Type 0
 HasBytes what = 1 ≤ size_of what
 
-space_short : (at n : ℕ) (whats : List What) → AllByRecursion HasBytes whats → end_from (at + n) whats ≤ 65536 → (at ≡ 0 → Space n ∷ whats ≢ Space 65536 ∷ []) → n ≤ 65535
+space_short : (at n : ℕ) (whats : List LineContent) → AllByRecursion HasBytes whats → end_from (at + n) whats ≤ 65536 → (at ≡ 0 → Space n ∷ whats ≢ Space 65536 ∷ []) → n ≤ 65535
 space_short at n [] some ends never = ⊎_elim (λ short. short.1) (λ long. absurd (never (omega (arith, long.1, ends)) (ap (λ k. Space k ∷ []) (let all : n ≡ 65536 = omega (arith, long.1, ends) in all)))) (leb_tells n 65535)
 space_short at n (what ∷ whats) some ends never = (let more = end_after (at + n + size_of what) whats in let own = some.0 in omega (arith, more, own, ends))
 
-pub all_short : (at : ℕ) (whats : List What) → AllByRecursion HasBytes whats → end_from at whats ≤ 65536 → (at ≡ 0 → whats ≢ Space 65536 ∷ []) → AllByRecursion IsShort whats
+pub all_short : (at : ℕ) (whats : List LineContent) → AllByRecursion HasBytes whats → end_from at whats ≤ 65536 → (at ≡ 0 → whats ≢ Space 65536 ∷ []) → AllByRecursion IsShort whats
 all_short at [] some ends never = tt
 all_short at (Code i ∷ whats) some ends never =
     (tt, all_short (at + size_of (Code i)) whats some.1 ends (λ zero. absurd (let first = some.0 in omega (arith, first, zero))))
@@ -466,7 +466,7 @@ space_has g = go (g == 0) refl
 
 pub filled_has : (from : ℕ) (ls : List Line) (size : ℕ) → AllByRecursion (λ l. HasBytes l.what) ls → AllByRecursion HasBytes (filled from ls size)
 filled_has from [] size h = space_has (size - from)
-filled_has from (l ∷ ls) size h = all_joined HasBytes (space (l.at - from)) (l.what ∷ filled (end_of l) ls size) (space_has (l.at - from)) (h.0, filled_has (end_of l) ls size h.1)
+filled_has from (l ∷ ls) size h = all_joined HasBytes (space (l.at - from)) (l.what ∷ filled (offset_after l) ls size) (space_has (l.at - from)) (h.0, filled_has (offset_after l) ls size h.1)
 
 long_format : (f : Format) → 1 ≤ length_of_format f
 long_format format.Rr = omega arith
@@ -476,7 +476,7 @@ long_format format.Si = omega arith
 long_format format.Ss = omega arith
 long_format format.Ss2 = omega arith
 
-right_has : Known → (l : Line) (what : What) → IsRight l what → HasBytes what
+right_has : Known → (l : Line) (what : LineContent) → IsRight l what → HasBytes what
 right_has known l (Code i) right = (let size = known.sizes i right.0 in let some = long_format (format_of i.op) in omega (arith, size, some))
 right_has known l (Data bytes) right = right.1
 right_has known l (Space n) right = right
@@ -485,14 +485,14 @@ pub all_have : Known → (ls : List Line) → AllByRecursion (λ l. IsRight l l.
 all_have known [] h = tt
 all_have known (l ∷ ls) h = (right_has known l l.what h.0, all_have known ls h.1)
 
-spaced_sound : (from g : ℕ) (whats : List What) → AllByRecursion IsShort (space g ++ whats) → (AllByRecursion IsShort whats → AreSoundFrom (from + g) whats) → AreSoundFrom from (space g ++ whats)
+spaced_sound : (from g : ℕ) (whats : List LineContent) → AllByRecursion IsShort (space g ++ whats) → (AllByRecursion IsShort whats → AreSoundFrom (from + g) whats) → AreSoundFrom from (space g ++ whats)
 spaced_sound from g whats short more = go (g == 0) refl short
   where
     go : (b : Bool) → (g == 0) ≡ b → AllByRecursion IsShort (cond b [] (Space g ∷ []) ++ whats) → AreSoundFrom from (cond b [] (Space g ∷ []) ++ whats)
     go true e short = (let same : from + g ≡ from = (let zero = zero_of g e in omega (arith, zero)) in subst (λ n. AreSoundFrom n whats) same (more short))
     go false e short = (let some : 1 ≤ g = grind (arith, nat_tests, e) in ((some, short.0), more short.1))
 
-right_sound : (l : Line) (what : What) → IsRight l what → IsShort what → IsSoundAt l.at what
+right_sound : (l : Line) (what : LineContent) → IsRight l what → IsShort what → IsSoundAt l.at what
 right_sound l (Code i) right short = right
 right_sound l (Data bytes) right short = right
 right_sound l (Space n) right short = (right, short)
@@ -502,11 +502,11 @@ filled_sound from [] size apart right short =
     subst (AreSoundFrom from) (append-nil (space (size - from))) (spaced_sound from (size - from) [] (subst (AllByRecursion IsShort) (sym (append-nil (space (size - from)))) short) (λ none. tt))
 filled_sound from (l ∷ ls) size apart right short =
     let at : l.at ≡ from + (l.at - from) = (let first = apart.0 in omega (arith, first)) in
-    spaced_sound from (l.at - from) (l.what ∷ filled (end_of l) ls size) short
-    (λ rest. subst (λ n. AreSoundFrom n (l.what ∷ filled (end_of l) ls size)) at (right_sound l l.what right.0 rest.0, filled_sound (end_of l) ls size apart.1 right.1 rest.1))
+    spaced_sound from (l.at - from) (l.what ∷ filled (offset_after l) ls size) short
+    (λ rest. subst (λ n. AreSoundFrom n (l.what ∷ filled (offset_after l) ls size)) at (right_sound l l.what right.0 rest.0, filled_sound (offset_after l) ls size apart.1 right.1 rest.1))
 
 -- ---- the assembly
-pub whats_of : (at : ℕ) (whats : List What) → map (λ l. l.what) (lines_of at whats) ≡ whats
+pub whats_of : (at : ℕ) (whats : List LineContent) → map (λ l. l.what) (lines_of at whats) ≡ whats
 unfolding lines_of
 whats_of at [] = refl
 whats_of at (what ∷ whats) = ap (λ k. what ∷ k) (whats_of (at + size_of what) whats)
@@ -515,11 +515,11 @@ none_listed : (faults : List LineFault) → slice_get faults 0 ≡ None → faul
 none_listed [] e = refl
 none_listed (first ∷ more) e = absurd (cc)
 
-pub record IsMadeOf (again : Source) (whats : List What) (size : ℕ) : Type 0 where
+pub record IsMadeOf (again : Source) (whats : List LineContent) (size : ℕ) : Type 0 where
   pub accepted : assembly_of again ≡ Ok (assembly_made_of again)
   pub parts : section_of again ≡ assembled_parts (lines_of 0 whats) size [] 0 80
 
-pub made_again : (known : Known) (again : Source) (name section : List ℕ) (whats : List What) (size : ℕ) → symbol_name name ≡ Some section → stated again.items ≡ statements_again name whats → AreSoundFrom 0 whats
+pub made_again : (known : Known) (again : Source) (name section : List ℕ) (whats : List LineContent) (size : ℕ) → symbol_name name ≡ Some section → stated again.items ≡ statements_again name whats → AreSoundFrom 0 whats
     → end_from 0 whats ≡ size → size ≤ 65536 → IsMadeOf again whats size
 unfolding assembly_of assembly_faults second_faults_of section_of standing_of extent_of
 made_again known again name section whats size named e sound ends small =

@@ -5,7 +5,7 @@ use Rattle.std.specs.Option.{option_map_or}
 use Rattle.std.specs.Result.{result_ok}
 use Rattle.std.proofs.Common.{◌≡◌, ◌≤◌, ℕ, Bool, true, false, cond, Option, Some, None, List, [], ◌∷◌, ◌++◌, map, length, refl, ◌∙◌, subst}
 use Rattle.cx_code.specs.declared.disassembly.Line.{Line}
-use Rattle.cx_code.specs.declared.disassembly.What.TheVariants.{Code, Space}
+use Rattle.cx_code.specs.declared.disassembly.LineContent.TheVariants.{Code, Space}
 use Rattle.cx_code.specs.Lines.{lines}
 use Rattle.cx_code.specs.Spelling.{Instruction as Made_instruction, IsWellFormed}
 use Rattle.cx_source.specs.declared.source.Source.{Source}
@@ -26,11 +26,11 @@ use Rattle.cx_asm_operands.specs.Forms.{instruction_or_fault}
 use Rattle.cx_asm_image.specs.Laws.Cover.{AreWellFormed}
 use Rattle.cx_asm_image.specs.Resolved.{AreApart}
 use Rattle.cx_asm_image.specs.Spans.{span_of}
-use Rattle.cx_asm_image.specs.Text.{text_of}
+use Rattle.cx_asm_image.specs.Text.{section_text}
 use Rattle.cx_asm_pass2.specs.SecondFaults.{bases_after}
 use Rattle.cx_asm_pass2.specs.Statements.{PlacedStatement, operation_of, placed_items, statements_of}
 use Rattle.cx_asm_pass2.specs.Whole.{Whole, instruction_context, item_made, pool_of, whole_of}
-use Rattle.cx_asm.specs.Assembly.{AssemblyParts, assembly_of, section_of, size_of, standing_of}
+use Rattle.cx_asm.specs.Assembly.{AssemblyParts, assembly_of, section_of, control_section_size, standing_of}
 use Rattle.cx_asm.specs.Facts.Accepted.{accepted}
 use Rattle.cx_asm.specs.Facts.Bases.{after_sixteen}
 use Rattle.cx_asm.specs.Laws.SectionLines.{IsWithin}
@@ -124,14 +124,14 @@ pub resolved_is : (source : Source) (made : AssemblyParts) → assembly_of sourc
 unfolding section_of
 resolved_is source made e = subst (λ (m : AssemblyParts). (standing_of source).lines ≡ m.section.resolved) (accepted source made e).made_is refl
 
-pub comes_back : ((source : Source) → (final_state source).fault ≡ None → size_of source ≤ 65536 → IsWithin 0 (standing_of source) (size_of source))
-    → ((resolved : List Line) (size : ℕ) → AreApart 0 resolved size → AreWellFormed resolved → lines (text_of resolved size) (map span_of resolved) ≡ resolved)
+pub comes_back : ((source : Source) → (final_state source).fault ≡ None → control_section_size source ≤ 65536 → IsWithin 0 (standing_of source) (control_section_size source))
+    → ((resolved : List Line) (size : ℕ) → AreApart 0 resolved size → AreWellFormed resolved → lines (section_text resolved size) (map span_of resolved) ≡ resolved)
     → Resolves → ComesBack
 unfolding section_of
 comes_back within back resolves source made e =
     let is = accepted source made e in
     subst (λ (m : AssemblyParts). lines m.section.image.text m.section.spans ≡ (standing_of source).lines) is.made_is
-    (back (standing_of source).lines (size_of source) (within source is.sound is.short).lines (source_sound resolves source))
+    (back (standing_of source).lines (control_section_size source) (within source is.sound is.short).lines (source_sound resolves source))
 
 pub lines_are_resolved : ComesBack → LinesAreResolved
 lines_are_resolved back source made e = back source made e ∙ resolved_is source made e

@@ -6,16 +6,16 @@ use Rattle.std.proofs.Math.Seq.{drop-append_seam, drop-length, take-append_seam,
 use Rattle.std.proofs.lemmas.Bool.Decides.{nat_tests}
 use Rattle.std.proofs.lemmas.List.{append_assoc, append-nil, length-append}
 use Rattle.cx_code.specs.Spelling.{AreInRange, Instruction, IsWellFormed, format_with, instruction, r3_of}
-use Rattle.cx_code.specs.Table.{format_of, is_shift, mnemonic_of, row_of}
+use Rattle.cx_code.specs.Table.{format_of, is_shift, mnemonic_of, operation_row}
 use Rattle.cx_code.specs.Text.{base_text, hex_pair, index_text, instruction_text, operands, what_text}
 use Rattle.cx_code.specs.declared.instruction.Fields.{Fields}
 use Rattle.cx_code.specs.declared.instruction.Fields.TheVariants.{Rr, Rx, Rs, Si, Ss, Ss2}
 use Rattle.cx_code.specs.declared.table.Format.TheVariants as format
-use Rattle.cx_code.specs.declared.disassembly.What.TheVariants.{Code, Data, Space}
+use Rattle.cx_code.specs.declared.disassembly.LineContent.TheVariants.{Code, Data, Space}
 use Rattle.cx_code.specs.declared.table.Op.{Op}
 use Rattle.cx_code.specs.declared.table.Op.TheVariants.{Sla, Sll, Sra, Srda, Srl}
 use Rattle.cx_ebcdic.specs.Lookup.{each_some}
-use Rattle.cx_source.specs.Marks.{at_start, depth_after, is_length_attribute, first_from, first_mark, is_mark, lies_outside, parts, parts_from, scan_after, within_after}
+use Rattle.cx_source.specs.Marks.{at_start, scan_depth_after, is_length_attribute, first_from, first_mark, is_mark, lies_outside, parts, parts_from, scan_after, within_after}
 use Rattle.cx_source.specs.declared.marks.Delimiter.{Delimiter}
 use Rattle.cx_source.specs.declared.marks.Delimiter.TheVariants.{TopComma, Parenthesis, Closing}
 use Rattle.cx_source.specs.declared.marks.Scan.{Scan}
@@ -33,14 +33,14 @@ use Rattle.cx_asm_expressions.specs.declared.terms.TermKind.TheVariants.{Decimal
 use Rattle.cx_asm_expressions.specs.declared.values.Value.{Value}
 use Rattle.cx_asm_pools.specs.Pools.{literal_text}
 use Rattle.cx_asm_operands.specs.Addresses.{address}
-use Rattle.cx_asm_operands.specs.Checking.{made_of}
-use Rattle.cx_asm_operands.specs.Context.{Context, expression_value, number_at_most, number_in, register_in}
+use Rattle.cx_asm_operands.specs.Checking.{with_made}
+use Rattle.cx_asm_operands.specs.Context.{Context, expression_value, number_at_most, operand_number, register_in}
 use Rattle.cx_asm_operands.specs.Forms.{fields_in, form_of_op, instruction_or_fault, operands_of}
 use Rattle.cx_asm_operands.specs.Storage.{counted_in, expression_and_list, explicit_address, index_in, indexed_in, is_literal, operand, operand_in, plain_in}
 use Rattle.cx_asm_operands.specs.declared.forms.Form.TheVariants as form
 use Rattle.cx_asm_operations.specs.Operations.{operation_named}
 use Rattle.cx_asm_operations.specs.declared.operations.Operation.TheVariants as operation
-use Rattle.cx_asm_laws.specs.Facts.Hexadecimals.{AreBytes, constant_is, hex_length, hex_plain, made_is}
+use Rattle.cx_asm_laws.specs.Facts.Hexadecimals.{EachIsByte, constant_is, hex_length, hex_plain, made_is}
 use Rattle.cx_asm_laws.specs.Facts.Plain.{ArePlain, Cut, decimal_plain, decimal_read, decimal_term, neither, plain_cut, plain_part, split}
 use Rattle.cx_asm_laws.specs.Laws.Again.{BytesAreReadBack, InstructionsAreReadBack, LinesAreStatements, SpacesAreReadBack, statement_of}
 
@@ -75,8 +75,8 @@ at_most_is most n le =
     let within : (int_le (pos 0) (pos n) && int_le (pos n) (pos most)) ≡ true = grind (arith, nat_tests, le) in
     rw within refl
 
-number_is : (most : ℕ) (c : Context) (n : ℕ) → most ≤ greatest → n ≤ most → number_in most c (decimal n) ≡ Ok n
-unfolding number_in
+number_is : (most : ℕ) (c : Context) (n : ℕ) → most ≤ greatest → n ≤ most → operand_number most c (decimal n) ≡ Ok n
+unfolding operand_number
 number_is most c n limit le = rw (value_is c n (omega (arith, limit, le))) (at_most_is most n le)
 
 register_is : (c : Context) (n : ℕ) → n ≤ 15 → register_in c (decimal n) ≡ Ok n
@@ -108,7 +108,7 @@ inner_joined [] two h k = k
 inner_joined (c ∷ one) two h k = (h.0, inner_joined one two h.1 k)
 
 scanned : (depth before last c : ℕ) (after : List ℕ) → 42 ≤ c → scan_after (out depth before last) c after ≡ out depth last c
-unfolding within_after depth_after
+unfolding within_after scan_depth_after
 scanned depth before last c after h = rw (differs c 39 h (omega arith), differs c 40 h (omega arith), differs c 41 h (omega arith)) refl
 
 no_top : (outside : Bool) (c : ℕ) → (outside && is_mark TopComma 1 c) ≡ false
@@ -135,15 +135,15 @@ inner_cut before last part (c ∷ text) rest h =
     }
 
 opens : (before last : ℕ) (part rest : List ℕ) → parts_from TopComma (out 0 before last) part (40 ∷ rest) ≡ parts_from TopComma (out 1 last 40) (part ++ 40 ∷ []) rest
-unfolding within_after depth_after
+unfolding within_after scan_depth_after
 opens before last part rest = refl
 
 closes : (before last : ℕ) (part rest : List ℕ) → parts_from TopComma (out 1 before last) part (41 ∷ rest) ≡ parts_from TopComma (out 0 last 41) (part ++ 41 ∷ []) rest
-unfolding within_after depth_after
+unfolding within_after scan_depth_after
 closes before last part rest = refl
 
 at_comma : (before last : ℕ) (part rest : List ℕ) → parts_from TopComma (out 0 before last) part (44 ∷ rest) ≡ part ∷ parts_from TopComma (out 0 last 44) [] rest
-unfolding within_after depth_after
+unfolding within_after scan_depth_after
 at_comma before last part rest = refl
 
 -- a text with parentheses after it
@@ -356,7 +356,7 @@ shift_read r1 r3 b2 d2 c h zero =
     rw (texts, register_is c r1 (omega (arith, h.0)), base_is false c d2 b2 (omega (arith, h.1.1.1.0)) (omega (arith, h.1.1.0)), zero) refl
 
 shift_format : (op : Op) → is_shift op ≡ true → format_of op ≡ format.Rs
-unfolding is_shift row_of
+unfolding is_shift operation_row
 shift_format Srl h = refl
 shift_format Sll h = refl
 shift_format Sra h = refl
@@ -382,7 +382,7 @@ fields_read op fields c formed = by_shift (is_shift op) refl
 
 pub instruction_read : (i : Instruction) (c : Context) → IsWellFormed i → instruction_or_fault (operation.Machine i.op) c (operands (is_shift i.op) i.fields) ≡ Ok i
 unfolding instruction_or_fault
-instruction_read i c formed = ap (made_of (instruction i.op)) (fields_read i.op i.fields c formed)
+instruction_read i c formed = ap (with_made (instruction i.op)) (fields_read i.op i.fields c formed)
 
 -- ---- a space
 all_digits : (text : List ℕ) → list_all (is_digit 10) text ≡ true → prefix_len (is_digit 10) text ≡ length text
@@ -409,11 +409,11 @@ space_operand n = one_operand (codes "XL" ++ decimal n) (plain_whole (codes "XL"
 
 -- ---- a constant
 closed : (before last : ℕ) (part : List ℕ) → parts_from TopComma (record { within = true; depth = 0; before = before; last = last }) part (39 ∷ []) ≡ (part ++ 39 ∷ []) ∷ []
-unfolding within_after depth_after
+unfolding within_after scan_depth_after
 closed before last part = refl
 
-pub data_operand : (bytes : List ℕ) → AreBytes bytes → parts TopComma (codes "X'" ++ flat_map hex_pair bytes ++ codes "'") ≡ (codes "X'" ++ flat_map hex_pair bytes ++ codes "'") ∷ []
-unfolding within_after depth_after is_length_attribute
+pub data_operand : (bytes : List ℕ) → EachIsByte bytes → parts TopComma (codes "X'" ++ flat_map hex_pair bytes ++ codes "'") ≡ (codes "X'" ++ flat_map hex_pair bytes ++ codes "'") ∷ []
+unfolding within_after scan_depth_after is_length_attribute
 data_operand bytes are =
     let hex = flat_map hex_pair bytes in
     let cut = plain_cut (record { within = true; depth = 0; before = 88; last = 39 }) (codes "X'") hex (39 ∷ []) (hex_plain bytes are) in

@@ -9,18 +9,18 @@ use Rattle.std.proofs.lemmas.Bool.Decides.{nat_tests}
 use Rattle.std.proofs.lemmas.List.Elements.{Contains-append_right}
 use Rattle.byteorder.specs.Endian.{big_bytes, low_bytes}
 use Rattle.cx_code.specs.declared.disassembly.Line.{Line}
-use Rattle.cx_code.specs.declared.disassembly.What.TheVariants.{Code, Data, Space}
+use Rattle.cx_code.specs.declared.disassembly.LineContent.TheVariants.{Code, Data, Space}
 use Rattle.cx_ebcdic.specs.Characters.{code_of, table}
 use Rattle.cx_source.specs.declared.source.Item.{Item}
 use Rattle.cx_source.specs.declared.source.Source.{Source}
 use Rattle.cx_source.specs.declared.source.Stmt.{Stmt}
-use Rattle.cx_asm_expressions.specs.Bytes.{CopyOfConstant, address_constant, address_made, body_made, copy_of_constant, made_of, plain_made}
+use Rattle.cx_asm_expressions.specs.Bytes.{CopyOfConstant, address_constant, address_made, body_made, copy_of_constant, constant_copy, plain_made}
 use Rattle.cx_asm_expressions.specs.Digits.{digit, digit_value}
 use Rattle.cx_asm_expressions.specs.Expressions.{value_of}
 use Rattle.cx_asm_expressions.specs.Faults.{lowest}
 use Rattle.cx_asm_expressions.specs.Fields.{without_sign}
 use Rattle.cx_asm_expressions.specs.Items.{Constant, constant_in, size_of as constant_size, value_length, values_in}
-use Rattle.cx_asm_expressions.specs.Kinds.{bit_from_right, bits_from_right, bounded_decimal, digit_from_right, half_byte, half_bytes, integer_bytes, is_below, is_word, packed_from_right, row_of}
+use Rattle.cx_asm_expressions.specs.Kinds.{bit_from_right, bits_from_right, bounded_decimal, digit_from_right, half_byte, half_bytes, integer_bytes, is_below, is_binary_length, packed_from_right, row_of_kind}
 use Rattle.cx_asm_expressions.specs.Texts.{characters, code}
 use Rattle.cx_asm_expressions.specs.Weights.{stands_in}
 use Rattle.cx_asm_expressions.specs.declared.faults.FaultKind.{FaultKind}
@@ -42,7 +42,7 @@ use Rattle.cx_asm_pass2.specs.Whole.{Whole, instruction_context, item_made, pool
 use Rattle.cx_asm.specs.Assembly.{AssemblyParts, assembly_of}
 use Rattle.cx_asm.specs.Facts.Bases.{after_sixteen}
 use Rattle.cx_asm.specs.Resolving.{counter_at, data_line, last_pool, line}
-use Rattle.cx_asm_laws.specs.Facts.Hexadecimals.{AreBytes}
+use Rattle.cx_asm_laws.specs.Facts.Hexadecimals.{EachIsByte}
 use Rattle.cx_asm_laws.specs.Laws.Standing.{AnyByRecursion, IsAmong, IsData, IsInstruction, IsItem, IsLiteral, IsOfRole, IsOfStatements, IsSpace}
 use Rattle.cx_asm_laws.proofs.AgainLemmas.{IsRight}
 use Rattle.cx_asm_laws.proofs.BackLemmas.{Resolves}
@@ -50,19 +50,19 @@ use Rattle.cx_asm_laws.proofs.LiteralLemmas.{all_joined, listed, own_statement, 
 use Rattle.cx_asm_laws.proofs.StandingLemmas.{none_there, nothing_else_stands}
 
 -- ---- bytes
-bytes_joined : (one other : List ℕ) → AreBytes one → AreBytes other → AreBytes (one ++ other)
+bytes_joined : (one other : List ℕ) → EachIsByte one → EachIsByte other → EachIsByte (one ++ other)
 bytes_joined one other h k = all_joined (λ byte. byte < 256) one other h k
 
-bytes_repeated : (n : ℕ) (bytes : List ℕ) → AreBytes bytes → AreBytes (repeat n bytes)
+bytes_repeated : (n : ℕ) (bytes : List ℕ) → EachIsByte bytes → EachIsByte (repeat n bytes)
 bytes_repeated zero bytes h = tt
 bytes_repeated (suc n) bytes h = bytes_joined bytes (repeat n bytes) h (bytes_repeated n bytes h)
 
-bytes_taken : (n : ℕ) (bytes : List ℕ) → AreBytes bytes → AreBytes (take n bytes)
+bytes_taken : (n : ℕ) (bytes : List ℕ) → EachIsByte bytes → EachIsByte (take n bytes)
 bytes_taken zero bytes h = tt
 bytes_taken (suc n) [] h = tt
 bytes_taken (suc n) (byte ∷ bytes) h = (h.0, bytes_taken n bytes h.1)
 
-blanks : (n : ℕ) → AreBytes (replicate n 64)
+blanks : (n : ℕ) → EachIsByte (replicate n 64)
 blanks zero = tt
 blanks (suc n) = (omega arith, blanks n)
 
@@ -88,7 +88,7 @@ code_below : (c : ℕ) → code c < 256
 unfolding code_of
 code_below c = found_below (λ row. row.0 == c) table all_below
 
-codes_below : (text : List ℕ) → AreBytes (map code text)
+codes_below : (text : List ℕ) → EachIsByte (map code text)
 codes_below [] = tt
 codes_below (c ∷ text) = (code_below c, codes_below text)
 
@@ -137,13 +137,13 @@ half_below Address value j = right_digit value j
 half_below External value j = right_digit value j
 half_below Doubleword value j = right_digit value j
 
-halves_below : (kind : ConstantKind) (value : List ℕ) (n : ℕ) → AreBytes (half_bytes kind value n)
+halves_below : (kind : ConstantKind) (value : List ℕ) (n : ℕ) → EachIsByte (half_bytes kind value n)
 halves_below kind value zero = tt
 halves_below kind value (suc r) =
     let high = half_below kind value (r * 2 + 1) in let low = half_below kind value (r * 2) in (omega (arith, high, low), halves_below kind value r)
 
 -- binary numbers
-high_first : (n x : ℕ) → AreBytes (big_bytes n x)
+high_first : (n x : ℕ) → EachIsByte (big_bytes n x)
 high_first zero x = tt
 high_first (suc zero) x = (omega arith, tt)
 high_first (suc (suc k)) x = (below (x / 256 ^ suc k), high_first (suc k) x)
@@ -151,15 +151,15 @@ high_first (suc (suc k)) x = (below (x / 256 ^ suc k), high_first (suc k) x)
     below : (y : ℕ) → y % 256 < 256
     below y = omega arith
 
-number_below : (n : ℕ) (number : ℤ) → AreBytes (integer_bytes n number)
-number_below n number = go (is_word n)
+number_below : (n : ℕ) (number : ℤ) → EachIsByte (integer_bytes n number)
+number_below n number = go (is_binary_length n)
   where
-    go : (b : Bool) → AreBytes (cond b (big_bytes n (low_bytes w128 n number)) [])
+    go : (b : Bool) → EachIsByte (cond b (big_bytes n (low_bytes w128 n number)) [])
     go true = high_first n (low_bytes w128 n number)
     go false = tt
 
 -- ---- the bytes of a constant
-kind_below : (kind : ConstantKind) (value : List ℕ) (n : ℕ) → AreBytes ((row_of kind).bytes value n)
+kind_below : (kind : ConstantKind) (value : List ℕ) (n : ℕ) → EachIsByte ((row_of_kind kind).bytes value n)
 kind_below Character value n = bytes_taken n (map code (characters value) ++ replicate n 64) (bytes_joined (map code (characters value)) (replicate n 64) (codes_below (characters value)) (blanks n))
 kind_below Hexadecimal value n = halves_below Hexadecimal value n
 kind_below Binary value n = halves_below Binary value n
@@ -170,37 +170,37 @@ kind_below Address value n = tt
 kind_below External value n = (omega arith, (omega arith, (omega arith, (omega arith, tt))))
 kind_below Doubleword value n = tt
 
-values_below : (kind : ConstantKind) (modifier : Option ℕ) (values : List (List ℕ)) → AreBytes (flat_map (λ value. (row_of kind).bytes value (value_length kind modifier value)) values)
+values_below : (kind : ConstantKind) (modifier : Option ℕ) (values : List (List ℕ)) → EachIsByte (flat_map (λ value. (row_of_kind kind).bytes value (value_length kind modifier value)) values)
 values_below kind modifier [] = tt
 values_below kind modifier (value ∷ values) =
-    bytes_joined ((row_of kind).bytes value (value_length kind modifier value)) (flat_map (λ v. (row_of kind).bytes v (value_length kind modifier v)) values)
+    bytes_joined ((row_of_kind kind).bytes value (value_length kind modifier value)) (flat_map (λ v. (row_of_kind kind).bytes v (value_length kind modifier v)) values)
     (kind_below kind value (value_length kind modifier value)) (values_below kind modifier values)
 
-plain_below : (kind : ConstantKind) (modifier : Option ℕ) (body : List ℕ) (once : CopyOfConstant) → plain_made kind modifier body ≡ Ok once → AreBytes once.bytes
-plain_below kind modifier body once e = go (lowest (map (λ value. (row_of kind).fault value (value_length kind modifier value)) (values_in (row_of kind).style body))) e
+plain_below : (kind : ConstantKind) (modifier : Option ℕ) (body : List ℕ) (once : CopyOfConstant) → plain_made kind modifier body ≡ Ok once → EachIsByte once.bytes
+plain_below kind modifier body once e = go (lowest (map (λ value. (row_of_kind kind).fault value (value_length kind modifier value)) (values_in (row_of_kind kind).style body))) e
   where
-    go : (fault : Option FaultKind) → option_map_or Err fault (Ok (copy_of_constant (flat_map (λ value. (row_of kind).bytes value (value_length kind modifier value)) (values_in (row_of kind).style body)) false)) ≡ Ok once
-        → AreBytes once.bytes
+    go : (fault : Option FaultKind) → option_map_or Err fault (Ok (copy_of_constant (flat_map (λ value. (row_of_kind kind).bytes value (value_length kind modifier value)) (values_in (row_of_kind kind).style body)) false)) ≡ Ok once
+        → EachIsByte once.bytes
     go (Some fault) e = absurd (cc)
     go None e =
-        let same : copy_of_constant (flat_map (λ value. (row_of kind).bytes value (value_length kind modifier value)) (values_in (row_of kind).style body)) false ≡ once = cc in
-        subst (λ k. AreBytes k.bytes) same (values_below kind modifier (values_in (row_of kind).style body))
+        let same : copy_of_constant (flat_map (λ value. (row_of_kind kind).bytes value (value_length kind modifier value)) (values_in (row_of_kind kind).style body)) false ≡ once = cc in
+        subst (λ k. EachIsByte k.bytes) same (values_below kind modifier (values_in (row_of_kind kind).style body))
 
-chosen_below : (b : Bool) (bytes : List ℕ) (is : Bool) (fault : FaultKind) (once : CopyOfConstant) → AreBytes bytes → cond b (Ok (copy_of_constant bytes is)) (Err fault) ≡ Ok once → AreBytes once.bytes
-chosen_below true bytes is fault once h e = (let same : copy_of_constant bytes is ≡ once = cc in subst (λ k. AreBytes k.bytes) same h)
+chosen_below : (b : Bool) (bytes : List ℕ) (is : Bool) (fault : FaultKind) (once : CopyOfConstant) → EachIsByte bytes → cond b (Ok (copy_of_constant bytes is)) (Err fault) ≡ Ok once → EachIsByte once.bytes
+chosen_below true bytes is fault once h e = (let same : copy_of_constant bytes is ≡ once = cc in subst (λ k. EachIsByte k.bytes) same h)
 chosen_below false bytes is fault once h e = absurd (cc)
 
-address_below : (n : ℕ) (control section : Option (List ℕ)) (number : ℤ) (once : CopyOfConstant) → address_constant n control section number ≡ Ok once → AreBytes once.bytes
+address_below : (n : ℕ) (control section : Option (List ℕ)) (number : ℤ) (once : CopyOfConstant) → address_constant n control section number ≡ Ok once → EachIsByte once.bytes
 address_below n control None number once e = chosen_below (is_below n number (2 ^ (8 * n))) (integer_bytes n number) false ValueOutOfRange once (number_below n number) e
 address_below n control (Some section) number once e = chosen_below (n == 4 && stands_in section control) (integer_bytes 4 number) true NotRelocatable once (number_below 4 number) e
 
-found_address : (n : ℕ) (control : Option (List ℕ)) (value : Result Value FaultKind) (once : CopyOfConstant) → address_made n control value ≡ Ok once → AreBytes once.bytes
+found_address : (n : ℕ) (control : Option (List ℕ)) (value : Result Value FaultKind) (once : CopyOfConstant) → address_made n control value ≡ Ok once → EachIsByte once.bytes
 found_address n control (Ok value) once e = address_below n control value.section value.number once e
 found_address n control (Err fault) once e = absurd (cc)
 
 body_below : (find : List ℕ → Option Value) (here : Option Value) (control : Option (List ℕ)) (kind : ConstantKind) (modifier : Option ℕ) (value : Option (List ℕ)) (once : CopyOfConstant)
-    → body_made find here control kind modifier value ≡ Ok once → AreBytes once.bytes
-body_below find here control kind modifier None once e = (let same : copy_of_constant [] false ≡ once = cc in subst (λ k. AreBytes k.bytes) same tt)
+    → body_made find here control kind modifier value ≡ Ok once → EachIsByte once.bytes
+body_below find here control kind modifier None once e = (let same : copy_of_constant [] false ≡ once = cc in subst (λ k. EachIsByte k.bytes) same tt)
 body_below find here control Address modifier (Some body) once e = found_address (value_length Address modifier body) control (value_of find here body) once e
 body_below find here control Character modifier (Some body) once e = plain_below Character modifier body once e
 body_below find here control Hexadecimal modifier (Some body) once e = plain_below Hexadecimal modifier body once e
@@ -211,10 +211,10 @@ body_below find here control Packed modifier (Some body) once e = plain_below Pa
 body_below find here control External modifier (Some body) once e = plain_below External modifier body once e
 body_below find here control Doubleword modifier (Some body) once e = plain_below Doubleword modifier body once e
 
-once_below : (whole : Whole) (counter : Option Value) (text : List ℕ) (c : Constant) (once : CopyOfConstant) → constant_in false text ≡ Ok c → item_made whole false counter text ≡ Ok once → AreBytes once.bytes
-unfolding made_of
+once_below : (whole : Whole) (counter : Option Value) (text : List ℕ) (c : Constant) (once : CopyOfConstant) → constant_in false text ≡ Ok c → item_made whole false counter text ≡ Ok once → EachIsByte once.bytes
+unfolding constant_copy
 once_below whole counter text c once written value =
-    body_below whole.find counter whole.control c.kind c.modifier c.value once (sym (ap (then_check (made_of whole.find counter whole.control)) written) ∙ value)
+    body_below whole.find counter whole.control c.kind c.modifier c.value once (sym (ap (then_check (constant_copy whole.find counter whole.control)) written) ∙ value)
 
 -- ---- lines
 only_line : (x l : Line) → Contains (x ∷ []) l → x ≡ l
@@ -225,7 +225,7 @@ data_right : (l : Line) (whole : Whole) (counter : Option Value) (item : List �
 data_right l whole counter item d =
     go (repeat d.constant.duplication d.once.bytes) (bytes_repeated d.constant.duplication d.once.bytes (once_below whole counter item.0 d.constant d.once d.written d.value)) d.stands
   where
-    go : (bytes : List ℕ) → AreBytes bytes → Contains (data_line item.1 bytes) l → IsRight l l.what
+    go : (bytes : List ℕ) → EachIsByte bytes → Contains (data_line item.1 bytes) l → IsRight l l.what
     go [] are there = absurd (none_there l there)
     go (byte ∷ bytes) are there = subst (λ k. IsRight k k.what) (only_line (line item.1 (Data (byte ∷ bytes))) l there) (are, omega arith)
 

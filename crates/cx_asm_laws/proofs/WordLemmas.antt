@@ -3,7 +3,7 @@ use Rattle.std.specs.Prelude.{IsTrue, ◌&&◌, nat_le, not}
 use Rattle.std.proofs.Common.{◌≡◌, ◌≤◌, ℕ, ◌+◌, Bool, true, false, List, [], ◌∷◌, length, Some, refl, ap, arith}
 use Rattle.std.proofs.lemmas.Bool.Decides.{nat_tests}
 use Rattle.cx_code.specs.declared.image.Image.{Image}
-use Rattle.cx_load.specs.Fault.{are_inside, fault_of, has_length}
+use Rattle.cx_load.specs.Fault.{are_inside, image_fault, has_length}
 use Rattle.cx_load.specs.Facts.Faults.{refused_length}
 use Rattle.cx_load.specs.Laws.Words.{are_in_order}
 use Rattle.cx_load.specs.declared.fault.ImageFault.TheVariants.{BadLength}
@@ -33,6 +33,6 @@ inside from (word ∷ words) end apart = both_true _ _ (at_most (word + 4) end (
 lengths : (n : ℕ) → n ≤ 65536 → IsTrue (not (nat_le 1 n && nat_le n 65536)) → n ≡ 0
 lengths n le refused = grind (arith, nat_tests)
 
-pub no_length : (image : Image) → length image.text ≤ 65536 → fault_of image ≡ Some BadLength → length image.text ≡ 0
+pub no_length : (image : Image) → length image.text ≤ 65536 → image_fault image ≡ Some BadLength → length image.text ≡ 0
 unfolding has_length
 no_length image le is = lengths (length image.text) le (ap not (refused_length image is))

@@ -5,13 +5,13 @@ use Rattle.std.proofs.Common.{◌≡◌, ◌≤◌, ◌<◌, ℕ, ◌+◌, ◌-�
 use Rattle.std.specs.List.{AllByRecursion}
 use Rattle.std.proofs.lemmas.Bool.Decides.{nat_tests}
 use Rattle.cx_code.specs.Spelling.{Instruction, IsWellFormed, spelling}
-use Rattle.cx_code.specs.Table.{is_shift, length_of, mnemonic_of, ops, row_of}
+use Rattle.cx_code.specs.Table.{is_shift, length_of, mnemonic_of, ops, operation_row}
 use Rattle.cx_code.specs.Text.{hex_pair, operands}
-use Rattle.cx_code.specs.declared.disassembly.What.{What}
-use Rattle.cx_code.specs.declared.disassembly.What.TheVariants.{Code, Data, Space}
+use Rattle.cx_code.specs.declared.disassembly.LineContent.{LineContent}
+use Rattle.cx_code.specs.declared.disassembly.LineContent.TheVariants.{Code, Data, Space}
 use Rattle.cx_code.specs.declared.table.Op.{Op}
 use Rattle.cx_ebcdic.specs.Facts.Names.{is_name-decides}
-use Rattle.cx_source.specs.Lines.{is_letter, is_name}
+use Rattle.cx_source.specs.Lines.{is_letter, is_symbol_name}
 use Rattle.cx_source.specs.Marks.{parts}
 use Rattle.cx_source.specs.declared.source.Stmt.{Stmt}
 use Rattle.cx_asm_expressions.specs.Digits.{bound}
@@ -22,12 +22,12 @@ use Rattle.cx_asm_expressions.specs.Symbols.{absolute}
 use Rattle.cx_asm_expressions.specs.declared.faults.FaultKind.{FaultKind}
 use Rattle.cx_asm_expressions.specs.declared.kinds.ConstantKind.TheVariants.{Hexadecimal}
 use Rattle.cx_asm_expressions.specs.declared.values.Value.{Value}
-use Rattle.cx_asm_pools.specs.Pools.{OpenLiterals, PlacedLiterals, cap, literal_text, part_fault, pool_extent, with_part, with_parts}
+use Rattle.cx_asm_pools.specs.Pools.{OpenLiterals, PlacedLiterals, cap, literal_text, literal_constant_fault, pool_extent, with_part, with_parts}
 use Rattle.cx_asm_pass1.specs.Facts.Faults.{control_named, section_named}
 use Rattle.cx_asm_pass1.specs.Facts.StatementExtents.{capped_same}
 use Rattle.cx_asm_pass1.specs.Given.{definitions, duplicate, value_given}
 use Rattle.cx_asm_pass1.specs.Layout.{align, extent_at, extent_of, items_at}
-use Rattle.cx_asm_pass1.specs.PassState.{PassState, named_control, named_section, duplicate_in, extent_in, fault_in, given_in, length_after, length_of_section, literal_fault, name_fault, name_in, next_in, next_state, operation_fault, own_fault, parts_in, place_in, pool_after, pools_after, role_in, section_fault}
+use Rattle.cx_asm_pass1.specs.PassState.{PassState, named_control, named_section, duplicate_in, extent_in, statement_fault_in, given_in, length_after, length_of_section, literal_fault, name_fault, name_in, next_in, next_state, operation_fault, own_fault, parts_in, place_in, pool_after, pools_after, role_in, section_fault}
 use Rattle.cx_asm_pass1.specs.Roles.{role_of}
 use Rattle.cx_asm_pass1.specs.declared.place.Place.{Place}
 use Rattle.cx_asm_pass1.specs.declared.roles.Role.{Role}
@@ -36,25 +36,25 @@ use Rattle.cx_asm_operations.specs.Operations.{branches, directives, operation_n
 use Rattle.cx_asm_operations.specs.declared.operations.Directive.TheVariants as directive
 use Rattle.cx_asm_operations.specs.declared.operations.Operation.TheVariants as operation
 use Rattle.cx_asm_image.specs.Resolved.{size_of}
-use Rattle.cx_asm_laws.specs.Facts.Hexadecimals.{AreBytes, constant_is, hex_length, hex_plain}
+use Rattle.cx_asm_laws.specs.Facts.Hexadecimals.{EachIsByte, constant_is, hex_length, hex_plain}
 use Rattle.cx_asm_laws.specs.Laws.Again.{statement, statement_of}
 use Rattle.cx_asm_laws.proofs.ReadLemmas.{data_operand, no_literals, space_operand, space_written}
 
 -- ---- what is written
-abbrev pub IsSoundAt : ℕ → What → Type 0
+abbrev pub IsSoundAt : ℕ → LineContent → Type 0
 IsSoundAt at (Code i) = IsWellFormed i × (at % 2 ≡ 0)
-IsSoundAt at (Data bytes) = AreBytes bytes × (0 < length bytes)
+IsSoundAt at (Data bytes) = EachIsByte bytes × (0 < length bytes)
 IsSoundAt at (Space n) = (1 ≤ n) × (n ≤ 65535)
 
-abbrev pub AreSoundFrom : ℕ → List What → Type 0
+abbrev pub AreSoundFrom : ℕ → List LineContent → Type 0
 AreSoundFrom at [] = ⊤
 AreSoundFrom at (what ∷ whats) = IsSoundAt at what × AreSoundFrom (at + size_of what) whats
 
-abbrev pub end_from : ℕ → List What → ℕ
+abbrev pub end_from : ℕ → List LineContent → ℕ
 end_from at [] = at
 end_from at (what ∷ whats) = end_from (at + size_of what) whats
 
-pub end_after : (at : ℕ) (whats : List What) → at ≤ end_from at whats
+pub end_after : (at : ℕ) (whats : List LineContent) → at ≤ end_from at whats
 end_after at [] = omega arith
 end_after at (what ∷ whats) = (let more = end_after (at + size_of what) whats in omega (arith, more))
 
@@ -64,19 +64,19 @@ pub record Known : Type 0 where
   pub sizes : (i : Instruction) → IsWellFormed i → length (spelling i) ≡ length_of i.op
 
 pub dc_named : operation_named (codes "DC") ≡ Some (operation.Directive directive.Dc)
-unfolding operation_named operations branches register_branches directives ops row_of
+unfolding operation_named operations branches register_branches directives ops operation_row
 dc_named = refl
 
 pub ds_named : operation_named (codes "DS") ≡ Some (operation.Directive directive.Ds)
-unfolding operation_named operations branches register_branches directives ops row_of
+unfolding operation_named operations branches register_branches directives ops operation_row
 ds_named = refl
 
 pub csect_named : operation_named (codes "CSECT") ≡ Some (operation.Directive directive.Csect)
-unfolding operation_named operations branches register_branches directives ops row_of
+unfolding operation_named operations branches register_branches directives ops operation_row
 csect_named = refl
 
 pub end_named : operation_named (codes "END") ≡ Some (operation.Directive directive.End)
-unfolding operation_named operations branches register_branches directives ops row_of
+unfolding operation_named operations branches register_branches directives ops operation_row
 end_named = refl
 
 -- ---- the state in the section
@@ -99,29 +99,24 @@ IsMild (Storage is_ds) = ⊤
 IsMild Nothing = ⊤
 IsMild role = ⊥
 
+-- what holds of each of these holds of what is mild
+by_mild : (P : Role → Type 0) → ((size : ℕ) → P (Machine size)) → ((is_ds : Bool) → P (Storage is_ds)) → P Nothing → (r : Role) → IsMild r → P r
+by_mild P machine storage nothing (Machine size) m = machine size
+by_mild P machine storage nothing (Storage is_ds) m = storage is_ds
+by_mild P machine storage nothing Nothing m = nothing
+by_mild P machine storage nothing Unknown m = absurd m
+by_mild P machine storage nothing Control m = absurd m
+by_mild P machine storage nothing Dummy m = absurd m
+by_mild P machine storage nothing Equate m = absurd m
+by_mild P machine storage nothing Pool m = absurd m
+by_mild P machine storage nothing Registers m = absurd m
+by_mild P machine storage nothing Member m = absurd m
+
 mild_section : (r : Role) → IsMild r → (name section : Option (List ℕ)) → named_section r name section ≡ section
-mild_section (Machine size) m name section = refl
-mild_section (Storage is_ds) m name section = refl
-mild_section Nothing m name section = refl
-mild_section Unknown m name section = absurd m
-mild_section Control m name section = absurd m
-mild_section Dummy m name section = absurd m
-mild_section Equate m name section = absurd m
-mild_section Pool m name section = absurd m
-mild_section Registers m name section = absurd m
-mild_section Member m name section = absurd m
+mild_section r m name section = by_mild (λ r. named_section r name section ≡ section) (λ size. refl) (λ is_ds. refl) refl r m
 
 mild_control : (r : Role) → IsMild r → (name control : Option (List ℕ)) → named_control r name control ≡ control
-mild_control (Machine size) m name control = refl
-mild_control (Storage is_ds) m name control = refl
-mild_control Nothing m name control = refl
-mild_control Unknown m name control = absurd m
-mild_control Control m name control = absurd m
-mild_control Dummy m name control = absurd m
-mild_control Equate m name control = absurd m
-mild_control Pool m name control = absurd m
-mild_control Registers m name control = absurd m
-mild_control Member m name control = absurd m
+mild_control r m name control = by_mild (λ r. named_control r name control ≡ control) (λ size. refl) (λ is_ds. refl) refl r m
 
 abbrev pub IsNoLiteral : List ℕ → Type 0
 IsNoLiteral part = literal_text part ≡ None
@@ -132,7 +127,7 @@ none_used user pool (part ∷ parts) h =
     let same : with_part user pool part ≡ pool = rw h.0 refl in
     ap (λ p. with_parts user p parts) same ∙ none_used user pool parts h.1
 
-none_faulty : (parts : List (List ℕ)) → AllByRecursion IsNoLiteral parts → lowest (map part_fault parts) ≡ None
+none_faulty : (parts : List (List ℕ)) → AllByRecursion IsNoLiteral parts → lowest (map literal_constant_fault parts) ≡ None
 none_faulty [] h = refl
 none_faulty (part ∷ parts) h = rw (h.0, none_faulty parts h.1) refl
 
@@ -141,28 +136,11 @@ Uses (Machine size) parts = AllByRecursion IsNoLiteral parts
 Uses role parts = ⊤
 
 mild_pool : (r : Role) → IsMild r → (user : ℕ) (parts : List (List ℕ)) (pool : OpenLiterals) → Uses r parts → pool_after r user parts pool ≡ pool
-mild_pool (Machine size) m user parts pool h = none_used user pool parts h
-mild_pool (Storage is_ds) m user parts pool h = refl
-mild_pool Nothing m user parts pool h = refl
-mild_pool Unknown m user parts pool h = absurd m
-mild_pool Control m user parts pool h = absurd m
-mild_pool Dummy m user parts pool h = absurd m
-mild_pool Equate m user parts pool h = absurd m
-mild_pool Pool m user parts pool h = absurd m
-mild_pool Registers m user parts pool h = absurd m
-mild_pool Member m user parts pool h = absurd m
+mild_pool r m user parts pool =
+    by_mild (λ r. Uses r parts → pool_after r user parts pool ≡ pool) (λ size h. none_used user pool parts h) (λ is_ds h. refl) (λ h. refl) r m
 
 mild_pools : (r : Role) → IsMild r → (offset : ℕ) (pool : OpenLiterals) (pools : List PlacedLiterals) → pools_after r offset pool pools ≡ pools
-mild_pools (Machine size) m offset pool pools = refl
-mild_pools (Storage is_ds) m offset pool pools = refl
-mild_pools Nothing m offset pool pools = refl
-mild_pools Unknown m offset pool pools = absurd m
-mild_pools Control m offset pool pools = absurd m
-mild_pools Dummy m offset pool pools = absurd m
-mild_pools Equate m offset pool pools = absurd m
-mild_pools Pool m offset pool pools = absurd m
-mild_pools Registers m offset pool pools = absurd m
-mild_pools Member m offset pool pools = absurd m
+mild_pools r m offset pool pools = by_mild (λ r. pools_after r offset pool pools ≡ pools) (λ size. refl) (λ is_ds. refl) refl r m
 
 -- ---- it has no fault
 record IsQuiet (r : Role) (section : List ℕ) (user : ℕ) (parts : List (List ℕ)) : Type 0 where
@@ -174,29 +152,29 @@ record IsQuiet (r : Role) (section : List ℕ) (user : ℕ) (parts : List (List 
   literals : literal_fault r user parts [] ≡ None
 
 mild_quiet : (r : Role) → IsMild r → (section : List ℕ) (user : ℕ) (parts : List (List ℕ)) → Uses r parts → IsQuiet r section user parts
-mild_quiet (Machine size) m section user parts h =
-    record {
-      operated = refl;
-      unnamed = refl;
-      within = rw (same_section section) refl;
-      given = λ find operand s state. refl;
-      once = λ find operand value. refl;
-      literals = rw (none_faulty parts h, none_used user [] parts h) refl;
-    }
-mild_quiet (Storage is_ds) m section user parts h =
-    record { operated = refl; unnamed = refl; within = refl; given = λ find operand s state. refl; once = λ find operand value. refl; literals = refl }
-mild_quiet Nothing m section user parts h =
-    record { operated = refl; unnamed = refl; within = refl; given = λ find operand s state. refl; once = λ find operand value. refl; literals = refl }
-mild_quiet Unknown m section user parts h = absurd m
-mild_quiet Control m section user parts h = absurd m
-mild_quiet Dummy m section user parts h = absurd m
-mild_quiet Equate m section user parts h = absurd m
-mild_quiet Pool m section user parts h = absurd m
-mild_quiet Registers m section user parts h = absurd m
-mild_quiet Member m section user parts h = absurd m
+mild_quiet r m section user parts = by_mild (λ r. Uses r parts → IsQuiet r section user parts) machine storage nothing r m
+  where
+    machine : (size : ℕ) → AllByRecursion IsNoLiteral parts → IsQuiet (Machine size) section user parts
+    machine size h =
+        record {
+          operated = refl;
+          unnamed = refl;
+          within = rw (same_section section) refl;
+          given = λ find operand s state. refl;
+          once = λ find operand value. refl;
+          literals = rw (none_faulty parts h, none_used user [] parts h) refl;
+        }
+
+    storage : (is_ds : Bool) → ⊤ → IsQuiet (Storage is_ds) section user parts
+    storage is_ds h =
+        record { operated = refl; unnamed = refl; within = refl; given = λ find operand s state. refl; once = λ find operand value. refl; literals = refl }
+
+    nothing : ⊤ → IsQuiet Nothing section user parts
+    nothing h =
+        record { operated = refl; unnamed = refl; within = refl; given = λ find operand s state. refl; once = λ find operand value. refl; literals = refl }
 
 no_name : symbol_name [] ≡ None
-unfolding symbol_name is_name is_letter
+unfolding symbol_name is_symbol_name is_letter
 no_name = refl
 
 all_none : (a b c d e f : Option FaultKind) → a ≡ None → b ≡ None → c ≡ None → d ≡ None → e ≡ None → f ≡ None → lowest (a ∷ b ∷ c ∷ d ∷ e ∷ f ∷ []) ≡ None
@@ -206,7 +184,7 @@ module _ (section operation operand : List ℕ) (at : ℕ) (state : PassState) (
   abbrev stmt : Stmt
   stmt = statement [] operation operand
 
-  quiet : (r : Role) → IsMild r → role_in stmt ≡ r → Uses r (parts_in stmt) → (extent_in stmt state).fault ≡ None → fault_in stmt state ≡ None
+  quiet : (r : Role) → IsMild r → role_in stmt ≡ r → Uses r (parts_in stmt) → (extent_in stmt state).fault ≡ None → statement_fault_in stmt state ≡ None
   quiet r m role uses extent =
       let q = mild_quiet r m section (length state.places) (parts_in stmt) uses in
       let own : own_fault stmt state ≡ None =
@@ -302,19 +280,19 @@ pub space_size : (n : ℕ) → constant_size (constant 1 Hexadecimal (Some n) No
 space_size n = (let own = space_length n in omega (arith, own))
 
 -- ---- one line
-abbrev pub items_of : ℕ → What → List ℕ
+abbrev pub items_of : ℕ → LineContent → List ℕ
 items_of at (Code i) = []
 items_of at what = at ∷ []
 
-abbrev pub place_of : List ℕ → ℕ → What → Place
+abbrev pub place_of : List ℕ → ℕ → LineContent → Place
 place_of section at what = record { section = Some section; offset = at; items = items_of at what; pool = 0 }
 
-pub record Step (section : List ℕ) (line at : ℕ) (what : What) (state : PassState) : Type 0 where
+pub record Step (section : List ℕ) (line at : ℕ) (what : LineContent) (state : PassState) : Type 0 where
   pub place : place_in (statement_of what) state ≡ place_of section at what
   pub next : IsAt section (at + size_of what) (next_state line (statement_of what) state)
 
 module _ (known : Known) (section : List ℕ) (line at : ℕ) (state : PassState) (is : IsAt section at state) where
-  pub step : (what : What) → IsSoundAt at what → at + size_of what ≤ 65536 → Step section line at what state
+  pub step : (what : LineContent) → IsSoundAt at what → at + size_of what ≤ 65536 → Step section line at what state
   unfolding statement_of
   step (Code i) sound small =
       let operation = mnemonic_of i.op in

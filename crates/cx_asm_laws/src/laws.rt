@@ -2,25 +2,26 @@
 
 ghost use Rattle.std.specs.Prelude.{◌≡◌, ◌≢◌, IsTrue, Ok, Some, length};
 ghost use Rattle.cx_source.specs.declared.source.Source.{Source};
-ghost use Rattle.cx_load.specs.Fault.{all_apart, are_inside, fault_of};
+ghost use Rattle.cx_load.specs.Fault.{all_apart, are_inside, image_fault};
 ghost use Rattle.cx_load.specs.declared.fault.ImageFault.{ImageFault};
 ghost use Rattle.cx_load.specs.declared.fault.ImageFault.TheVariants.{BadLength, Overlap, RelocOutside};
-ghost use Rattle.cx_asm.specs.Assembly.{AssemblyParts, assembly_of, size_of};
+ghost use Rattle.cx_asm.specs.Assembly.{AssemblyParts, assembly_of, control_section_size};
 ghost use Rattle.cx_asm_laws.specs.Laws.Again.{AssemblesAgain, BytesAreReadBack, InstructionsAreReadBack, LinesAreStatements, SpacesAreReadBack};
 ghost use Rattle.cx_asm_laws.specs.Laws.Back.{ComesBack, LinesAreResolved};
 ghost use Rattle.cx_asm_laws.specs.Laws.Standing.{AllStand, AreInControl, NothingElseStands};
 
-/// The relocated words of an accepted source end inside its text and share no byte. So its image is refused for its length, its
-/// entry or its working storage alone; for its length only where its control section is empty, or it has none.
+/// The relocated words of an accepted source end inside its text and share no byte. So its image is refused for its
+/// length, its entry or its working storage alone; for its length only where its control section is empty, or it has
+/// none.
 pub fn an_assembled_image_is_refused_for_little()
     ensures inside { (source : Source) (made : AssemblyParts) → assembly_of source ≡ Ok made
         → IsTrue (are_inside (length made.section.image.text) made.section.image.relocs) }
     ensures apart { (source : Source) (made : AssemblyParts) → assembly_of source ≡ Ok made
         → IsTrue (all_apart made.section.image.relocs) }
     ensures refused { (source : Source) (made : AssemblyParts) (fault : ImageFault) → assembly_of source ≡ Ok made
-        → fault_of made.section.image ≡ Some fault → (fault ≢ RelocOutside) × (fault ≢ Overlap) }
+        → image_fault made.section.image ≡ Some fault → (fault ≢ RelocOutside) × (fault ≢ Overlap) }
     ensures length { (source : Source) (made : AssemblyParts) → assembly_of source ≡ Ok made
-        → fault_of made.section.image ≡ Some BadLength → size_of source ≡ 0 }
+        → image_fault made.section.image ≡ Some BadLength → control_section_size source ≡ 0 }
 {
     cx_asm::laws::an_assembly_stands_apart();
     cx_load::laws::words_in_order();
@@ -39,8 +40,9 @@ pub fn what_was_assembled_comes_back()
 
 /// In an accepted source each instruction is among the resolved lines at its place, resolved as its operands say with
 /// the bases that are in use there. So is each item of a DC or DS in the control section, which is a constant, a DC's
-/// with a value: with the bytes of all its copies, a DS's as a space; and so is each literal, at its offset in its pool.
-/// Each resolved line is one of these: nothing else stands. Each instruction, and each LTORG, is in the control section.
+/// with a value: with the bytes of all its copies, a DS's as a space; and so is each literal, at its offset in its
+/// pool. Each resolved line is one of these: nothing else stands. Each instruction, and each LTORG, is in the control
+/// section.
 pub fn statements_stand_at_their_places()
     ensures stand { AllStand }
     ensures only { NothingElseStands }

@@ -7,12 +7,12 @@ use Rattle.std.proofs.lemmas.Bool.Decides.{nat_tests}
 use Rattle.cx_asm_expressions.specs.declared.values.Value.{Value}
 use Rattle.cx_asm_expressions.specs.declared.faults.FaultKind.{FaultKind}
 use Rattle.cx_asm_expressions.specs.declared.faults.FaultKind.TheVariants.{NoAddressability, BadOperand, ValueOutOfRange}
-use Rattle.cx_asm_operands.specs.Checking.{both_or_lower_fault, then_check, made_of}
+use Rattle.cx_asm_operands.specs.Checking.{both_or_lower_fault, then_check, with_made}
 use Rattle.cx_asm_operands.specs.Bases.{Bases}
 use Rattle.cx_asm_operands.specs.declared.bases.Base.{Base}
-use Rattle.cx_asm_operands.specs.Addresses.{address, number_within, address_by_base, nearer, nearest_address, address_in, implied_address}
+use Rattle.cx_asm_operands.specs.Addresses.{address, number_within, address_by_base, nearer, nearest_address, address_by_bases, implied_address}
 use Rattle.cx_asm_operands.specs.declared.addresses.Address.{Address}
-use Rattle.cx_asm_operands.specs.Context.{Context, number_in, number_at_most, register_in}
+use Rattle.cx_asm_operands.specs.Context.{Context, operand_number, number_at_most, register_in}
 use Rattle.cx_asm_operands.specs.Storage.{Operand, operand_in, address_by_subfields, plain_in, index_in, indexed_by, indexed_in, counted_by, address_with_length, counted_in, implied_length}
 use Rattle.cx_asm_operands.proofs.NearestLemmas.{nearest_from}
 use Rattle.cx_asm_operands.proofs.FitLemmas.{number_fits, at_most_fits, both_first, both_second, counted_fits}
@@ -83,7 +83,7 @@ absolute_fits number a e =
     let zero_small : 0 ≤ 15 = omega arith in
     or_fits (option_map (address 0) (number_within 4095 number)) ValueOutOfRange a (λ x i. made_address 0 (number_within 4095 number) x zero_small (displacement_fits number) i) e
 
-address_in_fits : (bases : Bases) (section : Option (List ℕ)) (number : ℤ) (a : Address) → length bases ≡ 16 → address_in bases section number ≡ Ok a → IsInRange a
+address_in_fits : (bases : Bases) (section : Option (List ℕ)) (number : ℤ) (a : Address) → length bases ≡ 16 → address_by_bases bases section number ≡ Ok a → IsInRange a
 address_in_fits bases None number a sixteen e = absolute_fits number a e
 address_in_fits bases (Some section) number a sixteen e =
     or_fits (nearest_address bases section number) NoAddressability a (λ x i. nearest_fits bases section number x sixteen i) e
@@ -97,7 +97,7 @@ displaced_fits (Ok v) n e = at_most_fits 4095 v n e
 displaced_fits (Err fault) n e = cc
 
 both_fit : (one other : Result ℕ FaultKind) (a : Address) → ((n : ℕ) → one ≡ Ok n → n ≤ 4095) → ((n : ℕ) → other ≡ Ok n → n ≤ 15)
-    → made_of (λ v. address v.1 v.0) (both_or_lower_fault one other) ≡ Ok a → IsInRange a
+    → with_made (λ v. address v.1 v.0) (both_or_lower_fault one other) ≡ Ok a → IsInRange a
 both_fit (Ok m) (Ok n) a fits also e =
     let low = fits m refl in
     let few = also n refl in
@@ -151,10 +151,10 @@ indexed_fits c text v sixteen e = indexed_operand_fits c (operand_in true c text
 
 counted_address : (most : ℕ) (c : Context) (place : Result Value FaultKind) (texts : List (List ℕ)) (v : ℕ × Address) → AreSixteen c → counted_by most c place texts ≡ Ok v → IsInRange v.1
 counted_address most c place [] v sixteen e = addressed_fits c place [] v.1 sixteen (both_second (then_check (implied_length most) place) (address_by_subfields c place []) v e)
-counted_address most c place (count ∷ base) v sixteen e = addressed_fits c place base v.1 sixteen (both_second (number_in most c count) (address_by_subfields c place base) v e)
+counted_address most c place (count ∷ base) v sixteen e = addressed_fits c place base v.1 sixteen (both_second (operand_number most c count) (address_by_subfields c place base) v e)
 
 field_fits : (most : ℕ) (r : Result (ℕ × Address) FaultKind) (v : ℕ × Address) → ((w : ℕ × Address) → r ≡ Ok w → (w.0 ≤ most) × IsInRange w.1)
-    → made_of (λ w. (w.0 - 1, w.1)) r ≡ Ok v → (v.0 ≤ most - 1) × IsInRange v.1
+    → with_made (λ w. (w.0 - 1, w.1)) r ≡ Ok v → (v.0 ≤ most - 1) × IsInRange v.1
 field_fits most (Ok w) v fits e =
     let both = fits w refl in
     let count = both.0 in

@@ -6,17 +6,12 @@ use Rattle.std.specs.List.{cons_option}
 use Rattle.std.specs.Result.{result_ok, result_err}
 use denote.Ref.{Bor}
 use Rattle.std.proofs.lemmas.Bool.Decides.{nat_tests}
+use Rattle.cx_asm_expressions.specs.Facts.Faults.{lower_in_turn}
 use Rattle.cx_asm_expressions.specs.Faults.{lower, lowest}
 use Rattle.cx_asm_expressions.specs.declared.faults.FaultKind.{FaultKind}
 use Rattle.cx_asm_operands.specs.Context.{Context, expression_value, register_in}
-use Rattle.cx_asm_operands.specs.Checking.{both_or_lower_fault, made_of}
+use Rattle.cx_asm_operands.specs.Checking.{both_or_lower_fault, with_made}
 use Rattle.cx_asm_operands.specs.Directives.{registers_in}
-
-pub lower_in_turn : (a b c : Option FaultKind) → lower (lower a b) c ≡ lower a (lower b c)
-lower_in_turn None b c = refl
-lower_in_turn (Some a) None c = refl
-lower_in_turn (Some a) (Some b) None = refl
-lower_in_turn (Some a) (Some b) (Some c) = grind (arith, nat_tests)
 
 -- the fault of one expression more
 pub value_fault_more : (c : Context) (fault : Option FaultKind) (texts : List (Bor (List ℕ))) (d : Bor (List ℕ)) (i : ℕ) (whole : Option FaultKind)
@@ -33,11 +28,11 @@ so_far None found = Ok found
 so_far (Some fault) found = Err fault
 
 abbrev pub with_rest : Option FaultKind → List ℕ → Result (List ℕ) FaultKind → Result (List ℕ) FaultKind
-with_rest fault found rest = made_of (λ v. v.0 ++ v.1) (both_or_lower_fault (so_far fault found) rest)
+with_rest fault found rest = with_made (λ v. v.0 ++ v.1) (both_or_lower_fault (so_far fault found) rest)
 
 -- one more
 with_one : (fault : Option FaultKind) (found : List ℕ) (one : Result ℕ FaultKind) (rest : Result (List ℕ) FaultKind)
-    → with_rest fault found (made_of (λ v. v.0 ∷ v.1) (both_or_lower_fault one rest))
+    → with_rest fault found (with_made (λ v. v.0 ∷ v.1) (both_or_lower_fault one rest))
     ≡ with_rest (lower fault (result_err one)) (found ++ cons_option (result_ok one) []) rest
 with_one None found (Ok one) (Ok rest) = simp append_assoc
 with_one None found (Ok one) (Err f) = refl

@@ -10,7 +10,7 @@ use Rattle.cx_asm_operands.specs.Checking.{both_or_lower_fault, then_check}
 use Rattle.cx_asm_operands.specs.Storage.{address_by_subfields, counted_by, implied_length}
 use Rattle.cx_asm_operands.specs.declared.addresses.Address.{Address}
 use Rattle.cx_asm_operands.specs.Addresses.{number_within}
-use Rattle.cx_asm_operands.specs.Context.{Context, expression_value, number_at_most, number_in}
+use Rattle.cx_asm_operands.specs.Context.{Context, expression_value, number_at_most, operand_number}
 
 number_to_fits : (most : ℕ) (section : Option (List ℕ)) (number : ℤ) (n : ℕ)
     → (if is_some section then Err BadOperand else ok_or (number_within most number) ValueOutOfRange) ≡ Ok n → n ≤ most
@@ -24,8 +24,8 @@ judged_fits : (most : ℕ) (value : Result Value FaultKind) (n : ℕ) → then_c
 judged_fits most (Ok value) n e = at_most_fits most value n e
 judged_fits most (Err fault) n e = cc
 
-pub number_fits : (most : ℕ) (c : Context) (text : List ℕ) (n : ℕ) → number_in most c text ≡ Ok n → n ≤ most
-unfolding number_in
+pub number_fits : (most : ℕ) (c : Context) (text : List ℕ) (n : ℕ) → operand_number most c text ≡ Ok n → n ≤ most
+unfolding operand_number
 number_fits most c text n e = judged_fits most (expression_value c text) n e
 
 length_fits : (most : ℕ) (place : Result Value FaultKind) (n : ℕ) → then_check (implied_length most) place ≡ Ok n → n ≤ most
@@ -47,4 +47,4 @@ both_second (Err f) (Err g) v e = cc
 
 pub counted_fits : (most : ℕ) (c : Context) (place : Result Value FaultKind) (texts : List (List ℕ)) (v : ℕ × Address) → counted_by most c place texts ≡ Ok v → v.0 ≤ most
 counted_fits most c place [] v e = length_fits most place v.0 (both_first (then_check (implied_length most) place) (address_by_subfields c place []) v e)
-counted_fits most c place (t ∷ ts) v e = number_fits most c t v.0 (both_first (number_in most c t) (address_by_subfields c place ts) v e)
+counted_fits most c place (t ∷ ts) v e = number_fits most c t v.0 (both_first (operand_number most c t) (address_by_subfields c place ts) v e)

@@ -4,7 +4,7 @@ use Rattle.std.specs.Prelude.{Result}
 use Rattle.std.specs.Option.{option_map_or, option_zip}
 use Rattle.cx_asm_expressions.specs.declared.faults.FaultKind.TheVariants.{UnknownOperation}
 use Rattle.std.proofs.lemmas.Option.{same_Some}
-use Rattle.cx_code.specs.Table.{format_of, is_shift, row_of}
+use Rattle.cx_code.specs.Table.{format_of, is_shift, operation_row}
 use Rattle.cx_code.specs.Spelling.{Instruction, instruction, IsWellFormed, AreInRange, format_with, r3_of}
 use Rattle.cx_code.specs.declared.table.Op.{Op}
 use Rattle.cx_code.specs.declared.table.Op.TheVariants.{Balr, Bctr, Bcr, Ltr, Lcr, Clr, Xr, Lr, Cr, Ar, Sr, Mr, Dr, Sth, La, Stc, Ic, Ex, Bal, Bct, Bc, Lh, Ch, Ah, Sh, Cvd, Cvb, St, Cl, L, C, A, S, M, D, Srl, Sll, Sra, Sla, Srda, Stm, Tm, Mvi, Ni, Cli, Oi, Lm, Stcm, Icm, Mvc, Clc, Xc, Tr, Trt, Pack, Unpk}
@@ -17,8 +17,8 @@ use Rattle.cx_asm_operations.specs.Operations.{base_row, number}
 use Rattle.cx_asm_operations.specs.declared.operations.Mask.{Mask}
 use Rattle.cx_asm_operations.specs.declared.operations.Operation.{Operation}
 use Rattle.cx_asm_operations.specs.declared.operations.Operation.TheVariants as operation
-use Rattle.cx_asm_operands.specs.Checking.{both_or_lower_fault, made_of}
-use Rattle.cx_asm_operands.specs.Context.{Context, number_in, register_in}
+use Rattle.cx_asm_operands.specs.Checking.{both_or_lower_fault, with_made}
+use Rattle.cx_asm_operands.specs.Context.{Context, operand_number, register_in}
 use Rattle.cx_asm_operands.specs.Storage.{plain_in, indexed_in, counted_in}
 use Rattle.cx_asm_operands.specs.Forms.{fields_in, form_of_op, form_of, operands_of, instruction_or_fault}
 use Rattle.cx_asm_operands.specs.declared.addresses.Address.{Address}
@@ -59,14 +59,14 @@ twelve n h = omega arith
 -- what is made of two values agrees with a form where it does so for each two that are in their ranges
 two_agree : {A B : Type 0} (f : Form) (make : A × B → Fields) (x : Result A FaultKind) (y : Result B FaultKind) (fields : Fields)
     → ((a : A) (b : B) → x ≡ Ok a → y ≡ Ok b → Agrees f (make (a, b)))
-    → made_of make (both_or_lower_fault x y) ≡ Ok fields → Agrees f fields
+    → with_made make (both_or_lower_fault x y) ≡ Ok fields → Agrees f fields
 two_agree f make (Ok a) (Ok b) fields good e = let same : make (a, b) ≡ fields = grind arith in subst (Agrees f) same (good a b refl refl)
 two_agree f make (Ok a) (Err g) fields good e = cc
 two_agree f make (Err g) (Ok b) fields good e = cc
 two_agree f make (Err g) (Err h) fields good e = cc
 
 one_agrees : {A : Type 0} (f : Form) (make : A → Fields) (x : Result A FaultKind) (fields : Fields)
-    → ((a : A) → x ≡ Ok a → Agrees f (make a)) → made_of make x ≡ Ok fields → Agrees f fields
+    → ((a : A) → x ≡ Ok a → Agrees f (make a)) → with_made make x ≡ Ok fields → Agrees f fields
 one_agrees f make (Ok a) fields good e = let same : make a ≡ fields = grind arith in subst (Agrees f) same (good a refl)
 one_agrees f make (Err g) fields good e = cc
 
@@ -135,7 +135,7 @@ unfolding fields_in
 immediate_agrees c [] fields sixteen e = cc
 immediate_agrees c (t ∷ []) fields sixteen e = cc
 immediate_agrees c (t ∷ u ∷ []) fields sixteen e =
-    two_agree (form.Format format.Si) (λ v. Si v.1 v.0.base v.0.displacement) (plain_in false c t) (number_in 255 c u) fields
+    two_agree (form.Format format.Si) (λ v. Si v.1 v.0.base v.0.displacement) (plain_in false c t) (operand_number 255 c u) fields
     (λ a b i j. (refl, si b a (number_fits 255 c u b j) (plain_fits false c t a sixteen i), λ s. refl)) e
 immediate_agrees c (t ∷ u ∷ v ∷ more) fields sixteen e = cc
 
@@ -197,7 +197,7 @@ abbrev pub FormOf : Op → Form → Type 0
 FormOf op f = (format_of_form f ≡ format_of op) × HasMask f × (is_shift op ≡ true → is_shift_form f ≡ true)
 
 op_form : (op : Op) → FormOf op (form_of_op op)
-unfolding row_of is_shift
+unfolding operation_row is_shift
 op_form Balr = (refl, tt, λ s. cc)
 op_form Bctr = (refl, tt, λ s. cc)
 op_form Bcr = (refl, tt, λ s. cc)
@@ -256,11 +256,11 @@ op_form Pack = (refl, tt, λ s. cc)
 op_form Unpk = (refl, tt, λ s. cc)
 
 branch_form : (m : Mask) → FormOf Bc (form.Branch (number m))
-unfolding row_of is_shift
+unfolding operation_row is_shift
 branch_form m = (refl, mask_most m, λ s. cc)
 
 register_branch_form : (m : Mask) → FormOf Bcr (form.RegisterBranch (number m))
-unfolding row_of is_shift
+unfolding operation_row is_shift
 register_branch_form m = (refl, mask_most m, λ s. cc)
 
 -- what fits a form is well formed as an instruction of a row of that form
@@ -281,13 +281,13 @@ resolved_well o op f c texts fields row is sixteen e =
     agrees_well op f fields form (fields_agree f c texts fields form.1 sixteen e)
 
 made_well : (op : Op) (r : Result Fields FaultKind) (i : Instruction) → ((fields : Fields) → r ≡ Ok fields → IsWellFormed (instruction op fields))
-    → made_of (instruction op) r ≡ Ok i → (op ≡ i.op) × IsWellFormed i
+    → with_made (instruction op) r ≡ Ok i → (op ≡ i.op) × IsWellFormed i
 made_well op (Ok fields) i well e =
     let same : instruction op fields ≡ i = grind arith in (ap (λ x. x.op) same, subst IsWellFormed same (well fields refl))
 made_well op (Err fault) i well e = cc
 
 abbrev resolved_as : Option Op → Option Form → Context → List ℕ → Result Instruction FaultKind
-resolved_as row is c operand = option_map_or (λ (v : Op × Form). made_of (instruction v.0) (fields_in v.1 c (operands_of operand))) (option_zip row is) (Err UnknownOperation)
+resolved_as row is c operand = option_map_or (λ (v : Op × Form). with_made (instruction v.0) (fields_in v.1 c (operands_of operand))) (option_zip row is) (Err UnknownOperation)
 
 resolved_as_well : (o : Operation) (row : Option Op) (is : Option Form) (c : Context) (operand : List ℕ) (i : Instruction) → base_row o ≡ row → form_of o ≡ is → AreSixteen c
     → resolved_as row is c operand ≡ Ok i → (row ≡ Some i.op) × IsWellFormed i

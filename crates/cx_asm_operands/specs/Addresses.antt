@@ -39,10 +39,10 @@ nearest_address bases section number =
     fold nearer None (map (λ e. address_by_base section number e.0 e.1) (enumerate_from 0 bases))
 
 -- An absolute number stands for itself, with register 0 as base, whatever is in use.
-abbrev pub address_in : Bases → Option (List ℕ) → ℤ → Result Address FaultKind
-address_in bases None number = ok_or (option_map (address 0) (number_within 4095 number)) ValueOutOfRange
-address_in bases (Some section) number = ok_or (nearest_address bases section number) NoAddressability
+abbrev pub address_by_bases : Bases → Option (List ℕ) → ℤ → Result Address FaultKind
+address_by_bases bases None number = ok_or (option_map (address 0) (number_within 4095 number)) ValueOutOfRange
+address_by_bases bases (Some section) number = ok_or (nearest_address bases section number) NoAddressability
 
 -- the implied address of a value
 abbrev pub implied_address : Bases → Value → Result Address FaultKind
-implied_address bases value = address_in bases value.section value.number
+implied_address bases value = address_by_bases bases value.section value.number

@@ -11,9 +11,9 @@ both_or_lower_fault (Err fault) (Ok other) = Err fault
 both_or_lower_fault (Err one) (Err other) = Err (lower_of one other)
 
 -- what is made of a value, where there is one
-abbrev pub made_of : {A B : Type 0} → (A → B) → Result A FaultKind → Result B FaultKind
-made_of make (Ok value) = Ok (make value)
-made_of make (Err fault) = Err fault
+abbrev pub with_made : {A B : Type 0} → (A → B) → Result A FaultKind → Result B FaultKind
+with_made make (Ok value) = Ok (make value)
+with_made make (Err fault) = Err fault
 
 -- what is judged of a value, where there is one
 abbrev pub then_check : {A B : Type 0} → (A → Result B FaultKind) → Result A FaultKind → Result B FaultKind

@@ -37,9 +37,9 @@ number_at_most most value =
     if is_some value.section then Err BadOperand else ok_or (number_within most value.number) ValueOutOfRange
 
 -- the number, 0 to `most`, that an operand is
-unfoldable pub number_in : ℕ → Context → List ℕ → Result ℕ FaultKind
-number_in most c text = then_check (number_at_most most) (expression_value c text)
+unfoldable pub operand_number : ℕ → Context → List ℕ → Result ℕ FaultKind
+operand_number most c text = then_check (number_at_most most) (expression_value c text)
 
 -- a register, or a mask
 abbrev pub register_in : Context → List ℕ → Result ℕ FaultKind
-register_in c text = number_in 15 c text
+register_in c text = operand_number 15 c text

@@ -15,8 +15,8 @@ use Rattle.cx_asm_expressions.specs.declared.faults.FaultKind.TheVariants.{Unkno
 use Rattle.cx_asm_operations.specs.Operations.{base_row, number}
 use Rattle.cx_asm_operations.specs.declared.operations.Operation.{Operation}
 use Rattle.cx_asm_operations.specs.declared.operations.Operation.TheVariants as operation
-use Rattle.cx_asm_operands.specs.Checking.{both_or_lower_fault, made_of}
-use Rattle.cx_asm_operands.specs.Context.{Context, number_in, register_in}
+use Rattle.cx_asm_operands.specs.Checking.{both_or_lower_fault, with_made}
+use Rattle.cx_asm_operands.specs.Context.{Context, operand_number, register_in}
 use Rattle.cx_asm_operands.specs.Storage.{is_literal, plain_in, indexed_in, counted_in}
 use Rattle.cx_asm_operands.specs.declared.forms.Form.{Form}
 use Rattle.cx_asm_operands.specs.declared.forms.Form.TheVariants as form
@@ -32,26 +32,28 @@ use Rattle.cx_asm_operands.specs.declared.forms.Form.TheVariants as form
 -- A branch whose name says its mask has no first operand. A different number of operands is BadOperand alone.
 unfoldable pub fields_in : Form → Context → List (List ℕ) → Result Fields FaultKind
 fields_in (form.Format format.Rr) c (r1 ∷ r2 ∷ []) =
-    made_of (λ v. Rr v.0 v.1) (both_or_lower_fault (register_in c r1) (register_in c r2))
+    with_made (λ v. Rr v.0 v.1) (both_or_lower_fault (register_in c r1) (register_in c r2))
 fields_in (form.Format format.Rx) c (r1 ∷ s2 ∷ []) =
-    made_of (λ v. Rx v.0 v.1.0 v.1.1.base v.1.1.displacement) (both_or_lower_fault (register_in c r1) (indexed_in c s2))
+    with_made (λ v. Rx v.0 v.1.0 v.1.1.base v.1.1.displacement)
+    (both_or_lower_fault (register_in c r1) (indexed_in c s2))
 fields_in (form.Format format.Rs) c (r1 ∷ r3 ∷ s2 ∷ []) =
-    made_of (λ v. Rs v.0 v.1.0 v.1.1.base v.1.1.displacement)
+    with_made (λ v. Rs v.0 v.1.0 v.1.1.base v.1.1.displacement)
     (both_or_lower_fault (register_in c r1) (both_or_lower_fault (register_in c r3) (plain_in false c s2)))
 fields_in form.Shift c (r1 ∷ s2 ∷ []) =
-    made_of (λ v. Rs v.0 0 v.1.base v.1.displacement) (both_or_lower_fault (register_in c r1) (plain_in false c s2))
+    with_made (λ v. Rs v.0 0 v.1.base v.1.displacement) (both_or_lower_fault (register_in c r1) (plain_in false c s2))
 fields_in (form.Format format.Si) c (s1 ∷ i2 ∷ []) =
-    made_of (λ v. Si v.1 v.0.base v.0.displacement) (both_or_lower_fault (plain_in false c s1) (number_in 255 c i2))
+    with_made (λ v. Si v.1 v.0.base v.0.displacement)
+    (both_or_lower_fault (plain_in false c s1) (operand_number 255 c i2))
 fields_in (form.Format format.Ss) c (s1 ∷ s2 ∷ []) =
-    made_of (λ v. Ss v.0.0 v.0.1.base v.0.1.displacement v.1.base v.1.displacement)
+    with_made (λ v. Ss v.0.0 v.0.1.base v.0.1.displacement v.1.base v.1.displacement)
     (both_or_lower_fault (counted_in 256 false c s1) (plain_in true c s2))
 fields_in (form.Format format.Ss2) c (s1 ∷ s2 ∷ []) =
-    made_of (λ v. Ss2 v.0.0 v.1.0 v.0.1.base v.0.1.displacement v.1.1.base v.1.1.displacement)
+    with_made (λ v. Ss2 v.0.0 v.1.0 v.0.1.base v.0.1.displacement v.1.1.base v.1.1.displacement)
     (both_or_lower_fault (counted_in 16 false c s1) (counted_in 16 true c s2))
 fields_in (form.Branch mask) c (s2 ∷ []) =
-    made_of (λ v. Rx mask v.0 v.1.base v.1.displacement) (indexed_in c s2)
+    with_made (λ v. Rx mask v.0 v.1.base v.1.displacement) (indexed_in c s2)
 fields_in (form.RegisterBranch mask) c (r2 ∷ []) =
-    made_of (λ v. Rr mask v) (register_in c r2)
+    with_made (λ v. Rr mask v) (register_in c r2)
 fields_in form c operands = Err BadOperand
 
 -- ---- the form of an operation
@@ -78,5 +80,5 @@ literal_in operand =
 -- An operation that makes none is UnknownOperation.
 unfoldable pub instruction_or_fault : Operation → Context → List ℕ → Result Instruction FaultKind
 instruction_or_fault operation c operand =
-    option_map_or (λ v. made_of (instruction v.0) (fields_in v.1 c (operands_of operand)))
+    option_map_or (λ v. with_made (instruction v.0) (fields_in v.1 c (operands_of operand)))
     (option_zip (base_row operation) (form_of operation)) (Err UnknownOperation)

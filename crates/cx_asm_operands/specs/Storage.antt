@@ -10,9 +10,9 @@ use Rattle.cx_asm_expressions.specs.Items.{parenthesized_body}
 use Rattle.cx_asm_expressions.specs.declared.values.Value.{Value}
 use Rattle.cx_asm_expressions.specs.declared.faults.FaultKind.{FaultKind}
 use Rattle.cx_asm_expressions.specs.declared.faults.FaultKind.TheVariants.{BadOperand, ValueOutOfRange}
-use Rattle.cx_asm_operands.specs.Checking.{both_or_lower_fault, then_check, made_of}
+use Rattle.cx_asm_operands.specs.Checking.{both_or_lower_fault, then_check, with_made}
 use Rattle.cx_asm_operands.specs.Addresses.{address, implied_address}
-use Rattle.cx_asm_operands.specs.Context.{Context, expression_value, number_in, number_at_most, register_in}
+use Rattle.cx_asm_operands.specs.Context.{Context, expression_value, operand_number, number_at_most, register_in}
 use Rattle.cx_asm_operands.specs.declared.addresses.Address.{Address}
 
 -- A storage operand as it is written: what is before the parentheses has this value, or a fault; and the parts in
@@ -44,7 +44,7 @@ operand_in takes_literal c text =
 -- with a base written, the expression is a displacement
 abbrev pub explicit_address : Context → Result Value FaultKind → List ℕ → Result Address FaultKind
 explicit_address c place base =
-    made_of (λ v. address v.1 v.0) (both_or_lower_fault (then_check (number_at_most 4095) place) (register_in c base))
+    with_made (λ v. address v.1 v.0) (both_or_lower_fault (then_check (number_at_most 4095) place) (register_in c base))
 
 -- subfields that the operand has no room for: BadOperand, beside their own faults and those of the rest
 abbrev pub too_many_subfields : Context → Result Address FaultKind → List (List ℕ) → Result Address FaultKind
@@ -78,11 +78,11 @@ abbrev pub counted_by : ℕ → Context → Result Value FaultKind → List (Lis
 counted_by most c place [] =
     both_or_lower_fault (then_check (implied_length most) place) (address_by_subfields c place [])
 counted_by most c place (count ∷ base) =
-    both_or_lower_fault (number_in most c count) (address_by_subfields c place base)
+    both_or_lower_fault (operand_number most c count) (address_by_subfields c place base)
 
 -- the field of a length is one less, where it isn't 0
 abbrev pub address_with_length : ℕ → Context → Operand → Result (ℕ × Address) FaultKind
-address_with_length most c operand = made_of (λ v. (v.0 - 1, v.1)) (counted_by most c operand.place operand.subfields)
+address_with_length most c operand = with_made (λ v. (v.0 - 1, v.1)) (counted_by most c operand.place operand.subfields)
 
 -- ---- the text of a storage operand of each kind; one that can't be read is BadOperand alone
 unfoldable pub plain_in : Bool → Context → List ℕ → Result Address FaultKind

@@ -1,7 +1,7 @@
 //! The base register and displacement that stand for a place.
 
 ghost use Rattle.std.specs.Prelude.{◌≡◌, ◌≤◌, ◌-ℤ◌, [], None, length};
-ghost use Rattle.cx_asm_operands.specs.Addresses.{address_in, implied_address, nearer, nearest_address, address_by_base, number_within};
+ghost use Rattle.cx_asm_operands.specs.Addresses.{address_by_bases, implied_address, nearer, nearest_address, address_by_base, number_within};
 
 use crate::bases::{Base, Bases};
 use cx_asm_expressions::{FaultKind, Value};
@@ -13,9 +13,9 @@ const GREATEST: i128 = 4095;
 /// A base register, 0 to 15, and a displacement, 0 to 4,095. Register 0 stands for no base.
 #[derive(Clone, Copy, Debug, PartialEq, Eq)]
 pub struct Address {
-    /// The base register.
+    /// The base register, 0 to 15; 0 is none.
     pub base: u8,
-    /// The displacement, in bytes.
+    /// The displacement, in bytes, 0 to 4,095.
     pub displacement: u16,
 }
 
@@ -77,7 +77,7 @@ fn nearest(bases: &[Option<Base>], section: Name8, number: i128) -> Option<Addre
 
 /// The address of an absolute number: register 0, and itself as displacement.
 fn absolute_address(number: i128) -> Result<Address, FaultKind>
-    ensures { result ≡ address_in [] None number }
+    ensures { result ≡ address_by_bases [] None number }
 {
     match displacement(number, 0) {
         Some(displacement) => Ok(Address {

@@ -12,9 +12,9 @@ const PAGE: i128 = 4096;
 /// What a base register holds: a place in a section.
 #[derive(Clone, Copy, Debug, PartialEq, Eq)]
 pub struct Base {
-    /// The section.
+    /// The name of the section.
     pub section: Name8,
-    /// The offset in it, in bytes.
+    /// The offset in the section, in bytes.
     pub number: i128,
 }
 
@@ -126,14 +126,14 @@ impl Using {
         }
     }
 
-    /// The registers, in the order written.
+    /// The numbers of its registers, in the order written.
     pub fn registers(&self) -> &[u8]
         ensures { result.now ≡ self.now.registers }
     {
         self.registers.as_slice()
     }
 
-    /// What the first register holds.
+    /// The place that its first register holds.
     pub fn base(&self) -> Base
         ensures { result ≡ record { section = self.now.section; number = self.now.number } }
     {
@@ -145,7 +145,7 @@ impl Using {
 }
 
 impl Bases {
-    /// No register is in use. It takes no memory.
+    /// Bases of which no register is in use. It takes no memory.
     pub fn new() -> Bases
         ensures { result ≡ none_in_use }
     {
@@ -173,8 +173,8 @@ impl Bases {
         );
     }
 
-    /// Puts a DROP into force: the use of each register named ends as a base, and of no other; without registers the
-    /// use of every one. It takes no memory.
+    /// Puts a DROP into force: no register that it names is a base any more, and every other stays as it is; where it
+    /// names none, no register is a base any more. It takes no memory.
     pub fn end_use(&mut self, given: &Dropped)
         ensures { self.new ≡ after_drop given.now self.old }
     {

@@ -4,7 +4,7 @@ ghost use Rattle.std.specs.Prelude.{◌≡◌, ◌≤◌, IfOk, length};
 ghost use Rattle.std.specs.Option.{option_copied};
 ghost use Rattle.cx_asm_expressions.specs.Symbols.{find_in};
 ghost use Rattle.cx_asm_operands.specs.Checking.{then_check};
-ghost use Rattle.cx_asm_operands.specs.Context.{context, number_at_most, number_in, register_in, lookup_context, expression_value};
+ghost use Rattle.cx_asm_operands.specs.Context.{context, number_at_most, operand_number, register_in, lookup_context, expression_value};
 
 use crate::bases::Bases;
 use crate::checking::Checked;
@@ -12,7 +12,8 @@ use cx_asm_expressions::{FaultKind, SymbolTable, TermFault, Value, value_of};
 use cx_ebcdic::Name8;
 use std::alloc::{AllocError, Global};
 
-/// What a statement's operands are read by.
+/// What a statement's operands are read by: symbols, the location counter, the bases in use and the place of its
+/// literal.
 #[derive(Drop)]
 pub struct Context<'a> {
     symbols: &'a SymbolTable,
@@ -100,9 +101,9 @@ impl<'a> Context<'a> {
     }
 
     /// The number, 0 to `most`, that an operand is.
-    #[tactic(auto, unfolding(crate::specs::Context::number_in))]
+    #[tactic(auto, unfolding(crate::specs::Context::operand_number))]
     pub(crate) fn number(&self, alloc: Global, text: &[u8], most: u16) -> Checked<u16>
-        ensures { IfOk result (λ found. found ≡ number_in most (lookup_context self.now) text.now) }
+        ensures { IfOk result (λ found. found ≡ operand_number most (lookup_context self.now) text.now) }
     {
         match self.expression_value(alloc, text) {
             Ok(expression_value) => Ok(number_of(most, expression_value)),
@@ -113,7 +114,7 @@ impl<'a> Context<'a> {
     /// The number, 0 to 255, that an immediate operand is.
     #[tactic(auto, using(crate::proofs::FitLemmas::number_fits))]
     pub(crate) fn byte(&self, alloc: Global, text: &[u8], most: u8) -> Checked<u8>
-        ensures { IfOk result (λ found. found ≡ number_in most (lookup_context self.now) text.now) }
+        ensures { IfOk result (λ found. found ≡ operand_number most (lookup_context self.now) text.now) }
     {
         match self.number(alloc, text, u16::from(most))? {
             Ok(number) => Ok(Ok(number as u8)),

@@ -12,10 +12,10 @@ ghost use Rattle.cx_asm_expressions.specs.declared.faults.TermFault.TheVariants.
 ghost use Rattle.cx_asm_operations.specs.Operations.{operation_named};
 ghost use Rattle.cx_asm_operations.specs.declared.operations.Directive.TheVariants as directive;
 ghost use Rattle.cx_asm_operations.specs.declared.operations.Operation.TheVariants as operation;
-ghost use Rattle.cx_asm_operands.specs.Checking.{both_or_lower_fault, then_check, made_of};
+ghost use Rattle.cx_asm_operands.specs.Checking.{both_or_lower_fault, then_check, with_made};
 ghost use Rattle.cx_asm_operands.specs.Bases.{using_with};
 ghost use Rattle.cx_asm_operands.specs.Context.{context, register_in, lookup_context, expression_value};
-ghost use Rattle.cx_asm_operands.specs.Directives.{bases_in, changes_bases, copy_fault, drop_in, entry_in, entry_of, place_in, registers_in, using_in};
+ghost use Rattle.cx_asm_operands.specs.Directives.{bases_in, changes_bases, copy_fault, drop_in, entry_in, end_entry, place_in, registers_in, using_in};
 ghost use Rattle.cx_asm_operands.specs.Forms.{operands_of};
 
 use crate::bases::{Bases, Dropped, Using};
@@ -54,7 +54,7 @@ fn put_register(
 #[tactic(auto, using(crate::proofs::FaultLemmas::registers_end))]
 fn registers_in(alloc: Global, c: &Context<'_>, texts: &[&[u8]]) -> Checked<Vec<u8>>
     ensures { let named = registers_in (lookup_context c.now) (map (λ text. text.now) texts.now) in
-        IfOk result (λ found. made_of (λ registers. registers.items) found ≡ named) }
+        IfOk result (λ found. with_made (λ registers. registers.items) found ≡ named) }
 {
     let mut found = Vec::new(alloc);
     let mut fault = None;
@@ -119,8 +119,8 @@ fn joined(
     registers: Result<Vec<u8>, FaultKind>,
 ) -> Result<Using, FaultKind>
     requires { IfOk place (λ place. unsigned_abs place.1 ≤ 2 ^ 100) }
-    ensures { let named = made_of (λ registers. registers.items) registers in
-        result ≡ made_of (λ v. using_with v.0.0 v.0.1 v.1) (both_or_lower_fault place named) }
+    ensures { let named = with_made (λ registers. registers.items) registers in
+        result ≡ with_made (λ v. using_with v.0.0 v.0.1 v.1) (both_or_lower_fault place named) }
 {
     match place {
         Ok((section, number)) => match registers {
@@ -134,7 +134,8 @@ fn joined(
     }
 }
 
-/// The fault of a COPY's operand: BadOperand for every member except DFHAID (own). It takes no memory.
+/// The fault of a COPY's operand: BadOperand for every member except DFHAID, the only one that this product has; None
+/// for that. It takes no memory.
 pub fn copy_fault(operand: &[u8]) -> Option<FaultKind>
     ensures { result ≡ copy_fault operand.now }
 {
@@ -197,8 +198,8 @@ fn is_in_control(section: Name8, control: Option<Name8>) -> bool
 }
 
 /// The entry that a value is.
-fn entry_of(control: Option<Name8>, value: Value) -> Result<u32, FaultKind>
-    ensures { result ≡ entry_of control value }
+fn end_entry(control: Option<Name8>, value: Value) -> Result<u32, FaultKind>
+    ensures { result ≡ end_entry control value }
 {
     let section: Option<Name8> = value.section;
     let Some(section) = section else {
@@ -233,7 +234,7 @@ pub fn read_entry(
         return Ok(0);
     }
     match c.expression_value(alloc, operand)? {
-        Ok(value) => match entry_of(control, value) {
+        Ok(value) => match end_entry(control, value) {
             Ok(entry) => Ok(entry),
             Err(fault) => Err(TermFault::Refused(fault)),
         },
@@ -303,10 +304,10 @@ impl Bases {
     }
 
     /// Goes past a statement: a USING or a DROP without a fault changes the bases in use as `put_in_use` and `end_use`
-    /// say, one at fault and every other statement changes nothing. The fault of a USING or a DROP is answered. `here`
-    /// is where the location counter is, if anywhere.
+    /// say, one at fault and every other statement changes nothing. The fault of a USING or a DROP is answered, as
+    /// `read_using` and `read_drop` have it. `here` is where the location counter is, if anywhere.
     ///
-    /// Memory comes only where an allocation failed; then all is as before.
+    /// An error comes only where an allocation failed, never for another statement; then all is as before.
     #[tactic(auto, unfolding(crate::specs::Directives::bases_in))]
     pub fn pass(
         &mut self,

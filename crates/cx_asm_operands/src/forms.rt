@@ -279,7 +279,9 @@ impl Form {
 }
 
 /// The literal that a statement has: its last operand, if that begins with an equals sign. (An instruction takes a
-/// literal nowhere else.) Memory comes only where an allocation failed; an empty operand takes none.
+/// literal nowhere else.) None where it has none.
+///
+/// An error comes only where an allocation failed; an empty operand takes no memory.
 #[tactic(auto, using(crate::proofs::LiteralLemmas::last_text, crate::proofs::LiteralLemmas::none_in_nothing), unfolding(crate::specs::Forms::literal_in))]
 pub fn literal_in(alloc: Global, operand: &[u8]) -> Result<Option<&[u8]>, AllocError>
     ensures literal { IfOk result (λ found. option_map (λ text. text.now) found ≡ literal_in operand.now) }

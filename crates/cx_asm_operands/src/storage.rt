@@ -23,7 +23,8 @@ use std::marker::Model;
 /// The greatest displacement.
 const GREATEST: u16 = 4095;
 
-/// A storage operand as it is written.
+/// A storage operand as it is written: the value in front of its parentheses, or the fault of that, and what is in
+/// these, cut at the commas.
 #[derive(Drop)]
 pub struct Operand<'a> {
     place: Result<Value, FaultKind>,
@@ -152,7 +153,7 @@ fn fault_of(alloc: Global, c: &Context<'_>, text: &[u8]) -> Result<Option<FaultK
 }
 
 /// The lowest fault of an address and of expressions.
-#[tactic(auto, using(crate::proofs::FaultLemmas::lower_in_turn))]
+#[tactic(auto, using(cx_asm_expressions::specs::Facts::Faults::lower_in_turn))]
 fn lowest_of(
     alloc: Global,
     c: &Context<'_>,

@@ -9,7 +9,7 @@ use Rattle.std.proofs.lemmas.Cmp.{nat_list_eq_equiv}
 use Rattle.std.proofs.lemmas.Map.Made.{IsDistinct-from_count, lookup-map_values}
 use Rattle.std.proofs.lemmas.Map.Views.{Contains-from_lookup, lookup-from_Contains}
 use Rattle.std.proofs.lemmas.Slice.Eq.{bytes_eq-Decides}
-use Rattle.cx_code.specs.Table.{op_named, ops, row_of, mnemonic_of as machine_name}
+use Rattle.cx_code.specs.Table.{op_named, ops, operation_row, mnemonic_of as machine_name}
 use Rattle.cx_code.specs.declared.table.Op.{Op}
 use Rattle.cx_asm_operations.specs.declared.operations.Operation.{Operation}
 use Rattle.cx_asm_operations.specs.declared.operations.Operation.TheVariants as kinds
@@ -44,7 +44,7 @@ pub by_kinds : (name : List ℕ) → operation_named name
     ≡ option_or (option_map kinds.Machine (op_named name)) (option_or (option_map (λ b. kinds.Branch (mask b)) (lookup (bytes_eq name) branches))
     (option_or (option_map (λ b. kinds.RegisterBranch (mask b)) (lookup (bytes_eq name) register_branches))
     (option_map kinds.Directive (lookup (bytes_eq name) directives))))
-unfolding operation_named operations op_named machine_rows ops row_of branches register_branches directives
+unfolding operation_named operations op_named machine_rows ops operation_row branches register_branches directives
 by_kinds name =
     let p = bytes_eq name in
     let second = map (λ (b : List ℕ × ℕ). (b.0, kinds.Branch (mask b.1))) branches in
@@ -62,7 +62,7 @@ by_kinds name =
 
 -- ---- no two have one name
 names_apart : IsDistinct bytes_eq (keys_of operations)
-unfolding operations ops row_of branches register_branches directives
+unfolding operations ops operation_row branches register_branches directives
 names_apart = IsDistinct-from_count nat_list_eq_equiv (keys_of operations) refl
 
 pub found_exactly : (name : List ℕ) (it : Operation) → (operation_named name ≡ Some it) ↔ Contains operations (name, it)

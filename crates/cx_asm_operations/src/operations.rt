@@ -10,13 +10,13 @@ use cx_code::Op;
 /// The condition codes that a branch on condition goes on (GC33-4010, "Extended Mnemonic Codes").
 #[derive(Clone, Copy, Debug, PartialEq, Eq)]
 pub struct Mask {
-    /// Condition code 0.
+    /// Whether it branches on condition code 0.
     pub on_0: bool,
-    /// Condition code 1.
+    /// Whether it branches on condition code 1.
     pub on_1: bool,
-    /// Condition code 2.
+    /// Whether it branches on condition code 2.
     pub on_2: bool,
-    /// Condition code 3.
+    /// Whether it branches on condition code 3.
     pub on_3: bool,
 }
 
@@ -29,7 +29,7 @@ pub enum Directive {
     Dsect,
     /// START: begins or resumes the control section.
     Start,
-    /// USING: gives base registers what they hold.
+    /// USING: puts base registers in use, and says what they hold.
     Using,
     /// DROP: ends the use of base registers.
     Drop,
@@ -51,22 +51,22 @@ pub enum Directive {
     Eject,
     /// SPACE: of the listing, without effect.
     Space,
-    /// DFHREGS: gives the symbols R0 to R15 their numbers (this product's own).
+    /// DFHREGS: gives the symbols R0 to R15 the numbers 0 to 15 (no directive of GC33-4010).
     Dfhregs,
-    /// COPY: puts in a member.
+    /// COPY: defines the symbols of a member, DFHAID alone.
     Copy,
 }
 
-/// An operation that a statement may have.
+/// An operation that a statement may have (GC33-4010).
 #[derive(Clone, Copy, Debug, PartialEq, Eq)]
 pub enum Operation {
-    /// A machine instruction by its own mnemonic.
+    /// A machine instruction by its mnemonic in the table of `cx_code`.
     Machine(Op),
     /// A branch on condition to a storage operand, whose name says its mask.
     Branch(Mask),
     /// A branch on condition to the address in a register, whose name says its mask.
     RegisterBranch(Mask),
-    /// An operation that makes no instruction.
+    /// An operation that makes no instruction of the machine.
     Directive(Directive),
 }
 
@@ -134,7 +134,8 @@ impl Mask {
         }
     }
 
-    /// Its four bits, as the instruction has them: 8 for condition code 0, 4 for 1, 2 for 2, 1 for 3. It takes no memory.
+    /// Its four bits, as the instruction has them: 8 for condition code 0, 4 for 1, 2 for 2, 1 for 3. It takes no
+    /// memory.
     pub fn number(self) -> u8
         ensures { result ≡ number self }
     {

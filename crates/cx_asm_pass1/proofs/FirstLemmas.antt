@@ -8,23 +8,23 @@ use Rattle.cx_asm_expressions.specs.Faults.{fault_row}
 use Rattle.cx_asm_expressions.specs.Laws.FaultLaws.{IsNotBelow}
 use Rattle.cx_asm_expressions.specs.declared.faults.FaultKind.{FaultKind}
 use Rattle.cx_asm_expressions.specs.declared.faults.FaultKind.TheVariants.{UnknownOperation, UndefinedSymbol, DuplicateSymbol, NoAddressability, BadOperand, ValueOutOfRange, NotRelocatable, TooLarge}
-use Rattle.cx_asm_pass1.specs.PassState.{PassState, next_state, after_line, fault_in, state_after, line_fault}
-use Rattle.cx_asm_pass1.specs.Laws.FirstFaults.{Ascend, Fault, NoneBelow, fault_at, faults_after, AreSound, Has, HasNoLower, BeginOn, IsFirstOf}
+use Rattle.cx_asm_pass1.specs.PassState.{PassState, next_state, after_line, statement_fault_in, state_after, line_fault}
+use Rattle.cx_asm_pass1.specs.Laws.FirstFaults.{Ascend, Fault, NoneBelow, with_fault_at, statement_faults_after, AreSound, HasFault, HasNoLower, BeginOn, IsFirstOf}
 use Rattle.cx_asm_pass1.specs.Facts.First.{one_more}
 use Rattle.cx_asm_pass1.specs.declared.place.LineFault.{LineFault}
 
 line_more : (line : ℕ) (stmt : Option Stmt) (state : PassState) (before : List Fault) → IsFirstOf before state.fault
-    → IsFirstOf (fault_at line stmt state before) (after_line line stmt state).fault
+    → IsFirstOf (with_fault_at line stmt state before) (after_line line stmt state).fault
 unfolding next_state
 line_more line None state before h = h
-line_more line (Some stmt) state before h = one_more line (fault_in stmt state) before state.fault h
+line_more line (Some stmt) state before h = one_more line (statement_fault_in stmt state) before state.fault h
 
-pub first_is_first : (items : List Item) → IsFirstOf (faults_after items) (state_after items).fault
+pub first_is_first : (items : List Item) → IsFirstOf (statement_faults_after items) (state_after items).fault
 first_is_first [] = tt
-first_is_first (item ∷ before) = line_more item.line item.stmt (state_after before) (faults_after before) (first_is_first before)
+first_is_first (item ∷ before) = line_more item.line item.stmt (state_after before) (statement_faults_after before) (first_is_first before)
 
 -- ---- there is one
-sound_has_none : (line : ℕ) (kind : FaultKind) (faults : List Fault) → AreSound faults → Has line kind faults → ⊥
+sound_has_none : (line : ℕ) (kind : FaultKind) (faults : List Fault) → AreSound faults → HasFault line kind faults → ⊥
 sound_has_none line kind [] h has = has
 sound_has_none line kind (f ∷ fs) h (inl it) = let e : Some kind ≡ None = sym it.1 ∙ h.0 in cc
 sound_has_none line kind (f ∷ fs) h (inr it) = sound_has_none line kind fs h.1 it
@@ -41,7 +41,7 @@ one_line one other (f ∷ fs) (inl a) (inr b) = absurd (sound_begins_nowhere one
 one_line one other (f ∷ fs) (inr a) (inl b) = absurd (sound_begins_nowhere other fs a.0 b)
 one_line one other (f ∷ fs) (inr a) (inr b) = sym a.1 ∙ b.1
 
-none_lower : (line other_line : ℕ) (kind other : FaultKind) (faults : List Fault) → line ≡ other_line → HasNoLower line kind faults → Has other_line other faults
+none_lower : (line other_line : ℕ) (kind other : FaultKind) (faults : List Fault) → line ≡ other_line → HasNoLower line kind faults → HasFault other_line other faults
     → (fault_row kind).0 ≤ (fault_row other).0
 none_lower line other_line kind other [] e h has = absurd has
 none_lower line other_line kind other (f ∷ fs) e h (inl it) = subst (IsNotBelow kind) it.1 (h.0 (it.0 ∙ sym e))
@@ -94,28 +94,28 @@ begun_by line most [] all begins = absurd begins
 begun_by line most (f ∷ fs) all (inl it) = begun_by line most fs all.1 it
 begun_by line most (f ∷ fs) all (inr it) = omega (arith, all.0, it.1)
 
-at_most : (most line : ℕ) (stmt : Option Stmt) (state : PassState) (faults : List Fault) → line ≤ most → AreAtMost most faults → AreAtMost most (fault_at line stmt state faults)
+at_most : (most line : ℕ) (stmt : Option Stmt) (state : PassState) (faults : List Fault) → line ≤ most → AreAtMost most faults → AreAtMost most (with_fault_at line stmt state faults)
 unfolding AreAtMost
 at_most most line None state faults le all = all
 at_most most line (Some stmt) state faults le all = (le, all)
 
-faults_at_most : (most : ℕ) (items : List Item) → AllByRecursion (λ earlier. earlier.line ≤ most) items → AreAtMost most (faults_after items)
+faults_at_most : (most : ℕ) (items : List Item) → AllByRecursion (λ earlier. earlier.line ≤ most) items → AreAtMost most (statement_faults_after items)
 unfolding AreAtMost
 faults_at_most most [] all = tt
-faults_at_most most (item ∷ before) all = at_most most item.line item.stmt (state_after before) (faults_after before) all.0 (faults_at_most most before all.1)
+faults_at_most most (item ∷ before) all = at_most most item.line item.stmt (state_after before) (statement_faults_after before) all.0 (faults_at_most most before all.1)
 
 below_line : (first line : ℕ) (stmt : Option Stmt) (state : PassState) (faults : List Fault) → AreAtMost line faults → (BeginOn first faults → NoneBelow first faults)
-    → BeginOn first (fault_at line stmt state faults) → NoneBelow first (fault_at line stmt state faults)
+    → BeginOn first (with_fault_at line stmt state faults) → NoneBelow first (with_fault_at line stmt state faults)
 below_line first line None state faults most h begins = h begins
 below_line first line (Some stmt) state faults most h (inl it) = ((λ lower. let le : first ≤ line = begun_by first line faults most it in absurd (omega (arith, le, lower))), h it)
 below_line first line (Some stmt) state faults most h (inr it) = ((λ lower. let e : line ≡ first = it.1 in absurd (omega (arith, e, lower))), sound_below first faults it.0)
 
-begun_below : (first : ℕ) (items : List Item) → Ascend items → BeginOn first (faults_after items) → NoneBelow first (faults_after items)
+begun_below : (first : ℕ) (items : List Item) → Ascend items → BeginOn first (statement_faults_after items) → NoneBelow first (statement_faults_after items)
 begun_below first [] ascend begins = tt
 begun_below first (item ∷ before) ascend begins =
-    below_line first item.line item.stmt (state_after before) (faults_after before) (faults_at_most item.line before ascend.0) (begun_below first before ascend.1) begins
+    below_line first item.line item.stmt (state_after before) (statement_faults_after before) (faults_at_most item.line before ascend.0) (begun_below first before ascend.1) begins
 
-pub none_below : (items : List Item) (first : LineFault) → Ascend items → (state_after items).fault ≡ Some first → NoneBelow first.line (faults_after items)
+pub none_below : (items : List Item) (first : LineFault) → Ascend items → (state_after items).fault ≡ Some first → NoneBelow first.line (statement_faults_after items)
 none_below items first ascend e =
-    let is : IsFirstOf (faults_after items) (Some first) = subst (IsFirstOf (faults_after items)) e (first_is_first items) in
+    let is : IsFirstOf (statement_faults_after items) (Some first) = subst (IsFirstOf (statement_faults_after items)) e (first_is_first items) in
     begun_below first.line items ascend is.begins

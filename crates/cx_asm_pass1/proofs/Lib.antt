@@ -1,5 +1,4 @@
 pub mod LayoutLemmas
-pub mod FaultLemmas
 pub mod SymbolLemmas
 pub mod LengthLemmas
 pub mod TableLemmas

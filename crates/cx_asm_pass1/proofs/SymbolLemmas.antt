@@ -1,29 +1,19 @@
 -- Symbols that keep their first values.
 use Rattle.std.proofs.Common.{◌≡◌, ℕ, Bool, true, false, cond, Option, Some, None, Ok, Err, List, [], ◌∷◌, refl, sym, ◌∙◌, ap, subst}
-use Rattle.std.specs.Prelude.{◌||◌, is_some, option_map, pos, IsErrOf, IsOkUnless, IsTrue, MatchOption, Result}
-use Rattle.std.specs.List.{cons_option}
+use Rattle.std.specs.Prelude.{is_some, IsErrOf, IsOkUnless, IsTrue, MatchOption, Result}
 use Rattle.std.specs.Option.{option_or}
 use Rattle.cx_ebcdic.specs.Facts.Names.{is_name-decides, is_name-laws}
-use Rattle.cx_asm_expressions.specs.Names.{is_same, symbol_name}
-use Rattle.cx_asm_expressions.specs.Symbols.{Symbols, Defines, absolute, find_in}
+use Rattle.cx_asm_expressions.specs.Names.{is_same}
+use Rattle.cx_asm_expressions.specs.Symbols.{Symbols, Defines, find_in}
 use Rattle.cx_asm_expressions.specs.declared.faults.FaultKind.{FaultKind}
 use Rattle.cx_asm_expressions.specs.declared.faults.FaultKind.TheVariants.{DuplicateSymbol}
 use Rattle.cx_asm_expressions.specs.declared.faults.TermFault.{TermFault}
 use Rattle.cx_asm_expressions.specs.declared.faults.TermFault.TheVariants.{Refused, Memory}
 use Rattle.cx_asm_expressions.specs.declared.values.Value.{Value}
-use Rattle.cx_asm_pass1.specs.Given.{is_any_known, row_symbols}
 
 absent : (a : Option Value) → is_some a ≡ false → a ≡ None
 absent None e = refl
 absent (Some x) e = let f : true ≡ false = e in cc
-
-first_false : (a b : Bool) → (a || false) ≡ false → (a || b) ≡ b
-first_false true b e = cc
-first_false false b e = refl
-
-first_true : (a b : Bool) → (a || false) ≡ true → (a || b) ≡ true
-first_true true b e = refl
-first_true false b e = cc
 
 or_none : (a : Option Value) → a ≡ option_or a None
 or_none None = refl
@@ -77,35 +67,3 @@ defined old new name value other none defines =
 pub defined_new : (old new : Symbols) (name : List ℕ) (value : Value) (other : List ℕ) (answer : Unit {0}) → Defined (find_in old name) (Ok answer)
     → Defines old name value new → find_in new other ≡ option_or (find_in old other) (find_in ((name, value) ∷ []) other)
 defined_new old new name value other answer h defines = defined old new name value other (none_defined (find_in old name) answer h) defines
-
-found_more : (b : Bool) (a : Option Value) (v : Value) (rest : Option Value) → option_or (option_or a (cond b (Some v) None)) rest ≡ option_or a (cond b (Some v) rest)
-found_more b (Some x) v rest = refl
-found_more true None v rest = refl
-found_more false None v rest = refl
-
-one_more : (a : Option Value) (one : Option (List ℕ × Value)) (rest : Symbols) (other : List ℕ)
-    → option_or (option_or a (find_in (cons_option one []) other)) (find_in rest other) ≡ option_or a (find_in (cons_option one rest) other)
-one_more a None rest other = ap (λ x. option_or x (find_in rest other)) (sym (or_none a))
-one_more a (Some d) rest other = found_more (is_same other d.0) a d.1 (find_in rest other)
-
-pub row_more : (a : Option Value) (row : List ℕ × ℕ) (rows : List (List ℕ × ℕ)) (other : List ℕ)
-    → option_or (option_or a (find_in (row_symbols (row ∷ [])) other)) (find_in (row_symbols rows) other) ≡ option_or a (find_in (row_symbols (row ∷ rows)) other)
-row_more a row rows other = one_more a (option_map (λ name. (name, absolute (pos row.1))) (symbol_name row.0)) (row_symbols rows) other
-
-known_more : (find : List ℕ → Option Value) (one : Option (List ℕ × Value)) (rest : Symbols) → is_any_known find (cons_option one []) ≡ false
-    → is_any_known find (cons_option one rest) ≡ is_any_known find rest
-known_more find None rest e = refl
-known_more find (Some d) rest e = first_false (is_some (find d.0)) (is_any_known find rest) e
-
-pub row_unknown : (find : List ℕ → Option Value) (row : List ℕ × ℕ) (rows : List (List ℕ × ℕ)) → is_any_known find (row_symbols (row ∷ [])) ≡ false
-    → is_any_known find (row_symbols (row ∷ rows)) ≡ is_any_known find (row_symbols rows)
-row_unknown find row rows e = known_more find (option_map (λ name. (name, absolute (pos row.1))) (symbol_name row.0)) (row_symbols rows) e
-
-known_first : (find : List ℕ → Option Value) (one : Option (List ℕ × Value)) (rest : Symbols) → is_any_known find (cons_option one []) ≡ true
-    → is_any_known find (cons_option one rest) ≡ true
-known_first find None rest e = cc
-known_first find (Some d) rest e = first_true (is_some (find d.0)) (is_any_known find rest) e
-
-pub row_known : (find : List ℕ → Option Value) (row : List ℕ × ℕ) (rows : List (List ℕ × ℕ)) → is_any_known find (row_symbols (row ∷ [])) ≡ true
-    → is_any_known find (row_symbols (row ∷ rows)) ≡ true
-row_known find row rows e = known_first find (option_map (λ name. (name, absolute (pos row.1))) (symbol_name row.0)) (row_symbols rows) e

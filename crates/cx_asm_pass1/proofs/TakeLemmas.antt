@@ -11,7 +11,7 @@ use Rattle.cx_asm_expressions.specs.declared.faults.FaultKind.{FaultKind}
 use Rattle.cx_asm_expressions.specs.declared.values.Value.{Value}
 use Rattle.cx_asm_pools.specs.Pools.{OpenLiterals, PlacedLiterals}
 use Rattle.cx_asm_pass1.specs.Given.{definitions}
-use Rattle.cx_asm_pass1.specs.PassState.{PassState, next_state, control_after, fault_in, given_in, extent_in, length_after, literal_fault, first_fault_after, own_fault, parts_in, pool_after, pools_after, role_in, name_in, section_after}
+use Rattle.cx_asm_pass1.specs.PassState.{PassState, next_state, control_after, statement_fault_in, given_in, extent_in, length_after, literal_fault, first_fault_after, own_fault, parts_in, pool_after, pools_after, role_in, name_in, section_after}
 use Rattle.cx_asm_pass1.specs.Parts.Checking.{heading_in}
 use Rattle.cx_asm_pass1.specs.declared.faults.Heading.{Heading}
 use Rattle.cx_asm_pass1.specs.declared.layout.Extent.{Extent}
@@ -63,7 +63,7 @@ taken line stmt state h l v f ps user number literals all listed eh el ev ef eps
 -- the statement's lowest fault
 pub fault_reported : (stmt : Stmt) (state : PassState) (h : Heading) (f : Option FaultKind) (ps : List (List ℕ)) (user : ℕ) (literals all : Option FaultKind)
     → h ≡ heading_in stmt state → f ≡ own_fault stmt state → ps ≡ parts_in stmt → user ≡ length state.places
-    → literals ≡ literal_fault h.role user ps state.pool → all ≡ lower f literals → all ≡ fault_in stmt state
+    → literals ≡ literal_fault h.role user ps state.pool → all ≡ lower f literals → all ≡ statement_fault_in stmt state
 fault_reported stmt state h f ps user literals all eh ef eps eu elit eall =
     eall ∙ ap (λ (x : Option FaultKind). lower x literals) ef
     ∙ ap (λ (x : Option FaultKind). lower (own_fault stmt state) x)

@@ -4,7 +4,7 @@ use Rattle.cx_source.specs.declared.source.Item.{Item}
 use Rattle.cx_source.specs.declared.source.Source.{Source}
 use Rattle.cx_asm_expressions.specs.Faults.{lower_of}
 use Rattle.cx_asm_expressions.specs.declared.faults.FaultKind.{FaultKind}
-use Rattle.cx_asm_pass1.specs.PassState.{fault_in, state_after, line_fault}
+use Rattle.cx_asm_pass1.specs.PassState.{statement_fault_in, state_after, line_fault}
 use Rattle.cx_asm_pass1.specs.declared.place.LineFault.{LineFault}
 
 -- A fault of a line goes last, or where the line has one already into its place, if it is lower.
@@ -19,7 +19,8 @@ with_fault line (Some kind) (fault ∷ more) =
 abbrev pub faults_after : List Item → List LineFault
 faults_after [] = []
 faults_after (item ∷ before) =
-    with_fault item.line (option_and_then (λ stmt. fault_in stmt (state_after before)) item.stmt) (faults_after before)
+    with_fault item.line (option_and_then (λ stmt. statement_fault_in stmt (state_after before)) item.stmt)
+    (faults_after before)
 
 abbrev pub place_faults : Source → List LineFault
 place_faults source = faults_after (reverse source.items)

@@ -15,7 +15,7 @@ use Rattle.cx_asm_expressions.specs.Weights.{stands_in}
 use Rattle.cx_asm_expressions.specs.declared.faults.FaultKind.{FaultKind}
 use Rattle.cx_asm_expressions.specs.declared.faults.FaultKind.TheVariants.{UnknownOperation, BadOperand}
 use Rattle.cx_asm_expressions.specs.declared.values.Value.{Value}
-use Rattle.cx_asm_pools.specs.Pools.{OpenLiterals, PlacedLiterals, cap, part_fault, closed_pool, pool_extent, with_parts}
+use Rattle.cx_asm_pools.specs.Pools.{OpenLiterals, PlacedLiterals, cap, literal_constant_fault, closed_pool, pool_extent, with_parts}
 use Rattle.cx_asm_pass1.specs.Roles.{role_of}
 use Rattle.cx_asm_pass1.specs.Layout.{fault_beyond, extent_of}
 use Rattle.cx_asm_pass1.specs.Given.{definitions, duplicate, value_given}
@@ -43,8 +43,8 @@ pub record PassState : Type 0 where
   pub fault : Option LineFault
 
 -- without a statement
-abbrev pub at_start : PassState
-at_start =
+abbrev pub state_at_start : PassState
+state_at_start =
     record {
       section = None;
       control = None;
@@ -124,7 +124,8 @@ section_fault _ name section control = None
 -- the literals of an instruction, among them that the pool would go beyond the bound
 abbrev pub literal_fault : Role → ℕ → List (List ℕ) → OpenLiterals → Option FaultKind
 literal_fault (Instruction size) user parts pool =
-    lower (lowest (map part_fault parts)) (option_and_then fault_beyond (pool_extent (with_parts user pool parts)))
+    lower (lowest (map literal_constant_fault parts))
+    (option_and_then fault_beyond (pool_extent (with_parts user pool parts)))
 literal_fault _ user parts pool = None
 
 -- It defines a name again, whatever its value.
@@ -140,8 +141,8 @@ own_fault stmt state =
     ∷ duplicate_in stmt state ∷ [])
 
 -- the lowest fault of the statement
-abbrev pub fault_in : Stmt → PassState → Option FaultKind
-fault_in stmt state =
+abbrev pub statement_fault_in : Stmt → PassState → Option FaultKind
+statement_fault_in stmt state =
     lower (own_fault stmt state) (literal_fault (role_in stmt) (length state.places) (parts_in stmt) state.pool)
 
 abbrev pub line_fault : ℕ → FaultKind → LineFault
@@ -217,7 +218,7 @@ next_state line stmt state =
       pool = pool_after (role_in stmt) (length state.places) (parts_in stmt) state.pool;
       pools = pools_after (role_in stmt) (extent_in stmt state).offset state.pool state.pools;
       places = state.places ++ place_in stmt state ∷ [];
-      fault = first_fault_after line (fault_in stmt state) state.fault;
+      fault = first_fault_after line (statement_fault_in stmt state) state.fault;
     }
 
 -- a comment, and a line that continues a statement, add nothing
@@ -227,5 +228,5 @@ after_line line (Some stmt) state = next_state line stmt state
 
 -- what is known by lines, the latest first
 abbrev pub state_after : List Item → PassState
-state_after [] = at_start
+state_after [] = state_at_start
 state_after (item ∷ before) = after_line item.line item.stmt (state_after before)

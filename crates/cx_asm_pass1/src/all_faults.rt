@@ -54,7 +54,7 @@ impl Model for LineFaults {
 }
 
 impl LineFaults {
-    /// No fault. It takes no memory.
+    /// A list without a fault. It takes no memory.
     pub fn new(alloc: Global) -> LineFaults
         ensures { result ≡ [] }
     {

@@ -67,7 +67,8 @@ pub(crate) fn place_value(section: Option<Name8>, offset: u128, length: u128) ->
     }
 }
 
-/// Where the location counter is, with a length attribute: nowhere before the first section. It takes no memory.
+/// The value of the location counter at an offset, in bytes, of a section, with this length attribute; None before the
+/// first section, where it is nowhere. An offset beyond 2^100 counts as one more than that. It takes no memory.
 pub fn location_counter(section: Option<Name8>, offset: u128, length: u128) -> Option<Value>
     ensures { result ≡ location_counter section offset length }
 {

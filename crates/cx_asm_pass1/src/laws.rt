@@ -14,7 +14,7 @@ ghost use Rattle.cx_asm_pools.specs.Pools.{PlacedLiterals, cap, closed_pool};
 ghost use Rattle.cx_asm_pass1.specs.PassState.{PassState, next_state, is_control, state_after, extent_in, parts_in, place_in, role_in};
 ghost use Rattle.cx_asm_pass1.specs.Laws.Apart.{AreApart, ClosesApart, EndWithin, Stands, control_length, section_length, stretches_after};
 ghost use Rattle.cx_asm_pass1.specs.Laws.Definitions.{definitions_after};
-ghost use Rattle.cx_asm_pass1.specs.Laws.FirstFaults.{Ascend, Fault, IsFirstOf, NoneBelow, faults_after};
+ghost use Rattle.cx_asm_pass1.specs.Laws.FirstFaults.{Ascend, Fault, IsFirstOf, NoneBelow, statement_faults_after};
 ghost use Rattle.cx_asm_pass1.specs.Locations.{all_pools, last_pool_extent};
 ghost use Rattle.cx_asm_pass1.specs.declared.place.LineFault.{LineFault};
 ghost use Rattle.cx_asm_pass1.specs.declared.place.Place.{Place};
@@ -24,7 +24,7 @@ ghost use Rattle.cx_asm_pass1.specs.declared.roles.Role.TheVariants.{Pool};
 /// line; and no statement of that line has a fault with a lower number. Where there is none no statement has a fault.
 #[tactic(auto, using(crate::proofs::FirstLemmas::first_is_first))]
 pub fn first_fault_is_first()
-    ensures { (items : List Item) → IsFirstOf (faults_after items) (state_after items).fault }
+    ensures { (items : List Item) → IsFirstOf (statement_faults_after items) (state_after items).fault }
 {}
 
 /// There is one first fault of statements, or none.
@@ -38,7 +38,7 @@ pub fn the_first_fault_is_one()
 #[tactic(auto, using(crate::proofs::FirstLemmas::none_below))]
 pub fn ascending_lines_have_it_first()
     ensures { (items : List Item) (first : LineFault) → Ascend items → (state_after items).fault ≡ Some first
-        → NoneBelow first.line (faults_after items) }
+        → NoneBelow first.line (statement_faults_after items) }
 {}
 
 /// In an accepted source a statement's instruction, items or literals are placed one after the other, aligned, from its
@@ -79,12 +79,12 @@ pub fn the_last_pool_ends_the_control_section()
         state.fault ≡ None → (last_pool_extent state).end ≤ bound → ClosesApart state }
 {}
 
-/// The open pool has each text once, with its size.
+/// The pool that is open after any lines has the text of each literal once, with the size that it writes.
 pub fn the_open_pool_is_one()
     ensures { (items : List Item) → IsPool (state_after items).pool }
 {}
 
-/// A statement's place stays, however many statements follow.
+/// The place of a statement is listed after it, and stays, however many statements follow.
 #[tactic(auto, using(crate::specs::Facts::Kept::place_listed, crate::specs::Facts::Kept::place_kept))]
 pub fn places_stay()
     ensures listed { (line : ℕ) (stmt : Stmt) (state : PassState)
@@ -94,7 +94,8 @@ pub fn places_stay()
         → slice_get (state_after (more ++ before)).places index ≡ Some place }
 {}
 
-/// The pool that LTORG closes stays, and so among all pools; the last pool is after the closed ones.
+/// The pool that an LTORG closes is listed after it, and stays, however many statements follow; so it is among all
+/// pools, of which the last is the one at the control section's end.
 #[tactic(auto, using(crate::specs::Facts::Kept::pool_listed, crate::specs::Facts::Kept::pool_kept, crate::specs::Facts::Kept::pool_among, crate::specs::Facts::Kept::last_pool))]
 pub fn pools_stay()
     ensures listed { (line : ℕ) (stmt : Stmt) (state : PassState)

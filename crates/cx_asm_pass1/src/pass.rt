@@ -2,7 +2,7 @@
 
 ghost use Rattle.std.specs.Prelude.{◌≡◌, ◌≤◌, ◌+◌, [], List as Elements, ℕ, map, option_and_then, IfOk, OnOk};
 ghost use Rattle.cx_asm_expressions.specs.Digits.{bound};
-ghost use Rattle.cx_asm_pass1.specs.PassState.{next_state, after_line, at_start, control_after, control_or_blank, fault_in, length_after, length_of_section, literal_fault, next_in, parts_in, pool_after, pools_after, section_after};
+ghost use Rattle.cx_asm_pass1.specs.PassState.{next_state, after_line, state_at_start, control_after, control_or_blank, statement_fault_in, length_after, length_of_section, literal_fault, next_in, parts_in, pool_after, pools_after, section_after};
 ghost use Rattle.cx_asm_pass1.specs.Parts.Checking.{heading_in, checked_in};
 ghost use Rattle.cx_asm_pass1.specs.Parts.Passing.{state_of, length_in};
 
@@ -144,7 +144,7 @@ fn close_pool<'a>(
 impl<'a> Pass<'a> {
     /// The pass before the first statement. It takes no memory.
     pub(crate) fn start(alloc: Global) -> Pass<'a>
-        ensures { state_of result ≡ at_start }
+        ensures { state_of result ≡ state_at_start }
     {
         Pass {
             section: None,
@@ -171,7 +171,7 @@ impl<'a> Pass<'a> {
     }
 
     /// What is known of a statement.
-    #[tactic(auto, using(crate::proofs::FaultLemmas::lower_nothing), unfolding(crate::specs::Parts::Checking::checked_in))]
+    #[tactic(auto, using(cx_asm_expressions::specs::Facts::Faults::lower_nothing), unfolding(crate::specs::Parts::Checking::checked_in))]
     fn checked(
         &self,
         alloc: Global,
@@ -207,7 +207,7 @@ impl<'a> Pass<'a> {
         stmt: &'a Stmt,
     ) -> Result<Option<FaultKind>, AllocError>
         ensures state { OnOk result (state_of self.new ≡ next_state line stmt.now (state_of self.old)) }
-        ensures fault { IfOk result (λ fault. fault ≡ fault_in stmt.now (state_of self.old)) }
+        ensures fault { IfOk result (λ fault. fault ≡ statement_fault_in stmt.now (state_of self.old)) }
     {
         let heading = self.heading(stmt);
         let operand = stmt.operand.as_slice();
@@ -250,7 +250,7 @@ impl<'a> Pass<'a> {
     ) -> Result<Option<FaultKind>, AllocError>
         ensures state { OnOk result (state_of self.new ≡ after_line item.now.line item.now.stmt (state_of self.old)) }
         ensures fault { IfOk result
-            (λ fault. fault ≡ option_and_then (λ stmt. fault_in stmt (state_of self.old)) item.now.stmt) }
+            (λ fault. fault ≡ option_and_then (λ stmt. statement_fault_in stmt (state_of self.old)) item.now.stmt) }
     {
         match &item.stmt {
             Some(stmt) => self.take(alloc, item.line, stmt),

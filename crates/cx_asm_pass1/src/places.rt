@@ -2,7 +2,7 @@
 
 ghost use Rattle.std.specs.Prelude.{◌≡◌, [], IfOk, List as Elements, OnOk, ℕ, reverse};
 ghost use Rattle.cx_asm_pass1.specs.AllFaults.{faults_after, place_faults};
-ghost use Rattle.cx_asm_pass1.specs.PassState.{at_start, state_after};
+ghost use Rattle.cx_asm_pass1.specs.PassState.{state_at_start, state_after};
 ghost use Rattle.cx_asm_pass1.specs.Parts.Passing.{state_of};
 ghost use Rattle.cx_asm_pass1.specs.Locations.{IsPlaced, PlacesAs, last_pool_extent, final_state, storage_length};
 
@@ -17,19 +17,19 @@ use cx_base::List;
 use cx_source::{Item, Source};
 use std::alloc::{AllocError, Global};
 
-/// Where everything of a source is.
+/// Where everything of a source is: its statements, symbols, literal pools and sections.
 #[derive(Drop)]
 pub struct Places<'a> {
     /// Where each statement is, in the source's order.
     pub statements: List<Place>,
-    /// The symbols.
+    /// The symbols that its statements define, each with the value that the first definition gives it.
     pub symbols: SymbolTable,
     /// The literal pools, in order: one for each LTORG, and that at the control section's end; each perhaps without a
     /// literal.
     pub pools: List<Pool<'a>>,
     /// The control section; None where there is none.
     pub control: Option<ControlSection>,
-    /// The length of the dummy section DFHEISTG; 0 without it.
+    /// The length of the dummy section DFHEISTG, in bytes; 0 without it.
     pub stg_length: u128,
 }
 

@@ -10,7 +10,7 @@ use cx_code::Op;
 /// What a statement's operation does in the first pass.
 #[derive(Clone, Copy, Debug, PartialEq, Eq)]
 pub enum Role {
-    /// There is no such operation.
+    /// The table of operations has no such operation.
     Unknown,
     /// A machine instruction of this many bytes.
     Instruction(usize),
@@ -20,16 +20,16 @@ pub enum Role {
     Dummy,
     /// EQU: gives a symbol a value.
     Equate,
-    /// DS, or else DC: has items.
+    /// DS, or else DC: reserves or defines the storage of its items.
     Storage {
         /// Whether it is DS.
         is_ds: bool,
     },
-    /// LTORG: has the literals used so far.
+    /// LTORG: places the literals used so far.
     Pool,
-    /// DFHREGS: defines the registers' symbols.
+    /// DFHREGS: defines the symbols R0 to R15.
     Registers,
-    /// COPY: may define a member's symbols.
+    /// COPY: defines the symbols of a member, DFHAID alone.
     Member,
     /// Every other operation: nothing.
     Nothing,
@@ -53,7 +53,7 @@ impl Role {
         }
     }
 
-    /// What an operation does, by its name. It takes no memory.
+    /// What the operation of this name, in capital letters, does; Unknown where there is none. It takes no memory.
     pub fn of(operation: &[u8]) -> Role
         ensures { result ≡ role_of (operation_named operation.now) }
     {

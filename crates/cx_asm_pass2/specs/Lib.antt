@@ -2,3 +2,5 @@
 pub mod Statements
 pub mod Whole
 pub mod SecondFaults
+-- Lemmas for the crates above.
+pub mod Facts

@@ -53,5 +53,5 @@ abbrev pub placed_items : PlacedStatement → List (List ℕ × ℕ)
 placed_items s = zip (parts_in s.stmt) s.place.items
 
 -- the first END
-abbrev pub end_of : List PlacedStatement → Option PlacedStatement
-end_of statements = find (λ s. bytes_eq s.stmt.operation (codes "END")) statements
+abbrev pub first_end : List PlacedStatement → Option PlacedStatement
+first_end statements = find (λ s. bytes_eq s.stmt.operation (codes "END")) statements

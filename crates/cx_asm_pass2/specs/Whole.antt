@@ -4,7 +4,7 @@ use Rattle.std.specs.Prelude.{ℕ, Bool, false, Option, None, option_and_then, u
 use Rattle.std.specs.Map.{lookup}
 use Rattle.std.specs.Str.{bytes_eq}
 use Rattle.cx_asm_expressions.specs.Items.{constant_in}
-use Rattle.cx_asm_expressions.specs.Bytes.{CopyOfConstant, made_of}
+use Rattle.cx_asm_expressions.specs.Bytes.{CopyOfConstant, constant_copy}
 use Rattle.cx_asm_expressions.specs.declared.values.Value.{Value}
 use Rattle.cx_asm_expressions.specs.declared.faults.FaultKind.{FaultKind}
 use Rattle.cx_asm_expressions.specs.Symbols.{find_in}
@@ -72,7 +72,7 @@ directive_context whole bases s = context whole.find (counter_of s) bases None
 
 -- one copy of an item of a DS, or of a DC or a literal, where the location counter is at this place
 abbrev pub item_made : Whole → Bool → Option Value → List ℕ → Result CopyOfConstant FaultKind
-item_made whole is_ds at text = then_check (made_of whole.find at whole.control) (constant_in is_ds text)
+item_made whole is_ds at text = then_check (constant_copy whole.find at whole.control) (constant_in is_ds text)
 
 -- what is known by the places of a first pass
 abbrev pub whole_by : Places → Whole

@@ -23,7 +23,7 @@ use cx_code::Inst;
 use cx_source::{Delimiter, cut};
 use std::alloc::{AllocError, Global};
 
-/// The fault of one copy of an item, where the location counter is at a place, if it has one.
+/// The fault of one copy of an item, as `item_made` has it; None where it has none.
 ///
 /// An error comes only where an allocation failed.
 pub fn made_fault(
@@ -101,7 +101,8 @@ fn parts_fault(
     Ok(fault)
 }
 
-/// The lowest fault of the literals that the statement of a number, from 0, uses first.
+/// The lowest fault of the literals that a statement uses first in their pool; `number` is the statement's, from 0.
+/// None where they have none.
 ///
 /// An error comes only where an allocation failed.
 pub fn literals_fault(
@@ -120,7 +121,8 @@ pub fn literals_fault(
     parts_fault(alloc, places, number, statement, parts.as_slice())
 }
 
-/// The instruction of a statement with this operation, where these bases are in use.
+/// The instruction of a statement with this operation, where these bases are in use, and the location counter is where
+/// the statement is.
 ///
 /// The faults are those of `resolve`. Memory comes only where an allocation failed.
 pub fn instruction_of(
@@ -143,7 +145,7 @@ pub fn instruction_of(
     )
 }
 
-/// The entry that an END writes.
+/// The entry that an END writes, as an offset in the control section, in bytes: 0 where it writes none.
 ///
 /// The faults are those of `read_entry`. Memory comes only where an allocation failed.
 pub fn entry_of(

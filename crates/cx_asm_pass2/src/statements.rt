@@ -4,7 +4,7 @@ ghost use Rattle.std.specs.Prelude.{◌≡◌, IfOk, IsOk, codes, length, map, o
 ghost use Rattle.std.specs.List.{filter_map, find, zip};
 ghost use Rattle.cx_asm_pass1.specs.PassState.{parts_in, role_in};
 ghost use Rattle.cx_asm_pass1.specs.Locations.{final_state};
-ghost use Rattle.cx_asm_pass2.specs.Statements.{end_of, operation_of, placed_items, placed_of, stated_in};
+ghost use Rattle.cx_asm_pass2.specs.Statements.{first_end, operation_of, placed_items, placed_of, stated_in};
 ghost use Rattle.std.specs.Str.{bytes_eq};
 
 use cx_asm_operations::Operation;
@@ -46,14 +46,14 @@ impl<'a> Model for Statement<'a> {
 }
 
 impl<'a> PlacedItem<'a> {
-    /// The line.
+    /// The line, with its number, its text and its statement.
     pub fn item(&self) -> &'a Item
         ensures { result.now ≡ self.now.item }
     {
         self.item
     }
 
-    /// Its statement, if it has one. It takes no memory.
+    /// The statement that begins on it, with its line and its place; None where none does. It takes no memory.
     pub fn statement(&self) -> Option<Statement<'a>>
         ensures { result ≡ stated_in self.now }
     {
@@ -70,28 +70,28 @@ impl<'a> PlacedItem<'a> {
 }
 
 impl<'a> Statement<'a> {
-    /// Its line's number.
+    /// The number of the line on which it begins, from 1.
     pub fn line(&self) -> usize
         ensures { result ≡ self.now.line }
     {
         self.line
     }
 
-    /// Its name, operation and operand.
+    /// Its name, operation and operand, as they are written.
     pub fn stmt(&self) -> &'a Stmt
         ensures { result.now ≡ self.now.stmt }
     {
         self.stmt
     }
 
-    /// Where it is.
+    /// Where it is, by the first pass.
     pub fn place(&self) -> &'a Place
         ensures { result.now ≡ self.now.place }
     {
         self.place
     }
 
-    /// Its operation; None where there is no such operation. It takes no memory.
+    /// Its operation; None where the table has no such operation. It takes no memory.
     pub fn operation(&self) -> Option<Operation>
         ensures { result ≡ operation_of self.now }
     {
@@ -113,7 +113,9 @@ impl<'a> Statement<'a> {
     }
 }
 
-/// The statements of lines, in their order.
+/// The statements of lines, in their order, each with its line and its place.
+///
+/// An error comes only where an allocation failed.
 pub fn stated<'a>(
     alloc: Global,
     placed: &[PlacedItem<'a>],
@@ -129,7 +131,7 @@ pub fn stated<'a>(
     Ok(found)
 }
 
-/// An item of a DS or DC, and its offset.
+/// An item of a DS or DC as it is written, and its offset in the section, in bytes.
 #[derive(Drop)]
 pub struct StatementItem<'a> {
     text: &'a [u8],
@@ -145,14 +147,14 @@ impl<'a> Model for StatementItem<'a> {
 }
 
 impl<'a> StatementItem<'a> {
-    /// The item.
+    /// The item, as it is written.
     pub fn text(&self) -> &'a [u8]
         ensures { result.now ≡ self.now.0 }
     {
         self.text
     }
 
-    /// Its offset.
+    /// Its offset in the statement's section, in bytes.
     pub fn offset(&self) -> u128
         ensures { result ≡ self.now.1 }
     {
@@ -184,7 +186,7 @@ fn items_with<'a>(
 
 /// The items of a DS or DC, each with its offset.
 ///
-/// Memory comes only where an allocation failed; where no item has a place it takes none.
+/// An error comes only where an allocation failed; where no item has a place it takes no memory.
 #[tactic(auto, using(crate::proofs::ItemLemmas::zip_of_none))]
 pub fn placed_items<'a>(
     alloc: Global,
@@ -211,7 +213,8 @@ fn place_at(places: &[Place], number: usize) -> Option<&Place>
     places.get(number)
 }
 
-/// The lines of a source in their order, each with the place of its statement: `places` are those of its statements.
+/// The lines of a source in their order, each with the place of its statement: `places` are those of all its
+/// statements, as the first pass gives them.
 ///
 /// An error comes only where an allocation failed.
 #[tactic(auto, unfolding(crate::specs::Statements::placed_of))]

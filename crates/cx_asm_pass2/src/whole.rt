@@ -17,7 +17,7 @@ use cx_asm_pools::{Pool, literal_text};
 use cx_ebcdic::Name8;
 use std::alloc::{AllocError, Global};
 
-/// The name of the control section. It takes no memory.
+/// The name of the control section; None where there is none. It takes no memory.
 pub fn control_name(places: &Places<'_>) -> Option<Name8>
     ensures { result ≡ (whole_by places.now).control }
 {
@@ -37,7 +37,8 @@ fn own_length(role: Role) -> u128
     }
 }
 
-/// Where the location counter is for a statement. It takes no memory.
+/// The value of the location counter for a statement: its place, with the length of an instruction as the length
+/// attribute, 1 of another statement; None before the first section. It takes no memory.
 pub fn counter_of(statement: &Statement<'_>) -> Option<Value>
     ensures { result ≡ counter_of statement.now }
 {
@@ -45,7 +46,8 @@ pub fn counter_of(statement: &Statement<'_>) -> Option<Value>
     location_counter(place.section, place.offset, own_length(statement.role()))
 }
 
-/// The pool that a statement's literals are in. It takes no memory.
+/// The pool that a statement's literals are in; a pool that isn't there counts as one without a literal. It takes no
+/// memory.
 pub fn pool_of<'a, 'b>(places: &'b Places<'a>, statement: &Statement<'_>) -> Option<&'b Pool<'a>>
     ensures { unwrap_or (option_map (λ pool. pool.now) result) [] ≡ pool_of (whole_by places.now) statement.now }
 {
@@ -71,7 +73,9 @@ fn literal_place(places: &Places<'_>, statement: &Statement<'_>, text: &[u8]) ->
     location_counter(statement.place().section, literal.offset, length_once(text))
 }
 
-/// The place of the statement's last operand, where it is a literal.
+/// The place of the statement's last operand, where that is a literal; else None.
+///
+/// An error comes only where an allocation failed.
 pub fn literal_of(
     alloc: Global,
     places: &Places<'_>,

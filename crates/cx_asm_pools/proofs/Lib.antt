@@ -1,5 +1,4 @@
 pub mod TextLemmas
 pub mod SizeLemmas
-pub mod FaultLemmas
 pub mod ListLemmas
 pub mod PartLemmas

@@ -49,8 +49,8 @@ abbrev pub with_parts : ℕ → OpenLiterals → List (List ℕ) → OpenLiteral
 with_parts user pool parts = fold (with_part user) pool parts
 
 -- what is wrong with an operand that is a literal: it is no constant, or its lengths are outside their limits
-abbrev pub part_fault : List ℕ → Option FaultKind
-part_fault part = option_and_then (λ text. result_err (constant_in false text)) (literal_text part)
+abbrev pub literal_constant_fault : List ℕ → Option FaultKind
+literal_constant_fault part = option_and_then (λ text. result_err (constant_in false text)) (literal_text part)
 
 -- Of several operands that may be literals the first ones are in.
 pub record UsesFirst (user : ℕ) (parts : List (List ℕ)) (old new : OpenLiterals) : Type 0 where

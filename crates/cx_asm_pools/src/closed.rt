@@ -13,10 +13,10 @@ use indexmap::IndexMap;
 use std::alloc::{AllocError, Global};
 use std::marker::Model;
 
-/// Where a literal is.
+/// Where a literal is, and which statement uses it first.
 #[derive(Clone, Copy, Debug, PartialEq, Eq)]
 pub struct Literal {
-    /// Its offset in the control section.
+    /// Its offset in the control section, in bytes.
     pub offset: u128,
     /// The number of the statement that uses it first in its pool, from 0.
     pub user: usize,
@@ -123,7 +123,8 @@ impl<'a> Pool<'a> {
         self.literals.len()
     }
 
-    /// A literal by its number, from 0, in the order of places, with its text. It takes no memory.
+    /// The literal of a number, from 0, in the order of places, with its text; None where there are no more than
+    /// `index`. It takes no memory.
     pub fn literal(&self, index: usize) -> Option<(&'a [u8], Literal)>
         ensures { option_map (λ e. (e.0.now, e.1)) result ≡ slice_get self.now index }
     {
@@ -132,7 +133,9 @@ impl<'a> Pool<'a> {
     }
 
     #[tactic(auto, using(crate::specs::Facts::Literals::grouped_once))]
-    /// The literals of an open pool in their places, by their groups, the first at an offset.
+    /// The literals of an open pool in their places, one after the other: those whose lengths are multiples of 8, then
+    /// of 4, then of 2, then the others, in each group in the order of first use. The first is at `offset`, in bytes,
+    /// at most 2^100 + 8.
     ///
     /// An error comes only where an allocation failed.
     pub fn placed(alloc: Global, pool: &OpenPool<'a>, offset: u128) -> Result<Pool<'a>, AllocError>

@@ -4,7 +4,7 @@ ghost use Rattle.std.specs.Prelude.{◌≡◌, ◌≤◌, ◌+◌, [], ◌∷◌
 ghost use Rattle.std.specs.List.{IsDistinct};
 ghost use Rattle.std.specs.Map.{keys_of, lookup};
 ghost use Rattle.std.specs.Str.{bytes_eq};
-ghost use Rattle.cx_asm_pools.specs.Pools.{UsesFirst, cap, literal_text, part_fault, pool_extent, pool_size, with_literal, with_part, with_parts, by_text};
+ghost use Rattle.cx_asm_pools.specs.Pools.{UsesFirst, cap, literal_text, literal_constant_fault, pool_extent, pool_size, with_literal, with_part, with_parts, by_text};
 ghost use Rattle.cx_asm_expressions.specs.Digits.{bound};
 ghost use Rattle.cx_asm_expressions.specs.Faults.{lowest};
 
@@ -17,7 +17,7 @@ use std::marker::Model;
 /// No place and no length goes beyond this one: 2^100.
 pub(crate) const BOUND: u128 = 0x10_0000_0000_0000_0000_0000_0000;
 
-/// A place or a length, or one more than the bound where it goes beyond it. The bound is 2^100.
+/// A place or a length, in bytes; 2^100 + 1 where it is above 2^100, the bound of all numbers. It takes no memory.
 pub fn capped(number: u128) -> u128
     ensures capped { result ≡ cap number }
     ensures bound { result ≤ bound + 1 }
@@ -28,7 +28,7 @@ pub fn capped(number: u128) -> u128
 /// What is known of a literal while its pool is open.
 #[derive(Clone, Copy, Debug, PartialEq, Eq)]
 pub struct Used {
-    /// How many bytes it has, with its duplication.
+    /// How many bytes it has: all its copies.
     pub size: u128,
     /// The number of the statement that uses it first, from 0.
     pub user: usize,
@@ -52,7 +52,8 @@ impl<'a> Model for OpenPool<'a> {
     ghost invariant = { λ pool. IsOpen pool.size (by_text pool.literals.entries) };
 }
 
-/// The text of a literal, after its equals sign, where an operand begins with one. It takes no memory.
+/// The text of a literal, which is what follows its equals sign; None where an operand doesn't begin with one. It takes
+/// no memory.
 pub fn literal_text(part: &[u8]) -> Option<&[u8]>
     ensures { option_map (λ text. text.now) result ≡ literal_text part.now }
 {
@@ -64,8 +65,8 @@ pub fn literal_text(part: &[u8]) -> Option<&[u8]>
 }
 
 /// What is wrong with an operand that is a literal, if it is one.
-fn part_fault(part: &[u8]) -> Option<FaultKind>
-    ensures { result ≡ part_fault part.now }
+fn literal_constant_fault(part: &[u8]) -> Option<FaultKind>
+    ensures { result ≡ literal_constant_fault part.now }
 {
     let text = literal_text(part)?;
     match Constant::read(text, false) {
@@ -95,7 +96,8 @@ impl<'a> OpenPool<'a> {
         self.size = 0;
     }
 
-    /// How many bytes its literals have together; None where there is no literal. It takes no memory.
+    /// How many bytes its literals have together, 2^100 + 1 where that is above 2^100; None where there is no literal.
+    /// It takes no memory.
     pub fn extent(&self) -> Option<u128>
         ensures { result ≡ pool_extent self.now }
     {
@@ -162,7 +164,7 @@ impl<'a> OpenPool<'a> {
         self.put(text, used)
     }
 
-    #[tactic(auto, using(crate::proofs::FaultLemmas::lower_in_turn))]
+    #[tactic(auto, using(cx_asm_expressions::specs::Facts::Faults::lower_in_turn))]
     /// Puts the literals among the operands of an instruction in, in turn, and answers the lowest of their faults, if
     /// there is any; `user` is the number of the statement. A faulty literal isn't put in.
     ///
@@ -174,13 +176,13 @@ impl<'a> OpenPool<'a> {
         user: usize,
     ) -> Result<Option<FaultKind>, AllocError>
         ensures used { OnOk result (self.new ≡ with_parts user self.old (map (λ part. part.now) parts.now)) }
-        ensures fault { IfOk result (λ fault. fault ≡ lowest (map part_fault (map (λ part. part.now) parts.now))) }
+        ensures fault { IfOk result (λ fault. fault ≡ lowest (map literal_constant_fault (map (λ part. part.now) parts.now))) }
         ensures err { OnErr result (UsesFirst user (map (λ part. part.now) parts.now) self.old self.new) }
         ensures known { with_parts user self.old (map (λ part. part.now) parts.now) ≡ self.old → IsOk result }
     {
         let mut fault = None;
         for part in parts {
-            fault = lower(fault, part_fault(part));
+            fault = lower(fault, literal_constant_fault(part));
             self.use_part(part, user)?;
         }
         Ok(fault)

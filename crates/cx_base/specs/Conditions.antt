@@ -32,8 +32,8 @@ abbrev pub handled_conditions : List Condition
 handled_conditions = Error ∷ Invreq ∷ Nospace ∷ Lengerr ∷ Itemerr ∷ Pgmiderr ∷ Nostg ∷ Qiderr ∷ Enqbusy ∷ []
 
 -- a condition's place among all, from 0, which is NORMAL's
-abbrev pub place_of : Condition → ℕ
-place_of condition =
+abbrev pub condition_place : Condition → ℕ
+condition_place condition =
     unwrap_or (position (λ other. (entry_of other).number == (entry_of condition).number) (Normal ∷ handled_conditions))
     0
 

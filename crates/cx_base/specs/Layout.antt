@@ -6,9 +6,9 @@ pub record Field : Type 0 where
   pub offset : ℕ
   pub len : ℕ
 
-abbrev pub field : List ℕ → ℕ → ℕ → Field
-field name offset len = record { name = name; offset = offset; len = len }
+abbrev pub layout_field : List ℕ → ℕ → ℕ → Field
+layout_field name offset len = record { name = name; offset = offset; len = len }
 
 -- the offset after a field
-abbrev pub end_of : Field → ℕ
-end_of field = field.offset + field.len
+abbrev pub field_end : Field → ℕ
+field_end field = field.offset + field.len

@@ -12,12 +12,12 @@ abbrev pub blank_page : List (List ℕ)
 blank_page = replicate 24 (replicate 80 32)
 
 -- a line of a page as it is written: with its number, and nothing where it is wholly blank
-abbrev pub numbered_line : ℕ → List ℕ → List ℕ
-numbered_line n text = if length text == 0 then [] else digits 10 2 n ++ (124 ∷ text) ++ (10 ∷ [])
+abbrev pub numbered_page_line : ℕ → List ℕ → List ℕ
+numbered_page_line n text = if length text == 0 then [] else digits 10 2 n ++ (124 ∷ text) ++ (10 ∷ [])
 
 abbrev pub lines_from : ℕ → List (List ℕ) → List ℕ
 lines_from n [] = []
-lines_from n (line ∷ lines) = numbered_line n (trim line) ++ lines_from (n + 1) lines
+lines_from n (line ∷ lines) = numbered_page_line n (trim line) ++ lines_from (n + 1) lines
 
 -- the lines that are not wholly blank, each with its number
 unfoldable pub page_text : List (List ℕ) → List ℕ

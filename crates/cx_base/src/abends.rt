@@ -9,21 +9,22 @@ use cx_ebcdic::Name4;
 /// ASRA, AICA and the question marks are CICS's customary ones; the codes with X are this product's own.
 #[derive(Clone, Copy, Debug, PartialEq, Eq)]
 pub enum Abend {
-    /// An interruption.
+    /// ASRA: an instruction was interrupted.
     Asra,
-    /// A task that runs on without a command.
+    /// AICA: 65,536 instructions of a half-turn came to no command.
     Aica,
-    /// An argument list, an input or an output that is not in storage.
+    /// XARG: a byte of a command's argument list, of its inputs or of its outputs is in no area, or the high bit is not
+    /// set on the list's last word alone.
     Xarg,
-    /// A function value that no command has, or options that are no legal set.
+    /// XFUN: a function value that no command has, or options or listed conditions that are no legal set.
     Xfun,
-    /// One level more than there may be.
+    /// XLVL: a LINK that would make a 17th level.
     Xlvl,
-    /// No place for a program's DFHEISTG.
+    /// XSTG: storage has no place for a program's DFHEISTG, or for the copy of the COMMAREA that XCTL makes.
     Xstg,
-    /// An end asked for under EDF.
+    /// XEDF: an operator ended the task, by an alteration or by PF12 under EDF.
     Xedf,
-    /// ABEND without ABCODE.
+    /// `????`: ABEND without ABCODE.
     Unnamed,
 }
 
@@ -44,7 +45,7 @@ impl Abend {
         }
     }
 
-    /// The code as it is in storage.
+    /// The code's four characters in EBCDIC.
     #[tactic(auto, unfolding(crate::specs::Abends::abend_bytes, cx_ebcdic::specs::Characters::code_of, cx_ebcdic::specs::Characters::table))]
     pub fn code(self) -> Name4
         ensures value { result ≡ abend_code self }

@@ -19,7 +19,7 @@ impl Command {
             .find(|option| option.name == name)
     }
 
-    /// Whether option byte 1 has this option of the command.
+    /// Whether option byte 1 has this option of the command. False where the command has no such option.
     #[tactic(auto, unfolding(crate::specs::Arguments::has_option))]
     pub fn has_option(self, first: u8, name: OptionName) -> bool
         ensures { result ≡ has_option self first name }
@@ -29,7 +29,7 @@ impl Command {
             .any(|option| option.name == name && has_bit(first, option.bit))
     }
 
-    /// How many of the options that option byte 1 has take an argument.
+    /// How many of the options that option byte 1 has take an argument, 0 to 8.
     #[tactic(auto, using(crate::proofs::RowLemmas::few), unfolding(crate::specs::Arguments::arguments_in))]
     pub fn argument_count(self, first: u8) -> usize
         ensures value { result ≡ length (arguments_in (row_of self).options first) }

@@ -195,7 +195,8 @@ impl Command {
         }
     }
 
-    /// Whether the command lists conditions: option byte 1 is then their number, and two bytes for each follow the block.
+    /// Whether the command lists conditions: option byte 1 is then their number, and two bytes for each follow the
+    /// block.
     pub fn lists_conditions(self) -> bool
         ensures { result ≡ lists_conditions self }
     {

@@ -2,7 +2,7 @@
 ghost use Rattle.std.specs.Prelude.{◌≡◌, ◌<◌, ◌↔◌, ◌==◌, Some};
 ghost use Rattle.std.specs.List.{find};
 ghost use Rattle.std.specs.Str.{bytes_eq};
-ghost use Rattle.cx_base.specs.Conditions.{abend_code_of, entry_of, handled_conditions, place_of};
+ghost use Rattle.cx_base.specs.Conditions.{abend_code_of, entry_of, handled_conditions, condition_place};
 
 use cx_ebcdic::Name4;
 
@@ -50,9 +50,9 @@ impl Condition {
         &Condition::ALL[1..]
     }
 
-    /// The condition's place among all, in the order of their numbers: 0 for NORMAL.
+    /// The condition's place among all, in the order of their numbers: 0 for NORMAL, 9 for the last.
     pub fn place(self) -> usize
-        ensures value { result ≡ place_of self }
+        ensures value { result ≡ condition_place self }
         ensures bound { result < CONDITIONS }
     {
         self as usize

@@ -49,7 +49,7 @@ pub fn decimal<const PLACES: usize>(n: u32) -> [u8; PLACES]
     text
 }
 
-/// Puts the hexadecimal digits of bytes, two each, in upper case, into a text of that length.
+/// Puts the hexadecimal digits of bytes, two each, in upper case, into a text of twice as many bytes.
 pub fn spell(bytes: &[u8], text: &mut [u8])
     requires { length text.old ≡ 2 * length bytes.now }
     ensures { text.new ≡ hex_digits bytes.now }

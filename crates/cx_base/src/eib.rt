@@ -1,34 +1,34 @@
 //! The layout of the EXEC interface block.
 ghost use Rattle.std.specs.Prelude.{◌≡◌, ◌≤◌};
 ghost use Rattle.cx_base.specs.Eib.{eib_field, eib_len, eib_pieces};
-ghost use Rattle.cx_base.specs.Layout.{end_of};
+ghost use Rattle.cx_base.specs.Layout.{field_end};
 
 /// A field of the EXEC interface block.
 ///
 /// Application Programmer's Reference Manual, SC33-0077, "EXEC Interface Block". The layout is this product's own.
 #[derive(Clone, Copy, Debug, PartialEq, Eq)]
 pub enum EibField {
-    /// The time of attach.
+    /// EIBTIME: the time of attach, hhmmss, packed decimal.
     Time,
-    /// The date of attach.
+    /// EIBDATE: the date of attach, yyddd, packed decimal.
     Date,
-    /// The transaction.
+    /// EIBTRNID: the transaction's name.
     Trnid,
-    /// The task's number.
+    /// EIBTASKN: the task's number, packed decimal.
     Taskn,
-    /// The terminal.
+    /// EIBTRMID: the terminal's name.
     Trmid,
-    /// The length of the COMMAREA.
+    /// EIBCALEN: the length of the COMMAREA in bytes, a halfword; 0 without one.
     Calen,
-    /// The attention identifier.
+    /// EIBAID: the code of the key that attached the task, or of the input received last.
     Aid,
-    /// The function value of the last command.
+    /// EIBFN: the function value of the last command, two bytes.
     Fn,
-    /// The condition that it met, as six bytes.
+    /// EIBRCODE: the number of the condition that it met, and five zeros.
     Rcode,
-    /// The program or queue that it named.
+    /// EIBRSRCE: the name of the program or queue that a command named last.
     Rsrce,
-    /// The condition that it met, as a fullword.
+    /// EIBRESP: the number of the condition that it met, a fullword.
     Resp,
 }
 
@@ -84,7 +84,7 @@ impl EibField {
     /// Its offset from the block's first byte.
     pub fn offset(self) -> u32
         ensures value { result ≡ (eib_field self).offset }
-        ensures within { end_of (eib_field self) ≤ eib_len }
+        ensures within { field_end (eib_field self) ≤ eib_len }
     {
         match self {
             EibField::Time => 0,
@@ -120,7 +120,7 @@ impl EibField {
     }
 }
 
-/// The whole block, its fields and the gaps between and after them, in order.
+/// The whole block of 88 bytes: its fields and the gaps between and after them, in order.
 pub fn eib_pieces() -> &'static [EibPiece]
     ensures { result.now ≡ eib_pieces }
 {

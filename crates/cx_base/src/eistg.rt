@@ -1,18 +1,18 @@
 //! The layout of the head of a program's DFHEISTG.
 ghost use Rattle.std.specs.Prelude.{◌≡◌, ◌≤◌};
 ghost use Rattle.cx_base.specs.Eistg.{eistg_field, eistg_head};
-ghost use Rattle.cx_base.specs.Layout.{end_of};
+ghost use Rattle.cx_base.specs.Layout.{field_end};
 
-/// A field at the head of a program's DFHEISTG, before the program's own fields.
+/// A field at the head of a program's DFHEISTG: of its first 80 bytes, which come before the program's fields.
 ///
-/// The layout is this product's own.
+/// The layout is this product's.
 #[derive(Clone, Copy, Debug, PartialEq, Eq)]
 pub enum EistgField {
-    /// The words of the argument list.
+    /// DFHEIPL: the words of an argument list, at most eighteen.
     Eipl,
-    /// A pointer that a command answers.
+    /// DFHEITP: the word that gets a pointer which a command gives.
     Eitp,
-    /// The address of the COMMAREA.
+    /// DFHEICAP: the address of the COMMAREA; 0 without one.
     Eicap,
 }
 
@@ -31,7 +31,7 @@ impl EistgField {
     /// Its offset from the first byte of DFHEISTG.
     pub fn offset(self) -> u32
         ensures value { result ≡ (eistg_field self).offset }
-        ensures within { end_of (eistg_field self) ≤ eistg_head }
+        ensures within { field_end (eistg_field self) ≤ eistg_head }
     {
         match self {
             EistgField::Eipl => 0,

@@ -12,7 +12,7 @@ ghost use Rattle.cx_base.specs.Options.{is_option};
 ghost use Rattle.cx_base.specs.Eib.{eib_field, eib_fields, eib_len, eib_pieces};
 ghost use Rattle.cx_base.specs.Eistg.{eistg_field, eistg_fields, eistg_head};
 ghost use Rattle.cx_base.specs.Laws.Layouts.{lie_in_order};
-ghost use Rattle.cx_base.specs.Laws.Rows.{are_apart, has_own_bits, have_own_names, measured_have_length, rules_name_options};
+ghost use Rattle.cx_base.specs.Laws.Rows.{have_own_bits, has_own_bits, have_own_names, measured_have_length, rules_name_options};
 ghost use Rattle.cx_base.specs.declared.commands.Command.{Command};
 ghost use Rattle.cx_base.specs.declared.eib.EibField.{EibField};
 ghost use Rattle.cx_base.specs.declared.eistg.EistgField.{EistgField};
@@ -50,7 +50,7 @@ pub fn other_names_stay<K: Eq, V>()
 /// Each option of a command has a bit of its own.
 pub fn options_have_bits_of_their_own()
     ensures one_bit { (command : Command) → IsTrue (has_own_bits (row_of command).options) }
-    ensures apart { (command : Command) → IsTrue (are_apart (row_of command).options) }
+    ensures apart { (command : Command) → IsTrue (have_own_bits (row_of command).options) }
 {}
 
 /// Each option of a command has a name of its own.
@@ -63,12 +63,12 @@ pub fn rules_speak_of_options()
     ensures { (command : Command) → IsTrue (rules_name_options (row_of command).options (row_of command).rules) }
 {}
 
-/// Where a command reads or writes bytes, LENGTH is given with them.
+/// Each option at which a command reads or writes as many bytes as LENGTH says has LENGTH beside it.
 pub fn bytes_have_a_length()
     ensures { (command : Command) → IsTrue (measured_have_length (row_of command).options (row_of command).rules) }
 {}
 
-/// Two options are the same exactly where they are one option.
+/// `is_option` is true exactly where both are the same option.
 pub fn options_are_themselves()
     ensures { (one other : OptionName) → (is_option one other ≡ true) ↔ (one ≡ other) }
 {}

@@ -28,7 +28,7 @@ impl<T> List<T> {
         List { items }
     }
 
-    /// The elements as a `Vec`. It takes no memory.
+    /// The elements as a `Vec`, in their order. It takes no memory.
     pub fn into_vec(self) -> Vec<T>
         ensures { result.items ≡ self }
     {
@@ -36,7 +36,7 @@ impl<T> List<T> {
         items
     }
 
-    /// The elements.
+    /// The elements, in their order.
     pub fn as_slice(&self) -> &[T]
         ensures { result.now ≡ self.now }
     {

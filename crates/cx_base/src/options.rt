@@ -136,14 +136,15 @@ fn with_name(options: &[OptionName], name: &[u8]) -> Option<OptionName>
 /// Application Programmer's Reference Manual, SC33-0077, "Exceptional conditions". The bits are this product's own.
 #[derive(Clone, Copy, Debug, PartialEq, Eq)]
 pub enum CommonOption {
-    /// What HANDLE and IGNORE CONDITION asked for isn't looked at.
+    /// NOHANDLE: what HANDLE and IGNORE CONDITION asked for isn't looked at. The program goes on after a condition, but
+    /// waits at NOSPACE, NOSTG and ENQBUSY where NOSUSPEND isn't given.
     Nohandle,
-    /// The same, and the condition's number is written into a fullword.
+    /// RESP: as NOHANDLE, and the condition's number is written into a fullword.
     Resp,
 }
 
 impl CommonOption {
-    /// The option's name.
+    /// The option's name, as `NOHANDLE`.
     pub fn name(self) -> &'static str
         ensures { result.now ≡ (common_of self).name }
     {
@@ -153,7 +154,7 @@ impl CommonOption {
         }
     }
 
-    /// Its bit in option byte 2.
+    /// Its bit in option byte 2: X'80' of NOHANDLE, X'40' of RESP.
     pub fn bit(self) -> u8
         ensures { result ≡ (common_of self).bit }
     {
@@ -163,21 +164,21 @@ impl CommonOption {
         }
     }
 
-    /// Whether option byte 2 has it.
+    /// Whether option byte 2 has its bit.
     pub fn is_in(self, second: u8) -> bool
         ensures { result ≡ has_bit second (common_of self).bit }
     {
         has_bit(second, self.bit())
     }
 
-    /// Whether it has an argument, and so the last word of the argument list.
+    /// Whether it has an argument, and so the last word of the argument list: RESP alone has.
     pub fn takes_argument(self) -> bool
         ensures { result ≡ (common_of self).has_argument }
     {
         matches!(self, CommonOption::Resp)
     }
 
-    /// The option of that name, as bytes of text, or None where it is neither's.
+    /// The option of that name, as bytes of text, or None where it is neither's name.
     pub fn named(name: &[u8]) -> Option<CommonOption>
         ensures { (option : CommonOption) → (result ≡ Some option) ↔ ((common_of option).name ≡ name.now) }
     {
@@ -206,9 +207,9 @@ pub enum ArgumentKind {
     BytesOrAddress,
     /// One byte that the command reads.
     Byte,
-    /// A name of four bytes.
+    /// A name of four bytes that the command reads.
     Name4,
-    /// A name of eight bytes.
+    /// A name of eight bytes that the command reads.
     Name8,
     /// A halfword that the command reads.
     Halfword,
@@ -246,7 +247,7 @@ pub struct CommandOption {
     pub required: bool,
 }
 
-/// A rule of a command's legal sets of options. Options are named by their bits.
+/// A rule of a command's legal sets of options. Options are named by their bits in option byte 1.
 #[derive(Clone, Copy, Debug, PartialEq, Eq)]
 pub enum Rule {
     /// Both or neither.

@@ -1,7 +1,7 @@
 //! Pages of 24 lines of 80 characters.
 
 ghost use Rattle.std.specs.Prelude.{◌≡◌, ◌≤◌, ◌-◌, ◌++◌, IfOk, OnOk, List, length, map, slice_set};
-ghost use Rattle.cx_base.specs.Pages.{IsPage, blank_page, lines_from, numbered_line, page_text};
+ghost use Rattle.cx_base.specs.Pages.{IsPage, blank_page, lines_from, numbered_page_line, page_text};
 ghost use Rattle.cx_base.specs.Texts.{in_columns, join, shown_text, trim};
 
 use crate::digits::decimal;
@@ -45,7 +45,8 @@ impl Page {
         }
     }
 
-    /// The page that shows these lines of bytes through the character table. It takes no memory.
+    /// The page that shows these lines of bytes, each byte by its character in EBCDIC, or a period where it has none.
+    /// It takes no memory.
     pub fn of_bytes(lines: &[[u8; COLUMNS]; LINES]) -> Page
         requires { IsPage lines.now }
         ensures { result ≡ map shown_text lines.now }
@@ -55,7 +56,7 @@ impl Page {
         Page { lines: page }
     }
 
-    /// The lines, from the top.
+    /// The 24 lines, from the top, each of 80 characters.
     pub fn lines(&self) -> &[[u8; COLUMNS]; LINES]
         ensures lines { result.now ≡ self.now }
         ensures sound { IsPage self.now }
@@ -63,8 +64,8 @@ impl Page {
         &self.lines
     }
 
-    /// Puts pieces, one after the other, in place of a line, counted from 1: what is beyond the line is cut, and blanks
-    /// fill it. It takes no memory.
+    /// Puts pieces, one after the other, in place of a line, counted from 1 to 24: what is past column 80 is cut, and
+    /// blanks fill the line. It takes no memory.
     pub fn put_line(&mut self, line: usize, pieces: &[&[u8]])
         requires from { 1 ≤ line }
         requires to { line ≤ 24 }
@@ -74,7 +75,8 @@ impl Page {
         self.lines[line - 1] = in_columns(pieces);
     }
 
-    /// The lines that are not wholly blank, each with its number, without the blanks at its end, and with LF.
+    /// Puts the lines that are not wholly blank after a text: each with its number in two digits, `|`, its characters
+    /// without the blanks at its end, and LF.
     ///
     /// An error comes only where memory for them was refused; of the text nothing is promised then.
     #[tactic(auto, unfolding(crate::specs::Pages::page_text))]
@@ -98,7 +100,7 @@ fn push_lines(text: &mut Vec<u8>, lines: &[[u8; COLUMNS]]) -> Result<(), AllocEr
 
 /// Adds a line of a page with its number, unless it is wholly blank.
 fn push_line(text: &mut Vec<u8>, number: u32, line: &[u8]) -> Result<(), AllocError>
-    ensures { OnOk result (text.new.items ≡ text.old.items ++ numbered_line number (trim line.now)) }
+    ensures { OnOk result (text.new.items ≡ text.old.items ++ numbered_page_line number (trim line.now)) }
 {
     let line = trim(line);
     if line.is_empty() {

@@ -15,7 +15,7 @@ pub fn replica_of_items<T: Replica>(alloc: Global, items: &[T]) -> Result<Vec<T>
     Ok(copy)
 }
 
-/// Whether two lists are equal.
+/// Whether two lists have equal values in the same order.
 pub fn are_same_items<T: Same>(ones: &[T], others: &[T]) -> bool
     ensures { IsTrue result ↔ (ones.now ≡ others.now) }
 {

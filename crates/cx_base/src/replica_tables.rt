@@ -8,7 +8,8 @@ use indexmap::IndexMap;
 use std::alloc::{AllocError, Global};
 use std::hash::Hash;
 
-/// A table with equal entries in the same order. An error comes only where an allocation failed.
+/// A table with equal entries in the same order, of a table in which no name stands twice. An error comes only where an
+/// allocation failed.
 pub fn replica_of_table<K: Copy + Eq + Hash + Drop, V: Replica>(
     alloc: Global,
     table: &IndexMap<K, V>,

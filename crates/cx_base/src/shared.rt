@@ -6,7 +6,7 @@ use crate::replica::{Replica, Same};
 use std::alloc::{AllocError, Global};
 use std::rc::Rc;
 
-/// A value to be shared: the earlier one in its place where the two are equal.
+/// A value to be shared: `earlier` where the two are equal, else this one.
 ///
 /// An error comes only where an allocation failed.
 pub fn share<T: Same + Drop>(
@@ -24,7 +24,7 @@ pub fn share<T: Same + Drop>(
     Ok(Rc::new(alloc, value)?)
 }
 
-/// A value equal to another, to be shared: the earlier one where it is equal.
+/// A value equal to `value`, to be shared: `earlier` where it is equal, else one that is made anew.
 ///
 /// An error comes only where an allocation failed.
 pub fn share_replica<T: Replica>(

@@ -19,7 +19,7 @@ pub fn shown_byte(byte: u8) -> u8
     shown_as(byte) as u8
 }
 
-/// Bytes as they are shown.
+/// Bytes as they are shown: a character for each byte.
 ///
 /// An error comes only where memory for them was refused.
 pub fn shown(alloc: Global, bytes: &[u8]) -> Result<Vec<u8>, AllocError>
@@ -28,7 +28,7 @@ pub fn shown(alloc: Global, bytes: &[u8]) -> Result<Vec<u8>, AllocError>
     bytes.iter().map(|byte| shown_byte(*byte)).collect(alloc)
 }
 
-/// Bytes as they are shown. It takes no memory.
+/// Bytes as they are shown: a character for each byte. It takes no memory.
 pub fn shown_bytes<const COUNT: usize>(bytes: &[u8; COUNT]) -> [u8; COUNT]
     ensures { result ≡ shown_text bytes.now }
 {
@@ -46,7 +46,7 @@ fn show(bytes: &mut [u8])
     }
 }
 
-/// A name without the blanks that fill it, as it is shown.
+/// A name as it is shown, up to its first blank (X'40').
 ///
 /// An error comes only where memory for it was refused.
 #[tactic(auto, unfolding(crate::specs::Texts::shown_name))]
@@ -70,7 +70,7 @@ fn shown_word(alloc: Global, bytes: &[u8]) -> Result<Vec<u8>, AllocError>
         .collect(alloc)
 }
 
-/// A line of these words.
+/// A line of these words, with one blank between two, and LF at its end.
 ///
 /// An error comes only where memory for it was refused.
 pub fn written_line(alloc: Global, first: &[u8], words: &[&[u8]]) -> Result<Vec<u8>, AllocError>

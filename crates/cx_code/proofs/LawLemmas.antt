@@ -6,7 +6,7 @@ use Rattle.std.proofs.lemmas.List.{take-append-drop}
 use Rattle.cx_code.specs.declared.table.Op.{Op}
 use Rattle.cx_code.specs.declared.instruction.Fields.{Fields}
 use Rattle.cx_code.specs.declared.instruction.Fields.TheVariants.{Rr, Rx, Rs, Si, Ss, Ss2}
-use Rattle.cx_code.specs.Table.{row_of, ops, code_of, mnemonic_of, length_of, length_of_code, is_shift, op_at, op_named}
+use Rattle.cx_code.specs.Table.{operation_row, ops, code_of, mnemonic_of, length_of, length_of_code, is_shift, op_at, op_named}
 use Rattle.cx_code.specs.Spelling.{Instruction, instruction, IsWellFormed, spelling, Spells, Reads, with_r3_zero, AreBytes}
 use Rattle.cx_code.specs.Parts.Bytes.{bytes_with}
 use Rattle.cx_code.specs.Reading.{reading, canonical, canonical_as}
@@ -21,7 +21,7 @@ pub one_mnemonic : (name : List ℕ) (op : Op) → (op_named name ≡ Some op) �
 one_mnemonic name op = (mnemonic_of-op_named name op, λ e. sym (ap op_named e) ∙ op_named-mnemonic_of op)
 
 lengths_agree : list_all (λ o. eqb (length_of_code (code_of o)) (length_of o)) ops ≡ true
-unfolding ops row_of
+unfolding ops operation_row
 lengths_agree = refl
 
 pub first_bits : (op : Op) → length_of_code (code_of op) ≡ length_of op

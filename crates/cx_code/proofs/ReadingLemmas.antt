@@ -8,16 +8,16 @@ use Rattle.cx_code.specs.declared.table.Format.{Format}
 use Rattle.cx_code.specs.declared.table.Format.TheVariants as form
 use Rattle.cx_code.specs.declared.instruction.Fields.{Fields}
 use Rattle.cx_code.specs.declared.instruction.Fields.TheVariants.{Rr, Rx, Rs, Si, Ss, Ss2}
-use Rattle.cx_code.specs.Table.{row_of, code_of, format_of, length_of, length_of_format, is_shift, op_at}
+use Rattle.cx_code.specs.Table.{operation_row, code_of, format_of, length_of, length_of_format, is_shift, op_at}
 use Rattle.cx_code.specs.Spelling.{Instruction, instruction, AreInRange, format_with, r3_of, IsWellFormed, spelling, Spells, Reads, with_r3_zero, AreBytes}
 use Rattle.cx_code.specs.Parts.Bytes.{bytes_with}
-use Rattle.cx_code.specs.Reading.{reading, reading_as, fields_in, fields_at, without_r3, base_at, displacement_at}
+use Rattle.cx_code.specs.Reading.{reading, reading_as, decoded_fields, fields_at, without_r3, base_at, displacement_at}
 use Rattle.cx_code.proofs.TableLemmas.{op_at-code_of, code_of-op_at}
 use Rattle.cx_code.proofs.SpellingLemmas.{spelling_bytes}
 
 -- a shift's format is RS
 pub shift_format : (op : Op) → is_shift op ≡ true → format_of op ≡ form.Rs
-unfolding is_shift row_of
+unfolding is_shift operation_row
 shift_format Srl h = refl
 shift_format Sll h = refl
 shift_format Sra h = refl
@@ -26,39 +26,39 @@ shift_format Srda h = refl
 shift_format _ h = cc
 
 -- the fields are in the bytes that they make
-pub fields_in-bytes : (c : ℕ) (fields : Fields) (rest : List ℕ) → AreInRange fields → fields_in (format_with fields) (bytes_with c fields ++ rest) ≡ fields
-unfolding fields_in
-fields_in-bytes c (Rr r1 r2) rest h =
+pub decoded_fields-bytes : (c : ℕ) (fields : Fields) (rest : List ℕ) → AreInRange fields → decoded_fields (format_with fields) (bytes_with c fields ++ rest) ≡ fields
+unfolding decoded_fields
+decoded_fields-bytes c (Rr r1 r2) rest h =
     let e1 : (16 * r1 + r2) / 16 ≡ r1 = omega arith in
     let e2 : (16 * r1 + r2) % 16 ≡ r2 = omega arith in
     cc
-fields_in-bytes c (Rx r1 x2 b2 d2) rest h =
+decoded_fields-bytes c (Rx r1 x2 b2 d2) rest h =
     let e1 : (16 * r1 + x2) / 16 ≡ r1 = omega arith in
     let e2 : (16 * r1 + x2) % 16 ≡ x2 = omega arith in
     let bytes = bytes_with c (Rx r1 x2 b2 d2) ++ rest in
     let e3 : base_at 2 bytes ≡ b2 = omega arith in
     let e4 : displacement_at 2 bytes ≡ d2 = omega arith in
     cc
-fields_in-bytes c (Rs r1 r3 b2 d2) rest h =
+decoded_fields-bytes c (Rs r1 r3 b2 d2) rest h =
     let e1 : (16 * r1 + r3) / 16 ≡ r1 = omega arith in
     let e2 : (16 * r1 + r3) % 16 ≡ r3 = omega arith in
     let bytes = bytes_with c (Rs r1 r3 b2 d2) ++ rest in
     let e3 : base_at 2 bytes ≡ b2 = omega arith in
     let e4 : displacement_at 2 bytes ≡ d2 = omega arith in
     cc
-fields_in-bytes c (Si i2 b1 d1) rest h =
+decoded_fields-bytes c (Si i2 b1 d1) rest h =
     let bytes = bytes_with c (Si i2 b1 d1) ++ rest in
     let e3 : base_at 2 bytes ≡ b1 = omega arith in
     let e4 : displacement_at 2 bytes ≡ d1 = omega arith in
     cc
-fields_in-bytes c (Ss l b1 d1 b2 d2) rest h =
+decoded_fields-bytes c (Ss l b1 d1 b2 d2) rest h =
     let bytes = bytes_with c (Ss l b1 d1 b2 d2) ++ rest in
     let e3 : base_at 2 bytes ≡ b1 = omega arith in
     let e4 : displacement_at 2 bytes ≡ d1 = omega arith in
     let e5 : base_at 4 bytes ≡ b2 = omega arith in
     let e6 : displacement_at 4 bytes ≡ d2 = omega arith in
     cc
-fields_in-bytes c (Ss2 l1 l2 b1 d1 b2 d2) rest h =
+decoded_fields-bytes c (Ss2 l1 l2 b1 d1 b2 d2) rest h =
     let e1 : (16 * l1 + l2) / 16 ≡ l1 = omega arith in
     let e2 : (16 * l1 + l2) % 16 ≡ l2 = omega arith in
     let bytes = bytes_with c (Ss2 l1 l2 b1 d1 b2 d2) ++ rest in
@@ -75,11 +75,11 @@ reading_from op bytes e h =
     let long : nat_lt (length bytes) (length_of op) ≡ false = le-ltb _ _ h in
     rw (e, op_at-code_of op, long) refl
 
-fields_at-plain : (op : Op) (bytes : List ℕ) → is_shift op ≡ false → fields_at op bytes ≡ fields_in (format_of op) bytes
+fields_at-plain : (op : Op) (bytes : List ℕ) → is_shift op ≡ false → fields_at op bytes ≡ decoded_fields (format_of op) bytes
 unfolding fields_at
 fields_at-plain op bytes e = rw e refl
 
-fields_at-shift : (op : Op) (bytes : List ℕ) → is_shift op ≡ true → fields_at op bytes ≡ without_r3 (fields_in form.Rs bytes)
+fields_at-shift : (op : Op) (bytes : List ℕ) → is_shift op ≡ true → fields_at op bytes ≡ without_r3 (decoded_fields form.Rs bytes)
 unfolding fields_at
 fields_at-shift op bytes e = rw (e, shift_format op e) refl
 
@@ -107,11 +107,11 @@ read_plain op fields rest e same h =
     let long : length_of op ≤ length bytes =
     omega (arith, length_bytes_with (code_of op) fields rest, ap length_of_format same) in
     reading_from op bytes (first_byte (code_of op) fields rest) long
-    ∙ ap (λ (f : Fields). Some (instruction op f)) (fields_at-plain op bytes e ∙ ap (λ (f : Format). fields_in f bytes) (sym same) ∙ fields_in-bytes (code_of op) fields rest h)
+    ∙ ap (λ (f : Fields). Some (instruction op f)) (fields_at-plain op bytes e ∙ ap (λ (f : Format). decoded_fields f bytes) (sym same) ∙ decoded_fields-bytes (code_of op) fields rest h)
 
 -- a shift is read again, whatever its R3 field holds and whatever follows
 read_shift : (op : Op) (r1 b2 d2 : ℕ) (bytes rest : List ℕ) → is_shift op ≡ true → (r1 < 16) × (b2 < 16) × (d2 < 4096) → with_r3_zero bytes ≡ bytes_with (code_of op) (Rs r1 0 b2 d2) → reading (bytes ++ rest) ≡ Some (instruction op (Rs r1 0 b2 d2))
-unfolding fields_in
+unfolding decoded_fields
 read_shift op r1 b2 d2 [] rest e h same = cc
 read_shift op r1 b2 d2 (c ∷ []) rest e h same = cc
 read_shift op r1 b2 d2 (c ∷ s ∷ more) rest e h same =
@@ -122,7 +122,7 @@ read_shift op r1 b2 d2 (c ∷ s ∷ more) rest e h same =
     let e1 : s / 16 ≡ r1 = omega arith in
     let e3 : base_at 2 bytes ≡ b2 = omega arith in
     let e4 : displacement_at 2 bytes ≡ d2 = omega arith in
-    let there : without_r3 (fields_in form.Rs bytes) ≡ Rs r1 0 b2 d2 = cc in
+    let there : without_r3 (decoded_fields form.Rs bytes) ≡ Rs r1 0 b2 d2 = cc in
     let long : length_of op ≤ length bytes = rw (shift_format op e) (omega arith) in
     let whole : c ∷ s ∷ (more ++ rest) ≡ bytes = ap (λ (m : List ℕ). c ∷ s ∷ (m ++ rest)) tail in
     ap reading whole
@@ -181,8 +181,8 @@ length-Reads i bytes h =
     ∙ ap length_of_format h.0.0
 
 -- the fields that are in bytes
-format_with-fields_in : (f : Format) (b : List ℕ) → format_with (fields_in f b) ≡ f
-unfolding fields_in
+format_with-fields_in : (f : Format) (b : List ℕ) → format_with (decoded_fields f b) ≡ f
+unfolding decoded_fields
 format_with-fields_in form.Rr b = refl
 format_with-fields_in form.Rx b = refl
 format_with-fields_in form.Rs b = refl
@@ -190,8 +190,8 @@ format_with-fields_in form.Si b = refl
 format_with-fields_in form.Ss b = refl
 format_with-fields_in form.Ss2 b = refl
 
-range_in : (f : Format) (b : List ℕ) → AreBytes b → AreInRange (fields_in f b)
-unfolding fields_in
+range_in : (f : Format) (b : List ℕ) → AreBytes b → AreInRange (decoded_fields f b)
+unfolding decoded_fields
 range_in form.Rr b h = let one = h.at 1 in (omega arith, (omega arith, tt))
 range_in form.Rx b h =
     let one = h.at 1 in
@@ -224,8 +224,8 @@ range_in form.Ss2 b h =
     (omega arith, (omega arith, (omega arith, (omega arith, (omega arith, (omega arith, tt))))))
 
 -- the bytes are made of the fields that are in them
-bytes_with-fields_in : (f : Format) (b : List ℕ) → AreBytes b → length_of_format f ≤ length b → bytes_with (slice_index b 0) (fields_in f b) ≡ take (length_of_format f) b
-unfolding fields_in
+bytes_with-fields_in : (f : Format) (b : List ℕ) → AreBytes b → length_of_format f ≤ length b → bytes_with (slice_index b 0) (decoded_fields f b) ≡ take (length_of_format f) b
+unfolding decoded_fields
 bytes_with-fields_in form.Rr (a ∷ s ∷ rest) h long =
     let e1 : 16 * (s / 16) + s % 16 ≡ s = omega arith in
     cc
@@ -276,8 +276,8 @@ bytes_with-fields_in form.Ss2 (a ∷ s ∷ t ∷ u ∷ v ∷ w ∷ rest) h long 
 bytes_with-fields_in form.Ss2 _ h long = absurd (omega arith)
 
 -- the bytes of a shift with its R3 field put to zero are made of its fields without that field
-shift_bytes : (b : List ℕ) → AreBytes b → 4 ≤ length b → bytes_with (slice_index b 0) (without_r3 (fields_in form.Rs b)) ≡ with_r3_zero (take 4 b)
-unfolding fields_in
+shift_bytes : (b : List ℕ) → AreBytes b → 4 ≤ length b → bytes_with (slice_index b 0) (without_r3 (decoded_fields form.Rs b)) ≡ with_r3_zero (take 4 b)
+unfolding decoded_fields
 shift_bytes (a ∷ s ∷ t ∷ u ∷ rest) h long =
     let low = h.at 3 in
     let b = a ∷ s ∷ t ∷ u ∷ rest in
@@ -288,19 +288,19 @@ shift_bytes (a ∷ s ∷ t ∷ u ∷ rest) h long =
 shift_bytes _ h long = absurd (omega arith)
 
 -- a shift's fields without the R3 field are in their ranges
-shift_range : (b : List ℕ) → AreBytes b → AreInRange (without_r3 (fields_in form.Rs b))
-unfolding fields_in
+shift_range : (b : List ℕ) → AreBytes b → AreInRange (without_r3 (decoded_fields form.Rs b))
+unfolding decoded_fields
 shift_range b h =
     let one = h.at 1 in
     let two = h.at 2 in
     let three = h.at 3 in
     (omega arith, (omega arith, (omega arith, (omega arith, tt))))
 
-shift_formed : (op : Op) (b : List ℕ) → AreBytes b → is_shift op ≡ true → IsWellFormed (instruction op (without_r3 (fields_in form.Rs b)))
-unfolding IsWellFormed fields_in
+shift_formed : (op : Op) (b : List ℕ) → AreBytes b → is_shift op ≡ true → IsWellFormed (instruction op (without_r3 (decoded_fields form.Rs b)))
+unfolding IsWellFormed decoded_fields
 shift_formed op b h e = (sym (shift_format op e), shift_range b h, λ _. refl)
 
-plain_formed : (op : Op) (b : List ℕ) → AreBytes b → is_shift op ≡ false → IsWellFormed (instruction op (fields_in (format_of op) b))
+plain_formed : (op : Op) (b : List ℕ) → AreBytes b → is_shift op ≡ false → IsWellFormed (instruction op (decoded_fields (format_of op) b))
 unfolding IsWellFormed
 plain_formed op b h e = (format_with-fields_in (format_of op) b, range_in (format_of op) b h, λ s. cc)
 
@@ -309,13 +309,13 @@ sound_either : (op : Op) (b : List ℕ) (s : Bool) → is_shift op ≡ s → Are
 unfolding Reads Spells
 sound_either op b true e h code long =
     let four : 4 ≤ length b = omega (arith, ap length_of_format (shift_format op e)) in
-    let f = without_r3 (fields_in form.Rs b) in
+    let f = without_r3 (decoded_fields form.Rs b) in
     let formed = shift_formed op b h e in
     let spelled : spelling (instruction op f) ≡ with_r3_zero (take 4 b) =
     spelling_bytes op f (shift_range b h) ∙ ap (λ (c : ℕ). bytes_with c f) code ∙ shift_bytes b h four in
     rw (fields_at-shift op b e, e, shift_format op e) (formed, sym spelled)
 sound_either op b false e h code long =
-    let f = fields_in (format_of op) b in
+    let f = decoded_fields (format_of op) b in
     let formed = plain_formed op b h e in
     let spelled : spelling (instruction op f) ≡ take (length_of op) b =
     spelling_bytes op f (range_in (format_of op) b h) ∙ ap (λ (c : ℕ). bytes_with c f) code ∙ bytes_with-fields_in (format_of op) b h long in

@@ -6,13 +6,13 @@ use Rattle.std.specs.Int.{byte_at}
 use Rattle.cx_code.specs.declared.table.Op.{Op}
 use Rattle.cx_code.specs.declared.instruction.Fields.{Fields}
 use Rattle.cx_code.specs.declared.instruction.Fields.TheVariants.{Rr, Rx, Rs, Si, Ss, Ss2}
-use Rattle.cx_code.specs.Table.{row_of, code_of, ops}
+use Rattle.cx_code.specs.Table.{operation_row, code_of, ops}
 use Rattle.cx_code.specs.Spelling.{Instruction, Spells, IsWellFormed, AreInRange, instruction, spelling}
 use Rattle.cx_code.specs.Parts.Bytes.{bytes_with}
 use Rattle.cx_code.proofs.TableLemmas.{each_row}
 
 codes_below : list_all (λ o. nat_lt (code_of o) 256) ops ≡ true
-unfolding ops row_of
+unfolding ops operation_row
 codes_below = refl
 
 pub code_below : (op : Op) → code_of op < 256

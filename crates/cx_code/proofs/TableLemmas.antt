@@ -63,10 +63,10 @@ use Rattle.cx_code.specs.declared.table.Op.TheVariants.{
   Pack,
   Unpk,
 }
-use Rattle.cx_code.specs.Table.{row_of, code_of, mnemonic_of, ops, op_at, op_named}
+use Rattle.cx_code.specs.Table.{operation_row, code_of, mnemonic_of, ops, op_at, op_named}
 
 pub op_at-code_of : (op : Op) → op_at (code_of op) ≡ Some op
-unfolding op_at ops row_of
+unfolding op_at ops operation_row
 op_at-code_of Balr = refl
 op_at-code_of Bctr = refl
 op_at-code_of Bcr = refl
@@ -125,7 +125,7 @@ op_at-code_of Pack = refl
 op_at-code_of Unpk = refl
 
 pub op_named-mnemonic_of : (op : Op) → op_named (mnemonic_of op) ≡ Some op
-unfolding op_named ops row_of
+unfolding op_named ops operation_row
 op_named-mnemonic_of Balr = refl
 op_named-mnemonic_of Bctr = refl
 op_named-mnemonic_of Bcr = refl

@@ -25,14 +25,14 @@ abbrev pub displacement_at : ℕ → List ℕ → ℕ
 displacement_at place bytes = big_from place 2 bytes % 4096
 
 -- the fields of a format in the bytes of an instruction
-unfoldable pub fields_in : Format → List ℕ → Fields
-fields_in form.Rr b = Rr (left_half b) (right_half b)
-fields_in form.Rx b = Rx (left_half b) (right_half b) (base_at 2 b) (displacement_at 2 b)
-fields_in form.Rs b = Rs (left_half b) (right_half b) (base_at 2 b) (displacement_at 2 b)
-fields_in form.Si b = Si (slice_index b 1) (base_at 2 b) (displacement_at 2 b)
-fields_in form.Ss b =
+unfoldable pub decoded_fields : Format → List ℕ → Fields
+decoded_fields form.Rr b = Rr (left_half b) (right_half b)
+decoded_fields form.Rx b = Rx (left_half b) (right_half b) (base_at 2 b) (displacement_at 2 b)
+decoded_fields form.Rs b = Rs (left_half b) (right_half b) (base_at 2 b) (displacement_at 2 b)
+decoded_fields form.Si b = Si (slice_index b 1) (base_at 2 b) (displacement_at 2 b)
+decoded_fields form.Ss b =
     Ss (slice_index b 1) (base_at 2 b) (displacement_at 2 b) (base_at 4 b) (displacement_at 4 b)
-fields_in form.Ss2 b =
+decoded_fields form.Ss2 b =
     Ss2 (left_half b) (right_half b) (base_at 2 b) (displacement_at 2 b) (base_at 4 b) (displacement_at 4 b)
 
 -- the fields with the R3 field put to zero
@@ -42,7 +42,8 @@ without_r3 other = other
 
 -- the fields that a row has in the bytes of an instruction
 unfoldable pub fields_at : Op → List ℕ → Fields
-fields_at op bytes = if is_shift op then without_r3 (fields_in (format_of op) bytes) else fields_in (format_of op) bytes
+fields_at op bytes =
+    if is_shift op then without_r3 (decoded_fields (format_of op) bytes) else decoded_fields (format_of op) bytes
 
 abbrev pub reading_as : List ℕ → Op → Option Instruction
 reading_as bytes op = if nat_lt (length bytes) (length_of op) then None else Some (instruction op (fields_at op bytes))

@@ -4,8 +4,8 @@ use Rattle.std.specs.Fmt.{digit_glyph}
 use Rattle.cx_code.specs.declared.instruction.Fields.{Fields}
 use Rattle.cx_code.specs.declared.instruction.Fields.TheVariants.{Rr, Rx, Rs, Si, Ss, Ss2}
 use Rattle.cx_code.specs.declared.disassembly.Line.{Line}
-use Rattle.cx_code.specs.declared.disassembly.What.{What}
-use Rattle.cx_code.specs.declared.disassembly.What.TheVariants.{Code, Data, Space}
+use Rattle.cx_code.specs.declared.disassembly.LineContent.{LineContent}
+use Rattle.cx_code.specs.declared.disassembly.LineContent.TheVariants.{Code, Data, Space}
 use Rattle.cx_code.specs.Table.{mnemonic_of, is_shift}
 use Rattle.cx_code.specs.Spelling.{Instruction}
 
@@ -43,7 +43,7 @@ abbrev pub hex_text : List ℕ → List ℕ
 hex_text bytes = flat_map hex_pair bytes
 
 -- an instruction, the bytes of a constant, or a space of n bytes
-unfoldable pub what_text : What → List ℕ
+unfoldable pub what_text : LineContent → List ℕ
 what_text (Code i) = instruction_text i
 what_text (Data bytes) = codes "DC X'" ++ hex_text bytes ++ codes "'"
 what_text (Space n) = codes "DS XL" ++ decimal n

@@ -2,7 +2,7 @@
 
 ghost use Rattle.std.specs.Prelude.{◌≡◌, IfOk, IsOk, length};
 ghost use Rattle.cx_code.specs.Reading.{canonical};
-ghost use Rattle.cx_code.specs.Lines.{bytes_in, line_of, lines};
+ghost use Rattle.cx_code.specs.Lines.{span_bytes, disassembled_line, lines};
 
 use crate::image::{Bytes, Span, SpanKind};
 use crate::instruction::Inst;
@@ -11,8 +11,8 @@ use std::alloc::{AllocError, Global};
 
 /// What a line of a disassembly stands for.
 #[derive(Debug, Drop)]
-pub enum What {
-    /// An instruction.
+pub enum LineContent {
+    /// An instruction, which the bytes spell.
     Code(Inst),
     /// Bytes, perhaps none.
     Data(Bytes),
@@ -23,10 +23,10 @@ pub enum What {
 /// A line of a disassembly: what begins at an offset. An instruction, bytes or space of any length is one line.
 #[derive(Debug, Drop)]
 pub struct Line {
-    /// The offset in the text, in bytes.
+    /// The offset of its first byte in the text.
     pub at: u32,
-    /// What is there.
-    pub what: What,
+    /// What the span there holds.
+    pub what: LineContent,
 }
 
 /// The instruction whose canonical spelling these bytes are, all of them.
@@ -39,8 +39,8 @@ fn canonical(bytes: &[u8]) -> Option<Inst>
 }
 
 /// The bytes of a span that lie in the text.
-fn bytes_in<'a>(text: &'a [u8], span: Span) -> &'a [u8]
-    ensures { result.now ≡ bytes_in text.now span }
+fn span_bytes<'a>(text: &'a [u8], span: Span) -> &'a [u8]
+    ensures { result.now ≡ span_bytes text.now span }
 {
     let (_, after) = text.split_at(text.len().min(span.start as usize));
     let (bytes, _) = after.split_at(after.len().min(span.len as usize));
@@ -48,19 +48,19 @@ fn bytes_in<'a>(text: &'a [u8], span: Span) -> &'a [u8]
 }
 
 /// The line of a span.
-#[tactic(auto, unfolding(crate::specs::Lines::line_of))]
-fn line_of(alloc: Global, text: &[u8], span: Span) -> Result<Line, AllocError>
-    ensures { IfOk result (λ line. line ≡ line_of text.now span) }
+#[tactic(auto, unfolding(crate::specs::Lines::disassembled_line))]
+fn disassembled_line(alloc: Global, text: &[u8], span: Span) -> Result<Line, AllocError>
+    ensures { IfOk result (λ line. line ≡ disassembled_line text.now span) }
 {
-    let bytes = bytes_in(text, span);
+    let bytes = span_bytes(text, span);
     let code = match span.kind {
-        SpanKind::Code => canonical(bytes).map(What::Code),
+        SpanKind::Code => canonical(bytes).map(LineContent::Code),
         SpanKind::Data => None,
-        SpanKind::Space => Some(What::Space(span.len)),
+        SpanKind::Space => Some(LineContent::Space(span.len)),
     };
     let what = match code {
         Some(what) => what,
-        None => What::Data(Bytes::from_vec(bytes.to_vec(alloc)?)),
+        None => LineContent::Data(Bytes::from_vec(bytes.to_vec(alloc)?)),
     };
     Ok(Line {
         at: span.start,
@@ -68,19 +68,19 @@ fn line_of(alloc: Global, text: &[u8], span: Span) -> Result<Line, AllocError>
     })
 }
 
-/// A line for each span, in order. A code span is an instruction where its bytes are exactly a
-/// canonical spelling, and data otherwise: so is a shift whose third register isn't zero. Bytes past
-/// the text's end are left out of code and data spans, also before a code span is judged; with none
-/// left the line is data without bytes. A space span keeps its length.
+/// A line for each span, in order. A code span is an instruction where its bytes are exactly a canonical spelling, and
+/// data otherwise: so is a shift whose third register isn't zero. Bytes past the text's end are left out of code and
+/// data spans, also before a code span is judged; with none left the line is data without bytes. A space span keeps its
+/// length.
 ///
-/// Memory comes only where an allocation failed; without spans it takes none.
+/// An error comes only where an allocation failed; without spans it takes no memory.
 pub fn disassemble(alloc: Global, text: &[u8], spans: &[Span]) -> Result<Vec<Line>, AllocError>
     ensures lines { IfOk result (λ found. found.items ≡ lines text.now spans.now) }
     ensures empty { length spans.now ≡ 0 → IsOk result }
 {
     let mut found = Vec::new(alloc);
     for span in spans {
-        found.push(line_of(alloc, text, *span)?)?;
+        found.push(disassembled_line(alloc, text, *span)?)?;
     }
     Ok(found)
 }

@@ -4,7 +4,7 @@ ghost use Rattle.std.specs.Prelude.{◌≡◌};
 
 use std::marker::Model;
 
-/// A list of bytes.
+/// A list of bytes, as the text of a program or a part of it.
 #[derive(Debug, Drop)]
 pub struct Bytes {
     bytes: Vec<u8>,
@@ -34,7 +34,7 @@ impl Bytes {
         bytes
     }
 
-    /// The bytes.
+    /// The bytes, in their order.
     pub fn as_slice(&self) -> &[u8]
         ensures { result.now ≡ self.now }
     {
@@ -72,7 +72,7 @@ impl Offsets {
         offsets
     }
 
-    /// The offsets.
+    /// The offsets, in their order.
     pub fn as_slice(&self) -> &[u32]
         ensures { result.now ≡ self.now }
     {
@@ -83,7 +83,7 @@ impl Offsets {
 /// A program as it is loaded: any values, which the loader checks.
 #[derive(Debug, Drop)]
 pub struct Image {
-    /// The program's bytes.
+    /// The program's bytes: instructions, constants and space.
     pub text: Bytes,
     /// The offset in the text at which the program is entered, in bytes.
     pub entry: u32,
@@ -107,10 +107,10 @@ pub enum SpanKind {
 /// A part of a text. It may go past the text's end.
 #[derive(Clone, Copy, Debug, PartialEq, Eq)]
 pub struct Span {
-    /// The offset in the text, in bytes.
+    /// The offset of its first byte in the text.
     pub start: u32,
     /// How many bytes it is.
     pub len: u32,
-    /// What it holds.
+    /// What it is taken to hold; a code span may hold no instruction.
     pub kind: SpanKind,
 }

@@ -57,7 +57,7 @@ pub enum Fields {
 }
 
 impl Fields {
-    /// The format that has these fields.
+    /// The format of instructions that have such fields.
     pub fn format(self) -> Format
         ensures { result ≡ format_with self }
     {
@@ -147,7 +147,7 @@ impl Inst {
         Inst { op, fields }
     }
 
-    /// The row of the table.
+    /// The row of the table that it is of.
     pub fn op(&self) -> Op
         ensures { result ≡ self.now.op }
     {

@@ -33,12 +33,12 @@ pub fn one_spelling()
     ensures { (bytes : List ℕ) (i j : Instruction) → Spells i bytes → Spells j bytes → i ≡ j }
 {}
 
-/// What spells an instruction reads as it.
+/// The bytes that spell an instruction read as that instruction.
 pub fn spelled_reads()
     ensures { (i : Instruction) (bytes : List ℕ) → Spells i bytes → Reads bytes i }
 {}
 
-/// Bytes read as one instruction at most.
+/// The same bytes read as one instruction at most.
 pub fn one_reading()
     ensures { (bytes : List ℕ) (i j : Instruction) → Reads bytes i → Reads bytes j → i ≡ j }
 {}

@@ -9,7 +9,7 @@ mod spelling;
 mod table;
 mod text;
 
-pub use disassembly::{Line, What, disassemble};
+pub use disassembly::{Line, LineContent, disassemble};
 pub use image::{Bytes, Image, Offsets, Span, SpanKind};
 pub use instruction::{Fields, Inst};
 pub use spelling::{CodeBytes, decode, encode};

@@ -4,7 +4,7 @@ ghost use Rattle.std.specs.Prelude.{◌≡◌, ◌+◌, ◌*◌, ◌/◌, ◌%�
 ghost use Rattle.cx_code.specs.Table.{length_of, length_of_format};
 ghost use Rattle.cx_code.specs.Spelling.{Instruction, AreInRange, spelling, Spells, Reads};
 ghost use Rattle.cx_code.specs.Parts.Bytes.{bytes_with};
-ghost use Rattle.cx_code.specs.Reading.{base_at, displacement_at, fields_in, fields_at, reading};
+ghost use Rattle.cx_code.specs.Reading.{base_at, displacement_at, decoded_fields, fields_at, reading};
 
 use crate::instruction::{Fields, Inst};
 use crate::table::{Format, Op};
@@ -51,10 +51,10 @@ impl CodeBytes {
         self
     }
 
-    /// The bytes.
+    /// The bytes, in their order: at most six.
     pub fn as_slice(&self) -> &[u8]
         ensures value { result.now ≡ self.now }
-        ensures short { length result.now ≤ 6 }
+        ensures at_most_6 { length result.now ≤ 6 }
     {
         self.bytes.as_slice()
     }
@@ -103,7 +103,8 @@ fn bytes_of(code: u8, fields: Fields) -> CodeBytes
     }
 }
 
-/// The canonical spelling of an instruction (Principles of Operation, "Instruction formats").
+/// The canonical spelling of an instruction, as many bytes as its length (Principles of Operation, GA22-7000,
+/// "Instruction Formats").
 #[tactic(auto, using(crate::proofs::SpellingLemmas::made_spells))]
 pub fn encode(inst: &Inst) -> CodeBytes
     ensures value { result ≡ spelling inst.now }
@@ -124,11 +125,11 @@ fn address_at(bytes: &[u8], place: usize) -> (u8, u16)
 }
 
 /// The fields of a format in the bytes of an instruction.
-#[tactic(auto, unfolding(crate::specs::Reading::fields_in))]
+#[tactic(auto, unfolding(crate::specs::Reading::decoded_fields))]
 #[inline(always)]
-fn fields_in(format: Format, bytes: &[u8]) -> Fields
+fn decoded_fields(format: Format, bytes: &[u8]) -> Fields
     requires { length_of_format format ≤ length bytes.now }
-    ensures { result ≡ fields_in format bytes.now }
+    ensures { result ≡ decoded_fields format bytes.now }
 {
     let second = bytes[1];
     let (left, right) = (second >> 4, second & 0x0f);
@@ -192,7 +193,7 @@ fn fields_at(op: Op, bytes: &[u8]) -> Fields
     requires { length_of op ≤ length bytes.now }
     ensures { result ≡ fields_at op bytes.now }
 {
-    match fields_in(op.format(), bytes) {
+    match decoded_fields(op.format(), bytes) {
         Fields::Rs { r1, b2, d2, .. } if op.is_shift() => Fields::Rs { r1, r3: 0, b2, d2 },
         fields => fields,
     }

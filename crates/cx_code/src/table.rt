@@ -1,7 +1,7 @@
 //! The table of instructions.
 
 ghost use Rattle.std.specs.Prelude.{◌≡◌};
-ghost use Rattle.cx_code.specs.Table.{table_row, row_of, code_of, mnemonic_of, format_of, length_of, op_at, op_named, is_shift, length_of_code, length_of_format};
+ghost use Rattle.cx_code.specs.Table.{table_row, operation_row, code_of, mnemonic_of, format_of, length_of, op_at, op_named, is_shift, length_of_code, length_of_format};
 
 use Op::{
     A, Ah, Ar, Bal, Balr, Bc, Bcr, Bct, Bctr, C, Ch, Cl, Clc, Cli, Clr, Cr, Cvb, Cvd, D, Dr, Ex,
@@ -9,8 +9,7 @@ use Op::{
     Srda, Srl, St, Stc, Stcm, Sth, Stm, Tm, Tr, Trt, Unpk, Xc, Xr,
 };
 
-/// How the fields of an instruction lie in its bytes (Principles of Operation, "Instruction
-/// formats").
+/// How the fields of an instruction lie in its bytes (Principles of Operation, GA22-7000, "Instruction Formats").
 #[derive(Clone, Copy, Debug, PartialEq, Eq)]
 pub enum Format {
     /// Two registers: 2 bytes.
@@ -23,12 +22,12 @@ pub enum Format {
     Si,
     /// Two storage operands of one length: 6 bytes.
     Ss,
-    /// Two storage operands, each with a length of its own: 6 bytes.
+    /// Two storage operands with a length each: 6 bytes.
     Ss2,
 }
 
 impl Format {
-    /// How many bytes an instruction of this format has.
+    /// How many bytes an instruction of this format has: 2, 4 or 6.
     pub fn length(self) -> usize
         ensures { result ≡ length_of_format self }
     {
@@ -40,8 +39,9 @@ impl Format {
     }
 }
 
-/// How many bytes the instruction has that begins with this byte, whether or not it is in the
-/// table: the byte's first two bits say it (Principles of Operation, "Instruction formats").
+/// How many bytes the instruction has that begins with this byte, whether or not the byte is an operation code of the
+/// table: by its first two bits 2 (00), 4 (01, 10) or 6 (11) (Principles of Operation, GA22-7000, "Instruction
+/// Formats").
 pub fn instruction_length(code: u8) -> usize
     ensures { result ≡ length_of_code code }
 {
@@ -52,120 +52,121 @@ pub fn instruction_length(code: u8) -> usize
     }
 }
 
-/// An instruction of the table.
+/// An instruction of the table, by its mnemonic: its operation code, its format and what it does, in a few words
+/// (Principles of Operation, GA22-7000).
 #[derive(Clone, Copy, Debug, PartialEq, Eq)]
 pub enum Op {
-    /// Branch and link.
+    /// X'05', RR: branch and link.
     Balr,
-    /// Branch on count.
+    /// X'06', RR: branch on count.
     Bctr,
-    /// Branch on condition.
+    /// X'07', RR: branch on condition.
     Bcr,
-    /// Load and test.
+    /// X'12', RR: load and test.
     Ltr,
-    /// Load complement.
+    /// X'13', RR: load complement.
     Lcr,
-    /// Compare logical.
+    /// X'15', RR: compare logical.
     Clr,
-    /// Exclusive or.
+    /// X'17', RR: exclusive or.
     Xr,
-    /// Load.
+    /// X'18', RR: load.
     Lr,
-    /// Compare.
+    /// X'19', RR: compare.
     Cr,
-    /// Add.
+    /// X'1A', RR: add.
     Ar,
-    /// Subtract.
+    /// X'1B', RR: subtract.
     Sr,
-    /// Multiply.
+    /// X'1C', RR: multiply.
     Mr,
-    /// Divide.
+    /// X'1D', RR: divide.
     Dr,
-    /// Store halfword.
+    /// X'40', RX: store halfword.
     Sth,
-    /// Load address.
+    /// X'41', RX: load address.
     La,
-    /// Store character.
+    /// X'42', RX: store character.
     Stc,
-    /// Insert character.
+    /// X'43', RX: insert character.
     Ic,
-    /// Execute.
+    /// X'44', RX: execute.
     Ex,
-    /// Branch and link.
+    /// X'45', RX: branch and link.
     Bal,
-    /// Branch on count.
+    /// X'46', RX: branch on count.
     Bct,
-    /// Branch on condition.
+    /// X'47', RX: branch on condition.
     Bc,
-    /// Load halfword.
+    /// X'48', RX: load halfword.
     Lh,
-    /// Compare halfword.
+    /// X'49', RX: compare halfword.
     Ch,
-    /// Add halfword.
+    /// X'4A', RX: add halfword.
     Ah,
-    /// Subtract halfword.
+    /// X'4B', RX: subtract halfword.
     Sh,
-    /// Convert to decimal.
+    /// X'4E', RX: convert to decimal.
     Cvd,
-    /// Convert to binary.
+    /// X'4F', RX: convert to binary.
     Cvb,
-    /// Store.
+    /// X'50', RX: store.
     St,
-    /// Compare logical.
+    /// X'55', RX: compare logical.
     Cl,
-    /// Load.
+    /// X'58', RX: load.
     L,
-    /// Compare.
+    /// X'59', RX: compare.
     C,
-    /// Add.
+    /// X'5A', RX: add.
     A,
-    /// Subtract.
+    /// X'5B', RX: subtract.
     S,
-    /// Multiply.
+    /// X'5C', RX: multiply.
     M,
-    /// Divide.
+    /// X'5D', RX: divide.
     D,
-    /// Shift right single logical.
+    /// X'88', RS: shift right single logical.
     Srl,
-    /// Shift left single logical.
+    /// X'89', RS: shift left single logical.
     Sll,
-    /// Shift right single.
+    /// X'8A', RS: shift right single.
     Sra,
-    /// Shift left single.
+    /// X'8B', RS: shift left single.
     Sla,
-    /// Shift right double.
+    /// X'8E', RS: shift right double.
     Srda,
-    /// Store multiple.
+    /// X'90', RS: store multiple.
     Stm,
-    /// Test under mask.
+    /// X'91', SI: test under mask.
     Tm,
-    /// Move immediate.
+    /// X'92', SI: move immediate.
     Mvi,
-    /// And immediate.
+    /// X'94', SI: and immediate.
     Ni,
-    /// Compare logical immediate.
+    /// X'95', SI: compare logical immediate.
     Cli,
-    /// Or immediate.
+    /// X'96', SI: or immediate.
     Oi,
-    /// Load multiple.
+    /// X'98', RS: load multiple.
     Lm,
-    /// Store characters under mask.
+    /// X'BE', RS: store characters under mask.
     Stcm,
-    /// Insert characters under mask.
+    /// X'BF', RS: insert characters under mask.
     Icm,
-    /// Move characters.
+    /// X'D2', SS, one length: move characters.
     Mvc,
-    /// Compare logical characters.
+    /// X'D5', SS, one length: compare logical characters.
     Clc,
-    /// Exclusive or characters.
+    /// X'D7', SS, one length: exclusive or characters.
     Xc,
-    /// Translate.
+    /// X'DC', SS, one length: translate.
     Tr,
-    /// Translate and test.
+    /// X'DD', SS, one length: translate and test.
     Trt,
-    /// Pack.
+    /// X'F2', SS, two lengths: pack.
     Pack,
-    /// Unpack.
+    /// X'F3', SS, two lengths: unpack.
     Unpk,
 }
 
@@ -491,9 +492,9 @@ impl Op {
     ];
 
     /// The row of the table: mnemonic, operation code, format.
-    #[tactic(auto, unfolding(crate::specs::Table::row_of))]
+    #[tactic(auto, unfolding(crate::specs::Table::operation_row))]
     fn row(self) -> (&'static str, u8, Format)
-        ensures { table_row result.0.now result.1 result.2 ≡ row_of self }
+        ensures { table_row result.0.now result.1 result.2 ≡ operation_row self }
     {
         match self {
             Op::Balr => ("BALR", 0x05, Format::Rr),
@@ -562,7 +563,7 @@ impl Op {
         self.row().1
     }
 
-    /// The mnemonic, in capital letters.
+    /// The mnemonic, in capital letters, as `BALR`.
     pub fn name(self) -> &'static str
         ensures { result.now ≡ mnemonic_of self }
     {
@@ -570,7 +571,7 @@ impl Op {
     }
 
     /// The format, which says what fields the instruction has.
-    #[tactic(auto, unfolding(crate::specs::Table::row_of))]
+    #[tactic(auto, unfolding(crate::specs::Table::operation_row))]
     #[inline]
     pub fn format(self) -> Format
         ensures { result ≡ format_of self }
@@ -606,14 +607,14 @@ impl Op {
         }
     }
 
-    /// How many bytes the instruction has.
+    /// How many bytes the instruction has: 2, 4 or 6, by its format.
     pub fn length(self) -> usize
         ensures { result ≡ length_of self }
     {
         self.format().length()
     }
 
-    /// Whether it is a shift, which ignores its R3 field.
+    /// Whether it is a shift (SRL, SLL, SRA, SLA, SRDA), which ignores its R3 field.
     #[tactic(auto, unfolding(crate::specs::Table::is_shift))]
     pub fn is_shift(self) -> bool
         ensures { result ≡ is_shift self }
@@ -629,7 +630,7 @@ impl Op {
         BY_CODE[code as usize]
     }
 
-    /// The instruction of this mnemonic; `None` where the table has none.
+    /// The instruction of this mnemonic, in capital letters; `None` where the table has none.
     #[tactic(auto, unfolding(crate::specs::Table::op_named, crate::specs::Table::ops))]
     pub fn from_name(name: &str) -> Option<Op>
         ensures { result ≡ op_named name.now }

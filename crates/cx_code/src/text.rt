@@ -3,7 +3,7 @@
 ghost use Rattle.std.specs.Prelude.{◌≡◌, ◌+◌, ◌++◌, IfOk, OnOk, codes, string_bytes};
 ghost use Rattle.cx_code.specs.Text.{index_text, instruction_text, operands, hex_pair, hex_text, line_text};
 
-use crate::disassembly::{Line, What};
+use crate::disassembly::{Line, LineContent};
 use crate::instruction::{Fields, Inst};
 use std::alloc::{AllocError, Global};
 use std::fmt::Write;
@@ -86,16 +86,18 @@ fn data_text(alloc: Global, bytes: &[u8]) -> Result<String, AllocError>
     Ok(text)
 }
 
-/// The text of a line, without its end: an instruction as its mnemonic, a blank and its operands in
-/// the assembler's order, all decimal numbers, lengths as counts of bytes; bytes as `DC X'..'` in
-/// capital hexadecimal digits; a space of n bytes as `DS XLn`.
+/// The text of a line, without its end: an instruction as its mnemonic, a blank and its operands in the assembler's
+/// order, all decimal numbers, lengths as counts of bytes; bytes as `DC X'..'` in capital hexadecimal digits; a space
+/// of n bytes as `DS XLn`.
+///
+/// An error comes only where an allocation failed.
 #[tactic(auto, unfolding(crate::specs::Text::what_text))]
 pub fn line_text(alloc: Global, line: &Line) -> Result<String, AllocError>
     ensures { IfOk result (λ text. string_bytes text ≡ line_text line.now) }
 {
     match &line.what {
-        What::Code(inst) => instruction_text(alloc, inst),
-        What::Data(bytes) => data_text(alloc, bytes.as_slice()),
-        What::Space(count) => format!(in alloc; "DS XL{count}"),
+        LineContent::Code(inst) => instruction_text(alloc, inst),
+        LineContent::Data(bytes) => data_text(alloc, bytes.as_slice()),
+        LineContent::Space(count) => format!(in alloc; "DS XL{count}"),
     }
 }

@@ -5,7 +5,7 @@ ghost use Rattle.cx_ebcdic.specs.Names.{is_name};
 
 use crate::names::Name;
 
-/// A character that has a code is what shows that code.
+/// The EBCDIC code of a character is shown as that character.
 pub fn shown_as_itself()
     ensures { (character code : ℕ) → code_of character ≡ Some code → shown_as code ≡ character }
 {}
@@ -16,17 +16,17 @@ pub fn shown_by_its_character_or_a_period()
         ⊎ ((shown_as byte ≡ 46) × ((character : ℕ) → code_of character ≢ Some byte)) }
 {}
 
-/// The period's own code is the only one that a period has.
+/// The EBCDIC code of a period is X'4B'. So any other byte that is shown as a period is the code of no character.
 pub fn period_has_one_code()
     ensures { code_of 46 ≡ Some 0x4B }
 {}
 
-/// Two names are the same exactly where their bytes are.
+/// `is_name` is true exactly of two names with the same bytes.
 pub fn names_are_their_bytes()
     ensures { (one other : List ℕ) → (is_name one other ≡ true) ↔ (one ≡ other) }
 {}
 
-/// `==` of two names says whether they are the same.
+/// `==` of two names is true exactly where `is_name` is of their bytes.
 pub fn names_are_compared_by_their_bytes<const WIDTH: usize>(
     one: &Name<WIDTH>,
     other: &Name<WIDTH>,

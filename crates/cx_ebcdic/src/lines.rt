@@ -8,12 +8,13 @@ use crate::characters::to_ebcdic;
 use std::alloc::{AllocError, Global};
 use thiserror::Error;
 
-/// Why a text has no EBCDIC form.
+/// Why a text was not encoded.
 #[derive(Clone, Copy, Debug, PartialEq, Eq, Error)]
 pub enum TextFault {
-    /// The first character without a code, counted from 0.
+    /// A character has no code: the index of the first such, counted from 0.
     #[error("no EBCDIC code for the character at {0}")]
     BadCharacter(usize),
+    /// An allocation failed.
     #[error("out of memory")]
     Memory,
 }

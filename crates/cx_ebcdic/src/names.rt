@@ -8,13 +8,14 @@ use std::marker::Model;
 /// The code of a blank.
 const BLANK: u8 = 0x40;
 
-/// A name, as the bytes that stand for it, filled with blanks.
+/// A name: the EBCDIC codes of its characters, with blanks (X'40') after them up to WIDTH bytes. `from_bytes` takes any
+/// bytes. Contracts see it as its bytes.
 #[derive(Clone, Copy, Debug, PartialEq, Eq, PartialOrd, Ord, Hash)]
 pub struct Name<const WIDTH: usize> {
     bytes: [u8; WIDTH],
 }
 
-/// A name of one to four characters: of a transaction or a terminal.
+/// A name of one to four characters: of a transaction, a terminal, or an abend.
 pub type Name4 = Name<4>;
 
 /// A name of one to eight characters: of a program or a queue.
@@ -47,7 +48,7 @@ impl<const WIDTH: usize> Name<WIDTH> {
         Name { bytes }
     }
 
-    /// The name's bytes.
+    /// The name's bytes in EBCDIC, with the blanks that fill it.
     pub fn bytes(&self) -> [u8; WIDTH]
         ensures value { result ≡ self.now }
         ensures length { length self.now ≡ WIDTH }

@@ -14,7 +14,7 @@ use Rattle.cx_edf.specs.Sessions.{after_key, fresh_session, with_session}
 use Rattle.cx_edf.specs.State.{EdfState, ends_by_key, holds, session_at, stopped_at}
 use Rattle.cx_edf.specs.Erasure.{is_own}
 use Rattle.cx_edf.specs.Steps.{Door, Keeps, Passes, with_session_changed, door_of}
-use Rattle.cx_edf.specs.Laws.Edf.{ends_task, is_edfs}
+use Rattle.cx_edf.specs.Laws.Edf.{event_ends_task, is_edfs}
 use Rattle.cx_edf.proofs.EndLemmas.{ends_live, ends_stopped}
 
 -- the alteration that ends the task of a terminal
@@ -26,9 +26,9 @@ pub record IsEnd (old : EdfState) (x : Event) (own : Answer) : Type 0 where
 
 -- what holds of what EDF does with an event
 unfoldable pub Fits : EdfState → EdfEvent → Door → Type 0
-Fits old e (Keeps own sessions) = (is_edfs own ≡ true) × (ends_task old e ≡ false)
-Fits old e (Passes x None) = (e ≡ edf_event.Plain x) × (ends_task old e ≡ false)
-Fits old e (Passes x (Some own)) = (ends_task old e ≡ true) × IsEnd old x own
+Fits old e (Keeps own sessions) = (is_edfs own ≡ true) × (event_ends_task old e ≡ false)
+Fits old e (Passes x None) = (e ≡ edf_event.Plain x) × (event_ends_task old e ≡ false)
+Fits old e (Passes x (Some own)) = (event_ends_task old e ≡ true) × IsEnd old x own
 
 -- EDF answers itself what it keeps, and PF12 that ends a task
 unfoldable pub answers_itself : Door → Bool

@@ -30,7 +30,7 @@ use Rattle.cx_edf.specs.declared.answers.Answer.{Answer}
 use Rattle.cx_edf.specs.declared.answers.Answer.TheVariants as answer
 use Rattle.cx_edf.specs.declared.modes.Mode.TheVariants as mode
 use Rattle.cx_edf.specs.declared.modes.PageName.TheVariants as page
-use Rattle.cx_edf.specs.Sessions.{SessionState, Sessions, after_change, after_key, after_reply, fresh_session, older, operators_end, session_in, stop_of_turn, stop_session, turned_to, with_session}
+use Rattle.cx_edf.specs.Sessions.{SessionState, Sessions, session_after_change, after_key, after_reply, fresh_session, older, operators_end, session_in, stop_of_turn, stop_session, turned_to, with_session}
 use Rattle.cx_edf.specs.Stops.{stops_named}
 use Rattle.cx_edf.specs.State.{EdfState, ends_by_key, holds, session_at, stopped_at}
 use Rattle.cx_edf.specs.Steps.{AppliesBy, DoorAnswers, Door, EdfApplies, Keeps, Passes, with_session_changed, door_of, sessions_after}
@@ -180,8 +180,8 @@ end_stops b c is = ap (λ (d : Bool). cons_option (if d then Some operators_end 
 
 had_altered : (s : SessionState) (c : Change) (region : RegionState) (name q : List ℕ) (all : List Display) → name ≡ q → s.displays ≡ keep_last 10 all
     → (old : EdfState) → is_name name q ≡ true
-    → Had (Some (after_change s c (display_of region name))) (all ++ map (display_of region q) (cons_option (stop_taken old q (event.Alter name c) (reply.Alter alter.Altered)) []))
-unfolding after_change
+    → Had (Some (session_after_change s c (display_of region name))) (all ++ map (display_of region q) (cons_option (stop_taken old q (event.Alter name c) (reply.Alter alter.Altered)) []))
+unfolding session_after_change
 had_altered s change.Abend region name q all same kept old is =
     subst (λ (ks : List StopPoint). Had (Some (stop_session s operators_end (display_of region name operators_end))) (all ++ map (display_of region q) ks)) (sym (end_stops (is_name name q) true is))
     (subst (λ (x : List ℕ). Had (Some (stop_session s operators_end (display_of region x operators_end))) (all ++ display_of region q operators_end ∷ [])) (sym same)
@@ -207,7 +207,7 @@ passing old (event.Turn name) (reply.Turn r) region q all kept =
     (λ is. subst (λ (ks : List StopPoint). Had (session_at old q) (all ++ map (display_of region q) ks)) (sym (turn_elsewhere old name q r is)) (none_more (session_at old q) all (had (session_at old q) all kept)))
 passing old (event.Turn name) _ region q all kept = none_more (session_at old q) all (had (session_at old q) all kept)
 passing old (event.Alter name c) (reply.Alter alter.Altered) region q all kept =
-    had_changed old.sessions name q (λ s. Some (after_change s c (display_of region name)))
+    had_changed old.sessions name q (λ s. Some (session_after_change s c (display_of region name)))
     (all ++ map (display_of region q) (cons_option (stop_taken old q (event.Alter name c) (reply.Alter alter.Altered)) []))
     (λ s is there. had_altered s c region name q all (same_name name q is) (had (session_at old q) all kept s there) old is)
     (λ is. subst (λ (ks : List StopPoint). Had (session_at old q) (all ++ map (display_of region q) ks)) (sym (alter_elsewhere c old name q is)) (none_more (session_at old q) all (had (session_at old q) all kept)))

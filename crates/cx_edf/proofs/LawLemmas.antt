@@ -32,7 +32,7 @@ use Rattle.cx_edf.specs.State.{EdfState, stopped_at}
 use Rattle.cx_edf.specs.Steps.{AppliesBy, DisplayMaker, DoorAnswers, Door, Keeps, PassesOn, Passes, door_of, sessions_after}
 use Rattle.cx_edf.specs.Erasure.{is_own, is_refused, left_in, left_of, region_replies}
 use Rattle.cx_edf.specs.Runs.{Trace, last_state}
-use Rattle.cx_edf.specs.Laws.Edf.{EdfEventsDecide, EdfRunsDecide, ErasedEvents, ErasedEventsLeaveTheRegion, OffIsTheRegion, OtherEventsArePassed, OwnEventsHaveOwnAnswers, PlainRunsAgree, StopsAreMissedUnderSuppression, ReportedAreThoseGiven, TheRegionIsOff, ends_task, given_by, given_in, is_alteration, is_edfs, is_refusal, off_at}
+use Rattle.cx_edf.specs.Laws.Edf.{EdfEventsDecide, EdfRunsDecide, ErasedEvents, ErasedEventsLeaveTheRegion, OffIsTheRegion, OtherEventsArePassed, OwnEventsHaveOwnAnswers, PlainRunsAgree, StopsAreMissedUnderSuppression, ReportedAreThoseGiven, TheRegionIsOff, event_ends_task, given_by, given_in, is_alteration, is_edfs, is_refusal, off_at}
 use Rattle.cx_edf.proofs.DoorLemmas.{Fits, answers_itself, fits, own_at_door}
 use Rattle.cx_edf.proofs.StepLemmas.{left_runs}
 use Rattle.cx_edf.proofs.TraceLemmas.{what_is_left_is_a_run}
@@ -101,15 +101,15 @@ never_refused (edf_event.Off name) given own = refl
 -- what is replied, and whether anything is left
 record IsLeft (old : EdfState) (e : EdfEvent) (given : Answer) (left : List (Event × Reply)) : Type 0 where
   pub reported : map (λ (p : Event × Reply). p.1) left ≡ given_by old e given
-  pub none : (length left == 0) ≡ ((is_edfs given && not (ends_task old e)) || is_refusal e given)
+  pub none : (length left == 0) ≡ ((is_edfs given && not (event_ends_task old e)) || is_refusal e given)
 
-kept : (old : EdfState) (e : EdfEvent) (given : Answer) → is_edfs given ≡ true → ends_task old e ≡ false → IsLeft old e given []
+kept : (old : EdfState) (e : EdfEvent) (given : Answer) → is_edfs given ≡ true → event_ends_task old e ≡ false → IsLeft old e given []
 kept old e given own ends = record { reported = rw (ends, own) refl; none = rw (own, ends) refl }
 
-ended : (old : EdfState) (e : EdfEvent) (given : Answer) (x : Event) → is_edfs given ≡ true → ends_task old e ≡ true → IsLeft old e given ((x, reply.Alter alter.Altered) ∷ [])
+ended : (old : EdfState) (e : EdfEvent) (given : Answer) (x : Event) → is_edfs given ≡ true → event_ends_task old e ≡ true → IsLeft old e given ((x, reply.Alter alter.Altered) ∷ [])
 ended old e given x own ends = record { reported = rw ends refl; none = rw (own, ends, never_refused e given own) refl }
 
-passed : (old : EdfState) (x : Event) (r : Reply) → ends_task old (edf_event.Plain x) ≡ false
+passed : (old : EdfState) (x : Event) (r : Reply) → event_ends_task old (edf_event.Plain x) ≡ false
     → IsLeft old (edf_event.Plain x) (answer.Region r) (if is_refused x r then [] else (x, r) ∷ [])
 passed old x r ends = go (is_refused x r) refl
   where
@@ -123,7 +123,7 @@ left_by make old e (Keeps own sessions) given new fit row = kept old e given (ap
 left_by make old e (Passes x None) given new fit row =
     subst (λ (a : Answer). IsLeft old e a (left_in (Passes x None) a)) (sym row.answers)
     (subst (λ (y : EdfEvent). IsLeft old y (answer.Region row.reply) (left_in (Passes x None) (answer.Region row.reply))) (sym fit.0)
-    (passed old x row.reply (subst (λ (y : EdfEvent). ends_task old y ≡ false) fit.0 fit.1)))
+    (passed old x row.reply (subst (λ (y : EdfEvent). event_ends_task old y ≡ false) fit.0 fit.1)))
 left_by make old e (Passes x (Some own)) given new fit row =
     let is : given ≡ answer.ToEdf = row.answers ∙ fit.1.own_answer in
     subst (λ (a : Answer). IsLeft old e a (left_in (Passes x (Some own)) a)) (sym is)

@@ -101,10 +101,10 @@ operators_end = kind.Over (ending.Abended (abend_code Xedf))
 
 -- A stopped session whose task was altered, where this is the display that a stop of each kind takes: after Nop the
 -- task goes on, and after Abend it is stopped over, whatever its stop conditions are.
-unfoldable pub after_change : SessionState → Change → (StopPoint → Display) → SessionState
-after_change session change.Nop display_at = record session { mode = mode.Free }
-after_change session change.Abend display_at = stop_session session operators_end (display_at operators_end)
-after_change session other display_at = session
+unfoldable pub session_after_change : SessionState → Change → (StopPoint → Display) → SessionState
+session_after_change session change.Nop display_at = record session { mode = mode.Free }
+session_after_change session change.Abend display_at = stop_session session operators_end (display_at operators_end)
+session_after_change session other display_at = session
 
 -- ---- keys
 abbrev pub is_stopped : Mode → Bool

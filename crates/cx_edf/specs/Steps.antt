@@ -20,7 +20,7 @@ use Rattle.cx_edf.specs.declared.answers.EdfEvent.TheVariants as edf_event
 use Rattle.cx_edf.specs.declared.answers.EdfReply.TheVariants as edf
 use Rattle.cx_edf.specs.declared.answers.Answer.{Answer}
 use Rattle.cx_edf.specs.declared.answers.Answer.TheVariants as answer
-use Rattle.cx_edf.specs.Sessions.{SessionState, Sessions, after_change, after_key, after_reply, fresh_session, session_in, with_session}
+use Rattle.cx_edf.specs.Sessions.{SessionState, Sessions, session_after_change, after_key, after_reply, fresh_session, session_in, with_session}
 use Rattle.cx_edf.specs.State.{EdfState, ends_by_key, holds, session_at, stopped_at}
 
 -- What EDF does with an event. It keeps it: it answers so, and the sessions become these. Or it passes an event to the
@@ -67,7 +67,7 @@ abbrev pub sessions_after : Sessions → Event → Reply → (List ℕ → StopP
 sessions_after sessions (event.Turn name) (reply.Turn r) display_at =
     with_session_changed sessions name (λ session. Some (after_reply session r (display_at name)))
 sessions_after sessions (event.Alter name change) (reply.Alter alter.Altered) display_at =
-    with_session_changed sessions name (λ session. Some (after_change session change (display_at name)))
+    with_session_changed sessions name (λ session. Some (session_after_change session change (display_at name)))
 sessions_after sessions _ _ display_at = sessions
 
 -- the region's event, an answer of EDF's own or the region's reply, and the sessions after it, with displays of the

@@ -3,7 +3,7 @@ use Rattle.std.specs.Prelude.{ℕ, Bool, true, false, ◌||◌, ◌&&◌, ◌==�
 use Rattle.std.specs.List.{find, list_all, slice_split, zip}
 use Rattle.std.specs.Option.{option_map}
 use Rattle.cx_ebcdic.specs.Characters.{shown_as}
-use Rattle.cx_base.specs.Conditions.{entry_of, handled_conditions, place_of}
+use Rattle.cx_base.specs.Conditions.{entry_of, handled_conditions, condition_place}
 use Rattle.cx_base.specs.declared.conditions.Condition.{Condition}
 use Rattle.cx_base.specs.declared.conditions.Condition.TheVariants as condition
 use Rattle.cx_edf_display.specs.declared.stops.StopPoint.{StopPoint}
@@ -36,11 +36,11 @@ no_stops = record { abend = false; end = false; met = replicate (length (conditi
 abbrev pub with_stop : Stops → StopWord → Stops
 with_stop stops word.Abend = record stops { abend = true }
 with_stop stops word.End = record stops { end = true }
-with_stop stops (word.Met condition) = record stops { met = slice_set stops.met (place_of condition) true }
+with_stop stops (word.Met condition) = record stops { met = slice_set stops.met (condition_place condition) true }
 
 -- whether a condition is named
 abbrev pub names : Stops → Condition → Bool
-names stops condition = get_or stops.met (place_of condition) false
+names stops condition = get_or stops.met (condition_place condition) false
 
 -- What is taken under suppression: after NORMAL nothing, after another condition what is named, or all where ERROR is.
 unfoldable pub takes : Stops → StopPoint → Bool

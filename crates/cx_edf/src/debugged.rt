@@ -54,7 +54,7 @@ impl<S: Store + Drop> Model for Debugged<S> {
 }
 
 impl<S: Store + Drop> Debugged<S> {
-    /// The region, with EDF Off at each terminal. It takes no memory.
+    /// The region, which is sound (`IsSound`), with EDF Off at each terminal. It takes no memory.
     pub fn new(alloc: Global, region: Region<S>) -> Debugged<S>
         requires { IsSound region }
         ensures region { result.region ≡ region }
@@ -67,12 +67,13 @@ impl<S: Store + Drop> Debugged<S> {
         }
     }
 
-    /// A key of a terminal with the bytes that it sends, at most 1,920. In Stopped it is EDF's; else it is the region's.
+    /// A key of a terminal with the bytes that it sends, at most 1,920. In Stopped it is EDF's; else it is the
+    /// region's.
     ///
-    /// ENTER lets the task go on, PF3 ends the session, PF4 goes on under suppression. PF5 and PF6 show the storage or the
-    /// user page, or the main page where that page is shown; PF10 shows the display before. PF9 takes the words that are
-    /// sent as stop conditions: ABEND, END, or a condition. PF12 ends the task by an abend, as `alter` does with
-    /// `Change::Abend`; without a task it has no effect, and neither has any other key.
+    /// ENTER lets the task go on, PF3 ends the session, PF4 goes on under suppression. PF5 and PF6 show the storage or
+    /// the user page, or the main page where that page is shown; PF10 shows the display before. PF9 takes the words
+    /// that are sent as stop conditions: ABEND, END, or a condition. PF12 ends the task by an abend, as `alter` does
+    /// with `Change::Abend`; without a task it has no effect, and neither has any other key.
     ///
     /// An error comes only where an allocation failed in the region's key. Then all is as before.
     #[tactic(auto, unfolding(crate::specs::Steps::AppliesBy, crate::specs::Steps::door_of, crate::specs::Runs::MayTakeEdf, cx_region::specs::Events::Applies, cx_region::specs::Events::MayTakeMemory))]
@@ -124,13 +125,14 @@ impl<S: Store + Drop> Debugged<S> {
         table::alter(&mut self.sessions, &self.region, name, Change::Abend, reply);
     }
 
-    /// Alters the task of a terminal in Stopped: a register (0 to 15), a byte of storage, the command that is due, or that
-    /// there is a task at all, as `Change` says. `Change::Register` and `Change::Byte` leave the terminal stopped and
-    /// its displays as they are. After `Change::Nop` the task goes on; after `Change::Abend` the terminal is stopped
-    /// over, with a display of it whatever its stop conditions are.
+    /// Alters the task of a terminal in Stopped: a register (0 to 15), a byte of storage, the command that is due, or
+    /// that there is a task at all, as `Change` says. `Change::Register` and `Change::Byte` leave the terminal stopped
+    /// and its displays as they are. After `Change::Nop` the task goes on; after `Change::Abend` the terminal is
+    /// stopped over, with a display of it whatever its stop conditions are.
     ///
-    /// It is refused by the first that applies of: no such terminal, not stopped, no task, no command due for `Change::Nop`,
-    /// no byte at the address for `Change::Byte` (from 2^24 on there is none). Then all is as before. It takes no memory.
+    /// It is refused by the first that applies of: no such terminal, not stopped, no task, no command due for
+    /// `Change::Nop`, no byte at the address for `Change::Byte` (from 2^24 on there is none). Then all is as before. It
+    /// takes no memory.
     #[tactic(auto, unfolding(crate::specs::Steps::AppliesBy, crate::specs::Steps::door_of, cx_region::specs::Events::Applies))]
     pub fn alter(&mut self, name: Name4, change: Change) -> AlterAnswer
         requires { IsAllowedChange change }
@@ -146,8 +148,9 @@ impl<S: Store + Drop> Debugged<S> {
         AlterAnswer::Region(reply)
     }
 
-    /// A turn of a terminal. In Stopped with a live task it is Held, and nothing is done; else it is the region's, and where
-    /// its reply is a stop that the mode takes, the terminal is stopped, with a display of the region as it is then.
+    /// A turn of a terminal. In Stopped with a live task it is Held, and nothing is done; else it is the region's, and
+    /// where its reply is a stop that the mode takes, the terminal is stopped, with a display of the region as it is
+    /// then.
     ///
     /// An error comes only where an allocation failed in the region's turn. Then all is as before.
     pub fn turn(&mut self, name: Name4) -> Result<TurnAnswer, AllocError>
@@ -187,8 +190,8 @@ impl<S: Store + Drop> Debugged<S> {
         Ok((TurnAnswer::Region(reply), abend_record))
     }
 
-    /// Begins a session of a terminal that is Off, with room for its ten displays: its task stops from its next turn on.
-    /// Else it is answered NoSuchTerminal or AlreadyOn.
+    /// Begins a session of a terminal that is Off, with room for its ten displays: its task stops from its next turn
+    /// on. Else it is answered NoSuchTerminal or AlreadyOn.
     ///
     /// An error comes only where memory for the session was refused. Then all is as before.
     #[tactic(auto, unfolding(crate::specs::Steps::AppliesBy, crate::specs::Steps::door_of, crate::specs::Runs::MayTakeEdf))]
@@ -301,8 +304,8 @@ impl<S: Store + Drop> Debugged<S> {
         self.region.define_terminal(name)
     }
 
-    /// Sets the clock, for the tasks attached later: the time as hhmmss (at most 999,999) and the date as yyddd (at most
-    /// 99,999). It takes no memory.
+    /// Sets the clock, for the tasks attached later: the time as hhmmss (at most 999,999) and the date as yyddd (at
+    /// most 99,999). It takes no memory.
     #[tactic(auto, unfolding(crate::specs::Steps::AppliesBy, crate::specs::Steps::door_of, cx_region::specs::Events::Applies))]
     pub fn set_clock(&mut self, time: u32, date: u32)
         requires time { time ≤ 999999 }

@@ -5,15 +5,15 @@ use cx_edf_display::StopPoint;
 /// The mode of a terminal under EDF.
 #[derive(Clone, Copy, Debug, PartialEq, Eq)]
 pub enum Mode {
-    /// Its task runs, and stops at each command.
+    /// Its task runs, and stops before and after each command, at an exit, and at its end.
     Free,
-    /// It is stopped.
+    /// The operator sees the display of a stop, and the task, where it is live, doesn't run.
     Stopped(StopPoint),
-    /// Its task runs, and stops at the stop conditions alone.
+    /// Its task runs, and stops only where its stop conditions say so.
     Suppressed,
 }
 
-/// A page of a display.
+/// A page of a display: the main page, the storage page or the user page.
 #[derive(Clone, Copy, Debug, PartialEq, Eq)]
 pub enum PageName {
     Main,
@@ -24,8 +24,8 @@ pub enum PageName {
 /// Which display is shown, and which page of it.
 #[derive(Clone, Copy, Debug, PartialEq, Eq)]
 pub struct View {
-    /// How many displays before the newest.
+    /// How many displays before the newest it is; 0 is the newest.
     pub back: usize,
-    /// Its page.
+    /// Which of the display's pages.
     pub page: PageName,
 }

@@ -116,16 +116,17 @@ impl<S: Store + Drop> Debugged<S> {
         }
     }
 
-    /// Does events in order, and answers what each is answered. What each call takes is asked of each event: a clock as for
-    /// `set_clock`, at most 1,920 bytes of a key, a register as for `alter`.
+    /// Does events in order, and answers what each is answered. What each call takes is asked of each event: a clock as
+    /// for `set_clock`, at most 1,920 bytes of a key, a register as for `alter`.
     ///
-    /// There are states, one after each event, and each event with its answer is what EDF does in the state before it. So EDF is
-    /// transparent (`laws::what_is_left_is_a_run`): the events that aren't EDF's own, without refused alterations and with an
-    /// alteration for each PF12 that ended a task, are a run of the region alone, with the region's replies, up to each event;
-    /// and the displays that are kept of each terminal are the last ten of its session (`laws::last_displays_are_kept`).
+    /// There are states, one after each event, and each event with its answer is what EDF does in the state before it.
+    /// So EDF is transparent (`laws::what_is_left_is_a_run`): the events that EDF doesn't answer itself, without
+    /// refused alterations and with an alteration for each PF12 that ended a task, are a run of the region alone, with
+    /// the region's replies, up to each event; and the displays that are kept of each terminal are the last ten of its
+    /// session (`laws::last_displays_are_kept`).
     ///
-    /// It stops where an allocation failed: in front of the first event where there is no memory for the answers to all, else
-    /// at an event that may take memory. The state is as the events done left it.
+    /// It stops where an allocation failed: in front of the first event where there is no memory for the answers to
+    /// all, else at an event that may take memory. The state is as the events done left it.
     pub fn run(&mut self, events: &[EdfEvent]) -> Result<Vec<Answer>, RunStop>
         requires { AllByRecursion IsAllowedEdf events.now }
         ensures ok { IfOk result (λ answers. EdfRun self.old events.now answers.items self.new) }

@@ -2,7 +2,7 @@
 ghost use Rattle.std.specs.Prelude.{◌≡◌, ◌≢◌, ◌<◌, ◌^◌, None, Some, IfOk, IsTrue, is_some, length};
 ghost use Rattle.std.specs.Option.{option_copied, option_map};
 ghost use Rattle.cx_edf_display.specs.Displays.{display_of};
-ghost use Rattle.cx_edf.specs.Sessions.{after_change, after_key, after_reply, fresh_session, is_stopped, nth_back, older, shown_of, stop_of, stop_session, takes_in, turned_to};
+ghost use Rattle.cx_edf.specs.Sessions.{session_after_change, after_key, after_reply, fresh_session, is_stopped, nth_back, older, shown_of, stop_of, stop_session, takes_in, turned_to};
 
 use crate::modes::{Mode, PageName, View};
 use crate::stop_words::Stops;
@@ -55,14 +55,14 @@ impl Session {
         })
     }
 
-    /// Its mode.
+    /// The session's mode: Free, Stopped or Suppressed.
     pub fn mode(&self) -> Mode
         ensures { result ≡ self.now.mode }
     {
         self.mode
     }
 
-    /// Its stop conditions.
+    /// The stop conditions, which count in Suppressed alone.
     pub fn stops(&self) -> Stops
         ensures { result ≡ self.now.stops }
     {
@@ -115,8 +115,8 @@ impl Session {
         self.view = View::NEWEST;
     }
 
-    /// What a turn's reply does, where the region is as it was after the turn: at a stop that the session takes, it stops,
-    /// with the display of the terminal.
+    /// What a turn's reply does, where the region is as it was after the turn: at a stop that the session takes, it
+    /// stops, with the display of the terminal.
     #[tactic(auto, unfolding(crate::specs::Sessions::after_reply))]
     pub(crate) fn note<S: Store + Drop>(
         &mut self,
@@ -137,9 +137,9 @@ impl Session {
 
     /// What an alteration does, where the region is as it was after it: after `Change::Nop` the task goes on, and after
     /// `Change::Abend` it is stopped over, with the display of the terminal.
-    #[tactic(auto, unfolding(crate::specs::Sessions::after_change))]
+    #[tactic(auto, unfolding(crate::specs::Sessions::session_after_change))]
     pub(crate) fn alter<S: Store + Drop>(&mut self, region: &Region<S>, name: Name4, change: Change)
-        ensures { self.new ≡ after_change self.old change (display_of region.now name) }
+        ensures { self.new ≡ session_after_change self.old change (display_of region.now name) }
     {
         match change {
             Change::Nop => self.mode = Mode::Free,

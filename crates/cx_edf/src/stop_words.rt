@@ -12,11 +12,11 @@ use cx_edf_display::{Ending, StopPoint};
 /// A stop condition: what a task stops at under suppression.
 #[derive(Clone, Copy, Debug, PartialEq, Eq)]
 pub enum StopWord {
-    /// ABEND.
+    /// ABEND: an abend, whether an exit takes it or the task ends by it.
     Abend,
-    /// END.
+    /// END: the task's end by RETURN.
     End,
-    /// A condition that a command meets, by its name.
+    /// A condition that a command meets, by its name; ERROR stands for all but NORMAL.
     Met(Condition),
 }
 
@@ -36,7 +36,9 @@ impl StopWord {
 /// The stop conditions of a session: each is on or off.
 #[derive(Clone, Copy, Debug, PartialEq, Eq)]
 pub struct Stops {
+    /// ABEND is on.
     pub abend: bool,
+    /// END is on.
     pub end: bool,
     /// The conditions, each at its place (`Condition::place`).
     pub met: [bool; CONDITIONS],
@@ -73,15 +75,16 @@ impl Stops {
         stops
     }
 
-    /// Whether a condition is among these by its own name.
+    /// Whether this very condition is on. ERROR counts for itself alone here.
     pub fn names(self, condition: Condition) -> bool
         ensures { result ≡ names self condition }
     {
         self.met[condition.place()]
     }
 
-    /// Whether a task stops there under suppression: after a condition that is named, or any but NORMAL where ERROR is;
-    /// where an exit took an abend, or the task ended by one, where ABEND is named; where it ended otherwise, for END.
+    /// Whether a task stops there under suppression: after a condition that is on, or after any but NORMAL where ERROR
+    /// is on; where an exit took an abend, or the task ended by one, where ABEND is on; where it ended otherwise, where
+    /// END is on. Never before a command.
     #[tactic(auto, unfolding(crate::specs::Stops::takes))]
     pub fn takes(self, kind: &StopPoint) -> bool
         ensures { result ≡ takes self kind.now }

@@ -6,7 +6,7 @@ ghost use Rattle.std.specs.Map.{keys_of};
 ghost use Rattle.indexmap.specs.IndexMap.{insert_entry};
 ghost use Rattle.cx_edf_display.specs.Displays.{display_of};
 ghost use Rattle.cx_ebcdic.specs.Names.{is_name};
-ghost use Rattle.cx_edf.specs.Sessions.{SessionState, after_change, after_key, fresh_session, is_stopped, session_in, with_session};
+ghost use Rattle.cx_edf.specs.Sessions.{SessionState, session_after_change, after_key, fresh_session, is_stopped, session_in, with_session};
 ghost use Rattle.cx_edf.specs.Steps.{with_session_changed, sessions_after};
 ghost use Rattle.cx_region.specs.declared.replies.Event.TheVariants as event;
 ghost use Rattle.cx_region.specs.declared.replies.Reply.TheVariants as reply;
@@ -125,7 +125,7 @@ fn altered<S: Store + Drop>(
 )
     ensures { let display = display_of region.now name in
         sessions.new.entries
-        ≡ with_session_changed sessions.old.entries name (λ it. Some (after_change it change display)) }
+        ≡ with_session_changed sessions.old.entries name (λ it. Some (session_after_change it change display)) }
 {
     let Some(session) = sessions.get_mut(&name) else {
         return;

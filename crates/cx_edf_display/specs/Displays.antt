@@ -20,7 +20,7 @@ use Rattle.cx_edf_display.specs.declared.seen.Seen.{Seen}
 use Rattle.cx_edf_display.specs.declared.stops.Ending.TheVariants as ending
 use Rattle.cx_edf_display.specs.declared.stops.StopPoint.{StopPoint}
 use Rattle.cx_edf_display.specs.declared.stops.StopPoint.TheVariants as kind
-use Rattle.cx_edf_display.specs.Texts.{with_line, with_lines, hex_at, hex_group, character_group}
+use Rattle.cx_edf_display.specs.Texts.{with_page_line, with_page_lines, hex_at, hex_group, character_group}
 
 -- ---- what is seen of a task
 abbrev pub seen_of : TaskState → Seen
@@ -55,16 +55,16 @@ task_heading name (Some task) =
     heading (shown_text task.tran) (shown_text task.program) (digits 10 7 task.number) (shown_text name)
 
 -- line 2
-abbrev pub status_of : StopPoint → List ℕ
-status_of kind.Before = codes "ABOUT TO EXECUTE COMMAND"
-status_of (kind.After condition) = codes "COMMAND EXECUTION COMPLETE"
-status_of (kind.Exit code) = codes "ABEND EXIT TAKEN"
-status_of (kind.Over ending.Ended) = codes "TASK TERMINATION"
-status_of (kind.Over (ending.Abended code)) = codes "TASK ABENDED"
+abbrev pub stop_status : StopPoint → List ℕ
+stop_status kind.Before = codes "ABOUT TO EXECUTE COMMAND"
+stop_status (kind.After condition) = codes "COMMAND EXECUTION COMPLETE"
+stop_status (kind.Exit code) = codes "ABEND EXIT TAKEN"
+stop_status (kind.Over ending.Ended) = codes "TASK TERMINATION"
+stop_status (kind.Over (ending.Abended code)) = codes "TASK ABENDED"
 
 -- line 3: the command by the block that register 1 leads to, or after it by EIBFN
-abbrev pub list_of : Seen → ℕ
-list_of task = address_in (slice_index task.regs 1)
+abbrev pub list_of_seen : Seen → ℕ
+list_of_seen task = address_in (slice_index task.regs 1)
 
 abbrev pub field_at : Seen → EibField → ℕ
 field_at task f = address_after task.eib (eib_field f).offset
@@ -73,11 +73,11 @@ unfoldable pub name_of_function : Option ℕ → List ℕ
 name_of_function None = codes "?"
 name_of_function (Some function) = option_map_or (λ command. (row_of command).name) (command_with function) (codes "?")
 
-unfoldable pub command_text : Storage → Seen → StopPoint → List ℕ
-command_text storage task kind.Before =
-    name_of_function (option_and_then (λ w. halfword_at storage (address_in w)) (word_at storage (list_of task)))
-command_text storage task (kind.After condition) = name_of_function (halfword_at storage (field_at task eib.Fn))
-command_text storage task other = []
+unfoldable pub displayed_command : Storage → Seen → StopPoint → List ℕ
+displayed_command storage task kind.Before =
+    name_of_function (option_and_then (λ w. halfword_at storage (address_in w)) (word_at storage (list_of_seen task)))
+displayed_command storage task (kind.After condition) = name_of_function (halfword_at storage (field_at task eib.Fn))
+displayed_command storage task other = []
 
 -- where the four words of 16 bytes begin, and the four lines of 16 registers
 abbrev pub quarters : List ℕ
@@ -100,7 +100,7 @@ arguments storage list (k ∷ ks) =
 
 abbrev pub arguments_due : Storage → Seen → StopPoint → List (ℕ × List (List ℕ))
 arguments_due storage task kind.Before =
-    arguments storage (list_of task) (0 ∷ 1 ∷ 2 ∷ 3 ∷ 4 ∷ 5 ∷ 6 ∷ 7 ∷ 8 ∷ 9 ∷ 10 ∷ [])
+    arguments storage (list_of_seen task) (0 ∷ 1 ∷ 2 ∷ 3 ∷ 4 ∷ 5 ∷ 6 ∷ 7 ∷ 8 ∷ 9 ∷ 10 ∷ [])
 arguments_due storage task other = []
 
 -- lines 15 to 18: four registers from one on
@@ -140,15 +140,15 @@ keys = codes "ENTER GO ON  PF3 END  PF4 SUPPRESS  PF5 STORAGE  PF6 USER  PF9 STO
 abbrev pub task_lines : Storage → StopPoint → Option Seen → List (ℕ × List (List ℕ))
 task_lines storage stop None = []
 task_lines storage stop (Some task) =
-    (3, codes "COMMAND " ∷ command_text storage task stop ∷ [])
+    (3, codes "COMMAND " ∷ displayed_command storage task stop ∷ [])
     ∷ arguments_due storage task stop ++ map (registers task.regs) quarters ++ (19, state_line task)
     ∷ (20, eib_line storage task) ∷ []
 
 unfoldable pub main_page : Storage → List ℕ → StopPoint → Option Seen → List (List ℕ)
 main_page storage name stop task =
-    with_lines
+    with_page_lines
     blank_page
-    ((1, task_heading name task) ∷ (2, codes "STATUS " ∷ status_of stop ∷ [])
+    ((1, task_heading name task) ∷ (2, codes "STATUS " ∷ stop_status stop ∷ [])
     ∷ task_lines storage stop task ++ (21, outcome stop) ∷ (24, keys ∷ []) ∷ [])
 
 -- ---- the other pages
@@ -163,10 +163,10 @@ storage_row storage task row =
 
 unfoldable pub with_row : Storage → Seen → List (List ℕ) → ℕ → List (List ℕ)
 with_row storage task page row =
-    if nat_lt (16 * row) task.stg_len then with_line page (row + 2) (storage_row storage task row) else page
+    if nat_lt (16 * row) task.stg_len then with_page_line page (row + 2) (storage_row storage task row) else page
 
-abbrev pub rows : List ℕ
-rows = 0 ∷ 1 ∷ 2 ∷ 3 ∷ 4 ∷ 5 ∷ 6 ∷ 7 ∷ 8 ∷ 9 ∷ 10 ∷ 11 ∷ 12 ∷ 13 ∷ 14 ∷ 15 ∷ 16 ∷ 17 ∷ 18 ∷ 19 ∷ 20 ∷ 21 ∷ []
+abbrev pub page_rows : List ℕ
+page_rows = 0 ∷ 1 ∷ 2 ∷ 3 ∷ 4 ∷ 5 ∷ 6 ∷ 7 ∷ 8 ∷ 9 ∷ 10 ∷ 11 ∷ 12 ∷ 13 ∷ 14 ∷ 15 ∷ 16 ∷ 17 ∷ 18 ∷ 19 ∷ 20 ∷ 21 ∷ []
 
 abbrev pub storage_heading : Seen → List (List ℕ)
 storage_heading task =
@@ -174,7 +174,8 @@ storage_heading task =
 
 unfoldable pub storage_page : Storage → Option Seen → List (List ℕ)
 storage_page storage None = blank_page
-storage_page storage (Some task) = fold (with_row storage task) (with_line blank_page 1 (storage_heading task)) rows
+storage_page storage (Some task) =
+    fold (with_row storage task) (with_page_line blank_page 1 (storage_heading task)) page_rows
 
 -- the display of a terminal at a stop of some kind; the user page is the terminal's screen
 unfoldable pub display_of : RegionState → List ℕ → StopPoint → Display

@@ -8,11 +8,11 @@ use Rattle.cx_base.specs.Digits.{digits}
 use Rattle.cx_base.specs.Texts.{in_columns, join}
 
 -- a page with these pieces in place of a line, counted from 1, and with each of some lines
-abbrev pub with_line : List (List ℕ) → ℕ → List (List ℕ) → List (List ℕ)
-with_line page line pieces = slice_set page (line - 1) (in_columns 80 (join pieces))
+abbrev pub with_page_line : List (List ℕ) → ℕ → List (List ℕ) → List (List ℕ)
+with_page_line page line pieces = slice_set page (line - 1) (in_columns 80 (join pieces))
 
-abbrev pub with_lines : List (List ℕ) → List (ℕ × List (List ℕ)) → List (List ℕ)
-with_lines page lines = fold (λ page line. with_line page line.0 line.1) page lines
+abbrev pub with_page_lines : List (List ℕ) → List (ℕ × List (List ℕ)) → List (List ℕ)
+with_page_lines page lines = fold (λ page line. with_page_line page line.0 line.1) page lines
 
 -- the byte that is k bytes after an address, of a row of n bytes, in hexadecimal, and its character: an absent one is
 -- shown by hyphens, and blanks stand for what is past the row's end

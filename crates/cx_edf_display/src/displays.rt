@@ -16,11 +16,11 @@ use cx_storage::Store;
 pub struct Display {
     /// Where the task stopped.
     pub kind: StopPoint,
-    /// The main page.
+    /// The main page: what is due or was done, and what the task has, where it is seen.
     pub main: Page,
-    /// The working storage.
+    /// The storage page: the first 352 bytes of the current level's DFHEISTG, blank where the task is over.
     pub storage: Page,
-    /// The user's screen.
+    /// The user page: the terminal's screen.
     pub user: Page,
 }
 

@@ -5,8 +5,8 @@ ghost use Rattle.std.specs.Option.{option_and_then};
 ghost use Rattle.cx_storage.specs.Address.{address_in};
 ghost use Rattle.cx_storage.specs.Word.{halfword_at, word_at};
 ghost use Rattle.cx_base.specs.Texts.{shown_text};
-ghost use Rattle.cx_edf_display.specs.Texts.{with_line, with_lines};
-ghost use Rattle.cx_edf_display.specs.Displays.{argument, arguments, arguments_due, command_text, eib_line, heading, list_of, main_page, name_of_function, outcome, quarters, registers, state_line, status_of, task_heading, task_lines};
+ghost use Rattle.cx_edf_display.specs.Texts.{with_page_line, with_page_lines};
+ghost use Rattle.cx_edf_display.specs.Displays.{argument, arguments, arguments_due, displayed_command, eib_line, heading, list_of_seen, main_page, name_of_function, outcome, quarters, registers, state_line, stop_status, task_heading, task_lines};
 
 use crate::rows::{character_group, hex_at, hex_group};
 use crate::seen::{Seen, halfword, word};
@@ -31,7 +31,7 @@ pub(crate) fn main_page<S: Store + Drop>(
 {
     let mut page = Page::blank();
     put_heading(&mut page, name, task);
-    page.put_line(2, &[b"STATUS ", status_of(kind)]);
+    page.put_line(2, &[b"STATUS ", stop_status(kind)]);
     put_task(&mut page, region, kind, task);
     put_outcome(&mut page, kind);
     page.put_line(24, &[KEYS]);
@@ -40,7 +40,7 @@ pub(crate) fn main_page<S: Store + Drop>(
 
 /// Line 1.
 fn put_heading(page: &mut Page, name: Name4, task: &Option<Seen>)
-    ensures { page.new ≡ with_line page.old 1 (task_heading name task.now) }
+    ensures { page.new ≡ with_page_line page.old 1 (task_heading name task.now) }
 {
     let terminal = shown_bytes(&name.bytes());
     let Some(task) = task else {
@@ -53,7 +53,7 @@ fn put_heading(page: &mut Page, name: Name4, task: &Option<Seen>)
 
 /// Line 1 of these texts.
 fn put_names(page: &mut Page, tran: [u8; 4], program: [u8; 8], number: [u8; 7], terminal: [u8; 4])
-    ensures { page.new ≡ with_line page.old 1 (heading tran program number terminal) }
+    ensures { page.new ≡ with_page_line page.old 1 (heading tran program number terminal) }
 {
     page.put_line(
         1,
@@ -78,12 +78,12 @@ fn put_task<S: Store + Drop>(
     kind: &StopPoint,
     task: &Option<Seen>,
 )
-    ensures { page.new ≡ with_lines page.old (task_lines region.now.shared.storage kind.now task.now) }
+    ensures { page.new ≡ with_page_lines page.old (task_lines region.now.shared.storage kind.now task.now) }
 {
     let Some(task) = task else {
         return;
     };
-    page.put_line(3, &[b"COMMAND ", command_text(region, kind, task)]);
+    page.put_line(3, &[b"COMMAND ", displayed_command(region, kind, task)]);
     put_arguments_due(page, region, kind, task);
     put_registers(page, task);
     put_state(page, task);
@@ -91,8 +91,8 @@ fn put_task<S: Store + Drop>(
 }
 
 /// What line 2 says.
-fn status_of(kind: &StopPoint) -> &'static [u8]
-    ensures { result.now ≡ status_of kind.now }
+fn stop_status(kind: &StopPoint) -> &'static [u8]
+    ensures { result.now ≡ stop_status kind.now }
 {
     match kind {
         StopPoint::Before => b"ABOUT TO EXECUTE COMMAND",
@@ -104,9 +104,13 @@ fn status_of(kind: &StopPoint) -> &'static [u8]
 }
 
 /// The command's name on line 3: before it by the block, after it by EIBFN.
-#[tactic(auto, unfolding(crate::specs::Displays::command_text))]
-fn command_text<S: Store + Drop>(region: &Region<S>, kind: &StopPoint, task: &Seen) -> &'static [u8]
-    ensures { result.now ≡ command_text region.now.shared.storage task.now kind.now }
+#[tactic(auto, unfolding(crate::specs::Displays::displayed_command))]
+fn displayed_command<S: Store + Drop>(
+    region: &Region<S>,
+    kind: &StopPoint,
+    task: &Seen,
+) -> &'static [u8]
+    ensures { result.now ≡ displayed_command region.now.shared.storage task.now kind.now }
 {
     match kind {
         StopPoint::Before => name_of_function(function_due(region, task)),
@@ -122,7 +126,7 @@ fn command_text<S: Store + Drop>(region: &Region<S>, kind: &StopPoint, task: &Se
 /// The function value of the block that register 1 leads to.
 fn function_due<S: Store + Drop>(region: &Region<S>, task: &Seen) -> Option<u16>
     ensures { result ≡ option_and_then (λ w. halfword_at region.now.shared.storage (address_in w))
-        (word_at region.now.shared.storage (list_of task.now)) }
+        (word_at region.now.shared.storage (list_of_seen task.now)) }
 {
     let first = word(region, address_in(task.regs[1]))?;
     halfword(region, address_in(first))
@@ -152,7 +156,7 @@ fn put_arguments_due<S: Store + Drop>(
     kind: &StopPoint,
     task: &Seen,
 )
-    ensures { page.new ≡ with_lines page.old (arguments_due region.now.shared.storage task.now kind.now) }
+    ensures { page.new ≡ with_page_lines page.old (arguments_due region.now.shared.storage task.now kind.now) }
 {
     match kind {
         StopPoint::Before => put_arguments(page, region, address_in(task.regs[1]), &NUMBERS),
@@ -166,7 +170,7 @@ fn put_arguments_due<S: Store + Drop>(
 #[tactic(auto, unfolding(crate::specs::Displays::arguments))]
 fn put_arguments<S: Store + Drop>(page: &mut Page, region: &Region<S>, list: u32, numbers: &[u32])
     requires { AllByRecursion (λ k. k ≤ 10) numbers.now }
-    ensures { page.new ≡ with_lines page.old (arguments region.now.shared.storage list numbers.now) }
+    ensures { page.new ≡ with_page_lines page.old (arguments region.now.shared.storage list numbers.now) }
 {
     let Some((k, rest)) = numbers.split_first() else {
         return;
@@ -183,7 +187,7 @@ fn put_arguments<S: Store + Drop>(page: &mut Page, region: &Region<S>, list: u32
 /// An argument's line.
 fn put_argument<S: Store + Drop>(page: &mut Page, region: &Region<S>, k: u32, address: u32)
     requires { k ≤ 10 }
-    ensures { page.new ≡ with_line page.old (k + 4) (argument region.now.shared.storage k address) }
+    ensures { page.new ≡ with_page_line page.old (k + 4) (argument region.now.shared.storage k address) }
 {
     let number = decimal::<2>(k);
     let place = hexadecimal::<6>(address);
@@ -205,7 +209,7 @@ fn put_argument<S: Store + Drop>(page: &mut Page, region: &Region<S>, k: u32, ad
 
 /// Lines 15 to 18.
 fn put_registers(page: &mut Page, task: &Seen)
-    ensures { page.new ≡ with_lines page.old (map (registers task.now.regs) quarters) }
+    ensures { page.new ≡ with_page_lines page.old (map (registers task.now.regs) quarters) }
 {
     put_four(page, &task.regs, 0);
     put_four(page, &task.regs, 4);
@@ -216,7 +220,7 @@ fn put_registers(page: &mut Page, task: &Seen)
 /// Four registers on a line.
 fn put_four(page: &mut Page, regs: &[u32; 16], k: u32)
     requires { k ≤ 12 }
-    ensures { page.new ≡ with_lines page.old (registers regs.now k ∷ []) }
+    ensures { page.new ≡ with_page_lines page.old (registers regs.now k ∷ []) }
 {
     let first = k as usize;
     let number = decimal::<2>(k);
@@ -232,7 +236,7 @@ fn put_four(page: &mut Page, regs: &[u32; 16], k: u32)
 
 /// Line 19.
 fn put_state(page: &mut Page, task: &Seen)
-    ensures { page.new ≡ with_line page.old 19 (state_line task.now) }
+    ensures { page.new ≡ with_page_line page.old 19 (state_line task.now) }
 {
     let code = decimal::<1>(u32::from(task.cc));
     let next = hexadecimal::<6>(task.next);
@@ -241,7 +245,7 @@ fn put_state(page: &mut Page, task: &Seen)
 
 /// Line 20.
 fn put_eib<S: Store + Drop>(page: &mut Page, region: &Region<S>, task: &Seen)
-    ensures { page.new ≡ with_line page.old 20 (eib_line region.now.shared.storage task.now) }
+    ensures { page.new ≡ with_page_line page.old 20 (eib_line region.now.shared.storage task.now) }
 {
     let function = address_after(task.eib, EibField::Fn.offset());
     let length = address_after(task.eib, EibField::Calen.offset());
@@ -280,7 +284,7 @@ fn put_eib<S: Store + Drop>(page: &mut Page, region: &Region<S>, task: &Seen)
 
 /// Line 21.
 fn put_outcome(page: &mut Page, kind: &StopPoint)
-    ensures { page.new ≡ with_line page.old 21 (outcome kind.now) }
+    ensures { page.new ≡ with_page_line page.old 21 (outcome kind.now) }
 {
     match kind {
         StopPoint::Before => page.put_line(21, &[]),
@@ -295,7 +299,7 @@ fn put_outcome(page: &mut Page, kind: &StopPoint)
 
 /// Line 21 at an abend.
 fn put_abend(page: &mut Page, code: &Name4)
-    ensures { page.new ≡ with_line page.old 21 (codes "ABEND " ∷ shown_text code.now ∷ []) }
+    ensures { page.new ≡ with_page_line page.old 21 (codes "ABEND " ∷ shown_text code.now ∷ []) }
 {
     let code = shown_bytes(&code.bytes());
     page.put_line(21, &[b"ABEND ", &code]);

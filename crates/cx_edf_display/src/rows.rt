@@ -56,8 +56,8 @@ fn character_at<S: Store + Drop>(region: &Region<S>, address: u32, count: u32, k
     character_of(region.byte(address_after(address, k)))
 }
 
-/// Four bytes of a row of `count` bytes from an address on, from the one with that number on, in hexadecimal: hyphens
-/// stand for an absent byte, blanks for one past the row's end. It takes no memory.
+/// Four bytes in hexadecimal of a row of `count` bytes that begins at an address: those at `k` (below 16) to `k` + 3,
+/// counted from 0. Hyphens stand for an absent byte, blanks for one past the row's end. It takes no memory.
 #[tactic(auto, unfolding(crate::specs::Texts::hex_group))]
 pub fn hex_group<S: Store + Drop>(region: &Region<S>, address: u32, count: u32, k: u32) -> [u8; 8]
     requires { k < 16 }
@@ -70,8 +70,8 @@ pub fn hex_group<S: Store + Drop>(region: &Region<S>, address: u32, count: u32, 
     in_columns::<8>(&[&a, &b, &c, &d])
 }
 
-/// The characters of four bytes of a row of `count` bytes from an address on, from the one with that number on: a
-/// hyphen stands for an absent byte, a blank for one past the row's end. It takes no memory.
+/// The characters of four bytes of a row of `count` bytes that begins at an address: those at `k` (below 16) to `k` +
+/// 3, counted from 0. A hyphen stands for an absent byte, a blank for one past the row's end. It takes no memory.
 #[tactic(auto, unfolding(crate::specs::Texts::character_group))]
 pub fn character_group<S: Store + Drop>(
     region: &Region<S>,

@@ -14,14 +14,23 @@ use cx_storage::{Store, next_address};
 /// What a display shows of a task.
 #[derive(Drop)]
 pub struct Seen {
+    /// The transaction.
     pub tran: Name4,
+    /// The current level's program.
     pub program: Name8,
+    /// The task's number.
     pub number: u32,
+    /// The address of its EIB.
     pub eib: u32,
+    /// The address of the current level's DFHEISTG.
     pub stg: u32,
+    /// The length of that in bytes.
     pub stg_len: u32,
+    /// Registers 0 to 15.
     pub regs: [u32; 16],
+    /// The condition code, 0 to 3.
     pub cc: u8,
+    /// The next address.
     pub next: u32,
 }
 

@@ -6,7 +6,7 @@ use cx_ebcdic::Name4;
 /// How a task ended.
 #[derive(Clone, Copy, Debug, PartialEq, Eq)]
 pub enum Ending {
-    /// By its RETURN.
+    /// By RETURN of its highest level.
     Ended,
     /// By an abend of that code.
     Abended(Name4),

@@ -5,7 +5,7 @@ ghost use Rattle.std.specs.Option.{option_map_or};
 ghost use Rattle.cx_region.specs.Tables.{terminal_of};
 ghost use Rattle.cx_base.specs.Pages.{blank_page};
 ghost use Rattle.cx_base.specs.Texts.{shown_text};
-ghost use Rattle.cx_edf_display.specs.Texts.{with_line};
+ghost use Rattle.cx_edf_display.specs.Texts.{with_page_line};
 ghost use Rattle.cx_edf_display.specs.Displays.{storage_heading, storage_page, with_row};
 
 use crate::rows::{character_group, hex_group};
@@ -35,7 +35,7 @@ pub(crate) fn storage_page<S: Store + Drop>(region: &Region<S>, task: &Option<Se
 
 /// Line 1.
 fn put_heading(page: &mut Page, task: &Seen)
-    ensures { page.new ≡ with_line page.old 1 (storage_heading task.now) }
+    ensures { page.new ≡ with_page_line page.old 1 (storage_heading task.now) }
 {
     let place = hexadecimal::<6>(task.stg);
     let length = hexadecimal::<6>(task.stg_len);

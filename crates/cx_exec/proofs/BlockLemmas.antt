@@ -6,7 +6,7 @@ use Rattle.std.proofs.lemmas.List.{length-take-le}
 use Rattle.cx_storage.specs.Storage.{Storage, span, after_write}
 use Rattle.cx_storage.specs.Address.{address_after, distance}
 use Rattle.cx_storage.specs.Facts.Spans.{span_at, span_length}
-use Rattle.cx_exec.specs.Sequence.{content, byte_seen, stored_by}
+use Rattle.cx_exec.specs.Sequence.{content_at, byte_seen, stored_by}
 use Rattle.cx_exec.specs.Strings.{moved_byte, xored_byte, MvcEffect, XcEffect}
 use Rattle.cx_exec.specs.declared.machine.Interruption.TheVariants as interruption
 use Rattle.cx_exec.specs.declared.machine.Updated.{Updated}
@@ -65,7 +65,7 @@ pub outside_is_joined : (s : Storage) (a1 a2 n k : ℕ) (first second : List ℕ
     → slice_index (stored_by (xored_byte s a1 a2) n) k ≡ bit_xor (slice_index first k) (slice_index second k)
 unfolding xored_byte
 outside_is_joined s a1 a2 n k first second low1 low2 fits outside e1 e2 h =
-    let own : content s (address_after a1 k) ≡ slice_index first k = rw (span_at s a1 n first k low1 e1 h) refl in
+    let own : content_at s (address_after a1 k) ≡ slice_index first k = rw (span_at s a1 n first k low1 e1 h) refl in
     let other = seen_before s a1 a2 n k (take k (stored_by (xored_byte s a1 a2) n)) second low2 (front_length (xored_byte s a1 a2) n k h) (not_stored n a1 a2 k low1 low2 fits outside h) e2 h in
     (each_is_stored (xored_byte s a1 a2) n k h).1 ∙ rw (own, other) refl
 

@@ -14,7 +14,7 @@ use Rattle.cx_code.specs.Spelling.{Instruction}
 use Rattle.cx_code.specs.Reading.{reading}
 use Rattle.cx_exec.specs.Fetch.{code_bytes, code_at, read_as}
 use Rattle.cx_exec.specs.Machine.{Machine, effective}
-use Rattle.cx_exec.specs.Step.{pending_instruction, updated_by, then_result, target_at, performed_of, instruction_to_perform, Runs}
+use Rattle.cx_exec.specs.Step.{pending_instruction, updated_by, unless_interrupted, target_at, performed_of, instruction_to_perform, Runs}
 use Rattle.cx_exec.specs.Rows.{Effect}
 use Rattle.cx_exec.specs.Outcome.{Outcome, IsSuppressed}
 use Rattle.cx_exec.specs.declared.machine.Interruption.{Interruption}
@@ -94,13 +94,13 @@ pub executed_at : (m : Machine) (i : Instruction) (r1 x2 b2 d2 : ℕ) (outcome :
     → Runs m outcome after
 unfolding Runs
 executed_at m i r1 x2 b2 d2 outcome after is long ex fields effect =
-    let step : instruction_to_perform m ≡ then_result (target_at m r1 (effective m.regs x2 b2 d2)) (λ target. Ok (pending_instruction target (record { length_code = 2; address = address_after m.next 4 })))
+    let step : instruction_to_perform m ≡ unless_interrupted (target_at m r1 (effective m.regs x2 b2 d2)) (λ target. Ok (pending_instruction target (record { length_code = 2; address = address_after m.next 4 })))
     = is ∙ ap (λ n. performed_of m i (updated_by m.next n)) long ∙ rw (ex, fields) refl in
     rw step (run (target_at m r1 (effective m.regs x2 b2 d2)) effect)
   where
     run : (target : Result Instruction Interruption)
         → MatchResult target (λ t. Effect t (record { length_code = 2; address = address_after m.next 4 }) m outcome after) (λ cause. IsSuppressed cause m outcome after)
-        → MatchResult (then_result target (λ t. Ok (pending_instruction t (record { length_code = 2; address = address_after m.next 4 })))) (λ d. Effect d.inst d.updated m outcome after) (λ cause. IsSuppressed cause m outcome after)
+        → MatchResult (unless_interrupted target (λ t. Ok (pending_instruction t (record { length_code = 2; address = address_after m.next 4 })))) (λ d. Effect d.inst d.updated m outcome after) (λ cause. IsSuppressed cause m outcome after)
     run (Ok t) e = e
     run (Err cause) e = e
 

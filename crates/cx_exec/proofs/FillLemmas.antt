@@ -8,7 +8,7 @@ use Rattle.cx_storage.specs.Storage.{Storage, byte_at, span}
 use Rattle.cx_storage.specs.Facts.Spans.{span_present, span_first}
 use Rattle.cx_storage.specs.Address.{address_after, distance}
 use Rattle.cx_exec.specs.Numbers.{number_of}
-use Rattle.cx_exec.specs.Sequence.{content, byte_seen, stored_by}
+use Rattle.cx_exec.specs.Sequence.{content_at, byte_seen, stored_by}
 use Rattle.cx_exec.specs.Strings.{moved_byte, xored_byte, MvcEffect}
 use Rattle.cx_exec.specs.declared.machine.Updated.{Updated}
 use Rattle.cx_exec.specs.Machine.{Machine}
@@ -22,7 +22,7 @@ use Rattle.cx_exec.proofs.BlockLemmas.{if_present, outside_is_joined}
 pub begins_after : (a1 a2 : ℕ) → a1 < 2 ^ 24 → a2 < 2 ^ 24 → distance a2 a1 ≡ 1 → a1 ≡ address_after a2 1
 begins_after a1 a2 low1 low2 one = omega (arith, low1, low2, one)
 
-first_moved : (s : Storage) (a1 a2 b : ℕ) → a2 < 2 ^ 24 → b ≡ content s a2 → take 1 (replicate 256 b) ≡ stored_by (moved_byte s a1 a2) 1
+first_moved : (s : Storage) (a1 a2 b : ℕ) → a2 < 2 ^ 24 → b ≡ content_at s a2 → take 1 (replicate 256 b) ≡ stored_by (moved_byte s a1 a2) 1
 unfolding stored_by moved_byte byte_seen
 first_moved s a1 a2 b low is =
     let first : address_after a2 0 ≡ a2 = omega (arith, low) in
@@ -30,7 +30,7 @@ first_moved s a1 a2 b low is =
     rw (first, past, is) refl
 
 -- that byte is stored throughout
-pub byte_is_moved : (s : Storage) (a1 a2 n b : ℕ) → a2 < 2 ^ 24 → n ≤ 256 → a1 ≡ address_after a2 1 → b ≡ content s a2
+pub byte_is_moved : (s : Storage) (a1 a2 n b : ℕ) → a2 < 2 ^ 24 → n ≤ 256 → a1 ≡ address_after a2 1 → b ≡ content_at s a2
     → take n (replicate 256 b) ≡ stored_by (moved_byte s a1 a2) n
 byte_is_moved s a1 a2 zero b low few begins is = sym (stored_none (moved_byte s a1 a2))
 byte_is_moved s a1 a2 (suc n) b low few begins is =
@@ -65,7 +65,7 @@ pub spread : (m after : Machine) (n a1 a2 b : ℕ) (updated : Updated) (outcome 
     → byte_at m.storage a2 ≡ Some b → is_some (span m.storage a1 n) ≡ true → Stores a1 (replicate n b) m.cc updated m outcome after → MvcEffect n a1 a2 updated m outcome after
 unfolding MvcEffect
 spread m after n a1 a2 b updated outcome low some few begins here there stores =
-    let is : b ≡ content m.storage a2 = rw here refl in
+    let is : b ≡ content_at m.storage a2 = rw here refl in
     let same : replicate n b ≡ stored_by (moved_byte m.storage a1 a2) n = sym (take-replicate n 256 b few) ∙ byte_is_moved m.storage a1 a2 n b low few begins is in
     let moves : Stores a1 (stored_by (moved_byte m.storage a1 a2) n) m.cc updated m outcome after = rw same at stores in
     if_present _ _ _ _ _ (begun m.storage a1 a2 n b some begins here there) moves

@@ -15,16 +15,16 @@ use Rattle.cx_code.specs.declared.table.Op.TheVariants as op
 use Rattle.cx_code.specs.declared.table.Format.{Format}
 use Rattle.cx_code.specs.declared.table.Format.TheVariants as form
 use Rattle.cx_code.specs.declared.instruction.Fields.{Fields}
-use Rattle.cx_code.specs.Table.{row_of, code_of, format_of, length_of, length_of_format, length_of_code, is_shift}
+use Rattle.cx_code.specs.Table.{operation_row, code_of, format_of, length_of, length_of_format, length_of_code, is_shift}
 use Rattle.cx_code.specs.declared.instruction.Fields.TheVariants.{Rr, Rx, Rs, Si, Ss, Ss2}
 use Rattle.cx_code.specs.Spelling.{Instruction, instruction, format_with, r3_of, IsWellFormed}
-use Rattle.cx_code.specs.Reading.{left_half, right_half, base_at, displacement_at, fields_in, fields_at, reading, without_r3}
+use Rattle.cx_code.specs.Reading.{left_half, right_half, base_at, displacement_at, decoded_fields, fields_at, reading, without_r3}
 use Rattle.cx_exec.specs.Fetch.{read_as}
 use Rattle.cx_exec.specs.declared.machine.Updated.{Updated}
 use Rattle.cx_exec.specs.Machine.{Machine, reg, effective}
 use Rattle.cx_exec.specs.Outcome.{Outcome, IsSuppressed}
 use Rattle.cx_exec.specs.Rows.{Effect}
-use Rattle.cx_exec.specs.Step.{is_execute, updated_by, joined_second, changed_copy, not_execute, then_result, target_at, performed_of, instruction_to_perform, Runs}
+use Rattle.cx_exec.specs.Step.{is_execute, updated_by, joined_second, changed_copy, not_execute, unless_interrupted, target_at, performed_of, instruction_to_perform, Runs}
 use Rattle.cx_exec.proofs.FetchLemmas.{found_is_read, lent_is_performed, reads_as, executed_at}
 
 -- the two bytes of a number, each of them given
@@ -68,8 +68,8 @@ pub second_displacement_back : (w : ℕ) → swap_bytes w32 (w / 65536 % 4294967
 second_displacement_back w = omega (arith, nat.div-div-eq-div-mul w 65536 65536, nat.div-div-eq-div-mul w 65536 16777216)
 
 -- the fields of a row are in its own bytes
-fields_front : (f : Format) (n : ℕ) (b : List ℕ) → length_of_format f ≤ n → fields_in f (take n b) ≡ fields_in f b
-unfolding fields_in
+fields_front : (f : Format) (n : ℕ) (b : List ℕ) → length_of_format f ≤ n → decoded_fields f (take n b) ≡ decoded_fields f b
+unfolding decoded_fields
 fields_front form.Rr n b h = rw (get_or-take n b 1 0 (omega (arith, h))) refl
 fields_front form.Rx n b h = rw (get_or-take n b 1 0 (omega (arith, h)), big_from-take 2 2 n b (omega (arith, h))) refl
 fields_front form.Rs n b h = rw (get_or-take n b 1 0 (omega (arith, h)), big_from-take 2 2 n b (omega (arith, h))) refl
@@ -147,7 +147,7 @@ joined_first low [] = refl
 joined_first low (x ∷ []) = refl
 joined_first low (x ∷ y ∷ rest) = refl
 
-copy_read : (i : Instruction) (b : List ℕ) → is_execute i.op ≡ false → reading b ≡ Some i → then_result (read_as b) not_execute ≡ Ok i
+copy_read : (i : Instruction) (b : List ℕ) → is_execute i.op ≡ false → reading b ≡ Some i → unless_interrupted (read_as b) not_execute ≡ Ok i
 copy_read i b plain is = rw (reads_as b i is, plain) refl
 
 copied_length : (m : Machine) (r1 : ℕ) (b : List ℕ) → length (changed_copy m r1 b) ≡ length b
@@ -197,7 +197,7 @@ pub lent_executes : (m after : Machine) (prefix : List ℕ) (outcome : Outcome) 
     → r1 ≡ left_half prefix → a ≡ effective m.regs (right_half prefix) (base_at 2 prefix) (displacement_at 2 prefix)
     → MatchResult (target_at m r1 a) (λ target. Effect target (record { length_code = 2; address = address_after m.next 4 }) m outcome after) (λ cause. IsSuppressed cause m outcome after)
     → Runs m outcome after
-unfolding fields_at fields_in row_of is_shift
+unfolding fields_at decoded_fields operation_row is_shift
 lent_executes m after prefix outcome r1 a is left operand effect =
     executed_at m (instruction op.Ex (fields_at op.Ex prefix)) (left_half prefix) (right_half prefix) (base_at 2 prefix) (displacement_at 2 prefix) outcome after is refl refl refl
     (rw (← left, ← operand) effect)
@@ -211,10 +211,10 @@ no_r3 (Ss l b1 d1 b2 d2) h = refl
 no_r3 (Ss2 l1 l2 b1 d1 b2 d2) h = refl
 
 -- a front that has an instruction's fields has them in its row
-fields_made : (i : Instruction) (b : List ℕ) → IsWellFormed i → fields_in (format_with i.fields) b ≡ i.fields → fields_at i.op b ≡ i.fields
+fields_made : (i : Instruction) (b : List ℕ) → IsWellFormed i → decoded_fields (format_with i.fields) b ≡ i.fields → fields_at i.op b ≡ i.fields
 unfolding fields_at IsWellFormed
 fields_made i b formed e =
-    let same : fields_in (format_of i.op) b ≡ i.fields = rw (← formed.0) e in
+    let same : decoded_fields (format_of i.op) b ≡ i.fields = rw (← formed.0) e in
     rw same (go (is_shift i.op) formed.2)
   where
     go : (shift : Bool) → (shift ≡ true → r3_of i.fields ≡ 0) → (if shift then without_r3 i.fields else i.fields) ≡ i.fields
@@ -222,7 +222,7 @@ fields_made i b formed e =
     go false h = refl
 
 pub made_effect : (i : Instruction) (b : List ℕ) (updated : Updated) (m : Machine) (outcome : Outcome) (after : Machine)
-    → IsWellFormed i → fields_in (format_with i.fields) b ≡ i.fields → Effect (instruction i.op (fields_at i.op b)) updated m outcome after → Effect i updated m outcome after
+    → IsWellFormed i → decoded_fields (format_with i.fields) b ≡ i.fields → Effect (instruction i.op (fields_at i.op b)) updated m outcome after → Effect i updated m outcome after
 made_effect i b updated m outcome after formed e effect =
     let same : instruction i.op (fields_at i.op b) ≡ i = ap (λ (f : Fields). instruction i.op f) (fields_made i b formed e) in
     rw (← same) effect

@@ -4,7 +4,7 @@ use Rattle.std.specs.List.{filter, range_with_len}
 use Rattle.std.proofs.lemmas.Bool.{cases_lt}
 use Rattle.std.proofs.lemmas.List.{length-append, map_push, take_more_set}
 use Rattle.cx_exec.specs.Branches.{mask_bit}
-use Rattle.cx_exec.specs.Masks.{takes, byte_of, selected_bytes}
+use Rattle.cx_exec.specs.Masks.{mask_selects, byte_of, selected_bytes}
 
 filter_more : (test : ℕ → Bool) (a n : ℕ) → filter test (range_with_len a (suc n)) ≡ filter test (range_with_len a n) ++ cond (test (a + n)) ((a + n) ∷ []) []
 filter_more test a zero = let here : a + 0 ≡ a = omega arith in rw here refl
@@ -17,16 +17,16 @@ filter_more test a (suc n) =
     go true more prefix back e = ap (λ (x : List ℕ). a ∷ x) e
     go false more prefix back e = e
 
-chosen_more : (mask n : ℕ) → selected_bytes mask (n + 1) ≡ selected_bytes mask n ++ cond (takes mask n) (n ∷ []) []
+chosen_more : (mask n : ℕ) → selected_bytes mask (n + 1) ≡ selected_bytes mask n ++ cond (mask_selects mask n) (n ∷ []) []
 unfolding selected_bytes
-chosen_more mask n = let here : 0 + n ≡ n = omega arith in rw add-one (rw here at (filter_more (takes mask) 0 n))
+chosen_more mask n = let here : 0 + n ≡ n = omega arith in rw add-one (rw here at (filter_more (mask_selects mask) 0 n))
 
 pub number_none : (mask : ℕ) → length (selected_bytes mask 0) ≡ 0
 unfolding selected_bytes
 number_none mask = refl
 
-pub number_more : (mask n : ℕ) → length (selected_bytes mask (n + 1)) ≡ (if takes mask n then length (selected_bytes mask n) + 1 else length (selected_bytes mask n))
-number_more mask n = ap length (chosen_more mask n) ∙ length-append (selected_bytes mask n) (cond (takes mask n) (n ∷ []) []) ∙ go (takes mask n)
+pub number_more : (mask n : ℕ) → length (selected_bytes mask (n + 1)) ≡ (if mask_selects mask n then length (selected_bytes mask n) + 1 else length (selected_bytes mask n))
+number_more mask n = ap length (chosen_more mask n) ∙ length-append (selected_bytes mask n) (cond (mask_selects mask n) (n ∷ []) []) ∙ go (mask_selects mask n)
   where
     go : (b : Bool) → length (selected_bytes mask n) + length (cond b (n ∷ []) []) ≡ (if b then length (selected_bytes mask n) + 1 else length (selected_bytes mask n))
     go true = omega arith
@@ -36,8 +36,8 @@ pub bytes_none : (mask word : ℕ) → map (byte_of word) (selected_bytes mask 0
 unfolding selected_bytes
 bytes_none mask word = refl
 
-pub bytes_more : (mask word n : ℕ) → map (byte_of word) (selected_bytes mask (n + 1)) ≡ (if takes mask n then map (byte_of word) (selected_bytes mask n) ++ byte_of word n ∷ [] else map (byte_of word) (selected_bytes mask n))
-bytes_more mask word n = ap (map (byte_of word)) (chosen_more mask n) ∙ go (takes mask n)
+pub bytes_more : (mask word n : ℕ) → map (byte_of word) (selected_bytes mask (n + 1)) ≡ (if mask_selects mask n then map (byte_of word) (selected_bytes mask n) ++ byte_of word n ∷ [] else map (byte_of word) (selected_bytes mask n))
+bytes_more mask word n = ap (map (byte_of word)) (chosen_more mask n) ∙ go (mask_selects mask n)
   where
     go : (b : Bool) → map (byte_of word) (selected_bytes mask n ++ cond b (n ∷ []) []) ≡ (if b then map (byte_of word) (selected_bytes mask n) ++ byte_of word n ∷ [] else map (byte_of word) (selected_bytes mask n))
     go true = map_push (byte_of word) (selected_bytes mask n) n
@@ -48,12 +48,12 @@ bytes_more mask word n = ap (map (byte_of word)) (chosen_more mask n) ∙ go (ta
         end (x ∷ xs) = ap (λ (l : List ℕ). x ∷ l) (end xs)
 
 -- a place that is chosen is one of all
-pub number_below : (mask k n : ℕ) → k < n → takes mask k ≡ true → length (selected_bytes mask k) < length (selected_bytes mask n)
+pub number_below : (mask k n : ℕ) → k < n → mask_selects mask k ≡ true → length (selected_bytes mask k) < length (selected_bytes mask n)
 number_below mask k zero h e = absurd (omega (arith, h))
 number_below mask k (suc n) h e =
-    let more : length (selected_bytes mask (suc n)) ≡ (if takes mask n then length (selected_bytes mask n) + 1 else length (selected_bytes mask n)) = rw add-one at (number_more mask n) in
+    let more : length (selected_bytes mask (suc n)) ≡ (if mask_selects mask n then length (selected_bytes mask n) + 1 else length (selected_bytes mask n)) = rw add-one at (number_more mask n) in
     elim (cases_lt k n) [
-      | inl lt ↦ let before = number_below mask k n lt e in rw more (at_least (takes mask n) _ _ before)
+      | inl lt ↦ let before = number_below mask k n lt e in rw more (at_least (mask_selects mask n) _ _ before)
       | inr ge ↦ let same : n ≡ k = omega (arith, h, ge) in rw (more, same, e) (omega arith)
     ]
   where
@@ -62,13 +62,13 @@ number_below mask k (suc n) h e =
     at_least false x y h = h
 
 -- a buffer with the byte at a place that is chosen, and at one that isn't
-pub byte_taken : (mask word k count byte : ℕ) (buffer : List ℕ) → takes mask k ≡ true → count < length buffer → take count buffer ≡ map (byte_of word) (selected_bytes mask k)
+pub byte_taken : (mask word k count byte : ℕ) (buffer : List ℕ) → mask_selects mask k ≡ true → count < length buffer → take count buffer ≡ map (byte_of word) (selected_bytes mask k)
     → byte ≡ byte_of word k → take (count + 1) (slice_set buffer count byte) ≡ map (byte_of word) (selected_bytes mask (k + 1))
 byte_taken mask word k count byte buffer e h so_far made =
     let more = rw e at (bytes_more mask word k) in
     take_more_set buffer count byte h ∙ rw (so_far, made) (sym more)
 
-pub byte_left : (mask word k count : ℕ) (buffer : List ℕ) → takes mask k ≡ false → take count buffer ≡ map (byte_of word) (selected_bytes mask k)
+pub byte_left : (mask word k count : ℕ) (buffer : List ℕ) → mask_selects mask k ≡ false → take count buffer ≡ map (byte_of word) (selected_bytes mask k)
     → take count buffer ≡ map (byte_of word) (selected_bytes mask (k + 1))
 byte_left mask word k count buffer e so_far = let more = rw e at (bytes_more mask word k) in so_far ∙ sym more
 

@@ -5,7 +5,7 @@ use Rattle.std.proofs.lemmas.List.{get_or-take, length-take-le}
 use Rattle.cx_storage.specs.Address.{address_after, distance}
 use Rattle.cx_storage.specs.Facts.Spans.{span_at, span_length}
 use Rattle.std.specs.Prelude.{IfSome, unwrap_or}
-use Rattle.cx_exec.specs.Sequence.{content, byte_seen, stored_by}
+use Rattle.cx_exec.specs.Sequence.{content_at, byte_seen, stored_by}
 use Rattle.cx_exec.proofs.SequenceLemmas.{each_is_stored, stored_length}
 use Rattle.std.specs.List.{range_with_len}
 use Rattle.std.proofs.lemmas.Bool.{le-ltb, ne_eqb}
@@ -73,7 +73,7 @@ one_translated : (s : Storage) (a1 a2 n k : ℕ) (argument table stored : List �
 unfolding translated_byte byte_seen
 one_translated s a1 a2 n k argument table stored low1 low2 fits1 fits2 apart e f h small long =
     let x : ℕ = slice_index argument k in
-    let own : content s (address_after a1 k) ≡ x = rw (span_at s a1 n argument k low1 e h) refl in
+    let own : content_at s (address_after a1 k) ≡ x = rw (span_at s a1 n argument k low1 e h) refl in
     let past : nat_lt (distance a1 (address_after a2 x)) (length stored) ≡ false = le-ltb (distance a1 (address_after a2 x)) (length stored) (omega (arith, long, unstored a1 a2 n x k low1 low2 fits1 fits2 apart small (omega (arith, h)))) in
     rw (own, past, span_at s a2 256 table x low2 f small) refl
 

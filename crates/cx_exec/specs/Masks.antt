@@ -16,11 +16,11 @@ abbrev pub byte_of : ℕ → ℕ → ℕ
 byte_of word k = word / 2 ^ (8 * (3 - k)) % 256
 
 -- the places below n whose bits of the mask are one
-abbrev pub takes : ℕ → ℕ → Bool
-takes mask k = mask / 2 ^ (3 - k) % 2 == 1
+abbrev pub mask_selects : ℕ → ℕ → Bool
+mask_selects mask k = mask / 2 ^ (3 - k) % 2 == 1
 
 unfoldable pub selected_bytes : ℕ → ℕ → List ℕ
-selected_bytes mask n = filter (takes mask) (range_with_len 0 n)
+selected_bytes mask n = filter (mask_selects mask) (range_with_len 0 n)
 
 -- STCM: the bytes at the places chosen
 unfoldable pub StcmEffect : ℕ → ℕ → ℕ → Updated → Machine → Outcome → Machine → Type 0
@@ -30,7 +30,7 @@ StcmEffect r1 mask a updated m outcome after =
 -- ICM: the byte at a place that is the i-th one chosen is the i-th of the bytes; the others stay
 abbrev pub inserted_byte : ℕ → ℕ → List ℕ → ℕ → ℕ
 inserted_byte mask word bytes k =
-    if takes mask k then slice_index bytes (length (selected_bytes mask k)) else byte_of word k
+    if mask_selects mask k then slice_index bytes (length (selected_bytes mask k)) else byte_of word k
 
 unfoldable pub word_inserted : ℕ → ℕ → List ℕ → ℕ
 word_inserted mask word bytes = number_of (map (inserted_byte mask word bytes) (range_with_len 0 4))

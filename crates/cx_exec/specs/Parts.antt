@@ -26,8 +26,8 @@ IsPerformed m op prefix =
     instruction_to_perform m ≡ performed_of m (instruction op (fields_at op prefix)) (updated_by m.next (length_of op))
 
 -- an operand is given where its bytes are present; else addressing is the interruption
-abbrev pub IsThere : Option ℕ → Result ℕ Interruption → Type 0
-IsThere operand result =
+abbrev pub IsPresentOperand : Option ℕ → Result ℕ Interruption → Type 0
+IsPresentOperand operand result =
     MatchResult result (λ x. operand ≡ Some x) (λ cause. (operand ≡ None) × (cause ≡ interruption.Addressing))
 
 -- the rows whose second operand is a halfword in storage

@@ -4,12 +4,12 @@ use Rattle.std.specs.Prelude.{ℕ, zero, suc, List, [], ◌∷◌, ◌++◌, len
 use Rattle.cx_storage.specs.Storage.{Storage, byte_at}
 
 -- the byte at the address of a byte that is present
-abbrev pub content : Storage → ℕ → ℕ
-content s x = unwrap_or (byte_at s x) 0
+abbrev pub content_at : Storage → ℕ → ℕ
+content_at s x = unwrap_or (byte_at s x) 0
 
 -- the byte seen at x, the address of the number-th byte to be stored, once some are stored: theirs, else storage's
 unfoldable pub byte_seen : Storage → List ℕ → ℕ → ℕ → ℕ
-byte_seen s stored number x = if nat_lt number (length stored) then slice_index stored number else content s x
+byte_seen s stored number x = if nat_lt number (length stored) then slice_index stored number else content_at s x
 
 -- n bytes, each made by a rule from those stored before it and their number
 unfoldable pub stored_by : (List ℕ → ℕ → ℕ) → ℕ → List ℕ

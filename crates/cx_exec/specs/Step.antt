@@ -42,14 +42,16 @@ is_execute _ = false
 abbrev pub not_execute : Instruction → Result Instruction Interruption
 not_execute i = if is_execute i.op then Err interruption.Execute else Ok i
 
-abbrev pub then_result : {A B : Type 0} → Result A Interruption → (A → Result B Interruption) → Result B Interruption
-then_result (Ok x) f = f x
-then_result (Err cause) f = Err cause
+abbrev pub unless_interrupted : {A B : Type 0} → Result A Interruption → (A → Result B Interruption)
+    → Result B Interruption
+unless_interrupted (Ok x) f = f x
+unless_interrupted (Err cause) f = Err cause
 
 -- the target of an EX, from its changed copy
 unfoldable pub target_at : Machine → ℕ → ℕ → Result Instruction Interruption
 target_at m r1 a =
-    then_result (code_at m.storage a) (λ bytes. then_result (read_as (changed_copy m r1 bytes)) not_execute)
+    unless_interrupted (code_at m.storage a)
+    (λ bytes. unless_interrupted (read_as (changed_copy m r1 bytes)) not_execute)
 
 -- an instruction to be performed, and what comes after it
 abbrev pub pending_instruction : Instruction → Updated → PendingInstruction
@@ -59,7 +61,7 @@ pending_instruction i updated = record { inst = i; updated = updated }
 -- since EX has no other format
 abbrev pub in_place : Machine → Fields → Instruction → Updated → Result PendingInstruction Interruption
 in_place m (Rx r1 x2 b2 d2) i updated =
-    then_result (target_at m r1 (effective m.regs x2 b2 d2))
+    unless_interrupted (target_at m r1 (effective m.regs x2 b2 d2))
     (λ target. Ok (pending_instruction target (record { length_code = 2; address = updated.address })))
 in_place m _ i updated = Ok (pending_instruction i updated)
 
@@ -71,8 +73,8 @@ performed_of m i updated = if is_execute i.op then in_place m i.fields i updated
 -- fetch
 unfoldable pub instruction_to_perform : Machine → Result PendingInstruction Interruption
 instruction_to_perform m =
-    then_result (code_at m.storage m.next)
-    (λ bytes. then_result (read_as bytes) (λ i. performed_of m i (updated_by m.next (length bytes))))
+    unless_interrupted (code_at m.storage m.next)
+    (λ bytes. unless_interrupted (read_as bytes) (λ i. performed_of m i (updated_by m.next (length bytes))))
 
 -- its effect is that of its row
 unfoldable pub Runs : Machine → Outcome → Machine → Type 0

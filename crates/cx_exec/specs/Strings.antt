@@ -10,7 +10,7 @@ use Rattle.cx_exec.specs.Outcome.{Outcome}
 use Rattle.cx_exec.specs.Operands.{IfPresent}
 use Rattle.cx_exec.specs.Logic.{logical_code}
 use Rattle.cx_exec.specs.Operands.{Stores}
-use Rattle.cx_exec.specs.Sequence.{content, byte_seen, stored_by}
+use Rattle.cx_exec.specs.Sequence.{content_at, byte_seen, stored_by}
 
 -- the byte of the second operand
 unfoldable pub moved_byte : Storage → ℕ → ℕ → List ℕ → ℕ → ℕ
@@ -19,7 +19,7 @@ moved_byte s a1 a2 stored k = byte_seen s stored (distance a1 (address_after a2 
 -- the first operand's byte, which isn't stored yet, joined by exclusive or with the byte of the second
 unfoldable pub xored_byte : Storage → ℕ → ℕ → List ℕ → ℕ → ℕ
 xored_byte s a1 a2 stored k =
-    bit_xor (content s (address_after a1 k))
+    bit_xor (content_at s (address_after a1 k))
     (byte_seen s stored (distance a1 (address_after a2 k)) (address_after a2 k))
 
 unfoldable pub MvcEffect : ℕ → ℕ → ℕ → Updated → Machine → Outcome → Machine → Type 0

@@ -12,7 +12,7 @@ use Rattle.cx_exec.specs.Outcome.{Outcome, Completes}
 use Rattle.cx_exec.specs.Operands.{IfPresent}
 use Rattle.cx_exec.specs.Loads.{insert_byte}
 use Rattle.cx_exec.specs.Results.{set_code}
-use Rattle.cx_exec.specs.Sequence.{content, byte_seen, stored_by}
+use Rattle.cx_exec.specs.Sequence.{content_at, byte_seen, stored_by}
 
 -- the table's byte for the k-th argument byte: the one whose address is the table's plus the argument byte
 abbrev pub table_byte : Storage → ℕ → ℕ → ℕ → Option ℕ
@@ -26,7 +26,7 @@ HasTable s n a1 a2 = (k : ℕ) → k < n → is_some (table_byte s a1 a2 k) ≡ 
 -- TR: the table's byte for the argument byte, which isn't stored yet
 unfoldable pub translated_byte : Storage → ℕ → ℕ → List ℕ → ℕ → ℕ
 translated_byte s a1 a2 stored k =
-    let x = address_after a2 (content s (address_after a1 k)) in
+    let x = address_after a2 (content_at s (address_after a1 k)) in
     byte_seen s stored (distance a1 x) x
 
 unfoldable pub TrEffect : ℕ → ℕ → ℕ → Updated → Machine → Outcome → Machine → Type 0

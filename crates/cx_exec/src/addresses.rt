@@ -13,7 +13,7 @@ pub struct Addresses {
     pub ghost second: { a2 < 2 ^ 24 },
 }
 
-/// How many bytes two operands have that each have a length of their own: 1 to 16.
+/// How many bytes two operands with a length each have: 1 to 16.
 #[derive(Clone, Copy)]
 pub struct Lengths {
     pub n1: u32,
@@ -40,7 +40,8 @@ impl Lengths {
     }
 }
 
-/// Two operands from right to left: the addresses of their last bytes, each below 2^24, and how many bytes the second has.
+/// Two operands from right to left: the addresses of their last bytes, each below 2^24, and how many bytes the second
+/// has.
 #[derive(Clone, Copy)]
 pub struct Ends {
     pub e1: u32,

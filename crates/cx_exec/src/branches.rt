@@ -38,7 +38,7 @@ fn link_word(updated: Updated, cc: u8) -> u32
 pub(crate) fn branch_address(regs: &[u32; 16], r: u8, updated: Updated) -> u32
     requires register { r < 16 }
     ensures value { result ≡ branch_address regs.now r updated }
-    ensures short { result < 2 ^ 24 }
+    ensures below_2_24 { result < 2 ^ 24 }
 {
     if r == 0 {
         updated.address

@@ -16,7 +16,7 @@ use cx_storage::Store;
 /// The code of two words compared as signed numbers.
 pub(crate) fn signed_order(first: u32, second: u32) -> u8
     ensures value { result ≡ order_code (signed_word first) (signed_word second) }
-    ensures short { result ≤ 3 }
+    ensures at_most_3 { result ≤ 3 }
 {
     order_code(
         i128::from(first.cast_signed()),
@@ -27,7 +27,7 @@ pub(crate) fn signed_order(first: u32, second: u32) -> u8
 /// The code of two words compared as numbers without a sign.
 pub(crate) fn logical_order(first: u32, second: u32) -> u8
     ensures value { result ≡ order_code (pos first) (pos second) }
-    ensures short { result ≤ 3 }
+    ensures at_most_3 { result ≤ 3 }
 {
     order_code(i128::from(first), i128::from(second))
 }
@@ -35,7 +35,7 @@ pub(crate) fn logical_order(first: u32, second: u32) -> u8
 /// The code of two bytes compared as numbers without a sign.
 pub(crate) fn byte_order(first: u8, second: u8) -> u8
     ensures value { result ≡ order_code (pos first) (pos second) }
-    ensures short { result ≤ 3 }
+    ensures at_most_3 { result ≤ 3 }
 {
     order_code(i128::from(first), i128::from(second))
 }
@@ -79,7 +79,7 @@ fn alike_front(first: &[u8], second: &[u8]) -> usize
 fn string_order(first: &[u8], second: &[u8]) -> u8
     requires { length first.now ≡ length second.now }
     ensures value { result ≡ order_code (pos (number_of first.now)) (pos (number_of second.now)) }
-    ensures short { result ≤ 3 }
+    ensures at_most_3 { result ≤ 3 }
 {
     for k in alike_front(first, second)..first.len() {
         if first[k] != second[k] {

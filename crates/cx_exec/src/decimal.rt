@@ -15,7 +15,7 @@ use cx_storage::Store;
 fn half(bytes: &[u8; 8], i: usize) -> u8
     requires { i < 16 }
     ensures value { result ≡ half bytes.now i }
-    ensures short { result < 16 }
+    ensures below_16 { result < 16 }
 {
     let byte = bytes[i / 2];
     if i % 2 == 0 { byte / 16 } else { byte % 16 }
@@ -26,7 +26,7 @@ fn half(bytes: &[u8; 8], i: usize) -> u8
 fn digits(bytes: &[u8; 8]) -> Option<i64>
     ensures value { MatchOption result (AreDigits bytes.now → ⊥)
         (λ n. AreDigits bytes.now × (n ≡ pos (first_digits bytes.now 15))) }
-    ensures short { MatchOption result ⊤ (λ n. n <ℤ pos (10 ^ 15)) }
+    ensures below_10_15 { MatchOption result ⊤ (λ n. n <ℤ pos (10 ^ 15)) }
 {
     let mut number: u64 = 0;
     for i in 0..15 {
@@ -97,7 +97,7 @@ pub(crate) fn cvb<S: Store>(cpu: &mut Cpu, store: &S, r1: u8, a: u32, updated: U
 
 /// Two digits of a number: the one that counts `power`, and the one before it.
 fn digit_pair(n: u64, power: u64) -> u8
-    requires some { 0 < power }
+    requires above_0 { 0 < power }
     requires small { power ≤ 10 ^ 13 }
     ensures { result ≡ 16 * (n / (power * 10) % 10) + n / power % 10 }
 {

@@ -8,7 +8,7 @@ use crate::zoned::swapped;
 
 /// Puts the bytes of a source before the end of a buffer of zeros, of which the last byte stays.
 pub(crate) fn align(source: &[u8], buffer: &mut [u8; 33])
-    requires few { length source.now ≤ 16 }
+    requires at_most_16 { length source.now ≤ 16 }
     requires zeros { (j : ℕ) → slice_index buffer.old j ≡ 0 }
     ensures prefix { (j : ℕ) → j + length source.now < 32 → slice_index buffer.new j ≡ 0 }
     ensures bytes { (j : ℕ) → j < length source.now

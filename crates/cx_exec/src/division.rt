@@ -14,7 +14,7 @@ use crate::results::pair;
 ///
 /// Principles of Operation, "Divide".
 pub(crate) fn division(dividend: i64, divisor: i64) -> Option<(i64, i64)>
-    ensures some { IfSome result (λ found. IsDivision dividend divisor found.0 found.1) }
+    ensures divides { IfSome result (λ found. IsDivision dividend divisor found.0 found.1) }
     ensures none { IfNone result
         ((quotient : ℤ) (remainder : ℤ) → IsDivision dividend divisor quotient remainder → ⊥) }
 {

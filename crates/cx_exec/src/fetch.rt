@@ -30,7 +30,7 @@ impl Code {
     /// How many bytes the instruction has.
     pub(crate) fn len(&self) -> usize
         ensures value { result ≡ length self.now }
-        ensures short { result ≤ 6 }
+        ensures at_most_6 { result ≤ 6 }
     {
         self.length
     }

@@ -12,7 +12,7 @@ use cx_storage::Store;
 /// The condition code of a logical result.
 pub(crate) fn logical_code(word: u32) -> u8
     ensures value { result ≡ logical_code word }
-    ensures short { result ≤ 3 }
+    ensures at_most_3 { result ≤ 3 }
 {
     u8::from(word != 0)
 }
@@ -20,7 +20,7 @@ pub(crate) fn logical_code(word: u32) -> u8
 /// The condition code of the bits of a byte that a mask selects.
 pub(crate) fn test_code(mask: u8, byte: u8) -> u8
     ensures value { result ≡ test_code mask byte }
-    ensures short { result ≤ 3 }
+    ensures at_most_3 { result ≤ 3 }
 {
     let selected = byte & mask;
     if selected == 0 {
@@ -68,7 +68,7 @@ pub(crate) fn is_zero(bytes: &[u8]) -> bool
 /// The condition code of a logical result of several bytes.
 pub(crate) fn string_code(bytes: &[u8]) -> u8
     ensures value { result ≡ logical_code (number_of bytes.now) }
-    ensures short { result ≤ 1 }
+    ensures at_most_1 { result ≤ 1 }
 {
     if is_zero(bytes) { 0 } else { 1 }
 }

@@ -20,22 +20,21 @@ pub struct Cpu {
     pub ghost address: { next < 2 ^ 24 },
 }
 
-/// A program interruption.
-///
-/// Principles of Operation, "Program Interruption".
+/// A program interruption (Principles of Operation, GA22-7000, "Program Interruption"). Of several causes `step` says
+/// which is taken.
 #[derive(Clone, Copy, Debug, PartialEq, Eq)]
 pub enum Interruption {
-    /// The operation code is in no row of the table.
+    /// The operation code is in no row of the table of `cx_code`.
     Operation,
-    /// The target of EX is an EX.
+    /// The target of an EX is an EX.
     Execute,
-    /// A byte is in no area.
+    /// A byte of the instruction, of the target of an EX or of an operand is in no area of storage.
     Addressing,
     /// An odd instruction address, or an odd register where an even one is due.
     Specification,
-    /// An invalid decimal digit or sign.
+    /// CVB: an invalid decimal digit or sign.
     Data,
-    /// A division by zero, or a quotient that does not fit.
+    /// A division by zero, a quotient that does not fit a word, or a CVB whose number does not.
     FixedPointDivide,
 }
 
@@ -80,12 +79,12 @@ pub enum Halt {
     AtEntry,
     /// An instruction was interrupted; the address is the next one that the processor is left with.
     Interrupt(Interruption, u32),
-    /// As many instructions as the limit allows were performed.
+    /// As many instructions as the limit were performed, and the next address is not the entry.
     Limit,
 }
 
-/// What an instruction updates the program-status word to, unless it branches: its length in halfwords (1 to 3), which
-/// the link word holds, and the address of the next one (below 2^24).
+/// What an instruction updates the program-status word to, unless it branches: its length in halfwords (at most 3),
+/// which the link word holds, and the address of the next one (below 2^24).
 #[derive(Clone, Copy)]
 pub struct Updated {
     pub length_code: u8,

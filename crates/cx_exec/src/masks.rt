@@ -2,7 +2,7 @@
 
 ghost use Rattle.std.specs.Prelude.{◌≡◌, ◌<◌, ◌≤◌, ◌^◌, Ok, length, map, slice_index, slice_set, take};
 ghost use Rattle.cx_exec.specs.Machine.{machine};
-ghost use Rattle.cx_exec.specs.Masks.{byte_of, takes, selected_bytes, inserted_byte, word_inserted, insert_code, IcmEffect, StcmEffect};
+ghost use Rattle.cx_exec.specs.Masks.{byte_of, mask_selects, selected_bytes, inserted_byte, word_inserted, insert_code, IcmEffect, StcmEffect};
 
 use crate::logic::is_zero;
 use crate::machine::{Cpu, Interruption, Performed, Updated};
@@ -10,7 +10,7 @@ use crate::operands::{put_bytes, put_fast};
 use crate::results::load_coded;
 use cx_storage::Store;
 
-/// A register, below 16, and a mask of its bytes.
+/// A register, below 16, and the mask of its bytes: 8 stands for the leftmost byte, 4, 2 and 1 for those after it.
 #[derive(Clone, Copy)]
 pub struct Masked {
     pub r1: u8,
@@ -27,9 +27,9 @@ fn byte_of(word: u32, k: u32) -> u8
 }
 
 /// Whether a mask's bit for the `k`-th byte (`k` is below 4) is one.
-fn takes(mask: u8, k: u32) -> bool
+fn mask_selects(mask: u8, k: u32) -> bool
     requires { k < 4 }
-    ensures { result ≡ takes mask k }
+    ensures { result ≡ mask_selects mask k }
 {
     (mask >> (3 - k)) % 2 == 1
 }
@@ -40,11 +40,11 @@ fn takes(mask: u8, k: u32) -> bool
 fn number_chosen(mask: u8, k: u32) -> u32
     requires { k ≤ 4 }
     ensures value { result ≡ length (selected_bytes mask k) }
-    ensures short { result ≤ k }
+    ensures at_most_k { result ≤ k }
 {
     let mut count = 0;
     for j in 0..k {
-        if takes(mask, j) {
+        if mask_selects(mask, j) {
             count += 1;
         }
     }
@@ -55,11 +55,11 @@ fn number_chosen(mask: u8, k: u32) -> u32
 #[tactic(auto, using(crate::proofs::MaskLemmas::bytes_none, crate::proofs::MaskLemmas::bytes_more))]
 fn take_bytes(mask: u8, word: u32, buffer: &mut [u8; 4]) -> usize
     ensures bytes { take result buffer.new ≡ map (byte_of word) (selected_bytes mask 4) }
-    ensures short { result ≤ 4 }
+    ensures at_most_4 { result ≤ 4 }
 {
     let mut count = 0;
     for k in 0..4 {
-        if takes(mask, k) {
+        if mask_selects(mask, k) {
             buffer[count] = byte_of(word, k);
             count += 1;
         }
@@ -141,7 +141,7 @@ fn inserted_byte(mask: u8, word: u32, bytes: &[u8], k: u32) -> u8
     requires size { length bytes.now ≡ length (selected_bytes mask 4) }
     ensures { result ≡ inserted_byte mask word bytes.now k }
 {
-    if takes(mask, k) {
+    if mask_selects(mask, k) {
         bytes[number_chosen(mask, k) as usize]
     } else {
         byte_of(word, k)
@@ -164,7 +164,7 @@ fn word_inserted(mask: u8, word: u32, bytes: &[u8]) -> u32
 #[tactic(auto, unfolding(crate::specs::Masks::insert_code))]
 fn insert_code(bytes: &[u8]) -> u8
     ensures value { result ≡ insert_code bytes.now }
-    ensures short { result ≤ 2 }
+    ensures at_most_2 { result ≤ 2 }
 {
     if is_zero(bytes) {
         0

@@ -24,7 +24,7 @@ pub(crate) fn extended(halfword: u16) -> u32
 #[tactic(auto, unfolding(crate::specs::Numbers::order_code))]
 pub(crate) fn order_code(first: i128, second: i128) -> u8
     ensures value { result ≡ order_code first second }
-    ensures short { result ≤ 3 }
+    ensures at_most_3 { result ≤ 3 }
 {
     u8::from(first < second) + 2 * u8::from(second < first)
 }
@@ -33,7 +33,7 @@ pub(crate) fn order_code(first: i128, second: i128) -> u8
 #[tactic(auto, unfolding(crate::specs::Numbers::order_code))]
 pub(crate) fn sign_code(x: i32) -> u8
     ensures value { result ≡ sign_code x }
-    ensures short { result ≤ 3 }
+    ensures at_most_3 { result ≤ 3 }
 {
     if x > 0 { 2 } else { u8::from(x < 0) }
 }
@@ -42,7 +42,7 @@ pub(crate) fn sign_code(x: i32) -> u8
 #[tactic(auto, unfolding(crate::specs::Numbers::sum_code, crate::specs::Numbers::order_code))]
 pub(crate) fn sum_code(x: i128) -> u8
     ensures value { result ≡ sum_code x }
-    ensures short { result ≤ 3 }
+    ensures at_most_3 { result ≤ 3 }
 {
     if x < -0x8000_0000 || x >= 0x8000_0000 {
         3

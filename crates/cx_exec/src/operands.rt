@@ -7,7 +7,7 @@ ghost use Rattle.cx_storage.specs.Word.{halfword_at, word_at};
 ghost use Rattle.cx_exec.specs.declared.machine.Interruption.TheVariants as interruption;
 ghost use Rattle.cx_exec.specs.Machine.{machine};
 ghost use Rattle.cx_exec.specs.Operands.{extended_at, Stores};
-ghost use Rattle.cx_exec.specs.Parts.{IsThere};
+ghost use Rattle.cx_exec.specs.Parts.{IsPresentOperand};
 
 use crate::machine::{Cpu, Interruption, Performed, Updated};
 use crate::numbers::extended;
@@ -18,7 +18,7 @@ use cx_storage::Store;
 #[inline(always)]
 pub(crate) fn byte_at<S: Store>(store: &S, a: u32) -> Result<u8, Interruption>
     requires { a < 2 ^ 24 }
-    ensures { IsThere (byte_at (S.storage store.now) a) result }
+    ensures { IsPresentOperand (byte_at (S.storage store.now) a) result }
 {
     store.byte(a).ok_or(Interruption::Addressing)
 }
@@ -40,7 +40,7 @@ pub(crate) fn lent_halfword<S: Store>(store: &S, a: u32) -> Option<u16>
 #[inline(never)]
 pub(crate) fn halfword_slow<S: Store>(store: &S, a: u32) -> Result<u32, Interruption>
     requires { a < 2 ^ 24 }
-    ensures { IsThere (extended_at (S.storage store.now) a) result }
+    ensures { IsPresentOperand (extended_at (S.storage store.now) a) result }
 {
     match cx_storage::halfword_at(store, a) {
         Some(halfword) => Ok(extended(halfword)),
@@ -64,7 +64,7 @@ pub(crate) fn lent_word<S: Store>(store: &S, a: u32) -> Option<u32>
 #[inline(never)]
 pub(crate) fn word_slow<S: Store>(store: &S, a: u32) -> Result<u32, Interruption>
     requires { a < 2 ^ 24 }
-    ensures { IsThere (word_at (S.storage store.now) a) result }
+    ensures { IsPresentOperand (word_at (S.storage store.now) a) result }
 {
     cx_storage::word_at(store, a).ok_or(Interruption::Addressing)
 }
@@ -73,7 +73,7 @@ pub(crate) fn word_slow<S: Store>(store: &S, a: u32) -> Result<u32, Interruption
 #[inline(always)]
 pub(crate) fn word_at<S: Store>(store: &S, a: u32) -> Result<u32, Interruption>
     requires { a < 2 ^ 24 }
-    ensures { IsThere (word_at (S.storage store.now) a) result }
+    ensures { IsPresentOperand (word_at (S.storage store.now) a) result }
 {
     match lent_word(store, a) {
         Some(word) => Ok(word),
@@ -155,8 +155,8 @@ pub(crate) fn put_coded_at_hand<S: Store>(
     true
 }
 
-/// Stores a byte `n` times, at most 65,536, from an address on, where they are at hand, and sets the condition code; else
-/// nothing changes.
+/// Stores a byte `n` times, at most 65,536, from an address on, where they are at hand, and sets the condition code;
+/// else nothing changes.
 #[tactic(auto, unfolding(crate::specs::Operands::Stores))]
 #[inline(always)]
 pub(crate) fn fill_fast<S: Store>(

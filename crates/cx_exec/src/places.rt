@@ -4,8 +4,8 @@ ghost use Rattle.std.specs.Prelude.{◌+◌, ◌≤◌, ◌^◌};
 
 use crate::machine::Updated;
 
-/// What an instruction goes on by: the address that it is at, from which eight bytes are inside storage, or, in its stead,
-/// what the program-status word is updated to.
+/// What an instruction goes on by: the address that it is at, from which eight bytes are inside storage, or, in its
+/// stead, what the program-status word is updated to.
 #[derive(Clone, Copy)]
 pub struct Place {
     pub from: u32,

@@ -6,15 +6,15 @@ ghost use Rattle.byteorder.specs.Endian.{big_bytes};
 ghost use Rattle.cx_storage.specs.Storage.{span};
 ghost use Rattle.cx_code.specs.Table.{code_of};
 ghost use Rattle.cx_code.specs.Spelling.{format_with, IsWellFormed};
-ghost use Rattle.cx_code.specs.Reading.{base_at, displacement_at, fields_in};
+ghost use Rattle.cx_code.specs.Reading.{base_at, displacement_at, decoded_fields};
 ghost use Rattle.cx_exec.specs.Step.{joined_second};
 
 use cx_code::{Fields, Inst, Op};
 use cx_storage::Store;
 use std::marker::Model;
 
-/// Six bytes that an instruction begins with, the first ones of eight: its code and a second byte, and two halfwords. The
-/// eight are kept as one number, the first of them lowest, so that the code needs no shift and each field one.
+/// Six bytes that an instruction begins with, the first ones of eight: its code and a second byte, and two halfwords.
+/// The eight are kept as one number, the first of them lowest, so that the code needs no shift and each field one.
 #[derive(Drop)]
 pub struct Prefix {
     word: u64,
@@ -81,9 +81,9 @@ impl Prefix {
     }
 
     /// A front that has an instruction's fields.
-    #[tactic(auto, unfolding(cx_code::specs::Reading::fields_in))]
+    #[tactic(auto, unfolding(cx_code::specs::Reading::decoded_fields))]
     pub(crate) fn with_fields(inst: &Inst) -> Prefix
-        ensures fields { fields_in (format_with inst.now.fields) result ≡ inst.now.fields }
+        ensures fields { decoded_fields (format_with inst.now.fields) result ≡ inst.now.fields }
         ensures formed { IsWellFormed inst.now }
     {
         match inst.fields() {
@@ -136,7 +136,7 @@ impl Prefix {
     #[inline(always)]
     pub(crate) fn first_base(&self) -> usize
         ensures value { result ≡ base_at 2 self.now }
-        ensures short { result < 16 }
+        ensures below_16 { result < 16 }
     {
         (self.word >> 20) as usize & 15
     }
@@ -146,7 +146,7 @@ impl Prefix {
     #[inline(always)]
     pub(crate) fn first_displacement(&self) -> u32
         ensures value { result ≡ displacement_at 2 self.now }
-        ensures short { result < 4096 }
+        ensures below_4096 { result < 4096 }
     {
         ((self.word & 0xffff_ffff) as u32).swap_bytes() & 0x0fff
     }
@@ -156,7 +156,7 @@ impl Prefix {
     #[inline(always)]
     pub(crate) fn second_base(&self) -> usize
         ensures value { result ≡ base_at 4 self.now }
-        ensures short { result < 16 }
+        ensures below_16 { result < 16 }
     {
         (self.word >> 36) as usize & 15
     }
@@ -166,14 +166,14 @@ impl Prefix {
     #[inline(always)]
     pub(crate) fn second_displacement(&self) -> u32
         ensures value { result ≡ displacement_at 4 self.now }
-        ensures short { result < 4096 }
+        ensures below_4096 { result < 4096 }
     {
         ((self.word >> 16 & 0xffff_ffff) as u32).swap_bytes() & 0x0fff
     }
 }
 
-/// The front of an instruction at an address, where the store has eight bytes from there on at hand: the address is even then,
-/// and not the entry.
+/// The front of an instruction at an address, where the store has eight bytes from there on at hand: the address is
+/// even then, and not the entry.
 #[inline(always)]
 pub(crate) fn fetched_prefix<S: Store>(store: &mut S, at: u32) -> Option<Prefix>
     requires { at < 2 ^ 24 }
@@ -187,7 +187,8 @@ pub(crate) fn fetched_prefix<S: Store>(store: &mut S, at: u32) -> Option<Prefix>
     Some(Prefix::of(bytes))
 }
 
-/// The match of a code: an arm for each row, given as its code and its operation, and one for each list of codes without a row.
+/// The match of a code: an arm for each row, given as its code and its operation, and one for each list of codes
+/// without a row.
 macro_rules! row_by_code {
     ($code:ident, $($row:literal $op:ident)*, $($even:literal)*, $($odd:literal)*) => {
         match $code {
@@ -199,9 +200,10 @@ macro_rules! row_by_code {
     };
 }
 
-/// The row of a code. It is found by a match of its own, so that a row is found by one jump, and each code has an arm, so that
-/// the jump needs no test before: even codes without a row have one, odd ones another, since those in a row would be a range.
-#[tactic(auto, unfolding(cx_code::specs::Table::row_of))]
+/// The row of a code. It is found by a match of its own, so that a row is found by one jump, and each code has an arm,
+/// so that the jump needs no test before: even codes without a row have one, odd ones another, since those in a row
+/// would be a range.
+#[tactic(auto, unfolding(cx_code::specs::Table::operation_row))]
 #[inline(always)]
 pub(crate) fn op_in(code: u8) -> Option<Op>
     ensures { IfSome result (λ op. code ≡ code_of op) }

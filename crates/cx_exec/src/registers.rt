@@ -17,7 +17,7 @@ pub(crate) fn place_after(first: u8, r: u8) -> u8
     requires first { first < 16 }
     requires register { r < 16 }
     ensures value { result ≡ place_after first r }
-    ensures short { result < 16 }
+    ensures below_16 { result < 16 }
 {
     (r + (16 - first)) % 16
 }

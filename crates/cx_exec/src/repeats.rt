@@ -18,7 +18,7 @@ fn double(new: &mut [u8], filled: usize)
 /// Repeats the first bytes of a buffer, `period` of them, up to its end (at most 256 bytes).
 #[tactic(auto, using(crate::proofs::RepeatLemmas::repeats_once, crate::proofs::RepeatLemmas::doubled))]
 pub(crate) fn repeat(new: &mut [u8], period: usize)
-    requires some { 0 < period }
+    requires above_0 { 0 < period }
     requires room { period ≤ length new.old }
     requires size { length new.old ≤ 256 }
     ensures size { length new.new ≡ length new.old }

@@ -58,7 +58,7 @@ pub(crate) fn effective(regs: &[u32; 16], index: u8, base: usize, displacement: 
     requires base { base < 16 }
     requires displacement { displacement < 4096 }
     ensures value { result ≡ effective regs.now index base displacement }
-    ensures short { result < 2 ^ 24 }
+    ensures below_2_24 { result < 2 ^ 24 }
 {
     let a = with_part(regs, base, displacement);
     with_part(regs, index as usize, a) % 0x100_0000
@@ -119,7 +119,7 @@ fn operands_of(cpu: &Cpu, prefix: &Prefix, index: u8, place: Place) -> Operands
     ensures low3 { result.r3 < 16 }
     ensures first { result.first ≡ slice_index cpu.now.regs result.r1 }
     ensures operand { result.a ≡ effective cpu.now.regs index (base_at 2 prefix.now) (displacement_at 2 prefix.now) }
-    ensures short { result.a < 2 ^ 24 }
+    ensures below_2_24 { result.a < 2 ^ 24 }
     ensures updated { result.updated ≡ updated_at place 4 }
 {
     let i2 = prefix.second();
@@ -147,7 +147,7 @@ pub(crate) fn indexed_of(cpu: &Cpu, prefix: &Prefix, place: Place) -> Operands
     ensures first { result.first ≡ slice_index cpu.now.regs result.r1 }
     ensures operand { let bytes = prefix.now in
         result.a ≡ effective cpu.now.regs (right_half bytes) (base_at 2 bytes) (displacement_at 2 bytes) }
-    ensures short { result.a < 2 ^ 24 }
+    ensures below_2_24 { result.a < 2 ^ 24 }
     ensures updated { result.updated ≡ updated_at place 4 }
 {
     operands_of(cpu, prefix, prefix.second() & 15, place)
@@ -205,7 +205,7 @@ macro_rules! rows {
 }
 
 /// The effect of the rows of format RR.
-#[tactic(auto, unfolding(crate::specs::Rows::Effect, crate::specs::Rows::RrEffect, cx_code::specs::Reading::fields_at, cx_code::specs::Reading::fields_in, cx_code::specs::Table::row_of, cx_code::specs::Table::is_shift))]
+#[tactic(auto, unfolding(crate::specs::Rows::Effect, crate::specs::Rows::RrEffect, cx_code::specs::Reading::fields_at, cx_code::specs::Reading::decoded_fields, cx_code::specs::Table::operation_row, cx_code::specs::Table::is_shift))]
 #[inline(always)]
 pub(crate) fn register_rows<S: Store>(
     cpu: &mut Cpu,
@@ -246,7 +246,7 @@ pub(crate) fn register_rows<S: Store>(
 }
 
 /// The effect of the rows of format RS.
-#[tactic(auto, unfolding(crate::specs::Rows::Effect, crate::specs::Rows::RsEffect, cx_code::specs::Reading::fields_at, cx_code::specs::Reading::fields_in, cx_code::specs::Table::row_of, cx_code::specs::Table::is_shift))]
+#[tactic(auto, unfolding(crate::specs::Rows::Effect, crate::specs::Rows::RsEffect, cx_code::specs::Reading::fields_at, cx_code::specs::Reading::decoded_fields, cx_code::specs::Table::operation_row, cx_code::specs::Table::is_shift))]
 #[inline(always)]
 pub(crate) fn register_storage_rows<S: Store>(
     cpu: &mut Cpu,
@@ -274,7 +274,7 @@ pub(crate) fn register_storage_rows<S: Store>(
 }
 
 /// The effect of L, CL and C.
-#[tactic(auto, unfolding(crate::specs::Rows::Effect, crate::specs::Rows::RxEffect, cx_code::specs::Reading::fields_at, cx_code::specs::Reading::fields_in, cx_code::specs::Table::row_of, cx_code::specs::Table::is_shift))]
+#[tactic(auto, unfolding(crate::specs::Rows::Effect, crate::specs::Rows::RxEffect, cx_code::specs::Reading::fields_at, cx_code::specs::Reading::decoded_fields, cx_code::specs::Table::operation_row, cx_code::specs::Table::is_shift))]
 #[inline(always)]
 pub(crate) fn word_rows<S: Store>(
     cpu: &mut Cpu,
@@ -296,7 +296,7 @@ pub(crate) fn word_rows<S: Store>(
 }
 
 /// The effect of A, S, M and D.
-#[tactic(auto, unfolding(crate::specs::Rows::Effect, crate::specs::Rows::RxEffect, cx_code::specs::Reading::fields_at, cx_code::specs::Reading::fields_in, cx_code::specs::Table::row_of, cx_code::specs::Table::is_shift))]
+#[tactic(auto, unfolding(crate::specs::Rows::Effect, crate::specs::Rows::RxEffect, cx_code::specs::Reading::fields_at, cx_code::specs::Reading::decoded_fields, cx_code::specs::Table::operation_row, cx_code::specs::Table::is_shift))]
 #[inline(always)]
 pub(crate) fn word_result_rows<S: Store>(
     cpu: &mut Cpu,
@@ -319,7 +319,7 @@ pub(crate) fn word_result_rows<S: Store>(
 }
 
 /// The effect of the rows whose second operand is a halfword in storage.
-#[tactic(auto, unfolding(crate::specs::Rows::Effect, crate::specs::Rows::RxEffect, cx_code::specs::Reading::fields_at, cx_code::specs::Reading::fields_in, cx_code::specs::Table::row_of, cx_code::specs::Table::is_shift))]
+#[tactic(auto, unfolding(crate::specs::Rows::Effect, crate::specs::Rows::RxEffect, cx_code::specs::Reading::fields_at, cx_code::specs::Reading::decoded_fields, cx_code::specs::Table::operation_row, cx_code::specs::Table::is_shift))]
 #[inline(always)]
 pub(crate) fn half_rows<S: Store>(
     cpu: &mut Cpu,
@@ -342,7 +342,7 @@ pub(crate) fn half_rows<S: Store>(
 }
 
 /// The effect of the other rows of format RX except EX.
-#[tactic(auto, unfolding(crate::specs::Rows::Effect, crate::specs::Rows::RxEffect, cx_code::specs::Reading::fields_at, cx_code::specs::Reading::fields_in, cx_code::specs::Table::row_of, cx_code::specs::Table::is_shift))]
+#[tactic(auto, unfolding(crate::specs::Rows::Effect, crate::specs::Rows::RxEffect, cx_code::specs::Reading::fields_at, cx_code::specs::Reading::decoded_fields, cx_code::specs::Table::operation_row, cx_code::specs::Table::is_shift))]
 #[inline(always)]
 pub(crate) fn indexed_rows<S: Store>(
     cpu: &mut Cpu,
@@ -377,7 +377,7 @@ pub(crate) fn indexed_rows<S: Store>(
 }
 
 /// The effect of the rows of format SI.
-#[tactic(auto, unfolding(crate::specs::Rows::Effect, crate::specs::Rows::SiEffect, cx_code::specs::Reading::fields_at, cx_code::specs::Reading::fields_in, cx_code::specs::Table::row_of, cx_code::specs::Table::is_shift))]
+#[tactic(auto, unfolding(crate::specs::Rows::Effect, crate::specs::Rows::SiEffect, cx_code::specs::Reading::fields_at, cx_code::specs::Reading::decoded_fields, cx_code::specs::Table::operation_row, cx_code::specs::Table::is_shift))]
 #[inline(always)]
 pub(crate) fn immediate_rows<S: Store>(
     cpu: &mut Cpu,
@@ -407,7 +407,7 @@ pub(crate) fn immediate_rows<S: Store>(
 }
 
 /// The effect of the rows of formats SS, whose operands have one length or two.
-#[tactic(auto, unfolding(crate::specs::Rows::Effect, crate::specs::Rows::SsEffect, crate::specs::Rows::Ss2Effect, cx_code::specs::Reading::fields_at, cx_code::specs::Reading::fields_in, cx_code::specs::Table::row_of, cx_code::specs::Table::is_shift))]
+#[tactic(auto, unfolding(crate::specs::Rows::Effect, crate::specs::Rows::SsEffect, crate::specs::Rows::Ss2Effect, cx_code::specs::Reading::fields_at, cx_code::specs::Reading::decoded_fields, cx_code::specs::Table::operation_row, cx_code::specs::Table::is_shift))]
 #[inline(always)]
 pub(crate) fn strings_effect<S: Store>(
     cpu: &mut Cpu,
@@ -432,8 +432,9 @@ pub(crate) fn strings_effect<S: Store>(
     )
 }
 
-/// The match of an operation: the macro `$perform` is called with the function of its group, and EX goes its own way. The groups are as small
-/// as they are since the optimizer calls a function that grows too large, whatever it is marked, and the loop is then slower by half.
+/// The match of an operation: the macro `$perform` is called with the function of its group, and EX goes its own way.
+/// The groups are as small as they are since the optimizer calls a function that grows too large, whatever it is
+/// marked, and the loop is then slower by half.
 macro_rules! in_group {
     ($op:expr, $perform:ident, $execute:expr) => {
         match $op {
@@ -454,7 +455,7 @@ macro_rules! in_group {
 pub(crate) use in_group;
 
 /// The effect of the row `op` except EX, whose bytes begin so. It goes on by a place.
-#[tactic(auto, unfolding(crate::specs::Rows::Effect, crate::specs::Rows::RxEffect, cx_code::specs::Reading::fields_at, cx_code::specs::Reading::fields_in, cx_code::specs::Table::row_of, cx_code::specs::Table::is_shift))]
+#[tactic(auto, unfolding(crate::specs::Rows::Effect, crate::specs::Rows::RxEffect, cx_code::specs::Reading::fields_at, cx_code::specs::Reading::decoded_fields, cx_code::specs::Table::operation_row, cx_code::specs::Table::is_shift))]
 #[inline(never)]
 pub(crate) fn effect<S: Store>(
     cpu: &mut Cpu,

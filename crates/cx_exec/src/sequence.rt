@@ -3,7 +3,7 @@
 ghost use Rattle.std.specs.Prelude.{◌≡◌, ◌<◌, ◌≤◌, ◌^◌, is_some};
 ghost use Rattle.cx_storage.specs.Storage.{span};
 ghost use Rattle.cx_storage.specs.Address.{distance};
-ghost use Rattle.cx_exec.specs.Sequence.{content, byte_seen};
+ghost use Rattle.cx_exec.specs.Sequence.{content_at, byte_seen};
 
 use cx_storage::{Store, address_in};
 
@@ -17,9 +17,9 @@ pub(crate) fn distance(a: u32, x: u32) -> u32
 }
 
 /// The byte at an address (below 2^24), or 0 where it is absent.
-pub(crate) fn content<S: Store>(store: &S, a: u32) -> u8
+pub(crate) fn content_at<S: Store>(store: &S, a: u32) -> u8
     requires { a < 2 ^ 24 }
-    ensures { result ≡ content (S.storage store.now) a }
+    ensures { result ≡ content_at (S.storage store.now) a }
 {
     store.byte(a).unwrap_or(0)
 }
@@ -46,6 +46,6 @@ pub(crate) fn seen<S: Store>(store: &S, stored: &[u8], number: u32, x: u32) -> u
     if number < stored.len() {
         stored[number]
     } else {
-        content(store, x)
+        content_at(store, x)
     }
 }

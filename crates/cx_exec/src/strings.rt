@@ -12,7 +12,7 @@ use crate::logic::string_code;
 use crate::machine::{Cpu, Interruption, Performed, Updated};
 use crate::operands::{fill_fast, of_length, put_bytes, put_coded, put_fast};
 use crate::repeats::repeat;
-use crate::sequence::{content, distance, is_present, seen};
+use crate::sequence::{content_at, distance, is_present, seen};
 use cx_storage::{Store, address_after};
 
 /// Puts the bytes that MVC stores at the front of the buffer.
@@ -52,7 +52,7 @@ fn xor_bytes<S: Store>(store: &S, n: u32, at: Addresses, new: &mut [u8; 256])
     for k in 0..n {
         let from = address_after(at.a2, k);
         let second = seen(store, &new[..k as usize], distance(at.a1, from), from);
-        new[k as usize] = content(store, address_after(at.a1, k)) ^ second;
+        new[k as usize] = content_at(store, address_after(at.a1, k)) ^ second;
     }
 }
 
@@ -315,7 +315,7 @@ fn spread<S: Store>(
     updated: Updated,
     n: u32,
 ) -> Performed
-    requires some { 0 < n }
+    requires above_0 { 0 < n }
     requires count { n ≤ 256 }
     requires begins { at.a1 ≡ address_after at.a2 1 }
     ensures { let before = machine cpu.old (S.storage store.old) in let after = machine cpu.new (S.storage store.new) in

@@ -9,7 +9,7 @@ ghost use Rattle.cx_exec.specs.Translation.{table_byte, HasTable, translated_byt
 use crate::addresses::Addresses;
 use crate::loads::inserted;
 use crate::machine::{Cpu, Interruption, Performed, Updated};
-use crate::sequence::{content, distance, is_present, seen};
+use crate::sequence::{content_at, distance, is_present, seen};
 use cx_storage::{Store, address_after};
 
 /// The table's byte for the `k`-th argument byte (`k` is at most 256), where both are present.
@@ -43,7 +43,7 @@ fn translate_bytes<S: Store>(store: &S, n: u32, at: Addresses, new: &mut [u8; 25
     ensures { take n new.new ≡ stored_by (translated_byte (S.storage store.now) at.a1 at.a2) n }
 {
     for k in 0..n {
-        let argument = content(store, address_after(at.a1, k));
+        let argument = content_at(store, address_after(at.a1, k));
         let from = address_after(at.a2, u32::from(argument));
         let byte = seen(store, &new[..k as usize], distance(at.a1, from), from);
         new[k as usize] = byte;
@@ -52,7 +52,7 @@ fn translate_bytes<S: Store>(store: &S, n: u32, at: Addresses, new: &mut [u8; 25
 
 /// Puts the table's byte for each of some argument bytes at the front of the buffer.
 fn look_up(argument: &[u8], table: &[u8], new: &mut [u8; 256])
-    requires few { length argument.now ≤ 256 }
+    requires at_most_256 { length argument.now ≤ 256 }
     requires whole { length table.now ≡ 256 }
     ensures { (k : ℕ) → k < length argument.now
         → (slice_index argument.now k < 256)
@@ -127,7 +127,7 @@ pub(crate) fn tr<S: Store>(
 
 /// The first of some argument bytes whose byte of the table isn't zero.
 fn first_in(argument: &[u8], table: &[u8]) -> Option<u32>
-    requires few { length argument.now ≤ 256 }
+    requires at_most_256 { length argument.now ≤ 256 }
     requires whole { length table.now ≡ 256 }
     ensures before { (j : ℕ) → j < unwrap_or result (length argument.now)
         → (slice_index argument.now j < 256) × (slice_index table.now (slice_index argument.now j) ≡ 0) }

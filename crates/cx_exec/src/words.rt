@@ -3,7 +3,7 @@
 ghost use Rattle.std.specs.Prelude.{◌≡◌, ◌<◌, ◌^◌, true, Some, IfSome};
 ghost use Rattle.cx_exec.specs.Machine.{machine};
 ghost use Rattle.cx_exec.specs.Rows.{RxEffect};
-ghost use Rattle.cx_exec.specs.Parts.{IsThere, takes_second, second_at};
+ghost use Rattle.cx_exec.specs.Parts.{IsPresentOperand, takes_second, second_at};
 
 use crate::arithmetic::{difference, put_sum, sum};
 use crate::comparison::{logical_order, signed_order};
@@ -80,7 +80,7 @@ fn lent_second<S: Store>(store: &S, op: Op, a: u32) -> Option<u32>
 fn second_apart<S: Store>(store: &S, op: Op, a: u32) -> Result<u32, Interruption>
     requires rows { takes_second op ≡ true }
     requires operand { a < 2 ^ 24 }
-    ensures { IsThere (second_at op (S.storage store.now) a) result }
+    ensures { IsPresentOperand (second_at op (S.storage store.now) a) result }
 {
     match op {
         Op::Lh | Op::Ch | Op::Ah | Op::Sh => halfword_slow(store, a),

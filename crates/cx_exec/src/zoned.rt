@@ -19,13 +19,13 @@ fn leftward(a: u32, k: u32) -> u32
     requires address { a < 2 ^ 24 }
     requires count { k ≤ 256 }
     ensures value { result ≡ address_before a k }
-    ensures short { result < 2 ^ 24 }
+    ensures below_2_24 { result < 2 ^ 24 }
 {
     address_after(a, 0x100_0000 - k)
 }
 
-/// The `i`-th byte (`i` is at most 256) from the right of the source, once some bytes of the result are stored; a missing
-/// one is zero.
+/// The `i`-th byte (`i` is at most 256) from the right of the source, once some bytes of the result are stored; a
+/// missing one is zero.
 #[tactic(auto, unfolding(crate::specs::Zoned::source))]
 fn source<S: Store>(store: &S, ends: Ends, stored: &[u8], i: u32) -> u8
     requires { i ≤ 256 }

@@ -1,29 +1,21 @@
 -- What a command reads for an option is the argument that was handed over for it.
 use Rattle.std.proofs.Common.{◌≡◌, ℕ, Bool, true, false, cond, not, ◌&&◌, ◌||◌, List, [], ◌∷◌, ◌++◌, length, Option, Some, None, refl, sym, subst, ◌∙◌, ap, bit_or}
 use Rattle.std.specs.Prelude.{fold, is_some, slice_get}
-use Rattle.std.specs.List.{AllByRecursion, filter, list_all, list_any}
-use Rattle.std.specs.Str.{bytes_eq}
+use Rattle.std.specs.List.{AllByRecursion, filter, list_all}
 use Rattle.std.proofs.lemmas.Bool.{and_parts}
-use Rattle.std.proofs.lemmas.Slice.Eq.{bytes_eq-Decides}
 use Rattle.cx_base.specs.declared.commands.Command.{Command}
 use Rattle.cx_base.specs.declared.options.CommandOption.{CommandOption}
-use Rattle.cx_base.specs.declared.options.ArgumentKind.{ArgumentKind}
 use Rattle.cx_base.specs.Arguments.{arguments_in, is_argument, takes_argument}
 use Rattle.cx_base.specs.Commands.{row_of}
 use Rattle.cx_base.specs.Facts.Commands.{each_command}
 use Rattle.cx_base.specs.Legal.{has_bit, lists_conditions}
 use Rattle.cx_base.specs.Options.{option_name}
-use Rattle.cx_translate.specs.declared.due_arguments.DueArgument.{DueArgument}
-use Rattle.cx_translate.specs.declared.due_arguments.DueArgument.TheVariants.{Nothing, Name, Value, Label}
-use Rattle.cx_translate.specs.declared.faults.TransFault.{TransFault}
-use Rattle.cx_translate.specs.declared.faults.TransFault.TheVariants.{BadArgument, UnknownOption}
-use Rattle.cx_translate.specs.declared.words.Argument.{Argument}
-use Rattle.cx_translate.specs.declared.words.Argument.TheVariants.{Absent, Given, Bad}
 use Rattle.cx_translate.specs.declared.words.Word.{Word}
-use Rattle.cx_translate.specs.Facts.Found.{is_wrong, operand_by, with_option}
-use Rattle.cx_translate.specs.Call.{argument_of, operands_of, text_in}
-use Rattle.cx_translate.specs.DueArguments.{common_due, condition_due, due_of, option_called, suits}
-use Rattle.cx_translate.specs.Refusals.{conditions_in, fault_in, first_byte, has_argument, has_unknown, has_wrong, is_given}
+use Rattle.cx_translate.specs.Facts.Arguments.{argued, fits, right}
+use Rattle.cx_translate.specs.Facts.Found.{operand_by, with_option}
+use Rattle.cx_translate.specs.Call.{argument_of, operands_of}
+use Rattle.cx_translate.specs.DueArguments.{common_due, condition_due, due_of, option_called}
+use Rattle.cx_translate.specs.Refusals.{conditions_in, fault_in, first_byte, has_wrong, is_given}
 
 -- ---- the bits of an option byte
 abbrev agree : Bool → Bool → Bool
@@ -69,55 +61,9 @@ reported words (o ∷ rest) byte seen h =
     by_given false e given other = rw e (more false _ e other)
 
 -- ---- an option's argument
--- what is due with an option agrees with its kind
-abbrev fits : Option DueArgument → ArgumentKind → Bool
-fits (Some Nothing) kind = not (takes_argument kind)
-fits (Some (Name n)) kind = takes_argument kind
-fits (Some Value) kind = takes_argument kind
-fits due kind = false
-
 all_fit : (c : Command) → list_all (λ o. fits (due_of c (option_name o.name)) o.kind) (row_of c).options ≡ true
 unfolding due_of option_called common_due condition_due
 all_fit = each_command (λ c. list_all (λ o. fits (due_of c (option_name o.name)) o.kind) (row_of c).options) refl
-
-not_true : (b : Bool) → not b ≡ true → false ≡ b
-not_true true e = absurd (cc)
-not_true false e = refl
-
-suited : (d : DueArgument) (a : Argument) (m : ArgumentKind) → fits (Some d) m ≡ true → not (suits d a) ≡ false → is_some (text_in a) ≡ takes_argument m
-unfolding suits
-suited Nothing Absent m f s = not_true (takes_argument m) f
-suited Nothing (Given text) m f s = absurd (cc)
-suited Nothing Bad m f s = absurd (cc)
-suited (Name n) Absent m f s = absurd (cc)
-suited (Name n) (Given text) m f s = sym f
-suited (Name n) Bad m f s = absurd (cc)
-suited Value Absent m f s = absurd (cc)
-suited Value (Given text) m f s = sym f
-suited Value Bad m f s = absurd (cc)
-suited Label a m f s = absurd (cc)
-
-right_by : (d : Option DueArgument) (a : Argument) (m : ArgumentKind) → fits d m ≡ true → is_wrong d a ≡ false → is_some (text_in a) ≡ takes_argument m
-right_by None a m f w = absurd (cc)
-right_by (Some d) a m f w = suited d a m f w
-
--- a name has an argument where it is given, and one is due
-argued : (c : Command) (words : List Word) (name : List ℕ) (m : ArgumentKind) → fits (due_of c name) m ≡ true → has_wrong c words ≡ false
-    → is_some (argument_of words name) ≡ (is_given words name && takes_argument m)
-unfolding has_wrong is_given
-argued c [] name m f w = refl
-argued c (word ∷ rest) name m f w =
-    go (bytes_eq word.name name) refl (is_wrong (due_of c word.name) word.argument) refl w (λ v. argued c rest name m f v)
-  where
-    go : (b : Bool) → bytes_eq word.name name ≡ b → (a : Bool) → is_wrong (due_of c word.name) word.argument ≡ a
-        → (a || list_any (λ v. is_wrong (due_of c v.name) v.argument) rest) ≡ false
-        → (list_any (λ v. is_wrong (due_of c v.name) v.argument) rest ≡ false → is_some (argument_of rest name) ≡ (list_any (λ v. bytes_eq v.name name) rest && takes_argument m))
-        → is_some (cond b (text_in word.argument) (argument_of rest name)) ≡ ((b || list_any (λ v. bytes_eq v.name name) rest) && takes_argument m)
-    go b e true d v more = absurd (cc)
-    go true e false d v more =
-        let same : word.name ≡ name = (bytes_eq-Decides word.name name).0 e in
-        right_by (due_of c word.name) word.argument m (rw same f) d
-    go false e false d v more = more v
 
 -- a command reads an argument for an option where one was handed over
 abbrev IsRead : List Word → ℕ → CommandOption → Type 0
@@ -155,18 +101,6 @@ has_none (o ∷ rest) = false
 
 all_without : (c : Command) → (not (lists_conditions c) || has_none (row_of c).options) ≡ true
 all_without = each_command (λ c. not (lists_conditions c) || has_none (row_of c).options) refl
-
-right : (line : ℕ) (c : Command) (cics named words : List Word) → fault_in line c cics named words ≡ None → has_wrong c words ≡ false
-unfolding fault_in
-right line c cics named words none =
-    third (has_unknown c words) (has_argument cics) (has_argument named) (has_wrong c words) (UnknownOption line) (BadArgument line) _ none
-  where
-    third : (a b c d : Bool) (f g : TransFault) (o : Option TransFault) → cond a (Some f) (cond (b || c || d) (Some g) o) ≡ None → d ≡ false
-    third true b c d f g o p = absurd (cc)
-    third false true c d f g o p = absurd (cc)
-    third false false true d f g o p = absurd (cc)
-    third false false false true f g o p = absurd (cc)
-    third false false false false f g o p = refl
 
 -- Of an accepted statement an option's argument is, among those that the command reads, where it is among those handed over.
 pub option_is_read : (line : ℕ) (c : Command) (cics named words : List Word) (before : List CommandOption) (option : CommandOption) (after : List CommandOption) (text : List ℕ)

@@ -30,13 +30,13 @@ use Rattle.cx_source.specs.declared.source.Stmt.{Stmt}
 use Rattle.cx_translate.specs.Call.{operands_of as arguments_handed}
 use Rattle.std.specs.Option.{option_map_or}
 use Rattle.cx_translate.specs.declared.faults.TransFault.TheVariants.{UnknownCommand}
-use Rattle.cx_translate.specs.Refusals.{fault_in, fault_of, first_byte}
+use Rattle.cx_translate.specs.Refusals.{fault_in, refusal_of, first_byte}
 use Rattle.cx_translate.specs.Words.{words_of}
 use Rattle.cx_asm_operands.specs.Bases.{Bases}
 use Rattle.cx_asm_operands.specs.Forms.{operands_of}
 use Rattle.cx_asm.specs.Assembly.{AssemblyParts}
 use Rattle.cx_asm_execution.specs.Arguments.{HoldsBase, Sections}
-use Rattle.cx_asm_execution.specs.Arrival.{AreKept, CommandArrives, ComesBack, IsPointer}
+use Rattle.cx_asm_execution.specs.Arrival.{AreKept, CommandArrives, PointerComesBack, IsPointer}
 use Rattle.cx_asm_execution.specs.MadeLines.{IsMade, Site, bases_of, site_of}
 use Rattle.cx_region_commands.specs.Common.{output as output_of}
 use Rattle.cx_region_state.specs.State.{TaskContext}
@@ -61,7 +61,7 @@ option_read : (item : Item) (exec : Stmt) (items : List Item) (made : IsMade ite
     → (pointer : IsPointer made.command (drop made.named (drop 1 (words_of exec.operand))) options register)
     → slice_get (arguments_in (row_of made.command).options (first_byte made.command (drop made.named (drop 1 (words_of exec.operand)))))
     (length (arguments_handed options (drop made.named (drop 1 (words_of exec.operand))))) ≡ Some pointer.option
-unfolding fault_of
+unfolding refusal_of
 option_read item exec items made options register pointer =
     let cics = take 1 (words_of exec.operand) in
     let named = take made.named (drop 1 (words_of exec.operand)) in
@@ -102,7 +102,7 @@ module _ (laws : Laws) (translated : Source) (assembly : AssemblyParts) (item : 
   abbrev at : ℕ
   at = arrives.call.at + code_length (instructions_made s)
 
-  abbrev back : ComesBack site assembly.section.image arrives.call.at s options register
+  abbrev back : PointerComesBack site assembly.section.image arrives.call.at s options register
   back = arrives.call.returns options register pointer cut
 
   module _ (storage loaded : Storage) (program : Loaded) (sections : Sections) (m : Machine) (before : TaskContext) (condition : Condition) (after : TaskContext)

@@ -30,13 +30,13 @@ use Rattle.cx_edf.specs.State.{EdfState, ends_by_key, holds, stopped_at}
 use Rattle.cx_edf.specs.Steps.{AppliesBy, DisplayMaker, DoorAnswers, Door, PassesOn, door_of}
 use Rattle.cx_edf.specs.Erasure.{is_own, left_of}
 use Rattle.cx_edf.specs.Runs.{Trace, last_state}
-use Rattle.cx_edf.specs.Laws.Edf.{ErasedEvents, ErasedEventsLeaveTheRegion, OtherEventsArePassed, OwnEventsHaveOwnAnswers, ends_task, is_edfs}
+use Rattle.cx_edf.specs.Laws.Edf.{ErasedEvents, ErasedEventsLeaveTheRegion, OtherEventsArePassed, OwnEventsHaveOwnAnswers, event_ends_task, is_edfs}
 use Rattle.cx_headline.specs.Laws.Runs.{OfEachRun, state_after_first}
 use Rattle.cx_headline.specs.Laws.Rows.{EachIsItsRow, IsHalfTurn, IsItsRow, IsRow, IsTurn}
 
 -- ---- EDF's own
 pub left_none : OwnEventsHaveOwnAnswers → ErasedEvents → (make : DisplayMaker) (old : EdfState) (e : EdfEvent) (given : Answer) (new : EdfState) → AppliesBy make old e given new
-    → is_own old e ≡ true → ends_task old e ≡ false → left_of old e given ≡ []
+    → is_own old e ≡ true → event_ends_task old e ≡ false → left_of old e given ≡ []
 left_none answers erased make old e given new h own ends =
     let edfs : is_edfs given ≡ true = sym (answers make old e given new h) ∙ own in
     nil_from_length (left_of old e given) (eqb-true (length (left_of old e given)) 0 (erased make old e given new h ∙ rw (edfs, ends) refl))

@@ -4,7 +4,7 @@ use Rattle.std.specs.Prelude.{if◌then◌else◌, is_some, not}
 use Rattle.std.specs.List.{AllByRecursion}
 use Rattle.std.proofs.lemmas.List.{map-append}
 use Rattle.cx_code.specs.declared.image.Image.{Image}
-use Rattle.cx_load.specs.Fault.{fault_of}
+use Rattle.cx_load.specs.Fault.{image_fault}
 use Rattle.cx_load.specs.declared.fault.ImageFault.{ImageFault}
 use Rattle.cx_region.specs.declared.changes.AlterReply.TheVariants as alter
 use Rattle.cx_region.specs.declared.replies.Event.{Event}
@@ -24,7 +24,7 @@ use Rattle.cx_edf.specs.State.{EdfState, session_at}
 use Rattle.cx_edf.specs.Steps.{AppliesBy, DisplayMaker, Door, Keeps, door_of}
 use Rattle.cx_edf.specs.Erasure.{erasure, is_own, is_refused, left_in, left_of, region_replies}
 use Rattle.cx_edf.specs.Runs.{Trace, last_state}
-use Rattle.cx_edf.specs.Laws.Edf.{ErasedEvents, FrontsAreTraces, OffIsTheRegion, OtherEventsArePassed, OwnEventsHaveOwnAnswers, TheRegionIsOff, WhatIsLeftIsARun, ends_task, is_alteration, off_at}
+use Rattle.cx_edf.specs.Laws.Edf.{ErasedEvents, FrontsAreTraces, OffIsTheRegion, OtherEventsArePassed, OwnEventsHaveOwnAnswers, TheRegionIsOff, WhatIsLeftIsARun, event_ends_task, is_alteration, off_at}
 use Rattle.cx_script_actions.specs.Effects.{ByFault, Performs}
 use Rattle.cx_script_actions.specs.declared.actions.Action.TheVariants as action
 use Rattle.cx_script.specs.Laws.Events.{program_event}
@@ -64,7 +64,7 @@ left_switched old name given = (
   left_neither (not (is_some (terminal_of old.region name))) (is_some (session_at old name)) _ _ _ _ _ _ given,
 )
 
-left_answered : OwnEventsHaveOwnAnswers → ErasedEvents → OtherEventsArePassed → (make : DisplayMaker) (old : EdfState) (e : EdfEvent) (given : Answer) (new : EdfState) → AppliesBy make old e given new → ends_task old e ≡ false
+left_answered : OwnEventsHaveOwnAnswers → ErasedEvents → OtherEventsArePassed → (make : DisplayMaker) (old : EdfState) (e : EdfEvent) (given : Answer) (new : EdfState) → AppliesBy make old e given new → event_ends_task old e ≡ false
     → (given ≡ answer.Region (reply.Alter alter.Altered) → ⊥) → left_of old e given ≡ answered_of e given
 left_answered answers erases law make old (edf_event.On name) given new h ends never = (left_switched old name given).0
 left_answered answers erases law make old (edf_event.Off name) given new h ends never = (left_switched old name given).1
@@ -163,8 +163,8 @@ by_fault (Some fault) old name image text new does none = does.1
 
 pub showing_changes_nothing : ShowingChangesNothing
 unfolding Performs
-showing_changes_nothing old (action.Image name image) text new none h = by_fault (fault_of image) old name image text new h none
-showing_changes_nothing old (action.Source name before image) text new none h = by_fault (fault_of image) old name image h.0 new h.1 none
+showing_changes_nothing old (action.Image name image) text new none h = by_fault (image_fault image) old name image text new h none
+showing_changes_nothing old (action.Source name before image) text new none h = by_fault (image_fault image) old name image h.0 new h.1 none
 showing_changes_nothing old (action.Event event) text new none h = cc
 showing_changes_nothing old (action.Screen name) text new none h = h.1
 showing_changes_nothing old (action.Display name) text new none h = h.1

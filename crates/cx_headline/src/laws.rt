@@ -19,8 +19,9 @@ ghost use Rattle.cx_look_script.specs.Laws.Orders.{OrdersAreReportedOnce};
 ghost use Rattle.cx_region.specs.Defining.{fresh_region};
 
 /// Each event of a run changes the region exactly as its row says. A turn is one half-turn of the terminal's task: the
-/// instructions up to its next command, or that command. What the half-turn reached is put back, and all else is as before.
-/// EDF's own events leave the region, except a PF12 that ends a task, which is that alteration.
+/// instructions up to its next command, or that command. The region has the task and what it reaches as the half-turn
+/// left them, and all else is as before. An event that EDF answers itself leaves the region, except a PF12 that ends a
+/// task, which is that alteration.
 pub fn every_half_turn_is_its_row()
     ensures runs { OfEachRun EachIsItsRow }
     ensures scripts { OfEachScript EachIsItsRow }
@@ -43,9 +44,9 @@ pub fn what_was_assembled_comes_back()
 }
 
 /// Under EDF, begun, ended and shown anywhere, the region after each event is that of a plain run of the events that
-/// are left without EDF, whatever a display is. Where nothing was altered these are exactly the events that the region answered,
-/// except refused alterations, in their order, each as it was given; and with EDF Off everywhere they are answered so, and
-/// lead to that region, and in no other way.
+/// are left without EDF, whatever a display is. Where nothing was altered these are exactly the events that the region
+/// answered, except refused alterations, in their order, each as it was given; and with EDF Off everywhere they are
+/// answered so, and lead to that region, and in no other way.
 pub fn watching_changes_nothing()
     ensures runs { OfEachRun IsAsUnwatched }
     ensures scripts { OfEachScript IsAsUnwatched }
@@ -59,9 +60,9 @@ pub fn watching_changes_nothing()
     cx_script::laws::a_script_runs_its_events();
 }
 
-/// There are such runs. Each list of events, images checked, is a run under EDF, from every state. And each run of the region
-/// without alterations can be watched: with EDF ON given at any terminals before any of its events, and ENTER at each that meets
-/// its terminal stopped, it is what is left of a run under EDF.
+/// There are such runs. Each list of events, images checked, is a run under EDF, from every state. And each run of the
+/// region without alterations can be watched: with EDF ON given at any terminals before any of its events, and ENTER at
+/// each that meets its terminal stopped, it is what is left of a run under EDF.
 pub fn there_are_runs()
     ensures runs { EdfEventListsAreRuns }
     ensures watched { RunsCanBeWatched }
@@ -70,10 +71,10 @@ pub fn there_are_runs()
     cx_edf::laws::every_run_can_be_watched();
 }
 
-/// A look changes nothing. In each run of a script with looks each action has a part: one of `cicsedf` stands for itself, RUN for
-/// the turns that it did, and a look for nothing. What they stand for, in order, is a run of `cicsedf` from the same state to the
-/// same state, and the text is that run's, with each look's at its place. A look's text is a function of the state
-/// there, and is lines that begin with `> `, with no other LF than that at their ends.
+/// A look changes nothing. In each run of a script with looks each action has a part: one of `cicsedf` stands for
+/// itself, RUN for the turns that it did, and a look for nothing. What they stand for, in order, is a run of `cicsedf`
+/// from the same state to the same state, and the text is that run's, with each look's at its place. A look's text is a
+/// function of the state there, and is lines that begin with `> `, with no other LF than that at their ends.
 pub fn looking_changes_nothing()
     ensures runs { LooksChangeNothing }
     ensures scripts { ScriptsAreLookedOver }
@@ -86,14 +87,15 @@ pub fn looking_changes_nothing()
     cx_script::laws::a_script_runs_its_events();
 }
 
-/// No order is missed. Where ORDERS finds all states, each list of turns and keys that ends at rest, of whatever length, ends with one
-/// of the outcomes that are written; else each list of so many moves as were tried. Each outcome is real: its steps end at rest, what is
-/// seen there is its text, their turns and keys lead there in `cicsedf` with EDF Off too, and no other list is sooner. No text stands
-/// twice. SOME NEVER REST and SOME CANNOT REST stand exactly where that is so.
+/// No order is missed. Where ORDERS finds all states, each list of turns and keys that ends at rest, of whatever
+/// length, ends with one of the outcomes that are written; else each list of so many moves as were tried. Each outcome
+/// is real: its steps end at rest, what is seen there is its text, their turns and keys lead there in `cicsedf` with
+/// EDF Off too, and no other list is sooner. No text stands twice. SOME NEVER REST and SOME CANNOT REST stand exactly
+/// where that is so.
 ///
-/// The lines that are written of steps are read as lines of a script, and ask for EDF OFF where EDF is on, and then for the steps' turns,
-/// by RUN with their number, and keys, in their order. And of a region in which no two terminals share a name what is written for a
-/// block is one text.
+/// The lines that are written of steps are read as lines of a script, and ask for EDF OFF where EDF is on, and then for
+/// the steps' turns, by RUN with their number, and keys, in their order. And of a region in which no two terminals
+/// share a name what is written for a block is one text.
 pub fn no_order_is_missed()
     ensures missed { OrdersAreTrue }
     ensures read { LinesAskForSteps }
@@ -109,19 +111,19 @@ pub fn no_order_is_missed()
     cx_search::laws::one_list_is_sooner();
 }
 
-/// A premise of an EXEC statement's arrival: where a program is entered, at attach, by LINK and by XCTL, the registers that the
-/// translator's USING statements name hold what these say: the entry's address, that of DFHEISTG and that of the EXEC interface
-/// block.
+/// A premise of an EXEC statement's arrival: where a program is entered, at attach, by LINK and by XCTL, the registers
+/// that the translator's USING statements name hold what these say: the entry's address, that of DFHEISTG and that of
+/// the EXEC interface block.
 #[tactic(auto, using(crate::proofs::EntryLemmas::entries_hold_their_bases, crate::proofs::EntryLemmas::tasks_begin_so))]
 pub fn entries_hold_their_bases()
     ensures entries { EntriesHoldTheirBases }
     ensures tasks { TasksBeginSo }
 {}
 
-/// Wherever a command is due, the task's current level keeps the registers and the condition code that its program has at the
-/// command. So it is in a fresh region, and after each event of one in which it is so: definitions, the clock, keys, turns and
-/// alterations. So it is after each event of a run under EDF that begins in such a region, and in every state of a
-/// script.
+/// Wherever a command is due, the task's current level keeps the registers and the condition code that its program has
+/// at the command. So it is in a fresh region, and after each event of one in which it is so: definitions, the clock,
+/// keys, turns and alterations. So it is after each event of a run under EDF that begins in such a region, and in every
+/// state of a script.
 pub fn what_is_due_is_kept()
     ensures fresh { KeepsWhatIsDue fresh_region }
     ensures events { EventsKeepWhatIsDue }
@@ -136,12 +138,13 @@ pub fn what_is_due_is_kept()
     cx_script::laws::a_script_runs_its_events();
 }
 
-/// A pointer that a command gives comes back to its program, from the EXEC statement on: where the statement's instructions have
-/// come to the command, and a half-turn has performed it, the program goes on at the pointer's load, and that load gives the
-/// register named in SET or CWA the very pointer that the command wrote, and leaves all else. So it is of each EXEC statement
-/// of an accepted translation that is loaded, if the register is an operand by itself; the load's four bytes are as loaded
-/// still; DFHEITP's base register held its base at the statement, and is none of 1, 14 and 15, which the call sets; and
-/// no output after the pointer, the EIB or RESP's word has one of the pointer's four addresses.
+/// A pointer that a command gives comes back to its program, from the EXEC statement on: where the statement's
+/// instructions have come to the command, and a half-turn has performed it, the program goes on at the pointer's load,
+/// and that load gives the register named in SET or CWA the very pointer that the command wrote, and leaves all else.
+/// So it is of each EXEC statement of an accepted translation that is loaded, if the register is an operand by itself;
+/// the load's four bytes are as loaded still; DFHEITP's base register held its base at the statement, and is none of 1,
+/// 14 and 15, which the call sets; and no output after the pointer, the EIB or RESP's word has one of the pointer's
+/// four addresses.
 pub fn a_pointer_comes_back()
     ensures { PointersAreGiven }
 {

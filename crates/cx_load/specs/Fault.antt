@@ -43,16 +43,16 @@ fault_name Overlap = codes "Overlap"
 fault_name StgLength = codes "StgLength"
 
 -- the faults in the order of their numbers, each with whether it applies
-abbrev pub faults_of : Image → List (ImageFault × Bool)
-faults_of image =
+abbrev pub image_faults : Image → List (ImageFault × Bool)
+image_faults image =
     (BadLength, not (has_length image)) ∷ (EntryOutside, not (has_entry image))
     ∷ (RelocOutside, not (are_inside (length image.text) image.relocs)) ∷ (Overlap, not (all_apart image.relocs))
     ∷ (StgLength, not (has_stg_length image)) ∷ []
 
 -- the first that applies, or none
-unfoldable pub fault_of : Image → Option ImageFault
-fault_of image = option_map (λ row. row.0) (find (λ row. row.1) (faults_of image))
+unfoldable pub image_fault : Image → Option ImageFault
+image_fault image = option_map (λ row. row.0) (find (λ row. row.1) (image_faults image))
 
 -- an image without a fault
 pub record IsFit (image : Image) : Type 0 where
-  pub none : fault_of image ≡ None
+  pub none : image_fault image ≡ None

@@ -1,7 +1,7 @@
 //! Checking an image.
 
 ghost use Rattle.std.specs.Prelude.{◌≡◌, MatchResult, Some};
-ghost use Rattle.cx_load.specs.Fault.{IsFit, all_apart, are_apart, are_inside, fault_name, is_apart, fault_of};
+ghost use Rattle.cx_load.specs.Fault.{IsFit, all_apart, are_apart, are_inside, fault_name, is_apart, image_fault};
 ghost use Rattle.cx_load.specs.Laws.Fit.{FitFacts};
 ghost use Rattle.cx_load.specs.Laws.Words.{are_in_order};
 
@@ -26,7 +26,7 @@ pub enum ImageFault {
 }
 
 impl ImageFault {
-    /// The fault's name.
+    /// The fault's name, as `BadLength`.
     pub fn name(self) -> &'static str
         ensures { result.now ≡ fault_name self }
     {
@@ -48,7 +48,7 @@ impl Display for ImageFault {
     }
 }
 
-/// An image without a fault. `check` alone makes one.
+/// An image without a fault: one that `load` takes. `check` alone makes one.
 #[derive(Debug, Drop)]
 pub struct CheckedImage {
     image: Image,
@@ -81,18 +81,18 @@ impl CheckedImage {
 pub fn check(image: Image) -> Result<CheckedImage, (Image, ImageFault)>
     ensures { MatchResult result
         (λ checked. (checked ≡ image) × IsFit image)
-        (λ refused. (refused.0 ≡ image) × (fault_of image ≡ Some refused.1)) }
+        (λ refused. (refused.0 ≡ image) × (image_fault image ≡ Some refused.1)) }
 {
-    match fault_of(&image) {
+    match image_fault(&image) {
         Some(fault) => Err((image, fault)),
         None => Ok(CheckedImage { image }),
     }
 }
 
 /// The lowest fault of an image: that of the first test that fails.
-#[tactic(auto, unfolding(crate::specs::Fault::fault_of, crate::specs::Fault::has_length, crate::specs::Fault::has_entry, crate::specs::Fault::has_stg_length))]
-fn fault_of(image: &Image) -> Option<ImageFault>
-    ensures { result ≡ fault_of image.now }
+#[tactic(auto, unfolding(crate::specs::Fault::image_fault, crate::specs::Fault::has_length, crate::specs::Fault::has_entry, crate::specs::Fault::has_stg_length))]
+fn image_fault(image: &Image) -> Option<ImageFault>
+    ensures { result ≡ image_fault image.now }
 {
     let size = image.text.as_slice().len();
     let relocs = image.relocs.as_slice();

@@ -7,7 +7,7 @@ ghost use Rattle.cx_storage.specs.Storage.{Storage};
 ghost use Rattle.cx_load.specs.declared.fault.ImageFault.{ImageFault};
 ghost use Rattle.cx_load.specs.declared.fault.ImageFault.TheVariants.{Overlap, RelocOutside};
 ghost use Rattle.cx_load.specs.declared.program.Loaded.{Loaded};
-ghost use Rattle.cx_load.specs.Fault.{IsFit, all_apart, are_inside, fault_of};
+ghost use Rattle.cx_load.specs.Fault.{IsFit, all_apart, are_inside, image_fault};
 ghost use Rattle.cx_load.specs.Laws.Fit.{FitFacts};
 ghost use Rattle.cx_load.specs.Laws.Words.{SharesNoByte, are_in_order, is_of_word};
 ghost use Rattle.cx_load.specs.Program.{IsLoaded};
@@ -28,7 +28,7 @@ pub fn facts_of_checked()
 pub fn words_in_order()
     ensures apart { (relocs : List ℕ) → IsTrue (are_in_order 0 relocs) → IsTrue (all_apart relocs) }
     ensures refused { (image : Image) (fault : ImageFault) → IsTrue (are_in_order 0 image.relocs)
-        → IsTrue (are_inside (length image.text) image.relocs) → fault_of image ≡ Some fault
+        → IsTrue (are_inside (length image.text) image.relocs) → image_fault image ≡ Some fault
         → (fault ≢ RelocOutside) × (fault ≢ Overlap) }
 {}
 
@@ -46,7 +46,7 @@ pub fn relocation()
         → length (relocated_text at relocs text) ≡ length text }
 {}
 
-/// The storage before and the image decide what loading gives: what is reported, and the storage after.
+/// Loading has one outcome: the storage before and the image determine what is reported, and the storage afterwards.
 #[tactic(auto, using(crate::proofs::LoadLemmas::loaded_decides))]
 pub fn loading_decides()
     ensures { (storage after later : Storage) (image : Image) (one other : Loaded)

@@ -24,13 +24,16 @@ const PROGRAM_OWNER: Owner = Owner {
     kind: Kind::Fixed,
 };
 
-/// Where a program is: its address, its length in bytes, the address of its entry, and how many
-/// bytes of working storage it has.
+/// Where a program is, as `load` put it.
 #[derive(Clone, Copy, Debug, PartialEq, Eq)]
 pub struct Loaded {
+    /// The address of its first byte: a multiple of 16 from X'010000' to X'1FFFFF'.
     pub at: u32,
+    /// Its length in bytes.
     pub len: u32,
+    /// The address of its entry.
     pub entry: u32,
+    /// How many bytes of working storage it asks for, 80 to 65,520.
     pub stg_len: u32,
 }
 

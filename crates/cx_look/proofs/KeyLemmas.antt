@@ -8,7 +8,7 @@ use Rattle.cx_region.specs.declared.replies.Event.TheVariants as event
 use Rattle.cx_script_actions.specs.Actions.{event_line, is_blank_or_comment, key_with_text, line_asked_for, line_of}
 use Rattle.cx_script_actions.specs.Words.{after_first_blank, word}
 use Rattle.cx_script_actions.specs.declared.actions.Line.TheVariants as line
-use Rattle.cx_look.specs.Orders.{event_in, is_key, key_in, key_of}
+use Rattle.cx_look.specs.Orders.{event_in, is_key, key_in, key_line_of}
 
 -- what KEY asks, by what follows it
 pressed : (text name : List ℕ) (o : Option (Aid × List ℕ)) → is_some (option_map (λ key. event_line (event.Key name key.0 key.1)) o) ≡ true
@@ -33,7 +33,7 @@ after text verb (Some rest) same e =
     subst (λ v. is_some (option_and_then (key_in text) (option_and_then event_in (line_asked_for v rest))) ≡ true) (sym same)
     (asked text rest (subst (λ v. is_some (line_asked_for v rest) ≡ true) same e))
 
-pub is_asked : (text : List ℕ) → is_blank_or_comment text ≡ false → is_key text ≡ true → is_some (line_of text) ≡ true → is_some (key_of text) ≡ true
+pub is_asked : (text : List ℕ) → is_blank_or_comment text ≡ false → is_key text ≡ true → is_some (line_of text) ≡ true → is_some (key_line_of text) ≡ true
 unfolding line_of
 is_asked text more key e = go (is_blank_or_comment text) more e
   where

@@ -14,7 +14,7 @@ use Rattle.cx_script_actions.specs.declared.actions.Action.TheVariants as action
 use Rattle.cx_script_actions.specs.declared.actions.Line.{Line}
 use Rattle.cx_script_actions.specs.declared.actions.Line.TheVariants as line
 use Rattle.cx_look.specs.Laws.{IsAskedByItsLine}
-use Rattle.cx_look.specs.Orders.{event_in, is_key, key_in, key_of, keys_in, orders_block, orders_line_of, sight_of}
+use Rattle.cx_look.specs.Orders.{event_in, is_key, key_in, key_line_of, keys_in, orders_block, orders_line_of, sight_of}
 use Rattle.cx_look.specs.declared.orders.OrdersLine.TheVariants as says
 use Rattle.cx_look.specs.declared.orders.Sight.{Sight}
 
@@ -66,7 +66,7 @@ in_line false false key (Some s) each = tt
 of_line : (text : List ℕ) → AllByRecursion IsAskedByItsLine (keys_in (orders_line_of text))
 unfolding orders_line_of
 of_line text =
-    in_line (is_blank_or_comment text) (is_key text) (key_of text) (sight_of text) (λ key is. asked_line text (line_of text) key refl is)
+    in_line (is_blank_or_comment text) (is_key text) (key_line_of text) (sight_of text) (λ key is. asked_line text (line_of text) key refl is)
 
 all_append : (some more : List KeyLine) → AllByRecursion IsAskedByItsLine some → AllByRecursion IsAskedByItsLine more
     → AllByRecursion IsAskedByItsLine (some ++ more)

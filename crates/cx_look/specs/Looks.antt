@@ -5,7 +5,7 @@ use Rattle.std.specs.Option.{option_and_then, option_map}
 use Rattle.std.specs.Str.{bytes_eq}
 use Rattle.cx_ebcdic.specs.Names.{padded_name}
 use Rattle.cx_script_actions.specs.Alterations.{hex_number}
-use Rattle.cx_script_actions.specs.Words.{after_first_blank, hex_bytes, number_of, two_words, word}
+use Rattle.cx_script_actions.specs.Words.{after_first_blank, hex_bytes, number_with_digits, two_words, word}
 use Rattle.cx_look.specs.declared.look.Look.{Look}
 use Rattle.cx_look.specs.declared.look.Look.TheVariants as look
 use Rattle.cx_look.specs.declared.look.Subject.{Subject}
@@ -51,8 +51,8 @@ subject_of text = find (λ s. bytes_eq (subject_name s) text) subjects
 abbrev pub at_most : ℕ → ℕ → Option ℕ
 at_most most n = if nat_le 1 n && nat_le n most then Some n else None
 
-unfoldable pub count_of : ℕ → List ℕ → Option ℕ
-count_of most text = option_and_then (at_most most) (number_of 1 5 text)
+unfoldable pub count_up_to : ℕ → List ℕ → Option ℕ
+count_up_to most text = option_and_then (at_most most) (number_with_digits 1 5 text)
 
 -- the name of a queue: sixteen hexadecimal digits are its eight bytes
 unfoldable pub queue_name_of : List ℕ → Option (List ℕ)
@@ -61,31 +61,31 @@ queue_name_of text = if length text == 16 then hex_bytes text else padded_name 8
 -- a queue, or its item of a number
 abbrev pub queue_look : List ℕ → Option (List ℕ) → Option Look
 queue_look name None = Some (look.Queue name)
-queue_look name (Some text) = option_map (λ n. look.Item name n) (count_of 32767 text)
+queue_look name (Some text) = option_map (λ n. look.Item name n) (count_up_to 32767 text)
 
 -- the number of a level, 1 to 16, where there is one
-abbrev pub level_of : Option (List ℕ) → Option (Option ℕ)
-level_of None = Some None
-level_of (Some text) = option_map (λ k. Some k) (count_of 16 text)
+abbrev pub level_asked_for : Option (List ℕ) → Option (Option ℕ)
+level_asked_for None = Some None
+level_asked_for (Some text) = option_map (λ k. Some k) (count_up_to 16 text)
 
 -- a field of a level of a terminal's task, and all of them
 abbrev pub field_look : List ℕ → List ℕ → Option Look
 field_look term text =
-    option_and_then (λ name. option_map (look.Field term name) (level_of (after_first_blank text)))
+    option_and_then (λ name. option_map (look.Field term name) (level_asked_for (after_first_blank text)))
     (padded_name 8 (word text))
 
 abbrev pub fields_look : List ℕ → Option (List ℕ) → Option Look
-fields_look term text = option_map (look.Fields term) (level_of text)
+fields_look term text = option_map (look.Fields term) (level_asked_for text)
 
 -- the next turn of a terminal: where it comes to a line of a program's source, or with the last so many of its
 -- instructions, 1 to 256; 16 without a number
 abbrev pub line_look : List ℕ → List ℕ → Option Look
-line_look term text = two_words (look.AheadAt term) (padded_name 8) (count_of 99999) text
+line_look term text = two_words (look.AheadAt term) (padded_name 8) (count_up_to 99999) text
 
 abbrev pub ahead_with : List ℕ → List ℕ → Option Look
 ahead_with term text =
     if bytes_eq (word text) (codes "AT") then option_and_then (line_look term) (after_first_blank text)
-    else option_map (look.Ahead term) (count_of 256 text)
+    else option_map (look.Ahead term) (count_up_to 256 text)
 
 abbrev pub ahead_look : List ℕ → Option (List ℕ) → Option Look
 ahead_look term None = Some (look.Ahead term 16)
@@ -100,7 +100,7 @@ abend_look name (Some text) =
 
 -- a look by its first word, and by the words after it where there are some
 unfoldable pub look_by_word : Subject → Option (List ℕ) → Option Look
-look_by_word subject.Storage (Some text) = two_words look.Storage (hex_number 3) (count_of 4096) text
+look_by_word subject.Storage (Some text) = two_words look.Storage (hex_number 3) (count_up_to 4096) text
 look_by_word subject.Where (Some text) = option_map (λ at. look.Where at) (hex_number 3 text)
 look_by_word subject.Areas None = Some look.Areas
 look_by_word subject.Areas (Some text) = option_map (λ name. look.AreasOf name) (padded_name 4 text)

@@ -10,7 +10,7 @@ use Rattle.cx_edf.specs.declared.answers.EdfEvent.{EdfEvent}
 use Rattle.cx_edf.specs.declared.answers.EdfEvent.TheVariants as edf
 use Rattle.cx_orders.specs.declared.states.KeyLine.{KeyLine}
 use Rattle.cx_script_actions.specs.Actions.{is_blank_or_comment, line_of}
-use Rattle.cx_script_actions.specs.Words.{after_first_blank, number_of, word}
+use Rattle.cx_script_actions.specs.Words.{after_first_blank, number_with_digits, word}
 use Rattle.cx_script_actions.specs.declared.actions.Action.{Action}
 use Rattle.cx_script_actions.specs.declared.actions.Action.TheVariants as action
 use Rattle.cx_script_actions.specs.declared.actions.Line.{Line}
@@ -27,7 +27,7 @@ use Rattle.cx_look.specs.declared.orders.Sight.TheVariants as sight
 -- the most states: 1 to 1,000,000, and 10,000 where no number says so
 abbrev pub states_of : Option (List ℕ) → Option ℕ
 states_of None = Some 10000
-states_of (Some text) = option_and_then (at_most 1000000) (number_of 1 7 text)
+states_of (Some text) = option_and_then (at_most 1000000) (number_with_digits 1 7 text)
 
 -- ---- a line of the block
 -- a key that is to come: KEY, as a script of `cicsedf` has it
@@ -43,8 +43,8 @@ key_in text (edf.Plain (event.Key name aid bytes)) =
     Some (record { name = name; aid = aid; bytes = bytes; line = text })
 key_in text _ = None
 
-abbrev pub key_of : List ℕ → Option KeyLine
-key_of text = option_and_then (key_in text) (option_and_then event_in (line_of text))
+abbrev pub key_line_of : List ℕ → Option KeyLine
+key_line_of text = option_and_then (key_in text) (option_and_then event_in (line_of text))
 
 -- what may be seen of an outcome: SCREEN, as a script of `cicsedf` has it, and looks at what is in the region
 abbrev pub is_sight : Look → Bool
@@ -66,31 +66,31 @@ abbrev pub look_seen : Look → Option Sight
 look_seen l = if is_sight l then Some (sight.Look l) else None
 
 -- of which lower case is taken as upper case, and none has more than 4,096 bytes
-abbrev pub look_line : List ℕ → Option Sight
-look_line text =
+abbrev pub sight_asked_for : List ℕ → Option Sight
+sight_asked_for text =
     if nat_le (length text) 4096 then option_and_then look_seen (look_of (map to_ascii_uppercase text)) else None
 
 abbrev pub sight_of : List ℕ → Option Sight
-sight_of text = option_or (screen_of text) (look_line text)
+sight_of text = option_or (screen_of text) (sight_asked_for text)
 
 -- What a line of the block says; None where it may not stand there.
 unfoldable pub orders_line_of : List ℕ → Option OrdersLine
 orders_line_of text =
     if is_blank_or_comment text then Some says.Blank
-    else if is_key text then option_map (λ key. says.Key key) (key_of text)
+    else if is_key text then option_map (λ key. says.Key key) (key_line_of text)
     else option_map (λ s. says.Sight s) (sight_of text)
 
 -- ---- the block
 -- at most 256 keys, and at most 64 lines that say what is to be seen
-abbrev pub has_room : List (List ℕ) → List ℕ → Bool
-has_room lines text =
+abbrev pub block_has_room : List (List ℕ) → List ℕ → Bool
+block_has_room lines text =
     if is_key text then nat_lt (count_by is_key lines) 256 else nat_lt (count_by (λ l. not (is_key l)) lines) 64
 
 -- The lines of the block with one more, where it may have that line: empty lines and comments aren't kept.
 unfoldable pub orders_with : List (List ℕ) → List ℕ → Option (List (List ℕ))
 orders_with lines text =
     if is_blank_or_comment text then Some lines
-    else if has_room lines text && is_some (orders_line_of text) then Some (lines ++ text ∷ []) else None
+    else if block_has_room lines text && is_some (orders_line_of text) then Some (lines ++ text ∷ []) else None
 
 abbrev pub keys_in : Option OrdersLine → List KeyLine
 keys_in (Some (says.Key key)) = key ∷ []

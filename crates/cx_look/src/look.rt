@@ -4,7 +4,7 @@ ghost use Rattle.std.specs.List.{find};
 ghost use Rattle.std.specs.Option.{option_copied};
 ghost use Rattle.std.specs.Str.{bytes_eq};
 ghost use Rattle.cx_script_actions.specs.Words.{hex_bytes};
-ghost use Rattle.cx_look.specs.Looks.{abend_look, ahead_look, ahead_with, count_of, field_look, level_of, line_look, look_of, look_by_word, queue_look, queue_name_of, subject_name, subject_of};
+ghost use Rattle.cx_look.specs.Looks.{abend_look, ahead_look, ahead_with, count_up_to, field_look, level_asked_for, line_look, look_of, look_by_word, queue_look, queue_name_of, subject_name, subject_of};
 ghost use Rattle.cx_look.specs.declared.look.Subject.TheVariants as subject;
 
 use cx_base::List;
@@ -33,53 +33,54 @@ const LAST_LINE: u32 = 99_999;
 /// The digits that spell the eight bytes of a queue's name.
 const NAME_DIGITS: usize = 16;
 
-/// The lines of a source that are in a block of a script.
+/// The lines of a source in a block of a script, which a line with a word and a name begins.
 #[derive(Debug, Drop)]
 pub struct SourceLines {
     /// The number in the script of the line that begins the block, counted from 1.
     pub first: usize,
-    /// The name after its word.
+    /// The name after the word of that line.
     pub name: Name8,
-    /// The lines after it, up to the block's end.
+    /// The source's lines, each without its end: those after that line, up to the block's end.
     pub lines: List<Text>,
 }
 
 /// A look, with what its line says of it.
 #[derive(Debug, Drop)]
 pub enum Look {
-    /// Storage from an address on, and how many bytes: 1 to 4,096.
+    /// Storage from an address on, below 2^24, and how many bytes: 1 to 4,096.
     Storage(u32, u32),
-    /// What is at an address.
+    /// What is at an address, below 2^24, and whose it is.
     Where(u32),
-    /// All areas.
+    /// All areas of storage.
     Areas,
-    /// The areas of a terminal's task.
+    /// The areas of storage that a terminal's task owns.
     AreasOf(Name4),
-    /// The task of a terminal.
+    /// The task of a terminal, and each of its levels.
     Task(Name4),
     /// Each terminal, and what its task is doing.
     Tasks,
-    /// The last abend of a terminal.
+    /// The last abend that a terminal has had.
     Abend(Name4),
     /// The DFHEISTG of the level that abended, as it was then.
     AbendStorage(Name4),
-    /// The fields of that DFHEISTG.
+    /// The fields of the DFHEISTG of the level that abended, as they were then.
     AbendFields(Name4),
-    /// All queues.
+    /// All temporary storage queues.
     Queues,
-    /// A queue and its items.
+    /// A temporary storage queue and its items.
     Queue(Name8),
     /// A queue's item of a number, 1 to 32,767, as a whole.
     Item(Name8, u32),
-    /// All resources that are owned.
+    /// All resources that are owned, and who waits for them.
     Resources,
-    /// All programs.
+    /// All programs that are defined.
     Programs,
     /// The command that is due at a terminal.
     Command(Name4),
     /// What the next turn of a terminal will do, with the last so many of its instructions: 1 to 256.
     Ahead(Name4, u32),
-    /// What a terminal's task has where its next turn first comes to a line of a program's source: the line's number, 1 to 99,999.
+    /// What a terminal's task has where its next turn first comes to a line of a program's source: the line's number, 1
+    /// to 99,999.
     AheadAt(Name4, Name8, u32),
     /// A symbol of a program's source: the program and the symbol.
     Symbol(Name8, Name8),
@@ -89,46 +90,71 @@ pub enum Look {
     Xref(Name8),
     /// The clock, and of each terminal what its next key attaches, the input that is held, and EDF there.
     Terminals,
-    /// A field of a level of a terminal's task: the terminal, the symbol, and the level's number, 1 to 16; without one the current level.
+    /// A field of a level of a terminal's task: the terminal, the symbol, and the level's number, 1 to 16; without one
+    /// the current level.
     Field(Name4, Name8, Option<u8>),
-    /// All fields of a level of a terminal's task: the terminal, and the level's number.
+    /// All fields of a level of a terminal's task: the terminal, and the level's number, 1 to 16; without one the
+    /// current level.
     Fields(Name4, Option<u8>),
     /// The table of lines, or the line of a word in it.
     Help(Option<Subject>),
-    /// The faulty lines of a source.
+    /// The faulty lines of a source, and notes on the others.
     Faults(SourceLines),
 }
 
-/// The word that begins a look, or another line that a script of `cicsedf` doesn't have.
+/// A word that begins a look, or another line that a script of `cicsedf` doesn't have: a word of the table of HELP.
 #[derive(Clone, Copy, Debug, PartialEq, Eq)]
 pub enum Subject {
+    /// STORAGE: bytes from an address on.
     Storage,
+    /// WHERE: what is at an address, and whose it is.
     Where,
+    /// AREAS: areas of storage.
     Areas,
+    /// TASK: a terminal's task, and each of its levels.
     Task,
+    /// TASKS: each terminal, and what its task is doing.
     Tasks,
+    /// ABEND: a terminal's last abend.
     Abend,
+    /// QUEUES: the temporary storage queues.
     Queues,
+    /// QUEUE: one of them with its items, or one item.
     Queue,
+    /// RESOURCES: the resources that are owned, and who waits for them.
     Resources,
+    /// PROGRAMS: the programs.
     Programs,
+    /// COMMAND: the command that is due at a terminal.
     Command,
+    /// AHEAD: what a terminal's next turn will do.
     Ahead,
+    /// SYMBOL: a symbol of a program's source.
     Symbol,
+    /// SYMBOLS: all symbols of a program's source.
     Symbols,
+    /// XREF: which lines use a source's symbols, literals and base registers.
     Xref,
+    /// TERMINALS: the clock, and each terminal's next transaction, input and EDF.
     Terminals,
+    /// FIELD: a field of a level of a terminal's task.
     Field,
+    /// FIELDS: all fields of such a level.
     Fields,
+    /// RUN: turns of a terminal.
     Run,
+    /// WATCH: each change of some bytes.
     Watch,
+    /// FAULTS: the faulty lines of a source that follows.
     Faults,
+    /// ORDERS: what every order of turns and keys leads to.
     Orders,
+    /// HELP: the table of these words.
     Help,
 }
 
 impl Subject {
-    /// Each word of a look, in the order of HELP.
+    /// Each of these words once, in the order in which they are declared.
     pub const ALL: [Subject; 23] = [
         Subject::Storage,
         Subject::Where,
@@ -197,7 +223,7 @@ fn subject_in(subjects: &[Subject], word: &[u8]) -> Option<Subject>
         .find(|subject| subject.name() == word)
 }
 
-/// The word that begins a look, where it is one of these, in upper case. It takes no memory.
+/// The subject of a word, which is in upper case and whole; None for every other word. It takes no memory.
 #[tactic(auto, unfolding(crate::specs::Looks::subject_of))]
 pub fn subject_of(word: &[u8]) -> Option<Subject>
     ensures { result ≡ subject_of word.now }
@@ -206,9 +232,9 @@ pub fn subject_of(word: &[u8]) -> Option<Subject>
 }
 
 /// The number from 1 to a most that at most five decimal digits spell.
-#[tactic(auto, using(std::proofs::lemmas::Bool::Decides::nat_tests), unfolding(crate::specs::Looks::count_of))]
-fn count_of(word: &[u8], most: u32) -> Option<u32>
-    ensures value { result ≡ count_of most word.now }
+#[tactic(auto, using(std::proofs::lemmas::Bool::Decides::nat_tests), unfolding(crate::specs::Looks::count_up_to))]
+fn count_up_to(word: &[u8], most: u32) -> Option<u32>
+    ensures value { result ≡ count_up_to most word.now }
     ensures most { IfSome result (λ n. n ≤ most) }
 {
     let n = number(word, 1, 5)?;
@@ -260,7 +286,7 @@ fn queue_look(name: Name8, rest: Option<&[u8]>) -> Option<Look>
     let Some(rest) = rest else {
         return Some(Look::Queue(name));
     };
-    let n = count_of(rest, LAST_ITEM)?;
+    let n = count_up_to(rest, LAST_ITEM)?;
     Some(Look::Item(name, n))
 }
 
@@ -281,7 +307,7 @@ fn storage(text: &[u8]) -> Option<Look>
 {
     let (word, rest) = split_word(text);
     let address = hex_address(word)?;
-    let count = count_of(rest?, MOST_BYTES)?;
+    let count = count_up_to(rest?, MOST_BYTES)?;
     Some(Look::Storage(address, count))
 }
 
@@ -297,13 +323,13 @@ fn symbol(text: &[u8]) -> Option<Look>
 }
 
 /// The number of a level, 1 to 16, where there is one.
-fn level_of(rest: Option<&[u8]>) -> Option<Option<u8>>
-    ensures { result ≡ level_of (option_copied rest.entry) }
+fn level_asked_for(rest: Option<&[u8]>) -> Option<Option<u8>>
+    ensures { result ≡ level_asked_for (option_copied rest.entry) }
 {
     let Some(rest) = rest else {
         return Some(None);
     };
-    let k = count_of(rest, LEVELS)?;
+    let k = count_up_to(rest, LEVELS)?;
     Some(Some(k as u8))
 }
 
@@ -313,7 +339,7 @@ fn field_look(term: Name4, text: &[u8]) -> Option<Look>
 {
     let (word, rest) = split_word(text);
     let name = name8(word)?;
-    let k = level_of(rest)?;
+    let k = level_asked_for(rest)?;
     Some(Look::Field(term, name, k))
 }
 
@@ -334,7 +360,7 @@ fn fields(text: &[u8]) -> Option<Look>
 {
     let (word, rest) = split_word(text);
     let term = name4(word)?;
-    let k = level_of(rest)?;
+    let k = level_asked_for(rest)?;
     Some(Look::Fields(term, k))
 }
 
@@ -370,7 +396,7 @@ fn line_look(term: Name4, text: &[u8]) -> Option<Look>
 {
     let (word, rest) = split_word(text);
     let program = name8(word)?;
-    let line = count_of(rest?, LAST_LINE)?;
+    let line = count_up_to(rest?, LAST_LINE)?;
     Some(Look::AheadAt(term, program, line))
 }
 
@@ -382,7 +408,7 @@ fn ahead_with(term: Name4, text: &[u8]) -> Option<Look>
     if first == b"AT".as_slice() {
         line_look(term, rest?)
     } else {
-        let n = count_of(text, MOST_INSTRUCTIONS)?;
+        let n = count_up_to(text, MOST_INSTRUCTIONS)?;
         Some(Look::Ahead(term, n))
     }
 }
@@ -457,7 +483,8 @@ fn at(subject: Subject, text: &[u8]) -> Option<Look>
     }
 }
 
-/// What a line looks at; None where it is no look of one line. It takes no memory.
+/// What a line looks at; None where it is no look, or one of several lines (FAULTS, ORDERS), or what follows its word
+/// isn't as that asks. It takes no memory.
 #[tactic(auto, unfolding(crate::specs::Looks::look_of))]
 pub fn look_of(line: &[u8]) -> Option<Look>
     ensures { result ≡ look_of line.now }

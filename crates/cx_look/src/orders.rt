@@ -6,7 +6,7 @@ ghost use Rattle.std.specs.Option.{option_copied};
 ghost use Rattle.cx_edf.specs.Runs.{IsAllowedEdf};
 ghost use Rattle.cx_script_actions.specs.Actions.{is_blank_or_comment};
 ghost use Rattle.cx_script_actions.specs.Allowed.{IsAllowedAction, IsAllowedLine};
-ghost use Rattle.cx_look.specs.Orders.{event_in, has_room, is_key, is_sight, key_in, key_of, keys_in, look_line, look_seen, orders_block, orders_line_of, orders_with, screen_of, sight_of, sights_in, states_of};
+ghost use Rattle.cx_look.specs.Orders.{event_in, block_has_room, is_key, is_sight, key_in, key_line_of, keys_in, sight_asked_for, look_seen, orders_block, orders_line_of, orders_with, screen_of, sight_of, sights_in, states_of};
 ghost use Rattle.cx_look.specs.declared.orders.OrdersLine.TheVariants as says;
 ghost use Rattle.cx_orders.specs.Moves.{IsFew};
 
@@ -41,25 +41,25 @@ const MOST_IN_LINE: usize = 4_096;
 pub enum Sight {
     /// The screen of a terminal.
     Screen(Name4),
-    /// What a look has to say.
+    /// What this look writes.
     Look(Look),
 }
 
-/// What a line of the block says.
+/// What a line of a block of ORDERS says.
 #[derive(Drop)]
 pub enum OrdersLine {
-    /// Nothing: it is empty, or a comment.
+    /// Nothing: the line is empty, or a comment.
     Blank,
-    /// A key is to come.
+    /// This key is to come.
     Key(KeyLine),
-    /// This is to be seen of an outcome.
+    /// This is to be seen of each outcome.
     Sight(Sight),
 }
 
-/// What a block of ORDERS asks.
+/// What a block of ORDERS asks: a search of all orders of turns and keys.
 #[derive(Drop)]
 pub struct OrdersBlock {
-    /// The most states.
+    /// How many states are looked at, at most.
     pub most: u32,
     /// The keys that are to come, those of one terminal in their order, each of at most 1,920 bytes.
     pub keys: List<KeyLine>,
@@ -67,7 +67,8 @@ pub struct OrdersBlock {
     pub sights: List<Sight>,
 }
 
-/// The most states, 1 to 1,000,000, by the words after ORDERS; 10,000 without them. It takes no memory.
+/// How many states are looked at, at most, by what follows ORDERS: a number from 1 to 1,000,000, and 10,000 where
+/// nothing follows; None where anything else does. It takes no memory.
 #[tactic(auto, using(std::proofs::lemmas::Bool::Decides::nat_tests))]
 pub fn states_of(rest: Option<&[u8]>) -> Option<u32>
     ensures { result ≡ states_of (option_copied rest.entry) }
@@ -114,7 +115,7 @@ fn key_in(alloc: Global, event: &EdfEvent, text: &[u8]) -> Result<Option<KeyLine
     requires { IsAllowedEdf event.now }
     ensures value { IfOk result (λ key. key ≡ key_in text.now event.now) }
     ensures memory { OnErr result (is_some (key_in text.now event.now) ≡ true) }
-    ensures few { IfOk result (λ key. IfSome key IsFew) }
+    ensures keys_in_range { IfOk result (λ key. IfSome key IsFew) }
 {
     match event {
         EdfEvent::Plain(Event::Key(name, aid, bytes)) => Ok(Some(KeyLine {
@@ -129,12 +130,12 @@ fn key_in(alloc: Global, event: &EdfEvent, text: &[u8]) -> Result<Option<KeyLine
 
 /// The key that a line asks which begins with KEY.
 #[tactic(auto, using(crate::proofs::KeyLemmas::is_asked))]
-fn key_of(alloc: Global, text: &[u8]) -> Result<Option<KeyLine>, AllocError>
+fn key_line_of(alloc: Global, text: &[u8]) -> Result<Option<KeyLine>, AllocError>
     requires more { is_blank_or_comment text.now ≡ false }
     requires key { is_key text.now ≡ true }
-    ensures value { IfOk result (λ key. key ≡ key_of text.now) }
-    ensures memory { OnErr result (is_some (key_of text.now) ≡ true) }
-    ensures few { IfOk result (λ key. IfSome key IsFew) }
+    ensures value { IfOk result (λ key. key ≡ key_line_of text.now) }
+    ensures memory { OnErr result (is_some (key_line_of text.now) ≡ true) }
+    ensures keys_in_range { IfOk result (λ key. IfSome key IsFew) }
 {
     let Some(asked) = line_of(alloc, text)? else {
         return Ok(None);
@@ -194,8 +195,8 @@ fn look_seen(look: Look) -> Option<Sight>
 }
 
 /// The look that a line asks, where it may be seen of an outcome.
-fn look_line(text: &[u8]) -> Option<Sight>
-    ensures { result ≡ look_line text.now }
+fn sight_asked_for(text: &[u8]) -> Option<Sight>
+    ensures { result ≡ sight_asked_for text.now }
 {
     let mut buffer = [0; MOST_IN_LINE];
     if text.len() > MOST_IN_LINE {
@@ -214,15 +215,16 @@ fn sight_of(text: &[u8]) -> Option<Sight>
     if let Some(sight) = screen_of(text) {
         return Some(sight);
     }
-    look_line(text)
+    sight_asked_for(text)
 }
 
-/// What a line of the block says; None, and never Memory, where it may not stand there.
+/// What a line of the block says; None where it may not stand there. An error comes only where an allocation failed,
+/// and never for a line that may not stand there.
 #[tactic(auto, unfolding(crate::specs::Orders::orders_line_of))]
 fn orders_line_of(alloc: Global, text: &[u8]) -> Result<Option<OrdersLine>, AllocError>
     ensures value { IfOk result (λ line. line ≡ orders_line_of text.now) }
     ensures memory { OnErr result (is_some (orders_line_of text.now) ≡ true) }
-    ensures few { IfOk result (λ line. AllByRecursion IsFew (keys_in line)) }
+    ensures keys_in_range { IfOk result (λ line. AllByRecursion IsFew (keys_in line)) }
 {
     if is_blank_or_comment(text) {
         return Ok(Some(OrdersLine::Blank));
@@ -230,7 +232,7 @@ fn orders_line_of(alloc: Global, text: &[u8]) -> Result<Option<OrdersLine>, Allo
     if !is_key(text) {
         return Ok(sight_of(text).map(|sight| OrdersLine::Sight(sight)));
     }
-    match key_of(alloc, text)? {
+    match key_line_of(alloc, text)? {
         Some(key) => Ok(Some(OrdersLine::Key(key))),
         None => Ok(None),
     }
@@ -251,8 +253,8 @@ fn sights_among(lines: &[Text]) -> usize
 }
 
 /// Whether the block has room for one more line of this sort.
-fn has_room(lines: &[Text], text: &[u8]) -> bool
-    ensures { result ≡ has_room lines.now text.now }
+fn block_has_room(lines: &[Text], text: &[u8]) -> bool
+    ensures { result ≡ block_has_room lines.now text.now }
 {
     if is_key(text) {
         keys_among(lines) < MOST_KEYS
@@ -261,10 +263,10 @@ fn has_room(lines: &[Text], text: &[u8]) -> bool
     }
 }
 
-/// The lines of a block of ORDERS with one more; None, and never Memory, where the block may not have it.
-/// Empty lines and comments aren't kept.
+/// The lines of a block of ORDERS with one more; None where the block may not have it: the line isn't one of such a
+/// block, or the block has 256 keys, or 64 other lines, already. Empty lines and comments aren't kept.
 ///
-/// An error comes only where an allocation failed.
+/// An error comes only where an allocation failed, and never for a line that the block may not have.
 #[tactic(auto, unfolding(crate::specs::Orders::orders_with))]
 pub fn orders_with(
     alloc: Global,
@@ -277,7 +279,7 @@ pub fn orders_with(
     if is_blank_or_comment(text) {
         return Ok(Some(lines));
     }
-    if !has_room(lines.as_slice(), text) {
+    if !block_has_room(lines.as_slice(), text) {
         return Ok(None);
     }
     let Some(_line) = orders_line_of(alloc, text)? else {
@@ -293,7 +295,7 @@ pub fn orders_with(
 /// An error comes only where an allocation failed.
 fn keys_of(alloc: Global, lines: &[Text]) -> Result<List<KeyLine>, AllocError>
     ensures value { IfOk result (λ keys. keys ≡ flat_map (λ l. keys_in (orders_line_of l)) lines.now) }
-    ensures few { IfOk result (λ keys. AllByRecursion IsFew keys) }
+    ensures keys_in_range { IfOk result (λ keys. AllByRecursion IsFew keys) }
 {
     let mut keys = Vec::new(alloc);
     for line in lines {
@@ -319,13 +321,13 @@ fn sights_of(alloc: Global, lines: &[Text]) -> Result<List<Sight>, AllocError>
     Ok(List::from_vec(sights))
 }
 
-/// What a block of ORDERS asks: at most so many states, and what its lines say.
+/// What a block of ORDERS asks, which looks at `most` states at most and has these lines.
 ///
 /// An error comes only where an allocation failed.
 #[tactic(auto, unfolding(crate::specs::Orders::orders_block))]
 pub fn orders_block(alloc: Global, most: u32, lines: &[Text]) -> Result<OrdersBlock, AllocError>
     ensures value { IfOk result (λ block. block ≡ orders_block most lines.now) }
-    ensures few { IfOk result (λ block. AllByRecursion IsFew block.keys) }
+    ensures keys_in_range { IfOk result (λ block. AllByRecursion IsFew block.keys) }
 {
     let keys = keys_of(alloc, lines)?;
     let sights = sights_of(alloc, lines)?;

@@ -10,7 +10,7 @@ use Rattle.cx_region.specs.State.{RegionState, TerminalState}
 use Rattle.cx_region.specs.Tables.{task_of, terminal_of}
 use Rattle.cx_region.specs.Turn.{TurnHasAbendRecord, context_of}
 use Rattle.cx_region_state.specs.State.{TaskContext, TaskState}
-use Rattle.cx_region_task.specs.Decisions.{command_of}
+use Rattle.cx_region_task.specs.Decisions.{decided_command}
 use Rattle.cx_region_task.specs.Performing.{decision_cause}
 use Rattle.cx_region_task.specs.Turn.{HasAbendRecord, HalfTurnWith, PerformsCommand, RunsOn, abend_record_with, halt_cause, machine_of, most_steps}
 use Rattle.cx_region_task.specs.declared.cause.AbendRecord.{AbendRecord}
@@ -72,7 +72,7 @@ of_half law region terminal task abend_record dump it d = by_due task.due it.tur
     by_due : (due : Bool) → MatchBool due (PerformsCommand before it.reply (Some abend_record) it.after) (RunsOn before it.reply (Some abend_record) it.after)
         → MatchBool due (Some dump ≡ dump_in region.shared.storage task.levels.current) (MatchBool (is_wide region.shared.storage) (Some dump ≡ None) (RunLeaves region.shared.storage task (Some dump)))
         → IsOfRecord task abend_record dump
-    by_due true p q = some_record (command_of p.decided) (machine_of before) (decision_cause p.decided) abend_record task dump p.recorded q
+    by_due true p q = some_record (decided_command p.decided) (machine_of before) (decision_cause p.decided) abend_record task dump p.recorded q
     by_due false p q = by_wide p (is_wide region.shared.storage) q
 
 pub dumps_are_of_records : RunsAreDecided → DumpsAreOfRecords

@@ -15,7 +15,7 @@ use Rattle.cx_region_state.specs.declared.replies.TurnReply.TheVariants as turn
 use Rattle.cx_region_task.specs.declared.cause.Cause.{Cause}
 use Rattle.cx_region_task.specs.declared.cause.Cause.TheVariants as cause
 use Rattle.cx_region_task.specs.declared.cause.AbendRecord.{AbendRecord}
-use Rattle.cx_region_task.specs.Performing.{list_of}
+use Rattle.cx_region_task.specs.Performing.{argument_list}
 use Rattle.cx_region.specs.State.{RegionState}
 use Rattle.cx_region.specs.Tables.{task_of}
 use Rattle.cx_look_abend.specs.Dumps.{Dump}
@@ -26,7 +26,7 @@ use Rattle.cx_look_abend.specs.declared.abends.LastAbend.{LastAbend}
 use Rattle.cx_look_abend.specs.declared.abends.TaskBefore.{TaskBefore}
 use Rattle.cx_look_tasks.specs.Commands.{call_text}
 use Rattle.cx_look_tables.specs.Words.{Lines}
-use Rattle.cx_look_symbols.specs.Places.{place_of, spot_before}
+use Rattle.cx_look_symbols.specs.Places.{place_at_address, spot_before}
 use Rattle.cx_look_symbols.specs.declared.places.Place.{Place}
 
 -- ---- an abend
@@ -50,7 +50,8 @@ abbrev pub next_address_of : RegionState → List ℕ → Option ℕ
 next_address_of region name = option_map (λ task. task.next) (task_of region name)
 
 abbrev pub exit_place : RegionState → List ℕ → TurnReply → Option Place
-exit_place region name (turn.TookExit code) = option_map (place_of region.shared.programs) (next_address_of region name)
+exit_place region name (turn.TookExit code) =
+    option_map (place_at_address region.shared.programs) (next_address_of region name)
 exit_place region name _ = None
 
 -- why a turn led to an abend, where its program was, the arguments of its command, and its DFHEISTG; the byte before a
@@ -59,7 +60,7 @@ abbrev pub explanation_of : RegionState → TaskBefore → AbendRecord → Expla
 explanation_of region before abend_record =
     record {
       abend_record = abend_record;
-      place = place_of region.shared.programs (abend_place abend_record);
+      place = place_at_address region.shared.programs (abend_place abend_record);
       before = spot_before region.shared.programs (abend_place abend_record);
       arguments = before.arguments;
       dump = before.dump;
@@ -86,7 +87,7 @@ call_lines s (Ok call) = call_text s call
 call_lines s (Err fault) = []
 
 unfoldable pub due_arguments : Storage → TaskState → Lines
-due_arguments s task = if task.due then call_lines s (call_of s (list_of task)) else []
+due_arguments s task = if task.due then call_lines s (call_of s (argument_list task)) else []
 
 -- what is kept of a terminal's task before a turn, with the DFHEISTG as it is at an abend to which the turn leads
 abbrev pub before_turn : RegionState → List ℕ → Option Dump → TaskBefore

@@ -18,7 +18,7 @@ use Rattle.cx_base.specs.Digits.{digits}
 use Rattle.cx_base.specs.Texts.{shown_text, shown_name}
 use Rattle.cx_look_tables.specs.Registers.{register_lines}
 use Rattle.cx_look_tables.specs.Words.{Lines, look_line}
-use Rattle.cx_look_symbols.specs.Places.{address_word, place_of, place_word, spot_before}
+use Rattle.cx_look_symbols.specs.Places.{address_word, place_at_address, place_word, spot_before}
 use Rattle.cx_look_symbols.specs.Sources.{Sources, led_by, statement_at}
 use Rattle.cx_look_symbols.specs.declared.places.Place.{Place}
 use Rattle.cx_look_abend.specs.Noting.{KeptAbends}
@@ -70,8 +70,8 @@ next_line sources it =
 
 -- of a command: its name, the address of its argument list, and the line of its EXEC, which has the byte before R14's
 -- address, with its text; and that address, where the program would go on after it
-abbrev pub command_word : Option Command → List ℕ
-command_word command = option_map_or (λ it. (row_of it).name) command (codes "?")
+abbrev pub abend_command_word : Option Command → List ℕ
+abend_command_word command = option_map_or (λ it. (row_of it).name) command (codes "?")
 
 abbrev pub argument_list_word : Sources → Explanation → List ℕ
 argument_list_word sources it =
@@ -86,7 +86,7 @@ argument_lines _ arguments = []
 abbrev pub abend_command_lines : Sources → Explanation → Lines
 abend_command_lines sources it =
     look_line
-    (codes "COMMAND" ∷ command_word it.abend_record.command ∷ codes "LIST" ∷ argument_list_word sources it ∷ [])
+    (codes "COMMAND" ∷ abend_command_word it.abend_record.command ∷ codes "LIST" ∷ argument_list_word sources it ∷ [])
     ++ argument_lines it.abend_record.cause it.arguments ++ look_line (codes "R14" ∷ address_word it.place ∷ [])
 
 abbrev pub where_lines : Sources → Cause → Explanation → Lines
@@ -110,7 +110,7 @@ abend_exit_line sources exit =
 -- EXEC
 abbrev pub goes_on_word : Sources → List (List ℕ × Loaded) → ℕ → List ℕ
 goes_on_word sources programs next =
-    address_word (place_of programs next)
+    address_word (place_at_address programs next)
     ++ led_by (codes " COMMAND LINE ") (statement_at sources (spot_before programs next))
 
 abbrev pub caller_line : Sources → List (List ℕ × Loaded) → Caller → Lines

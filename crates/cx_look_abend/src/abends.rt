@@ -11,7 +11,7 @@ use crate::dumps::StorageDump;
 use arrayvec::ArrayVec;
 use cx_base::Abend;
 use cx_ebcdic::{Name4, Name8};
-use cx_look_symbols::{Place, Spot, place_of, spot_before};
+use cx_look_symbols::{Place, Spot, place_at_address, spot_before};
 use cx_look_tables::Report;
 use cx_program::{Level, LevelStack};
 use cx_region::{AbendRecord, Cause, Region, TurnReply};
@@ -35,7 +35,7 @@ pub struct Explanation {
 /// How many levels the one that abended can have above it.
 const CALLERS: usize = 15;
 
-/// A level that has called another.
+/// A level of a task that has called another: its program, and where it goes on.
 #[derive(Clone, Copy, Debug, PartialEq, Eq)]
 pub struct Caller {
     pub program: Name8,
@@ -48,7 +48,7 @@ impl Default for Caller {
 
     ghost is_default = { λ caller. caller ≡ record { program = replicate 8 0x40; next = 0 } };
 
-    /// What is in an unused place: a level of no program.
+    /// What an unused place of `Callers` holds: a blank program name, and address 0.
     fn default() -> Caller {
         Caller {
             program: Name8::from_bytes([0x40; 8]),
@@ -90,7 +90,8 @@ impl Callers {
     }
 }
 
-/// What is kept of a task for the time after it: an abend that no exit takes ends it.
+/// What is kept of a task for the time after it, since an abend that no exit takes ends it: its transaction, its
+/// number, and its callers.
 #[derive(Debug, Drop)]
 pub struct KeptTask {
     pub tran: Name4,
@@ -102,19 +103,20 @@ pub struct KeptTask {
 /// What is kept of a terminal's task before an event that may lead to an abend.
 #[derive(Drop)]
 pub struct TaskBefore {
-    /// The task, where there is one.
+    /// What is kept of the task; None where the terminal has none.
     pub task: Option<KeptTask>,
-    /// The arguments of the command that is due, as COMMAND shows them; no line where none is due, or its list can't be read.
+    /// The arguments of the command that is due, as COMMAND shows them; no line where none is due, or its list can't be
+    /// read.
     pub arguments: Report,
     /// The DFHEISTG of its current level, as it is at an abend to which a turn leads.
     pub dump: Option<StorageDump>,
 }
 
-/// A terminal's last abend, with what is kept of the task that abended.
+/// A terminal's last abend: its code, with what is kept of the task that abended.
 #[derive(Drop)]
 pub struct LastAbend {
     pub code: Name4,
-    /// The task that abended.
+    /// What is kept of the task that abended.
     pub task: Option<KeptTask>,
     /// Why a turn led to it; None where an operator asked for it.
     pub explanation: Option<Explanation>,
@@ -122,7 +124,7 @@ pub struct LastAbend {
     pub exit: Option<Place>,
 }
 
-/// The last abend of a terminal, where it has had one.
+/// The last abend of a terminal; nothing where it has had none.
 #[derive(Drop)]
 pub struct Kept {
     last: Option<LastAbend>,
@@ -257,14 +259,14 @@ fn exit_place<S: Store + Drop>(region: &Region<S>, name: Name4, reply: &TurnRepl
     match reply {
         TurnReply::TookExit(_code) => {
             let next = next_address_of(region, name)?;
-            Some(place_of(&region.shared().programs, next))
+            Some(place_at_address(&region.shared().programs, next))
         }
         _ => None,
     }
 }
 
-/// Why a turn led to an abend, where its program was, the arguments of its command, and its DFHEISTG, where the region is as it was after
-/// the turn.
+/// Why a turn led to an abend, where its program was, the arguments of its command, and its DFHEISTG, where the region
+/// is as it was after the turn.
 fn explanation_of<S: Store + Drop>(
     region: &Region<S>,
     before: TaskBefore,
@@ -281,7 +283,7 @@ fn explanation_of<S: Store + Drop>(
     let address = abend_place(&abend_record);
     let explanation = Explanation {
         abend_record,
-        place: place_of(programs, address),
+        place: place_at_address(programs, address),
         before: spot_before(programs, address),
         arguments,
         dump,
@@ -289,7 +291,8 @@ fn explanation_of<S: Store + Drop>(
     (task, explanation)
 }
 
-/// The abend of a turn of a task that was answered so, with that record of an abend, where the region is as it was after the turn.
+/// The abend of a turn of a task that was answered so, with that record of an abend, where the region is as it was
+/// after the turn.
 pub(crate) fn last_of_turn<S: Store + Drop>(
     region: &Region<S>,
     name: Name4,

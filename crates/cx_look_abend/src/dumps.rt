@@ -30,7 +30,7 @@ const ROW: u32 = 16;
 /// The bytes of a group.
 const GROUP: usize = 4;
 
-/// A level's DFHEISTG: the level's program, the address of the first byte, and the bytes.
+/// A level's DFHEISTG: the level's program, the address of the first byte, and the bytes, at most 65,520.
 #[derive(Drop)]
 pub struct StorageDump {
     program: Name8,
@@ -120,7 +120,8 @@ fn is_wide<S: Store>(store: &S) -> bool
 
 /// The DFHEISTG of a task's current level, as it is at an abend to which its turn leads; None where it isn't known.
 ///
-/// An error comes only where memory for it, or for the copy of the store in which the turn's instructions run, was refused.
+/// An error comes only where memory for it, or for the copy of the store in which the turn's instructions run, was
+/// refused.
 #[tactic(auto, unfolding(crate::specs::Dumps::HasDump))]
 pub(crate) fn dump_of<S: Store + Drop>(
     alloc: Global,

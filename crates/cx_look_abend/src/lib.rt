@@ -4,11 +4,11 @@
 mod abends;
 mod before;
 mod dumps;
+mod keeping;
 pub mod laws;
-mod noting;
 mod texts;
 
 pub use abends::{Caller, Callers, Explanation, Kept, KeptTask, LastAbend, LastAbends, TaskBefore};
 pub use dumps::StorageDump;
-pub use noting::apply_keeping_abends;
+pub use keeping::apply_keeping_abends;
 pub use texts::{abend_fields_text, abend_storage_text, abend_text};

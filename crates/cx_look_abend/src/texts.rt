@@ -2,7 +2,7 @@
 ghost use Rattle.std.specs.Prelude.{◌≡◌, ◌++◌, [], IfOk, OnOk, is_some, take};
 ghost use Rattle.std.specs.Option.{option_copied, option_map_or};
 ghost use Rattle.std.specs.List.{flat_map, list_all};
-ghost use Rattle.cx_look_abend.specs.Texts.{abend_fields_text, abend_storage_text, abend_text, argument_lines, byte_digits, present_bytes_word, caller_line, caller_lines, cause_word, code_line, abend_command_lines, command_word, dumped, abend_exit_line, explanation_lines, fields_dumped, goes_on_word, head_line, instruction_word, interruption_word, last_abend_of, last_text, argument_list_word, next_line, no_abend_line, task_word, where_lines, why_word};
+ghost use Rattle.cx_look_abend.specs.Texts.{abend_fields_text, abend_storage_text, abend_text, argument_lines, byte_digits, present_bytes_word, caller_line, caller_lines, cause_word, code_line, abend_command_lines, abend_command_word, dumped, abend_exit_line, explanation_lines, fields_dumped, goes_on_word, head_line, instruction_word, interruption_word, last_abend_of, last_text, argument_list_word, next_line, no_abend_line, task_word, where_lines, why_word};
 
 use crate::abends::{Caller, Explanation, KeptTask, LastAbend, LastAbends};
 use crate::dumps::{if_dumped, if_fields};
@@ -12,7 +12,8 @@ use cx_ebcdic::{Name4, Name8};
 use cx_exec::Interruption;
 use cx_load::Loaded;
 use cx_look_symbols::{
-    Place, Sources, address_word, place_of, place_word, push_led_by, spot_before, statement_at,
+    Place, Sources, address_word, place_at_address, place_word, push_led_by, spot_before,
+    statement_at,
 };
 use cx_look_tables::{Report, register_lines};
 use cx_region::{AbendRecord, Cause};
@@ -125,8 +126,8 @@ fn next_line(report: &mut Report, sources: &Sources, it: &Explanation) -> Result
 }
 
 /// The name of a command.
-fn command_word(command: &Option<Command>) -> &'static [u8]
-    ensures { result.now ≡ command_word command.now }
+fn abend_command_word(command: &Option<Command>) -> &'static [u8]
+    ensures { result.now ≡ abend_command_word command.now }
 {
     match command {
         Some(command) => command.name().as_bytes(),
@@ -170,7 +171,7 @@ fn abend_command_lines(
 ) -> Result<(), AllocError>
     ensures { OnOk result (report.new ≡ report.old ++ abend_command_lines sources.now it.now) }
 {
-    let command = command_word(&it.abend_record.command);
+    let command = abend_command_word(&it.abend_record.command);
     let list = argument_list_word(report.alloc(), sources, it)?;
     report.line(&[b"COMMAND", command, b"LIST", &list])?;
     argument_lines(report, it)?;
@@ -225,8 +226,8 @@ fn abend_exit_line(
     report.line(&[b"EXIT", &place])
 }
 
-/// Where a level that had called another goes on, with the statement of its command: that of the byte before it, the last of the
-/// command's EXEC.
+/// Where a level that had called another goes on, with the statement of its command: that of the byte before it, the
+/// last of the command's EXEC.
 fn goes_on_word(
     alloc: Global,
     sources: &Sources,
@@ -235,7 +236,7 @@ fn goes_on_word(
 ) -> Result<Vec<u8>, AllocError>
     ensures { IfOk result (λ word. word.items ≡ goes_on_word sources.now programs.now.entries next) }
 {
-    let mut word = address_word(alloc, &place_of(programs, next))?;
+    let mut word = address_word(alloc, &place_at_address(programs, next))?;
     let command = statement_at(alloc, sources, &spot_before(programs, next))?;
     push_led_by(&mut word, b" COMMAND LINE ", &command)?;
     Ok(word)
@@ -372,8 +373,8 @@ fn dumped(report: &mut Report, last: &LastAbend) -> Result<(), AllocError>
     }
 }
 
-/// Looks at the DFHEISTG of the level of a terminal's last abend: as the command found it that abended, or as the instructions of the
-/// turn left it; NONE where the terminal has had no abend, or there is no such terminal.
+/// Looks at the DFHEISTG of the level of a terminal's last abend: as the command found it that abended, or as the
+/// instructions of the turn left it; NONE where the terminal has had no abend, or there is no such terminal.
 ///
 /// An error comes only where memory for the report was refused.
 #[tactic(auto, unfolding(crate::specs::Texts::abend_storage_text))]
@@ -410,8 +411,8 @@ fn fields_dumped(
     }
 }
 
-/// Looks at the fields of the DFHEISTG of the level of a terminal's last abend, by their bytes as they were then; NONE where the terminal
-/// has had no abend, or there is no such terminal.
+/// Looks at the fields of the DFHEISTG of the level of a terminal's last abend, by their bytes as they were then; NONE
+/// where the terminal has had no abend, or there is no such terminal.
 ///
 /// An error comes only where memory for the report, or for what is made of the source, was refused.
 #[tactic(auto, unfolding(crate::specs::Texts::abend_fields_text))]
@@ -435,8 +436,9 @@ pub fn abend_fields_text(
     Ok(report)
 }
 
-/// Looks at a terminal's last abend; NONE where it has had none, or there is no such terminal. A place in a program that a source
-/// defined is shown with the line of the statement whose bytes hold it, and a command with that line's text.
+/// Looks at a terminal's last abend (ABEND); NONE where it has had none, or there is no such terminal. A place in a
+/// program that a source defined is shown with the line of the statement whose bytes hold it, and a command with that
+/// line's text.
 ///
 /// An error comes only where memory for the report was refused.
 #[tactic(auto, unfolding(crate::specs::Texts::abend_text))]

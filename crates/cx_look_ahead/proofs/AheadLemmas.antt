@@ -20,7 +20,7 @@ use Rattle.cx_look_ahead.specs.Laws.{TracesDecide, VisitsAreOfRuns}
 use Rattle.cx_look_ahead.specs.Traces.{IsTrace}
 use Rattle.cx_look_ahead.specs.declared.traces.Trace.{Trace}
 use Rattle.cx_look_ahead.specs.declared.traces.Visit.{Visit}
-use Rattle.cx_look_ahead.specs.Ahead.{TurnText, end_line, names_ahead, row_line}
+use Rattle.cx_look_ahead.specs.Ahead.{TurnText, turn_end_line, names_ahead, changed_row_line}
 use Rattle.cx_look_ahead.specs.Instructions.{IsAhead, count_line, machine_ahead, runs_on, trace_lines, visit_line}
 use Rattle.cx_look_ahead.specs.Laws.{AheadDecides, AreTraced, NextTurnIsShown, RowsAreTheDifference, RowsDecide, TurnsRunThem}
 use Rattle.cx_look_ahead.proofs.RowLemmas.{differs_in_row, in_row_differs, rows_decide}
@@ -56,9 +56,9 @@ turn_texts_decide decide sources region name n reply after one other p q =
     let rows = rows_decide region.shared.storage after 0 p.rows q.rows p.differ q.differ in
     let ran = ahead_lines decide sources region name n p.trace q.trace p.ahead q.ahead in
     p.are
-    ∙ ap (λ them. end_line name reply ++ trace_lines sources region.shared.programs p.trace
-    ++ flat_map (row_line (names_ahead sources region name) region.shared.storage after) them) rows
-    ∙ ap (λ (them : Lines). end_line name reply ++ them ++ flat_map (row_line (names_ahead sources region name) region.shared.storage after) q.rows) ran
+    ∙ ap (λ them. turn_end_line name reply ++ trace_lines sources region.shared.programs p.trace
+    ++ flat_map (changed_row_line (names_ahead sources region name) region.shared.storage after) them) rows
+    ∙ ap (λ (them : Lines). turn_end_line name reply ++ them ++ flat_map (changed_row_line (names_ahead sources region name) region.shared.storage after) q.rows) ran
     ∙ sym q.are
 
 pub ahead_decides : TurnsDecide → TracesDecide → AheadDecides

@@ -9,12 +9,12 @@ use Rattle.std.proofs.lemmas.Slice.Eq.{bytes_eq-Decides}
 use Rattle.cx_base.specs.Digits.{digits}
 use Rattle.cx_storage.specs.Address.{address_after}
 use Rattle.cx_storage.specs.Facts.Sound.{byte_small}
-use Rattle.cx_storage.specs.Storage.{Storage, IsSound, byte_at}
+use Rattle.cx_storage.specs.Storage.{Storage, IsSoundStorage, byte_at}
 use Rattle.cx_look_ahead.specs.Ahead.{bytes_word}
 use Rattle.cx_look_ahead.specs.declared.rows.Row.{Row}
 use Rattle.cx_look_tables.specs.Words.{Lines}
 use Rattle.cx_look_ahead.specs.Laws.Watching.{ChangesAreWritten}
-use Rattle.cx_look_ahead.specs.Watching.{AreOfRange, Effect, IsChange, change_line, kept_in, shown_in}
+use Rattle.cx_look_ahead.specs.Watching.{AreOfRange, ActionEffect, IsChange, change_line, kept_in, shown_in}
 use Rattle.cx_look_ahead.specs.Writing.{IsUnchanged}
 use Rattle.cx_look_ahead.specs.declared.watching.Kept.{Kept}
 
@@ -107,7 +107,7 @@ word_of_two u v e f (x ∷ xs) [] h = absurd (longer (ap length h))
     longer : length (x ∷ xs ++ u) ≡ length v → ⊥
     longer l = let many = length-append xs u in omega (arith, l, many, e, f)
 
-all_same : (before after : Storage) (at n : ℕ) → IsSound before → IsSound after → bytes_word before at n ≡ bytes_word after at n
+all_same : (before after : Storage) (at n : ℕ) → IsSoundStorage before → IsSoundStorage after → bytes_word before at n ≡ bytes_word after at n
     → (k : ℕ) → k < n → byte_at before (address_after at k) ≡ byte_at after (address_after at k)
 all_same before after at zero ok sound e k h = absurd (omega (arith, h))
 all_same before after at (suc n) ok sound e k h =
@@ -131,7 +131,7 @@ same_words before after at (suc n) same =
     rw (front, last) refl
 
 -- ---- the same bytes exactly where they are written alike
-pub alike : (before after : Storage) (range : Row) → IsSound before → IsSound after → bytes_eq (shown_in before range) (shown_in after range) ≡ true
+pub alike : (before after : Storage) (range : Row) → IsSoundStorage before → IsSoundStorage after → bytes_eq (shown_in before range) (shown_in after range) ≡ true
     → IsUnchanged before after range
 alike before after range ok sound same =
     all_same before after range.at range.length ok sound ((bytes_eq-Decides (shown_in before range) (shown_in after range)).0 same)
@@ -140,12 +140,12 @@ pub written_alike : (before after : Storage) (range : Row) → IsUnchanged befor
 written_alike before after range same =
     (bytes_eq-Decides (shown_in before range) (shown_in after range)).1 (same_words before after range.at range.length same)
 
-some_line : (effect : Effect) (kept : Kept) (lines : Lines) (same : Bool) → MatchBool same (lines ≡ []) (IsChange effect kept lines) → lines ≡ [] → same ≡ true
+some_line : (effect : ActionEffect) (kept : Kept) (lines : Lines) (same : Bool) → MatchBool same (lines ≡ []) (IsChange effect kept lines) → lines ≡ [] → same ≡ true
 unfolding change_line
 some_line effect kept lines true are none = refl
 some_line effect kept lines false are none = let line = sym are.are ∙ none in cc
 
-no_line : (effect : Effect) (kept : Kept) (lines : Lines) (same : Bool) → MatchBool same (lines ≡ []) (IsChange effect kept lines) → same ≡ true → lines ≡ []
+no_line : (effect : ActionEffect) (kept : Kept) (lines : Lines) (same : Bool) → MatchBool same (lines ≡ []) (IsChange effect kept lines) → same ≡ true → lines ≡ []
 no_line effect kept lines true are e = are
 no_line effect kept lines false are e = cc
 

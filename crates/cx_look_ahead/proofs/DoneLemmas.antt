@@ -11,7 +11,7 @@ use Rattle.cx_region_task.specs.Turn.{HalfTurnWith, PerformsCommand, RunsOn, mac
 use Rattle.cx_region.specs.State.{RegionState, TerminalState}
 use Rattle.cx_region.specs.Tables.{terminal_of}
 use Rattle.cx_region.specs.Turn.{TakesTurn, TaskTakesTurn, context_of}
-use Rattle.cx_look_ahead.specs.Laws.Watching.{WorkIsDone, DoesIt, IsDone}
+use Rattle.cx_look_ahead.specs.Laws.Watching.{WorkIsDone, DoesIt, IsWorkDone}
 use Rattle.cx_look_ahead.specs.Watching.{next_work}
 use Rattle.cx_look_ahead.specs.declared.writing.Work.{Work}
 use Rattle.cx_look_ahead.specs.declared.writing.Work.TheVariants as work
@@ -20,7 +20,7 @@ half_turn : (region : RegionState) (terminal : TerminalState) (task : TaskState)
     (reached : TaskContext) (due : Bool)
     → MatchBool due (PerformsCommand (context_of region terminal task) reply abend_record reached)
     (RunsOn (context_of region terminal task) reply abend_record reached)
-    → IsDone
+    → IsWorkDone
     (if due then work.Command (address_in (slice_index task.regs 14)) else work.Instructions (machine_of (context_of region terminal task)))
     (context_of region terminal task) reply abend_record reached
 half_turn region terminal task reply abend_record reached true p = (p, refl)

@@ -7,7 +7,7 @@ use Rattle.cx_look_tables.specs.Words.{Lines}
 use Rattle.cx_look_ahead.specs.declared.rows.Row.{Row}
 use Rattle.cx_look_ahead.specs.Laws.Watching.{ChangesDecide, WritersDecide}
 use Rattle.cx_look_ahead.specs.Parts.Adding.{AddsLines}
-use Rattle.cx_look_ahead.specs.Watching.{AreOfRange, AreOfRanges, Effect, IsChange, IsOfRun, IsStatement, change_line, instruction_word, shown_in}
+use Rattle.cx_look_ahead.specs.Watching.{AreOfRange, AreOfRanges, ActionEffect, IsChange, IsOfRun, IsStatement, change_line, instruction_word, shown_in}
 use Rattle.cx_look_ahead.specs.declared.watching.Kept.{Kept}
 use Rattle.cx_look_ahead.specs.declared.writing.Work.{Work}
 use Rattle.cx_look_ahead.specs.declared.writing.Work.TheVariants as work
@@ -16,11 +16,11 @@ use Rattle.cx_look_symbols.specs.Sources.{Sources}
 use Rattle.std.specs.Option.{option_map_or}
 
 -- ---- one range more
-pub no_lines : (effect : Effect) (lines : Lines) → lines ≡ [] → AreOfRanges effect [] lines
+pub no_lines : (effect : ActionEffect) (lines : Lines) → lines ≡ [] → AreOfRanges effect [] lines
 unfolding AreOfRanges
 no_lines effect lines none = none
 
-snoc : (effect : Effect) (before : List Kept) (kept : Kept) (lines more : Lines) → AreOfRanges effect before lines → AreOfRange effect kept more
+snoc : (effect : ActionEffect) (before : List Kept) (kept : Kept) (lines more : Lines) → AreOfRanges effect before lines → AreOfRange effect kept more
     → AreOfRanges effect (before ++ kept ∷ []) (lines ++ more)
 unfolding AreOfRanges
 snoc effect [] kept lines more none p = (more, [], p, refl, ap (λ (l : Lines). l ++ more) none ∙ sym (append-nil more))
@@ -32,7 +32,7 @@ take_one [] k x l e = absurd (omega (arith, l))
 take_one (y ∷ xs) zero x l e = let same : x ≡ y = e in rw same refl
 take_one (y ∷ xs) (suc k) x l e = ap (λ l. y ∷ l) (take_one xs k x (omega (arith, l)) e)
 
-pub one_more : (effect : Effect) (ranges : List Kept) (k : ℕ) (kept : Kept) (before after : Lines) → k < length ranges → kept ≡ get_or ranges k kept
+pub one_more : (effect : ActionEffect) (ranges : List Kept) (k : ℕ) (kept : Kept) (before after : Lines) → k < length ranges → kept ≡ get_or ranges k kept
     → AddsLines effect kept before after → AreOfRanges effect (take k ranges) before → AreOfRanges effect (take (k + 1) ranges) after
 one_more effect ranges k kept before after l e adds so_far =
     rw add-one
@@ -53,14 +53,14 @@ statement_same law sources programs range work.Nothing one other p q = p ∙ sym
 statement_same law sources programs range (work.Command back) one other p q = p ∙ sym q
 statement_same law sources programs range (work.Instructions m) one other p q = run_same law sources programs range m one other p q
 
-range_same : WritersDecide → (effect : Effect) (kept : Kept) (one other : Lines) (same : Bool)
+range_same : WritersDecide → (effect : ActionEffect) (kept : Kept) (one other : Lines) (same : Bool)
     → MatchBool same (one ≡ []) (IsChange effect kept one) → MatchBool same (other ≡ []) (IsChange effect kept other) → one ≡ other
 range_same law effect kept one other true p q = p ∙ sym q
 range_same law effect kept one other false p q =
     let statement = statement_same law effect.sources effect.programs kept.range effect.done p.statement q.statement p.last q.last in
     p.are ∙ ap (change_line effect kept) statement ∙ sym q.are
 
-pub ranges_same : WritersDecide → (effect : Effect) (ranges : List Kept) (one other : Lines) → AreOfRanges effect ranges one → AreOfRanges effect ranges other → one ≡ other
+pub ranges_same : WritersDecide → (effect : ActionEffect) (ranges : List Kept) (one other : Lines) → AreOfRanges effect ranges one → AreOfRanges effect ranges other → one ≡ other
 unfolding AreOfRanges AreOfRange
 ranges_same law effect [] one other p q = p ∙ sym q
 ranges_same law effect (kept ∷ ranges) one other (first, rest, of_first, of_rest, are) (some, more, of_some, of_more, there) =

@@ -3,53 +3,23 @@ use Rattle.std.proofs.Common.{refl, sym, ap, ◌∙◌, inl, inr, arith}
 use Rattle.std.proofs.lemmas.List.{append-nil, append_assoc}
 use Rattle.std.proofs.lemmas.Bool.{cases_lt, and_from, and_parts, le-leb, leb-true, lt-ltb, ltb-true, or_cases, or_left, or_right}
 use Rattle.std.specs.List.{AllByRecursion, list_any}
-use Rattle.std.specs.Prelude.{◌≡◌, ◌≢◌, ℕ, ◌+◌, ◌<◌, ◌≤◌, true, List, [], ◌∷◌, ◌++◌, nat_le, nat_lt, Option, None, Some, ◌^◌}
+use Rattle.std.specs.Prelude.{◌≡◌, ◌≢◌, ℕ, ◌<◌, ◌≤◌, true, List, [], ◌∷◌, ◌++◌, nat_le, nat_lt, Option, None, Some, ◌^◌}
 use Rattle.cx_storage.specs.Storage.{Storage, byte_at}
-use Rattle.cx_look_ahead.specs.Rows.{AreRows, AreSame, IsNextRow, end_of, has_byte}
+use Rattle.cx_look_ahead.specs.Rows.{AreRows, IsNextRow, row_end, has_byte}
 use Rattle.cx_look_ahead.specs.Parts.Next.{MatchNext}
 use Rattle.cx_look_ahead.specs.declared.rows.Row.{Row}
-
--- where neither storage has a byte they are the same
-pub both_none : (s t : Storage) (from first second to : ℕ) → ((a : ℕ) → from ≤ a → a < first → byte_at s a ≡ None)
-    → ((a : ℕ) → from ≤ a → a < second → byte_at t a ≡ None) → to ≤ first → to ≤ second → AreSame s t from to
-both_none s t from first second to one other e f a low high = one a low (omega arith) ∙ sym (other a low (omega arith))
-
--- up to an address, at it, and from there on
-pub same_further : (s t : Storage) (from at to : ℕ) → AreSame s t from at → byte_at s at ≡ byte_at t at → AreSame s t (at + 1) to → AreSame s t from to
-same_further s t from at to before here after a low high = elim (cases_lt a at) [
-  | inl e ↦ before a low e
-  | inr e ↦ elim (cases_lt at a) [
-    | inl f ↦ after a (omega arith) high
-    | inr f ↦
-        let it : a ≡ at = omega arith in
-        rw it here
-  ]
-]
-
-pub differ_further : (s t : Storage) (from at : ℕ) → ((a : ℕ) → from ≤ a → a < at → byte_at s a ≢ byte_at t a) → byte_at s at ≢ byte_at t at
-    → (a : ℕ) → from ≤ a → a < at + 1 → byte_at s a ≢ byte_at t a
-differ_further s t from at before here a low high = elim (cases_lt a at) [
-  | inl e ↦ before a low e
-  | inr e ↦
-      let it : a ≡ at = omega arith in
-      rw it here
-]
 
 -- rows up to an address: those from there on are the others
 abbrev pub AreFirst : Storage → Storage → ℕ → List Row → Type 0
 AreFirst before after to rows = (others : List Row) → AreRows before after to others → AreRows before after 0 (rows ++ others)
 
--- one row more
-pub none_yet : (before after : Storage) → AreFirst before after 0 []
-none_yet before after others are = are
-
 pub one_more : (before after : Storage) (from : ℕ) (rows : List Row) (row : Row) → AreFirst before after from rows → IsNextRow before after from row
-    → AreFirst before after (end_of row) (rows ++ row ∷ [])
+    → AreFirst before after (row_end row) (rows ++ row ∷ [])
 unfolding AreRows
 one_more before after from rows row first next others are = rw (append_assoc rows (row ∷ []) others) (first (row ∷ others) (next, are))
 
-pub all_high : (rows : List Row) (row : Row) → AllByRecursion (λ r. end_of r ≤ 2 ^ 24) rows → end_of row ≤ 2 ^ 24
-    → AllByRecursion (λ r. end_of r ≤ 2 ^ 24) (rows ++ row ∷ [])
+pub all_high : (rows : List Row) (row : Row) → AllByRecursion (λ r. row_end r ≤ 2 ^ 24) rows → row_end row ≤ 2 ^ 24
+    → AllByRecursion (λ r. row_end r ≤ 2 ^ 24) (rows ++ row ∷ [])
 all_high [] row all high = (high, tt)
 all_high (r ∷ rows) row all high = (all.0, all_high rows row all.1 high)
 
@@ -75,11 +45,11 @@ no_earlier before after from r q one other = elim (cases_lt q.at r.at) [
   | inr e ↦ e
 ]
 
-no_shorter : (before after : Storage) (from : ℕ) (r q : Row) → IsNextRow before after from r → IsNextRow before after from q → r.at ≡ q.at → end_of q ≤ end_of r
-no_shorter before after from r q one other e = elim (cases_lt (end_of r) (end_of q)) [
+no_shorter : (before after : Storage) (from : ℕ) (r q : Row) → IsNextRow before after from r → IsNextRow before after from q → r.at ≡ q.at → row_end q ≤ row_end r
+no_shorter before after from r q one other e = elim (cases_lt (row_end r) (row_end q)) [
   | inl h ↦
       let some = one.some in
-      absurd (other.differ (end_of r) (omega (arith, e, some)) h one.ends)
+      absurd (other.differ (row_end r) (omega (arith, e, some)) h one.ends)
   | inr h ↦ h
 ]
 
@@ -104,12 +74,12 @@ rows_decide before after from [] (r ∷ rs) p q = absurd (none_differ before aft
 rows_decide before after from (r ∷ rs) [] p q = absurd (none_differ before after from r q p.0)
 rows_decide before after from (r ∷ rs) (s ∷ ss) p q =
     let first : r ≡ s = next_decides before after from r s p.0 q.0 in
-    let others : rs ≡ ss = rows_decide before after (end_of r) rs ss p.1 (rw (← first) at q.1) in
+    let others : rs ≡ ss = rows_decide before after (row_end r) rs ss p.1 (rw (← first) at q.1) in
     cc
 
 -- ---- a byte is in a row exactly where it differs
-has_byte_from : (a : ℕ) (row : Row) → row.at ≤ a → a < end_of row → has_byte a row ≡ true
-has_byte_from a row low high = and_from _ _ (le-leb row.at a low) (lt-ltb a (end_of row) high)
+has_byte_from : (a : ℕ) (row : Row) → row.at ≤ a → a < row_end row → has_byte a row ≡ true
+has_byte_from a row low high = and_from _ _ (le-leb row.at a low) (lt-ltb a (row_end row) high)
 
 pub in_row_differs : (before after : Storage) (from : ℕ) (rows : List Row) (a : ℕ) → AreRows before after from rows → list_any (has_byte a) rows ≡ true
     → byte_at before a ≢ byte_at after a
@@ -117,9 +87,9 @@ unfolding AreRows
 in_row_differs before after from [] a are has = absurd (cc)
 in_row_differs before after from (row ∷ rows) a are has = elim (or_cases (has_byte a row) (list_any (has_byte a) rows) has) [
   | inl h ↦
-      let parts = and_parts (nat_le row.at a) (nat_lt a (end_of row)) h in
-      are.0.differ a (leb-true row.at a parts.0) (ltb-true a (end_of row) parts.1)
-  | inr h ↦ in_row_differs before after (end_of row) rows a are.1 h
+      let parts = and_parts (nat_le row.at a) (nat_lt a (row_end row)) h in
+      are.0.differ a (leb-true row.at a parts.0) (ltb-true a (row_end row) parts.1)
+  | inr h ↦ in_row_differs before after (row_end row) rows a are.1 h
 ]
 
 pub differs_in_row : (before after : Storage) (from : ℕ) (rows : List Row) (a : ℕ) → AreRows before after from rows → from ≤ a
@@ -128,8 +98,8 @@ unfolding AreRows
 differs_in_row before after from [] a are low differs = absurd (differs (are a low))
 differs_in_row before after from (row ∷ rows) a are low differs = elim (cases_lt a row.at) [
   | inl e ↦ absurd (differs (are.0.same_up_to a low e))
-  | inr e ↦ elim (cases_lt a (end_of row)) [
+  | inr e ↦ elim (cases_lt a (row_end row)) [
     | inl h ↦ or_left (has_byte a row) (list_any (has_byte a) rows) (has_byte_from a row e h)
-    | inr h ↦ or_right (has_byte a row) (list_any (has_byte a) rows) (differs_in_row before after (end_of row) rows a are.1 h differs)
+    | inr h ↦ or_right (has_byte a row) (list_any (has_byte a) rows) (differs_in_row before after (row_end row) rows a are.1 h differs)
   ]
 ]

@@ -53,27 +53,12 @@ kept_more most visits one = elim (cases_lt (length visits) most) [
 kept_from : (most : ℕ) (last visits : List Visit) (one : Visit) → last ≡ keep_last most visits → keep_last most (last ++ one ∷ []) ≡ keep_last most (visits ++ one ∷ [])
 kept_from most last visits one e = ap (λ l. keep_last most (l ++ one ∷ [])) e ∙ kept_more most visits one
 
-none_left : (k : ℕ) → ◌≡◌ {A = List Visit} [] (drop k [])
-none_left zero = refl
-none_left (suc k) = refl
-
 -- ---- steps
 visits_one : (limit count : ℕ) (now : Machine) (more : List Visit) → count < limit
     → ((n : ℕ) → limit - count ≡ suc n → n ≡ limit - (count + 1) → Visits (suc n) now more) → Visits (limit - count) now more
 visits_one limit count now more less are =
     let one : limit - count ≡ suc (limit - (count + 1)) = omega (arith, less) in
     subst (λ n. Visits n now more) (sym one) (are (limit - (count + 1)) one refl)
-
-pub begins : (limit most : ℕ) (m : Machine) → Begins limit m m most 0 []
-begins limit most m =
-    record {
-      visits = [];
-      goes_on = λ more are.
-          let all : limit - 0 ≡ limit = omega arith in
-          subst (λ n. Visits n m more) all are;
-      counted = refl;
-      kept = none_left (0 - most);
-    }
 
 goes_on : (limit most count : ℕ) (first now after : Machine) (last : List Visit) → Begins limit first now most count last → count < limit
     → Steps now Done after → Begins limit first after most (count + 1) (keep_last most (last ++ visit now ∷ []))

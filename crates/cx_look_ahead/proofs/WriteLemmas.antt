@@ -13,10 +13,10 @@ use Rattle.cx_exec_laws.specs.Laws.Decide.{StepsDecide}
 use Rattle.cx_look_ahead.specs.declared.rows.Row.{Row}
 use Rattle.cx_look_ahead.specs.Laws.Watching.{WritersAreFound, WritersDecide}
 use Rattle.std.specs.Str.{bytes_eq}
-use Rattle.cx_storage.specs.Storage.{IsSound}
+use Rattle.cx_storage.specs.Storage.{IsSoundStorage}
 use Rattle.cx_look_ahead.proofs.ByteLemmas.{alike, written_alike}
 use Rattle.cx_look_ahead.specs.Watching.{shown_in}
-use Rattle.cx_look_ahead.specs.Writing.{IsLastWriter, IsUnchanged, LastWriter, NoneWrites, Performs}
+use Rattle.cx_look_ahead.specs.Writing.{IsLastWriter, IsUnchanged, LastWriter, NoneWrites, PerformsAfter}
 
 -- ---- the instructions of a run
 passes_same : StepsDecide Steps → (n : ℕ) (m a b : Machine) → Passes n m a → Passes n m b → a ≡ b
@@ -43,23 +43,23 @@ none_after decide (suc n) (suc k) m now after end b (mid, one, more) step apart 
     none_after decide n k other now after end b (subst (λ (x : Machine). Passes n x now) same.1 more) step apart (omega (arith, l)) rest
 
 -- ---- one instruction more
-unchanged_same : StepsDecide Steps → (n : ℕ) (m b a c d : Machine) (range : Row) → Performs n m b a → Performs n m c d → IsUnchanged b.storage a.storage range
+unchanged_same : StepsDecide Steps → (n : ℕ) (m b a c d : Machine) (range : Row) → PerformsAfter n m b a → PerformsAfter n m c d → IsUnchanged b.storage a.storage range
     → IsUnchanged c.storage d.storage range
 unchanged_same decide n m b a c d range p q same =
     let here = passes_same decide n m b c p.passes q.passes in
     let there = decide c p.step q.step a d (subst (λ (x : Machine). Steps x p.step a) here p.steps) q.steps in
     subst (λ (x : Machine). IsUnchanged c.storage x.storage range) there.1 (subst (λ (x : Machine). IsUnchanged x.storage a.storage range) here same)
 
-none_more : StepsDecide Steps → (from n : ℕ) (m now after : Machine) (range : Row) → NoneWrites from n m range → Performs n m now after
+none_more : StepsDecide Steps → (from n : ℕ) (m now after : Machine) (range : Row) → NoneWrites from n m range → PerformsAfter n m now after
     → IsUnchanged now.storage after.storage range → NoneWrites from (suc n) m range
 none_more decide from n m now after range none here same k b a low high p = elim (cases_lt k n) [
   | inl before ↦ none k b a low before p
   | inr not ↦
       let it : k ≡ n = omega (arith, high, not) in
-      unchanged_same decide n m now after b a range here (subst (λ (i : ℕ). Performs i m b a) it p) same
+      unchanged_same decide n m now after b a range here (subst (λ (i : ℕ). PerformsAfter i m b a) it p) same
 ]
 
-pub one_more : StepsDecide Steps → (n : ℕ) (m now after : Machine) (range : Row) (last : Option ℕ) (same : Bool) (at : ℕ) → LastWriter n m range last → Performs n m now after
+pub one_more : StepsDecide Steps → (n : ℕ) (m now after : Machine) (range : Row) (last : Option ℕ) (same : Bool) (at : ℕ) → LastWriter n m range last → PerformsAfter n m now after
     → ((same ≡ true) ↔ IsUnchanged now.storage after.storage range) → at ≡ now.next → LastWriter (suc n) m range (if same then last else Some at)
 unfolding LastWriter
 one_more decide n m now after range None true at so_far here same is = none_more decide zero n m now after range so_far here (same.0 refl)
@@ -120,7 +120,7 @@ IsNoted now after range last newer =
     newer ≡ (if bytes_eq (shown_in now.storage range) (shown_in after.storage range) then last else Some now.next)
 
 noted : StepsDecide Steps → (limit n : ℕ) (m now after : Machine) (range : Row) (end : Step) (last newer : Option ℕ)
-    → IsSound now.storage → IsSound after.storage → IsSoFar limit m now range n last → Steps now end after → IsNoted now after range last newer
+    → IsSoundStorage now.storage → IsSoundStorage after.storage → IsSoFar limit m now range n last → Steps now end after → IsNoted now after range last newer
     → LastWriter (suc n) m range newer
 noted decide limit n m now after range end last newer sound stays so_far step is =
     let same : Bool = bytes_eq (shown_in now.storage range) (shown_in after.storage range) in
@@ -129,7 +129,7 @@ noted decide limit n m now after range end last newer sound stays so_far step is
     (λ e. alike now.storage after.storage range sound stays e, λ u. written_alike now.storage after.storage range u) refl)
 
 pub one_done : StepsDecide Steps → (limit n : ℕ) (m now after : Machine) (range : Row) (end : Step) (last newer : Option ℕ)
-    → IsSound now.storage → IsSound after.storage → IsSoFar limit m now range n last → n < limit → Steps now end after → end ≡ Done
+    → IsSoundStorage now.storage → IsSoundStorage after.storage → IsSoFar limit m now range n last → n < limit → Steps now end after → end ≡ Done
     → IsNoted now after range last newer → IsSoFar limit m after range (n + 1) newer
 one_done decide limit n m now after range end last newer sound stays so_far less step e is =
     let done : Steps now Done after = subst (λ (s : Step). Steps now s after) e step in
@@ -140,7 +140,7 @@ one_done decide limit n m now after range end last newer sound stays so_far less
     )
 
 pub ended_by : StepsDecide Steps → (limit n : ℕ) (m now after : Machine) (range : Row) (end : Step) (last newer : Option ℕ)
-    → IsSound now.storage → IsSound after.storage → IsSoFar limit m now range n last → n < limit → Steps now end after → (end ≡ Done → ⊥)
+    → IsSoundStorage now.storage → IsSoundStorage after.storage → IsSoFar limit m now range n last → n < limit → Steps now end after → (end ≡ Done → ⊥)
     → IsNoted now after range last newer → LastWriter limit m range newer
 ended_by decide limit n m now after range end last newer sound stays so_far less step apart is =
     ended (suc n) limit m range newer less
@@ -153,14 +153,14 @@ entry_apart end e done = let same : ◌≡◌ {A = Step} AtEntry Done = sym e �
 interrupt_apart : (end : Step) (cause : Interruption) → end ≡ Interrupt cause → end ≡ Done → ⊥
 interrupt_apart end cause e done = let same : ◌≡◌ {A = Step} (Interrupt cause) Done = sym e ∙ done in cc
 
-pub at_entry : StepsDecide Steps → (limit n : ℕ) (m now after : Machine) (range : Row) (end : Step) (last newer : Option ℕ) → IsSound now.storage
-    → IsSound after.storage → IsSoFar limit m now range n last → n < limit → Steps now end after → end ≡ AtEntry
+pub at_entry : StepsDecide Steps → (limit n : ℕ) (m now after : Machine) (range : Row) (end : Step) (last newer : Option ℕ) → IsSoundStorage now.storage
+    → IsSoundStorage after.storage → IsSoFar limit m now range n last → n < limit → Steps now end after → end ≡ AtEntry
     → IsNoted now after range last newer → LastWriter limit m range newer
 at_entry decide limit n m now after range end last newer sound stays so_far less step e is =
     ended_by decide limit n m now after range end last newer sound stays so_far less step (entry_apart end e) is
 
 pub interrupted : StepsDecide Steps → (limit n : ℕ) (m now after : Machine) (range : Row) (end : Step) (cause : Interruption) (last newer : Option ℕ)
-    → IsSound now.storage → IsSound after.storage → IsSoFar limit m now range n last → n < limit → Steps now end after → end ≡ Interrupt cause
+    → IsSoundStorage now.storage → IsSoundStorage after.storage → IsSoFar limit m now range n last → n < limit → Steps now end after → end ≡ Interrupt cause
     → IsNoted now after range last newer → LastWriter limit m range newer
 interrupted decide limit n m now after range end cause last newer sound stays so_far less step e is =
     ended_by decide limit n m now after range end last newer sound stays so_far less step (interrupt_apart end cause e) is
@@ -199,7 +199,7 @@ writers_decide decide limit m range (Some one) None p q = absurd (p.writes (q p.
 writers_decide decide limit m range (Some one) (Some other) p q = ap (λ (a : ℕ). Some a) (same_writer decide limit m range one other p q)
 
 -- ---- found
-one_before : (k n : ℕ) (m mid before after : Machine) → Steps m Done mid → Performs k mid before after → Performs (suc k) m before after
+one_before : (k n : ℕ) (m mid before after : Machine) → Steps m Done mid → PerformsAfter k mid before after → PerformsAfter (suc k) m before after
 unfolding Passes
 one_before k n m mid before after first p = record { passes = (mid, first, p.passes); step = p.step; steps = p.steps }
 

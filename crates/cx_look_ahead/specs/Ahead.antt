@@ -23,8 +23,8 @@ use Rattle.cx_look_ahead.specs.Rows.{AreRows}
 use Rattle.cx_look_ahead.specs.declared.rows.Row.{Row}
 
 -- how the turn ends, in the words that are written for the turn
-abbrev pub end_line : List ℕ → TurnReply → Lines
-end_line name reply =
+abbrev pub turn_end_line : List ℕ → TurnReply → Lines
+turn_end_line name reply =
     look_line (codes "AHEAD" ∷ shown_name name ∷ turn_reply_name reply ∷ option_to_list (turn_reply_detail reply))
 
 -- the first k bytes from an address on; hyphens for one that isn't there
@@ -44,8 +44,8 @@ field_word names address = option_map near_word (option_and_then (nearest_by add
 
 -- a row of bytes that the turn changes, of which the first 64 are shown, before the turn and after it, and the field
 -- that has its first byte
-unfoldable pub row_line : Option LevelNames → Storage → Storage → Row → Lines
-row_line names before after row =
+unfoldable pub changed_row_line : Option LevelNames → Storage → Storage → Row → Lines
+changed_row_line names before after row =
     let shown = min row.length 64 in
     let changed = bytes_word after row.at shown ++ led_by (codes " FIELD ") (field_word names row.at) in
     look_line (codes "CHANGES" ∷ digits 16 6 row.at ∷ decimal row.length ∷ codes "FROM" ∷ bytes_word before row.at shown
@@ -59,8 +59,8 @@ pub record TurnText (sources : Sources) (region : RegionState) (name : List ℕ)
   pub rows : List Row
   pub differ : AreRows region.shared.storage after 0 rows
   pub are : lines
-      ≡ end_line name reply ++ trace_lines sources region.shared.programs trace
-      ++ flat_map (row_line (names_ahead sources region name) region.shared.storage after) rows
+      ≡ turn_end_line name reply ++ trace_lines sources region.shared.programs trace
+      ++ flat_map (changed_row_line (names_ahead sources region name) region.shared.storage after) rows
 
 -- what is written for the turn that the region would do next
 pub record AheadText (sources : Sources) (region : RegionState) (name : List ℕ) (n : ℕ) (lines : Lines) : Type 0 where

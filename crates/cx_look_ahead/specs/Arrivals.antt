@@ -10,7 +10,7 @@ use Rattle.cx_region_state.specs.State.{TaskState}
 use Rattle.cx_region_task.specs.Turn.{most_steps}
 use Rattle.cx_region.specs.State.{RegionState}
 use Rattle.cx_region.specs.Tables.{task_of}
-use Rattle.cx_look_symbols.specs.Lines.{SourcePlaces, holds}
+use Rattle.cx_look_symbols.specs.Lines.{SourcePlaces, has_offset}
 use Rattle.cx_look_symbols.specs.Places.{spot_before, spot_of}
 use Rattle.cx_look_symbols.specs.declared.places.Spot.{Spot}
 use Rattle.cx_look_symbols.specs.declared.statements.StatementPlace.{StatementPlace}
@@ -32,20 +32,21 @@ abbrev pub has_statement : SourcePlaces → SourceLine → Bool
 has_statement places line = list_any (λ it. it.line == line.line) (program_places places line.program)
 
 -- whether one of some statements of a program has a byte
-abbrev pub is_among : List ℕ → List StatementPlace → Option Spot → Bool
-is_among program statements spot =
-    option_map_or (λ it. is_name it.program program && list_any (holds it.offset) statements) spot false
+abbrev pub is_among_statements : List ℕ → List StatementPlace → Option Spot → Bool
+is_among_statements program statements spot =
+    option_map_or (λ it. is_name it.program program && list_any (has_offset it.offset) statements) spot false
 
 -- ---- what a turn does of them
 -- one of the instructions is in them
 abbrev pub are_among : List (List ℕ × Loaded) → List ℕ → List StatementPlace → List Visit → Bool
 are_among programs program statements visits =
-    list_any (λ it. is_among program statements (spot_of programs it.at)) visits
+    list_any (λ it. is_among_statements program statements (spot_of programs it.at)) visits
 
 -- a task's command is, by the byte before the address in register 14: that is the last one of its EXEC
 abbrev pub is_command_among : List (List ℕ × Loaded) → List ℕ → List StatementPlace → Option TaskState → Bool
 is_command_among programs program statements task =
-    option_map_or (λ it. is_among program statements (spot_before programs (address_in (slice_index it.regs 14)))) task
+    option_map_or
+    (λ it. is_among_statements program statements (spot_before programs (address_in (slice_index it.regs 14)))) task
     false
 
 -- it runs these instructions, or else performs the command that is due

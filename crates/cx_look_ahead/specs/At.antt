@@ -20,7 +20,7 @@ use Rattle.cx_look_symbols.specs.declared.places.Spot.{Spot}
 use Rattle.cx_look_symbols.specs.declared.statements.StatementPlace.{StatementPlace}
 use Rattle.cx_look_xref.specs.References.{references_of}
 use Rattle.cx_look_levels.specs.Chosen.{chosen_fields}
-use Rattle.cx_look_ahead.specs.Arrivals.{is_among, statements_on}
+use Rattle.cx_look_ahead.specs.Arrivals.{is_among_statements, statements_on}
 use Rattle.cx_look_ahead.specs.Instructions.{IsAhead, machine_ahead, visit_line}
 use Rattle.cx_look_ahead.specs.Traces.{visit}
 use Rattle.cx_look_ahead.specs.declared.arrivals.SourceLine.{SourceLine}
@@ -31,7 +31,7 @@ use Rattle.cx_look_ahead.specs.declared.traces.Visit.{Visit}
 -- the number of the first instruction that is in some statements: how many are done before it
 abbrev pub first_among : List (List ℕ × Loaded) → List ℕ → List StatementPlace → List Visit → Option ℕ
 first_among programs program statements visits =
-    position (λ it. is_among program statements (spot_of programs it.at)) visits
+    position (λ it. is_among_statements program statements (spot_of programs it.at)) visits
 
 -- the machine after so many
 abbrev pub IsAfter : Machine → Option ℕ → Option Machine → Type 0
@@ -64,14 +64,14 @@ names_on line source = map (λ r. r.name) (filter (λ r. r.line == line) (refere
 abbrev pub fields_on : Machine → List ℕ → ℕ → ℕ → Source → Lines
 fields_on m name line offset source = chosen_fields (names_on line source) m.storage name m.regs offset source
 
-abbrev pub fields_at : Sources → Machine → List ℕ → SourceLine → Spot → Lines
-fields_at sources m name line spot =
+abbrev pub fields_at_line : Sources → Machine → List ℕ → SourceLine → Spot → Lines
+fields_at_line sources m name line spot =
     option_map_or (fields_on m name line.line spot.offset) (translated_in (source_lines sources line.program)) []
 
 unfoldable pub there_lines : Sources → List (List ℕ × Loaded) → List ℕ → SourceLine → Machine → Lines
 there_lines sources programs name line m =
     at_line name line (codes "CC " ++ digits 10 1 m.cc) ++ visit_line sources programs (visit m)
-    ++ register_lines m.regs ++ option_map_or (fields_at sources m name line) (spot_of programs m.next) []
+    ++ register_lines m.regs ++ option_map_or (fields_at_line sources m name line) (spot_of programs m.next) []
 
 pub record AtText (sources : Sources) (region : RegionState) (name : List ℕ) (line : SourceLine) (lines : Lines)
     : Type 0 where

@@ -12,7 +12,7 @@ use Rattle.cx_region_task.specs.Turn.{most_steps}
 use Rattle.cx_region.specs.State.{RegionState}
 use Rattle.cx_region.specs.Tables.{task_of}
 use Rattle.cx_look_tables.specs.Words.{Lines, look_line}
-use Rattle.cx_look_symbols.specs.Places.{address_word, place_of}
+use Rattle.cx_look_symbols.specs.Places.{address_word, place_at_address}
 use Rattle.cx_look_symbols.specs.Sources.{Sources, led_by, statement_at}
 use Rattle.cx_look_symbols.specs.declared.places.Place.{Place}
 use Rattle.cx_look_ahead.specs.Traces.{IsTrace}
@@ -43,7 +43,7 @@ visit_word sources place code =
 
 unfoldable pub visit_line : Sources → List (List ℕ × Loaded) → Visit → Lines
 visit_line sources programs it =
-    look_line (codes "INSTRUCTION" ∷ visit_word sources (place_of programs it.at) it.code ∷ [])
+    look_line (codes "INSTRUCTION" ∷ visit_word sources (place_at_address programs it.at) it.code ∷ [])
 
 unfoldable pub count_line : ℕ → Lines
 count_line n = look_line (codes "INSTRUCTIONS" ∷ decimal n ∷ [])

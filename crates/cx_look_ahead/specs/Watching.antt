@@ -14,7 +14,7 @@ use Rattle.cx_region_task.specs.Turn.{most_steps}
 use Rattle.cx_region.specs.State.{RegionState}
 use Rattle.cx_region.specs.Tables.{task_of}
 use Rattle.cx_look_tables.specs.Words.{Lines, look_line}
-use Rattle.cx_look_symbols.specs.Places.{address_word, place_of, spot_before}
+use Rattle.cx_look_symbols.specs.Places.{address_word, place_at_address, spot_before}
 use Rattle.cx_look_symbols.specs.Sources.{Sources, statement_at}
 use Rattle.cx_look_symbols.specs.declared.places.Place.{Place}
 use Rattle.cx_look_ahead.specs.Ahead.{bytes_word}
@@ -62,15 +62,15 @@ line_or statement words place = option_map_or (λ it. codes " LINE " ++ it) stat
 -- the statement that has an instruction
 unfoldable pub instruction_word : Sources → List (List ℕ × Loaded) → ℕ → List ℕ
 instruction_word sources programs at =
-    let place = place_of programs at in line_or (statement_at sources place.spot) (codes " INSTRUCTION ") place
+    let place = place_at_address programs at in line_or (statement_at sources place.spot) (codes " INSTRUCTION ") place
 
 -- and that of a command's EXEC, which has the byte before the address in register 14
 unfoldable pub command_word : Sources → List (List ℕ × Loaded) → ℕ → List ℕ
 command_word sources programs back =
-    line_or (statement_at sources (spot_before programs back)) (codes " R14 ") (place_of programs back)
+    line_or (statement_at sources (spot_before programs back)) (codes " R14 ") (place_at_address programs back)
 
 -- What an action did: what it is called, what a turn did, and the sources, the programs and the storage after it.
-pub record Effect : Type 0 where
+pub record ActionEffect : Type 0 where
   pub by : Cause
   pub done : Work
   pub sources : Sources
@@ -91,30 +91,30 @@ IsStatement sources programs range (work.Command back) word = word ≡ command_w
 IsStatement sources programs range (work.Instructions m) word = IsOfRun sources programs range m word
 
 -- the line of a range whose bytes are no longer as they were
-unfoldable pub change_line : Effect → Kept → List ℕ → Lines
+unfoldable pub change_line : ActionEffect → Kept → List ℕ → Lines
 change_line effect kept statement =
     look_line
     (codes "WATCH" ∷ digits 16 6 kept.range.at ∷ decimal kept.range.length ∷ codes "FROM" ∷ kept.bytes ∷ codes "TO"
     ∷ shown_in effect.storage kept.range ∷ codes "BY" ∷ (cause_word effect.by ++ statement) ∷ [])
 
-pub record IsChange (effect : Effect) (kept : Kept) (lines : Lines) : Type 0 where
+pub record IsChange (effect : ActionEffect) (kept : Kept) (lines : Lines) : Type 0 where
   pub statement : List ℕ
   pub last : IsStatement effect.sources effect.programs kept.range effect.done statement
   pub are : lines ≡ change_line effect kept statement
 
 -- and of one whose bytes are as they were none
-unfoldable pub AreOfRange : Effect → Kept → Lines → Type 0
+unfoldable pub AreOfRange : ActionEffect → Kept → Lines → Type 0
 AreOfRange effect kept lines =
     MatchBool (bytes_eq kept.bytes (shown_in effect.storage kept.range)) (lines ≡ []) (IsChange effect kept lines)
 
 -- those of all ranges
-unfoldable pub AreOfRanges : Effect → List Kept → Lines → Type 0
+unfoldable pub AreOfRanges : ActionEffect → List Kept → Lines → Type 0
 AreOfRanges effect [] lines = lines ≡ []
 AreOfRanges effect (kept ∷ more) lines =
     (first rest : Lines) × AreOfRange effect kept first × AreOfRanges effect more rest × (lines ≡ first ++ rest)
 
 -- those that are watched, with their bytes in a storage before
-abbrev pub AreChanges : List Row → Storage → Effect → Lines → Type 0
+abbrev pub AreChanges : List Row → Storage → ActionEffect → Lines → Type 0
 AreChanges ranges before effect lines = AreOfRanges effect (map (kept_in before) ranges) lines
 
 -- ---- one range more
@@ -133,5 +133,5 @@ is_full ranges = nat_le 16 (length ranges)
 abbrev pub with_range : List Row → Row → List Row
 with_range ranges range = if is_full ranges then ranges else ranges ++ range ∷ []
 
-abbrev pub begun : List Row → Storage → Row → Lines
-begun ranges storage range = if is_full ranges then refused_line range else begun_line storage range
+abbrev pub begun_watch : List Row → Storage → Row → Lines
+begun_watch ranges storage range = if is_full ranges then refused_line range else begun_line storage range

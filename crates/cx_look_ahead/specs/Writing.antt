@@ -14,7 +14,7 @@ IsUnchanged before after range =
     (k : ℕ) → k < range.length → byte_at before (address_after range.at k) ≡ byte_at after (address_after range.at k)
 
 -- the instruction of a run that comes after n others, however it ends
-pub record Performs (n : ℕ) (m before after : Machine) : Type 0 where
+pub record PerformsAfter (n : ℕ) (m before after : Machine) : Type 0 where
   pub passes : Passes n m before
   pub step : Step
   pub steps : Steps before step after
@@ -22,7 +22,7 @@ pub record Performs (n : ℕ) (m before after : Machine) : Type 0 where
 -- from the one after n others on no instruction of a run of at most so many changes one of the bytes
 abbrev pub NoneWrites : ℕ → ℕ → Machine → Row → Type 0
 NoneWrites n limit m range =
-    (k : ℕ) (before after : Machine) → n ≤ k → k < limit → Performs k m before after
+    (k : ℕ) (before after : Machine) → n ≤ k → k < limit → PerformsAfter k m before after
     → IsUnchanged before.storage after.storage range
 
 -- the instruction at an address changes one of them, and none after it does
@@ -31,7 +31,7 @@ pub record IsLastWriter (limit : ℕ) (m : Machine) (range : Row) (at : ℕ) : T
   pub within : n < limit
   pub before : Machine
   pub after : Machine
-  pub performs : Performs n m before after
+  pub performs : PerformsAfter n m before after
   pub address : at ≡ before.next
   pub writes : IsUnchanged before.storage after.storage range → ⊥
   pub last : NoneWrites (suc n) limit m range

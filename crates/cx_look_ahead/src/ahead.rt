@@ -2,9 +2,9 @@
 ghost use Rattle.std.specs.Prelude.{◌≡◌, [], ◌∷◌, ◌++◌, codes, IfOk, OnOk};
 ghost use Rattle.std.specs.List.{flat_map};
 ghost use Rattle.cx_look_tables.specs.Words.{look_line};
-ghost use Rattle.cx_look_ahead.specs.Ahead.{AheadText, TurnText, end_line, names_ahead, row_line};
+ghost use Rattle.cx_look_ahead.specs.Ahead.{AheadText, TurnText, turn_end_line, names_ahead, changed_row_line};
 
-use crate::bytes::row_line;
+use crate::bytes::changed_row_line;
 use crate::instructions::{trace_ahead, trace_lines};
 use crate::rows::{Row, rows_between};
 use cx_base::{shown, shown_name};
@@ -38,8 +38,8 @@ fn plain_line(report: &mut Report, name: &[u8], answer: &[u8]) -> Result<(), All
 }
 
 /// Adds the line of how a turn ends.
-fn end_line(report: &mut Report, name: Name4, reply: &TurnReply) -> Result<(), AllocError>
-    ensures { OnOk result (report.new ≡ report.old ++ end_line name reply.now) }
+fn turn_end_line(report: &mut Report, name: Name4, reply: &TurnReply) -> Result<(), AllocError>
+    ensures { OnOk result (report.new ≡ report.old ++ turn_end_line name reply.now) }
 {
     let name = shown_name(report.alloc(), name)?;
     let answer = reply.name().as_bytes();
@@ -78,42 +78,51 @@ fn row_lines<S: Store + Drop>(
     after: &Region<S>,
     rows: &[Row],
 ) -> Result<(), AllocError>
-    ensures { let line = row_line names.now before.now.shared.storage after.now.shared.storage in
+    ensures { let line = changed_row_line names.now before.now.shared.storage after.now.shared.storage in
         OnOk result (report.new ≡ report.old ++ flat_map line rows.now) }
 {
     for row in rows {
-        row_line(report, names, before, after, *row)?;
+        changed_row_line(report, names, before, after, *row)?;
     }
     Ok(())
 }
 
-/// What is written for a turn of a reply from one region to another, with the last ones of its instructions.
-fn turn_text<S: Store + Drop>(
-    alloc: Global,
-    sources: &Sources,
+/// A terminal's turn: its reply, and the regions before it and after it.
+#[derive(Drop)]
+struct TurnDone<'a, S: Store + Drop> {
     name: Name4,
-    most: usize,
     reply: TurnReply,
-    before: &Region<S>,
-    after: &Region<S>,
-) -> Result<Report, AllocError>
-    ensures { IfOk result (λ report. TurnText sources.now before.now name most reply after.now.shared.storage report) }
-{
-    let mut report = Report::new(alloc);
-    end_line(&mut report, name, &reply)?;
-    let trace = trace_ahead(alloc, before, name, most)?;
-    trace_lines(&mut report, sources, &before.shared().programs, &trace)?;
-    let rows = rows_between(alloc, &before.shared().store, &after.shared().store)?;
-    let names = names_ahead(alloc, sources, before, name)?;
-    row_lines(&mut report, &names, before, after, &rows)?;
-    Ok(report)
+    before: &'a Region<S>,
+    after: &'a Region<S>,
+}
+
+impl<'a, S: Store + Drop> TurnDone<'a, S> {
+    /// What is written for the turn, with the last ones of its instructions.
+    fn text(&self, alloc: Global, sources: &Sources, most: usize) -> Result<Report, AllocError>
+        ensures { let after = self.now.after.now.shared.storage in IfOk result (λ report.
+            TurnText sources.now self.now.before.now self.now.name most self.now.reply after report) }
+    {
+        let mut report = Report::new(alloc);
+        turn_end_line(&mut report, self.name, &self.reply)?;
+        let trace = trace_ahead(alloc, self.before, self.name, most)?;
+        trace_lines(&mut report, sources, &self.before.shared().programs, &trace)?;
+        let rows = rows_between(
+            alloc,
+            &self.before.shared().store,
+            &self.after.shared().store,
+        )?;
+        let names = names_ahead(alloc, sources, self.before, self.name)?;
+        row_lines(&mut report, &names, self.before, self.after, &rows)?;
+        Ok(report)
+    }
 }
 
 /// Looks at what the next turn of a terminal will do: how it will end, in the words that are written for the turn;
-/// where it runs instructions how many, and a line for each of the last ones, at most `most`: its address and where that
-/// is, its bytes, and the statement of a source that has it; and a line for each row of bytes that it will change, with
-/// the first 64 of them before the turn and after it, and the field of the task's current level that has its first byte. The turn is done in
-/// a region like this one, and its instructions once more over a store like this region's, so nothing changes here.
+/// where it runs instructions how many, and a line for each of the last ones, at most `most`: its address and where
+/// that is, its bytes, and the statement of a source that has it; and a line for each row of bytes that it will change,
+/// with the first 64 of them before the turn and after it, and the field of the task's current level that has its first
+/// byte. The turn is done in a region like this one, and its instructions once more over a store like this region's, so
+/// nothing changes here.
 ///
 /// An error comes only where memory for these, for what the turn makes, or for the report was refused.
 pub fn ahead_text<S: Store + Drop>(
@@ -126,6 +135,12 @@ pub fn ahead_text<S: Store + Drop>(
     ensures { IfOk result (λ report. AheadText sources.now region.now name most report) }
 {
     let (reply, after) = turn_apart(alloc, region, name)?;
-    let report = turn_text(alloc, sources, name, most, reply, region, &after)?;
+    let turn = TurnDone {
+        name,
+        reply,
+        before: region,
+        after: &after,
+    };
+    let report = turn.text(alloc, sources, most)?;
     Ok(report)
 }

@@ -1,15 +1,17 @@
 //! Whether the next turn of a terminal comes to a line of a source.
 ghost use Rattle.std.specs.Prelude.{◌≡◌, IfOk};
 ghost use Rattle.std.specs.List.{list_any};
-ghost use Rattle.cx_look_symbols.specs.Lines.{holds};
+ghost use Rattle.cx_look_symbols.specs.Lines.{has_offset};
 ghost use Rattle.cx_region.specs.Tables.{task_of};
-ghost use Rattle.cx_look_ahead.specs.Arrivals.{ComesTo, are_among, does_some, has_statement, is_among, is_command_among, program_places, statements_on};
+ghost use Rattle.cx_look_ahead.specs.Arrivals.{ComesTo, are_among, does_some, has_statement, is_among_statements, is_command_among, program_places, statements_on};
 
 use crate::Trace;
 use crate::instructions::{MOST_STEPS, trace_ahead};
 use cx_ebcdic::{Name4, Name8};
 use cx_load::Loaded;
-use cx_look_symbols::{SourcePlaces, Sources, Spot, StatementPlace, holds, place_of, spot_before};
+use cx_look_symbols::{
+    SourcePlaces, Sources, Spot, StatementPlace, has_offset, place_at_address, spot_before,
+};
 use cx_region::Region;
 use cx_storage::{Store, address_in};
 use indexmap::IndexMap;
@@ -33,8 +35,8 @@ fn program_places(places: &SourcePlaces, program: Name8) -> &[StatementPlace]
     }
 }
 
-/// Whether a line of the source that defined a program has a statement with bytes; false where no source defined the program. It takes no
-/// memory.
+/// Whether a line of the source that defined a program has a statement with bytes; false where no source defined the
+/// program. It takes no memory.
 pub fn has_statement(sources: &Sources, line: SourceLine) -> bool
     ensures { result ≡ has_statement sources.now.places line }
 {
@@ -60,14 +62,18 @@ pub(crate) fn statements_on(
 
 /// Whether one of some statements has the byte at an offset.
 fn is_held(statements: &[StatementPlace], offset: u32) -> bool
-    ensures { result ≡ list_any (holds offset) statements.now }
+    ensures { result ≡ list_any (has_offset offset) statements.now }
 {
-    statements.iter().any(|place| holds(place, offset))
+    statements.iter().any(|place| has_offset(place, offset))
 }
 
 /// Whether one of some statements of a program has a byte.
-pub(crate) fn is_among(program: Name8, statements: &[StatementPlace], spot: Option<Spot>) -> bool
-    ensures { result ≡ is_among program statements.now spot }
+pub(crate) fn is_among_statements(
+    program: Name8,
+    statements: &[StatementPlace],
+    spot: Option<Spot>,
+) -> bool
+    ensures { result ≡ is_among_statements program statements.now spot }
 {
     match spot {
         Some(it) => it.program == program && is_held(statements, it.offset),
@@ -84,7 +90,11 @@ fn are_among(
 ) -> bool
     ensures { result ≡ are_among programs.now.entries program statements.now trace.now.last.items }
 {
-    trace.last.iter().any(|it| is_among(program, statements, place_of(programs, it.at).spot))
+    trace.last.iter().any(|it| is_among_statements(
+        program,
+        statements,
+        place_at_address(programs, it.at).spot,
+    ))
 }
 
 /// Whether the command of a terminal's task is in some statements of a program.
@@ -104,14 +114,15 @@ fn is_command_among<S: Store + Drop>(
         return false;
     };
     let back = address_in(task.cpu.regs[14]);
-    is_among(
+    is_among_statements(
         program,
         statements,
         spot_before(&region.shared().programs, back),
     )
 }
 
-/// Whether a turn that runs these instructions, or else performs the command that is due, does something of some statements of a program.
+/// Whether a turn that runs these instructions, or else performs the command that is due, does something of some
+/// statements of a program.
 fn does_some<S: Store + Drop>(
     region: &Region<S>,
     name: Name4,
@@ -128,9 +139,10 @@ fn does_some<S: Store + Drop>(
     }
 }
 
-/// Whether the next turn of a terminal would do something of a line of a source: run an instruction that has its address among the bytes of
-/// a statement on the line, or perform the command that is due, of an EXEC there. The instructions run over a store like this region's, so
-/// nothing changes here. It is false where there is no such statement, no task, or no such terminal.
+/// Whether the next turn of a terminal would do something of a line of a source: run an instruction that has its
+/// address among the bytes of a statement on the line, or perform the command that is due, of an EXEC there. The
+/// instructions run over a store like this region's, so nothing changes here. It is false where there is no such
+/// statement, no task, or no such terminal.
 ///
 /// An error comes only where memory for these was refused.
 pub fn comes_to<S: Store + Drop>(

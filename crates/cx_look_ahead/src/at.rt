@@ -3,11 +3,11 @@ ghost use Rattle.std.specs.Prelude.{◌≡◌, ◌<◌, ◌++◌, [], IfOk, IfSo
 ghost use Rattle.std.specs.Option.{option_map, option_map_or};
 ghost use Rattle.cx_exec.specs.Advance.{Passes};
 ghost use Rattle.cx_exec.specs.Machine.{machine};
-ghost use Rattle.cx_look_ahead.specs.At.{ArrivesAt, AtText, at_line, fields_at, fields_on, first_among, names_on, there_lines};
+ghost use Rattle.cx_look_ahead.specs.At.{ArrivesAt, AtText, at_line, fields_at_line, fields_on, first_among, names_on, there_lines};
 ghost use Rattle.cx_look_ahead.specs.Parts.Runs.{RunsPast};
 
 use crate::Trace;
-use crate::arrivals::{SourceLine, is_among, statements_on};
+use crate::arrivals::{SourceLine, is_among_statements, statements_on};
 use crate::instructions::{MOST_STEPS, cpu_ahead, trace_ahead, visit_line};
 use crate::traces::instruction_at;
 use cx_base::{decimal, shown_name};
@@ -15,7 +15,7 @@ use cx_ebcdic::{Name4, Name8};
 use cx_exec::{Cpu, step};
 use cx_load::Loaded;
 use cx_look_levels::{LevelFields, SourcePoint};
-use cx_look_symbols::{Sources, Spot, StatementPlace, place_of, translated_in};
+use cx_look_symbols::{Sources, Spot, StatementPlace, place_at_address, translated_in};
 use cx_look_tables::{Report, register_lines};
 use cx_look_xref::references_of;
 use cx_region::Region;
@@ -35,7 +35,11 @@ fn first_among(
     ensures value { result ≡ first_among programs.now.entries program statements.now trace.now.last.items }
     ensures within { IfSome result (λ n. n < length trace.now.last.items) }
 {
-    trace.last.iter().position(|it| is_among(program, statements, place_of(programs, it.at).spot))
+    trace.last.iter().position(|it| is_among_statements(
+        program,
+        statements,
+        place_at_address(programs, it.at).spot,
+    ))
 }
 
 /// Performs so many instructions.
@@ -69,7 +73,8 @@ fn run_apart<S: Store + Drop>(
     Ok((cpu, apart))
 }
 
-/// What a terminal's task will have where its next turn first comes to a line of a source; None where the turn runs no instruction of it.
+/// What a terminal's task will have where its next turn first comes to a line of a source; None where the turn runs no
+/// instruction of it.
 #[tactic(auto, using(crate::proofs::AtLemmas::past_of, crate::proofs::AtLemmas::arrives_with_no_run, crate::proofs::AtLemmas::arrives_with_no_machine, crate::proofs::AtLemmas::arrives_nowhere, crate::proofs::AtLemmas::arrives_there))]
 fn arrival<S: Store + Drop>(
     alloc: Global,
@@ -152,14 +157,14 @@ impl<'a, S: Store> TaskThere<'a, S> {
     }
 
     /// Adds the lines of the fields that the line names, where a source defined the program.
-    fn fields_at(
+    fn fields_at_line(
         &self,
         report: &mut Report,
         sources: &Sources,
         spot: &Spot,
     ) -> Result<(), AllocError>
         ensures { let m = machine self.now.cpu.now (S.storage self.now.store.now) in
-            let lines = fields_at sources.now m self.now.name self.now.line.now spot.now in
+            let lines = fields_at_line sources.now m self.now.name self.now.line.now spot.now in
             OnOk result (report.new ≡ report.old ++ lines) }
     {
         let lines = sources.source_lines(self.line.program);
@@ -177,11 +182,11 @@ impl<'a, S: Store> TaskThere<'a, S> {
         spot: Option<Spot>,
     ) -> Result<(), AllocError>
         ensures { let m = machine self.now.cpu.now (S.storage self.now.store.now) in
-            let lines = fields_at sources.now m self.now.name self.now.line.now in
+            let lines = fields_at_line sources.now m self.now.name self.now.line.now in
             OnOk result (report.new ≡ report.old ++ option_map_or lines spot []) }
     {
         match spot {
-            Some(spot) => self.fields_at(report, sources, &spot),
+            Some(spot) => self.fields_at_line(report, sources, &spot),
             None => Ok(()),
         }
     }
@@ -204,7 +209,7 @@ impl<'a, S: Store> TaskThere<'a, S> {
         let visit = instruction_at(self.cpu, self.store);
         visit_line(&mut report, sources, programs, &visit)?;
         register_lines(&mut report, &self.cpu.regs)?;
-        let spot = place_of(programs, self.cpu.next).spot;
+        let spot = place_at_address(programs, self.cpu.next).spot;
         self.fields_there(&mut report, sources, spot)?;
         Ok(report)
     }
@@ -219,10 +224,11 @@ fn none_report(alloc: Global, name: Name4, line: &SourceLine) -> Result<Report, 
     Ok(report)
 }
 
-/// Looks at what a terminal's task will have where its next turn first comes to a line of a source: its condition code, the instruction there,
-/// its registers, and the fields that the statements on the line name, as they are in front of the instruction. The instructions run over a store
-/// like this region's, so nothing changes here. NONE where the turn runs no instruction of a statement on the line: where it performs a command,
-/// there is no such statement, no task, or no such terminal.
+/// Looks at what a terminal's task will have where its next turn first comes to a line of a source: its condition code,
+/// the instruction there, its registers, and the fields that the statements on the line name, as they are in front of
+/// the instruction. The instructions run over a store like this region's, so nothing changes here. NONE where the turn
+/// runs no instruction of a statement on the line: where it performs a command, there is no such statement, no task, or
+/// no such terminal.
 ///
 /// An error comes only where memory for these or for the report was refused.
 pub fn at_text<S: Store + Drop>(

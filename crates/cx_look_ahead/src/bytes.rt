@@ -4,7 +4,7 @@ ghost use Rattle.cx_look_symbols.specs.Sources.{led_by};
 ghost use Rattle.std.specs.Option.{option_map_or};
 ghost use Rattle.cx_base.specs.Digits.{digits};
 ghost use Rattle.cx_storage.specs.Storage.{byte_at};
-ghost use Rattle.cx_look_ahead.specs.Ahead.{bytes_word, field_word, row_line};
+ghost use Rattle.cx_look_ahead.specs.Ahead.{bytes_word, field_word, changed_row_line};
 
 use crate::rows::Row;
 use cx_base::{List, hexadecimal};
@@ -29,7 +29,8 @@ fn byte_word<S: Store>(store: &S, at: u32) -> [u8; 2]
     }
 }
 
-/// Bytes from an address on, in hexadecimal digits; hyphens for one that isn't there.
+/// `count` bytes from an address on, two hexadecimal digits each; two hyphens for one that is in no area. After
+/// X'FFFFFF' they go on at address 0.
 ///
 /// An error comes only where memory for them was refused.
 pub fn bytes_word<S: Store>(
@@ -65,15 +66,15 @@ fn field_word(
 }
 
 /// Adds the line of a row.
-#[tactic(auto, unfolding(crate::specs::Ahead::row_line))]
-pub(crate) fn row_line<S: Store + Drop>(
+#[tactic(auto, unfolding(crate::specs::Ahead::changed_row_line))]
+pub(crate) fn changed_row_line<S: Store + Drop>(
     report: &mut Report,
     names: &Option<LevelNames>,
     before: &Region<S>,
     after: &Region<S>,
     row: Row,
 ) -> Result<(), AllocError>
-    ensures { let line = row_line names.now before.now.shared.storage after.now.shared.storage row in
+    ensures { let line = changed_row_line names.now before.now.shared.storage after.now.shared.storage row in
         OnOk result (report.new ≡ report.old ++ line) }
 {
     let shown = row.length.min(MOST_SHOWN);

@@ -24,7 +24,7 @@ impl Model for Code {
 }
 
 impl Code {
-    /// The bytes.
+    /// The bytes, in their order.
     pub fn as_slice(&self) -> &[u8]
         ensures { result.now ≡ self.now }
     {

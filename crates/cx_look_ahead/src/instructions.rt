@@ -12,7 +12,7 @@ use crate::{Code, Trace, Visit, trace_run};
 use cx_ebcdic::{Name4, Name8};
 use cx_exec::Cpu;
 use cx_load::Loaded;
-use cx_look_symbols::{Place, Sources, address_word, place_of, push_led_by, statement_at};
+use cx_look_symbols::{Place, Sources, address_word, place_at_address, push_led_by, statement_at};
 use cx_look_tables::{Report, decimal, spelled};
 use cx_region::Region;
 use cx_storage::Store;
@@ -112,7 +112,7 @@ pub(crate) fn visit_line(
 ) -> Result<(), AllocError>
     ensures { OnOk result (report.new ≡ report.old ++ visit_line sources.now programs.now.entries visit.now) }
 {
-    let place = place_of(programs, visit.at);
+    let place = place_at_address(programs, visit.at);
     let word = visit_word(report.alloc(), sources, &place, &visit.code)?;
     report.line(&[b"INSTRUCTION", &word])
 }

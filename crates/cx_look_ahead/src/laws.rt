@@ -5,22 +5,24 @@ ghost use Rattle.cx_look_ahead.specs.Laws.Arrivals.{ArrivalsDecide, TurnsDoSome}
 ghost use Rattle.cx_look_ahead.specs.Laws.Watching.{WorkIsDone, ChangesAreWritten, ChangesDecide, WritersAreFound, WritersDecide};
 ghost use Rattle.cx_look_ahead.specs.Laws.Ats.{AtDecides, TurnsReachIt};
 
-/// There is one list of the instructions that a machine comes to, and so one trace.
+/// A machine and a limit have one trace: one number of instructions that the run comes to, and one list of the last of
+/// them.
 pub fn traces_decide()
     ensures { TracesDecide }
 {
     cx_exec_laws::laws::steps_decide();
 }
 
-/// They are those of the run: as many as it performs, and the one that is interrupted.
+/// The instructions that a machine comes to are those of its run: as many as the run performs, and the one that is
+/// interrupted, where it ends so.
 pub fn visits_are_of_runs()
     ensures { VisitsAreOfRuns }
 {
     cx_exec_laws::laws::runs_decide();
 }
 
-/// What is written is that of the region's next turn: the words of its reply, its instructions, and the rows of bytes
-/// that it changes. There is one such text.
+/// What AHEAD writes is that of the region's next turn, when it is done: the words of its reply, its instructions, and
+/// the rows of bytes that it changes. There is one such text.
 pub fn the_next_turn_is_shown()
     ensures shown { NextTurnIsShown }
     ensures decides { AheadDecides }
@@ -29,27 +31,28 @@ pub fn the_next_turn_is_shown()
     crate::laws::traces_decide();
 }
 
-/// The instructions are those of the turn's run, which ends it: as many as the run performs, and the one that is
-/// interrupted.
+/// The instructions that AHEAD writes of are those of the turn's run, when it is done: as many as the run performs, and
+/// the one that is interrupted, where it ends so.
 pub fn turns_run_them()
     ensures { TurnsRunThem }
 {
     crate::laws::visits_are_of_runs();
 }
 
-/// A byte is in one of the rows exactly where it differs, and there is one list of rows.
+/// Of the rows between two storages a byte is in one exactly where it differs, and there is one list of them.
 pub fn rows_are_the_difference()
     ensures difference { RowsAreTheDifference }
     ensures decides { RowsDecide }
 {}
 
-/// The field that a row names is the one of which WHERE writes a line, at the row's first byte, for the current level of the terminal's task.
+/// The field that AHEAD names at a row of bytes is the one of which WHERE writes a line, at the row's first byte, for
+/// the current level of the terminal's task.
 pub fn rows_are_named_as_where()
     ensures { NamesAreOfWhere }
 {}
 
-/// The next turn comes to a line exactly where the turn, when it is done, does something of it: one of the instructions of its run is on the
-/// line, or the command that it performs. Whether it does is a function of the state.
+/// The next turn comes to a line exactly where the turn, when it is done, does something of it: one of the instructions
+/// of its run is on the line, or the command that it performs. Whether it does is a function of the state.
 pub fn turns_do_some()
     ensures done { TurnsDoSome }
     ensures decides { ArrivalsDecide }
@@ -58,8 +61,8 @@ pub fn turns_do_some()
     crate::laws::traces_decide();
 }
 
-/// What AHEAD AT shows is the machine of the run of the turn that is then done, after as many of its instructions as come before the first one on
-/// the line. There is one such text.
+/// What AHEAD AT shows is the machine of the run of the turn that is then done, after as many of its instructions as
+/// come before the first one on the line. There is one such text.
 pub fn turns_reach_it()
     ensures reached { TurnsReachIt }
     ensures decides { AtDecides }
@@ -69,13 +72,14 @@ pub fn turns_reach_it()
     cx_exec_laws::laws::steps_decide();
 }
 
-/// A range has a line exactly where one of its bytes differs; a byte that only one of the two storages has differs.
+/// A watched range has a line exactly where one of its bytes differs; a byte that only one of the two storages has
+/// differs.
 pub fn changes_are_written()
     ensures { ChangesAreWritten }
 {}
 
-/// There is one instruction of a run that changed a byte of a range last, and so one text of what is watched; and where there is none, the
-/// run left each byte of the range as it was.
+/// There is one instruction of a run that changed a byte of a range last, and so one text of what is watched; and where
+/// there is none, the run left each byte of the range as it was.
 pub fn writers_decide()
     ensures writers { WritersDecide }
     ensures changes { ChangesDecide }
@@ -84,8 +88,9 @@ pub fn writers_decide()
     cx_exec_laws::laws::steps_decide();
 }
 
-/// What a turn is taken to do for WATCH is what the region's turn does: it performs the command of the terminal's task, which leads back to
-/// the address in register 14, or its run begins at that machine. Without a task it changes nothing.
+/// What a turn is taken to do for WATCH is what the region's turn does: it performs the command of the terminal's task,
+/// which leads back to the address in register 14, or its run begins at that machine. Without a task it changes
+/// nothing.
 pub fn work_is_done()
     ensures { WorkIsDone }
 {}

@@ -2,7 +2,7 @@
 ghost use Rattle.std.specs.Prelude.{◌≡◌, ◌≢◌, ◌↔◌, ◌+◌, ◌^◌, ◌<◌, ◌≤◌, ℕ, IsTrue, IfOk, IfSome, None};
 ghost use Rattle.std.specs.List.{AllByRecursion};
 ghost use Rattle.cx_storage.specs.Storage.{byte_at};
-ghost use Rattle.cx_look_ahead.specs.Rows.{AreRows, AreSame, end_of};
+ghost use Rattle.cx_look_ahead.specs.Rows.{AreRows, AreSame, row_end};
 ghost use Rattle.cx_look_ahead.specs.Parts.Next.{MatchNext};
 
 use cx_storage::Store;
@@ -12,7 +12,7 @@ use std::alloc::{AllocError, Global};
 /// The address after the last.
 const END: u32 = 0x100_0000;
 
-/// Bytes at addresses that follow each other.
+/// A range of storage: bytes at addresses that follow each other.
 #[derive(Clone, Copy, Debug, PartialEq, Eq)]
 pub struct Row {
     /// The address of the first.
@@ -100,7 +100,7 @@ fn end_of_row<S: Store>(before: &S, after: &S, from: u32) -> u32
 fn next_row<S: Store>(before: &S, after: &S, from: u32) -> Option<Row>
     requires { from ≤ 2 ^ 24 }
     ensures next { MatchNext (S.storage before.now) (S.storage after.now) from result }
-    ensures high { IfSome result (λ row. end_of row ≤ 2 ^ 24) }
+    ensures high { IfSome result (λ row. row_end row ≤ 2 ^ 24) }
 {
     store_is_sound(before);
     store_is_sound(after);
@@ -116,13 +116,13 @@ fn next_row<S: Store>(before: &S, after: &S, from: u32) -> Option<Row>
     })
 }
 
-/// All rows of bytes that differ between two stores, the lowest first: each is as long as it can be. A byte that only one of them
-/// has differs.
+/// All rows of bytes that differ between two stores, the lowest first: each is as long as it can be. A byte that only
+/// one of them has differs. No row goes beyond X'FFFFFF'.
 ///
 /// An error comes only where memory for the list was refused.
 pub fn rows_between<S: Store>(alloc: Global, before: &S, after: &S) -> Result<Vec<Row>, AllocError>
     ensures rows { IfOk result (λ rows. AreRows (S.storage before.now) (S.storage after.now) 0 rows.items) }
-    ensures high { IfOk result (λ rows. AllByRecursion (λ row. end_of row ≤ 2 ^ 24) rows.items) }
+    ensures high { IfOk result (λ rows. AllByRecursion (λ row. row_end row ≤ 2 ^ 24) rows.items) }
 {
     let mut rows = Vec::new(alloc);
     let mut from = 0;

@@ -19,7 +19,7 @@ pub struct Visit {
     pub code: Option<Code>,
 }
 
-/// The instructions of a run: how many there are, and the last of them.
+/// The instructions that a run comes to: how many there are, and the last of them, in their order.
 #[derive(Drop)]
 pub struct Trace {
     pub count: u32,

@@ -2,7 +2,7 @@
 ghost use Rattle.std.specs.Prelude.{◌≡◌, ◌↔◌, [], ◌++◌, IfOk, IsTrue, OnErr, OnOk, length, map};
 ghost use Rattle.std.specs.Option.{option_map_or};
 ghost use Rattle.std.specs.Str.{bytes_eq};
-ghost use Rattle.cx_look_ahead.specs.Watching.{AreOfRanges, IsOfRun, IsStatement, begun, begun_line, cause_word, change_line, command_word, instruction_word, is_full, kept_in, line_or, refused_line, with_range};
+ghost use Rattle.cx_look_ahead.specs.Watching.{AreOfRanges, IsOfRun, IsStatement, begun_watch, begun_line, cause_word, change_line, command_word, instruction_word, is_full, kept_in, line_or, refused_line, with_range};
 ghost use Rattle.cx_look_ahead.specs.Parts.Adding.{AddsChange, AddsLines};
 
 use crate::writing::writer_of;
@@ -10,7 +10,7 @@ use crate::{KeptMachine, Row, Work, bytes_word};
 use cx_base::{List, hexadecimal, shown_name};
 use cx_ebcdic::{Name4, Name8};
 use cx_load::Loaded;
-use cx_look_symbols::{Place, Sources, address_word, place_of, spot_before, statement_at};
+use cx_look_symbols::{Place, Sources, address_word, place_at_address, spot_before, statement_at};
 use cx_look_tables::{Report, decimal};
 use cx_storage::Store;
 use indexmap::IndexMap;
@@ -20,7 +20,7 @@ use std::marker::Model;
 /// The most ranges that are watched.
 const MOST: usize = 16;
 
-/// What is done when a byte changes.
+/// What is done when a watched byte changes.
 #[derive(Clone, Copy, Debug, PartialEq, Eq)]
 pub enum Cause {
     /// A turn of this terminal.
@@ -31,18 +31,18 @@ pub enum Cause {
     Alter(Name4),
     /// The definition of this program.
     Program(Name8),
-    /// Any other line of a script.
+    /// Any other action of a script.
     Other,
 }
 
-/// A range, and its bytes as they were, in hexadecimal digits; hyphens for one that wasn't there.
+/// A range, and its bytes as they were, two hexadecimal digits each; two hyphens for one that was in no area.
 #[derive(Debug, Drop)]
 pub struct Kept {
     pub range: Row,
     pub bytes: List<u8>,
 }
 
-/// The ranges that are watched, the first given first.
+/// The ranges that are watched, the first given first: at most sixteen, as `watch` adds them.
 #[derive(Drop)]
 pub struct Watches {
     ranges: Vec<Row>,
@@ -90,7 +90,8 @@ fn kept_in<S: Store>(alloc: Global, store: &S, range: Row) -> Result<Kept, Alloc
     })
 }
 
-/// What an action did: what it is called, what it did of a program, and the sources, the programs and the store after it.
+/// What an action did: what it is called, what it did of a program, and the sources, the programs and the store after
+/// it.
 #[derive(Drop)]
 pub struct Done<'a, S: Store + Drop> {
     pub cause: Cause,
@@ -101,9 +102,9 @@ pub struct Done<'a, S: Store + Drop> {
 }
 
 impl<'a, S: Store + Drop> Model for Done<'a, S> {
-    ghost use Rattle.cx_look_ahead.specs.Watching.{Effect};
+    ghost use Rattle.cx_look_ahead.specs.Watching.{ActionEffect};
 
-    ghost Value = { Effect };
+    ghost Value = { ActionEffect };
 
     ghost view = { λ it.
         record {
@@ -140,7 +141,7 @@ fn instruction_word(
 ) -> Result<Vec<u8>, AllocError>
     ensures { IfOk result (λ word. word.items ≡ instruction_word sources.now programs.now.entries at) }
 {
-    let place = place_of(programs, at);
+    let place = place_at_address(programs, at);
     let statement = statement_at(alloc, sources, &place.spot)?;
     line_or(alloc, &statement, b" INSTRUCTION ", &place)
 }
@@ -156,7 +157,12 @@ fn command_word(
     ensures { IfOk result (λ word. word.items ≡ command_word sources.now programs.now.entries back) }
 {
     let statement = statement_at(alloc, sources, &spot_before(programs, back))?;
-    line_or(alloc, &statement, b" R14 ", &place_of(programs, back))
+    line_or(
+        alloc,
+        &statement,
+        b" R14 ",
+        &place_at_address(programs, back),
+    )
 }
 
 /// Whether two texts are the same.
@@ -276,7 +282,7 @@ fn refused_line(report: &mut Report, range: Row) -> Result<(), AllocError>
 }
 
 impl Watches {
-    /// None. It takes no memory.
+    /// No range is watched. It takes no memory.
     pub fn new(alloc: Global) -> Watches
         ensures { result ≡ [] }
     {
@@ -299,9 +305,10 @@ impl Watches {
         self.ranges.len() >= MOST
     }
 
-    /// Watches a range more, unless as many are watched as may be, and gives the line that says so.
+    /// Watches a range more, and gives the line that says so, with its bytes in the store; where sixteen are watched
+    /// already, nothing changes, and the line says REFUSED Full.
     ///
-    /// An error comes only where memory for the range or for its line was refused; then it isn't watched.
+    /// An error comes only where memory for the range or for its line was refused; then what is watched is as before.
     pub fn watch<S: Store>(
         &mut self,
         alloc: Global,
@@ -310,7 +317,7 @@ impl Watches {
     ) -> Result<Report, AllocError>
         ensures ranges { OnOk result (self.new ≡ with_range self.old range) }
         ensures err { OnErr result (self.new ≡ self.old) }
-        ensures report { IfOk result (λ report. report ≡ begun self.old (S.storage store.now) range) }
+        ensures report { IfOk result (λ report. report ≡ begun_watch self.old (S.storage store.now) range) }
     {
         let mut report = Report::new(alloc);
         if self.is_full() {
@@ -329,7 +336,7 @@ impl Watches {
         self.ranges.clear();
     }
 
-    /// The ranges with their bytes in a store.
+    /// The ranges that are watched, each with its bytes as they are in a store.
     ///
     /// An error comes only where memory for them was refused.
     pub fn kept<S: Store>(&self, alloc: Global, store: &S) -> Result<Vec<Kept>, AllocError>
@@ -343,9 +350,9 @@ impl Watches {
     }
 }
 
-/// A line for each range whose bytes aren't as they were kept, with what was done and the statement that changed one of them last. Of a
-/// turn's instructions that is the last one that changed one: they are performed once more, from the machine as it was before, over a
-/// store like this one.
+/// A line for each range whose bytes aren't as they were kept, with what was done and the statement that changed one of
+/// them last. Of a turn's instructions that is the last one that changed one: they are performed once more, from the
+/// machine as it was before, over a store like this one.
 ///
 /// An error comes only where memory for the lines, or for that store, was refused.
 #[tactic(auto, using(crate::proofs::LineLemmas::no_lines))]

@@ -4,7 +4,7 @@ ghost use Rattle.std.specs.Str.{bytes_eq};
 ghost use Rattle.cx_exec.specs.Machine.{machine};
 ghost use Rattle.cx_exec.specs.Step.{Steps};
 ghost use Rattle.cx_region_task.specs.Turn.{most_steps};
-ghost use Rattle.cx_storage.specs.Storage.{IsSound};
+ghost use Rattle.cx_storage.specs.Storage.{IsSoundStorage};
 ghost use Rattle.cx_look_ahead.specs.Writing.{LastWriter};
 ghost use Rattle.cx_look_ahead.specs.declared.watching.Cause.TheVariants as cause_kind;
 ghost use Rattle.cx_look_ahead.specs.Watching.{work_of, next_work, shown_in};
@@ -37,7 +37,7 @@ impl Model for KeptMachine {
     ghost view = { λ it. machine it.cpu it.storage };
 }
 
-/// What is done of a program next.
+/// What is done of a program next at a terminal.
 #[derive(Drop)]
 pub enum Work {
     /// Nothing.
@@ -126,8 +126,8 @@ fn pass<S: Store>(
         IfOk result (λ end. Steps before end (machine cpu.new (S.storage store.new))) }
     ensures last { let same = bytes_eq (shown_in (S.storage store.old) range) (shown_in (S.storage store.new) range) in
         IfOk result (λ end. last.new ≡ (if same then last.old else Some cpu.old.next)) }
-    ensures sound { IsSound (S.storage store.old) }
-    ensures stays_sound { IsSound (S.storage store.new) }
+    ensures sound { IsSoundStorage (S.storage store.old) }
+    ensures stays_sound { IsSoundStorage (S.storage store.new) }
 {
     store_is_sound(store);
     let at = cpu.next;
@@ -139,8 +139,9 @@ fn pass<S: Store>(
     Ok(end)
 }
 
-/// The address of the last instruction that changes a byte of a range, of those that a processor performs over a store until the entry
-/// is the next address, one is interrupted, or it has performed as many as the limit; None where none does.
+/// The address of the last instruction that changes a byte of a range, of those that a processor performs over a store
+/// until the entry is the next address, one is interrupted, or it has performed as many as the limit; None where none
+/// does.
 ///
 /// An error comes only where memory for the bytes of the range was refused.
 #[tactic(auto, using(crate::proofs::LeftLemmas::passes_none, crate::proofs::WriteLemmas::at_first))]
@@ -169,8 +170,8 @@ fn last_writer<S: Store>(
     Ok(last)
 }
 
-/// The address of the last instruction of a turn that changed a byte of a range; None where none did. They run from the machine as it was,
-/// over a store like this one.
+/// The address of the last instruction of a turn that changed a byte of a range; None where none did. They run from the
+/// machine as it was, over a store like this one.
 ///
 /// An error comes only where memory for that store, or for the bytes, was refused.
 pub(crate) fn writer_of<S: Store + Drop>(

@@ -33,7 +33,7 @@ use Rattle.cx_asm_build.specs.declared.faults.PrepareFault.TheVariants.{At, Memo
 use Rattle.cx_asm_build.specs.declared.faults.SourceKind.{SourceKind}
 use Rattle.cx_asm_build.specs.declared.program.Prepared.{Prepared}
 use Rattle.cx_look_faults.specs.Faults.{base_lines, by_number, faults_of, faulty, faulty_line, faulty_lines, follows, has_section, is_adrift, is_bad_operand, is_unaddressed, lines_by_stages, lost_from, of_pass, put_line, unknown_after, without_adrift, without_following}
-use Rattle.cx_look_faults.specs.Laws.First.{Has, IsAmong, fault_of}
+use Rattle.cx_look_faults.specs.Laws.First.{Has, IsAmong, prepare_fault_of}
 use Rattle.cx_look_faults.specs.declared.faults.FaultyLine.{FaultyLine}
 
 -- ---- by number
@@ -79,12 +79,12 @@ all_stays fault table (one ∷ more) has = all_stays fault (put_line table one) 
 
 -- the first fault is there, and without one there is none
 abbrev pub first_of : List FaultyLine → Option PrepareFault
-first_of faults = option_map fault_of (slice_get faults 0)
+first_of faults = option_map prepare_fault_of (slice_get faults 0)
 
 pub first_there : (faults : List FaultyLine) → IsAmong (first_of faults) (by_number faults)
 unfolding put_line
 first_there [] = refl
-first_there (one ∷ more) = all_stays (fault_of one) ((one.line, one.kind) ∷ []) more (inl refl)
+first_there (one ∷ more) = all_stays (prepare_fault_of one) ((one.line, one.kind) ∷ []) more (inl refl)
 
 -- ---- the first fault of the stages
 abbrev pub Tells : Result Prepared PrepareFault → List FaultyLine → Type 0

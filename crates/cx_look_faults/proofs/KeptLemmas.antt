@@ -24,7 +24,7 @@ use Rattle.cx_asm_pass1.specs.declared.place.Place.{Place}
 use Rattle.cx_asm_pass2.specs.SecondFaults.{second_faults_after}
 use Rattle.cx_asm_pass2.specs.Statements.{PlacedItem, PlacedStatement, placed_latest_first, placed_of, placed_statement, stated_in, statements_of}
 use Rattle.cx_asm_pass2.specs.Whole.{Whole, whole_of}
-use Rattle.cx_source.specs.Faults.{fault_of as line_fault_of, goes_on, line_faults}
+use Rattle.cx_source.specs.Faults.{source_fault as line_fault_of, goes_on, line_faults}
 use Rattle.cx_source.specs.Facts.AllFaults.{first_fault, first_of_faults}
 use Rattle.cx_source.specs.Facts.Mended.{texts_whole}
 use Rattle.cx_source.specs.Lines.{text_of}
@@ -37,7 +37,7 @@ use Rattle.cx_source.specs.declared.source.SourceFault.TheVariants as line
 use Rattle.cx_source.specs.declared.source.Stmt.{Stmt}
 use Rattle.cx_translate.specs.Expansion.{made_item, made_of, stmt}
 use Rattle.cx_translate.specs.Facts.Found.{eib_section, fault_in_stmt, fault_of_command, made_lines, storage_section}
-use Rattle.cx_translate.specs.Refusals.{command_in, fault_in as fault_in_words, fault_of}
+use Rattle.cx_translate.specs.Refusals.{command_in, fault_in as fault_in_words, refusal_of}
 use Rattle.cx_translate.specs.Sections.{at_first, bases, begins_exec, begins_section, begins_storage, insert_items, is_end, lines, name_at, place_after, put_after, put_before, storage_fields, with_bases, with_eib, with_storage}
 use Rattle.cx_translate.specs.Translation as translation
 use Rattle.cx_translate.specs.Words.{words_of}
@@ -47,7 +47,7 @@ use Rattle.cx_translate.specs.declared.words.Word.{Word}
 use Rattle.cx_look_faults.proofs.FirstLemmas.{first_of, first_there, stages_reported}
 use Rattle.cx_look_faults.specs.Faults.{by_number, faults_of, faulty_line, faulty_lines, follows, is_adrift, lines_by_stages, lost_from, of_pass, unknown_after, without_adrift, without_following}
 use Rattle.cx_look_faults.specs.Kept.{is_kept, kept_faults}
-use Rattle.cx_look_faults.specs.Laws.First.{Has, IsAmong, fault_of as fault_of_line}
+use Rattle.cx_look_faults.specs.Laws.First.{Has, IsAmong, prepare_fault_of as fault_of_line}
 use Rattle.cx_look_faults.specs.declared.faults.FaultyLine.{FaultyLine}
 
 -- ---- all of a list
@@ -279,7 +279,7 @@ words_low number words None h = h
 words_low number words (Some found) h = chain_low _ _ _ _ _ number h
 
 exec_low : (number : ℕ) (s : Option Stmt) → number ≤ 10001 → TransLow (fault_in_stmt number s)
-unfolding fault_of
+unfolding refusal_of
 exec_low number None h = tt
 exec_low number (Some exec) h = words_low number (words_of exec.operand) (command_in (words_of exec.operand)) h
 

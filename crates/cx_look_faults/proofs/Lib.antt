@@ -1,4 +1,3 @@
 pub mod FirstLemmas
 pub mod KeptLemmas
 pub mod MarkLemmas
-pub mod WholeLemmas

@@ -14,22 +14,22 @@ use Rattle.cx_source.specs.Lines.{trim_blanks}
 use Rattle.cx_asm_build.specs.declared.faults.SourceKind.{SourceKind}
 use Rattle.cx_asm_build.specs.declared.faults.SourceKind.TheVariants as kind
 use Rattle.cx_look_faults.specs.Judging.{has_exec_fault}
-use Rattle.cx_look_faults.specs.Spans.{cells_of, span, spans_of, text_in}
+use Rattle.cx_look_faults.specs.Spans.{cells_of, span, spans_of, span_text}
 use Rattle.cx_look_faults.specs.declared.commands.Phrase.{Phrase}
 use Rattle.cx_look_faults.specs.declared.spans.Cut.TheVariants.{Words}
 use Rattle.cx_look_faults.specs.declared.spans.Span.{Span}
 
-abbrev pub words_of : List ℕ → List Span
-words_of operand = spans_of (cells_of Words operand)
+abbrev pub word_spans : List ℕ → List Span
+word_spans operand = spans_of (cells_of Words operand)
 
-abbrev pub word_at : List ℕ → List Span → ℕ → List ℕ
-word_at operand words k = option_map_or (λ word. text_in word operand) (slice_get words k) []
+abbrev pub word_text_at : List ℕ → List Span → ℕ → List ℕ
+word_text_at operand words k = option_map_or (λ word. span_text word operand) (slice_get words k) []
 
 -- the command that the words after CICS name, and how many words its name takes
-abbrev pub command_of : List ℕ → List Span → Option (Command × ℕ)
-command_of operand words =
-    if bytes_eq (word_at operand words 0) (codes "CICS")
-    then command_named (word_at operand words 1) (word_at operand words 2) else None
+abbrev pub command_in_words : List ℕ → List Span → Option (Command × ℕ)
+command_in_words operand words =
+    if bytes_eq (word_text_at operand words 0) (codes "CICS")
+    then command_named (word_text_at operand words 1) (word_text_at operand words 2) else None
 
 -- ---- words with their arguments
 -- each word goes on to where the next begins, and the last to the operand's end
@@ -48,8 +48,8 @@ written_phrase operand phrase = span phrase.full.start (length (trim_blanks (tak
 -- ---- the word at fault
 -- An unknown option and a bad argument are judged alone after the command, all else with what precedes it.
 abbrev pub tried : SourceKind → List ℕ → List ℕ → Span → List ℕ
-tried kind.UnknownOption operand head full = head ++ codes " " ++ text_in full operand
-tried kind.BadArgument operand head full = head ++ codes " " ++ text_in full operand
+tried kind.UnknownOption operand head full = head ++ codes " " ++ span_text full operand
+tried kind.BadArgument operand head full = head ++ codes " " ++ span_text full operand
 tried kind operand head full = take full.end operand
 
 abbrev pub is_at_fault : SourceKind → List ℕ → List ℕ → Phrase → Bool
@@ -84,16 +84,16 @@ word_by kind operand words (Some found) =
     else option_map (marked kind operand) (find (is_at_fault kind operand head) (phrases operand more))
 
 unfoldable pub word_at_fault : SourceKind → List ℕ → Option Span
-word_at_fault kind operand = word_by kind operand (words_of operand) (command_of operand (words_of operand))
+word_at_fault kind operand = word_by kind operand (word_spans operand) (command_in_words operand (word_spans operand))
 
 -- ---- what is missing
 -- an option is given
-abbrev pub is_word : List ℕ → List Span → List ℕ → Bool
-is_word operand words name = list_any (λ word. bytes_eq (text_in word operand) name) words
+abbrev pub operand_has_word : List ℕ → List Span → List ℕ → Bool
+operand_has_word operand words name = list_any (λ word. bytes_eq (span_text word operand) name) words
 
-abbrev pub has_option : List CommandOption → List ℕ → List Span → ℕ → Bool
-has_option options operand words bit =
-    list_any (λ option. option.bit == bit && is_word operand words (option_name option.name)) options
+abbrev pub has_option_with_bit : List CommandOption → List ℕ → List Span → ℕ → Bool
+has_option_with_bit options operand words bit =
+    list_any (λ option. option.bit == bit && operand_has_word operand words (option_name option.name)) options
 
 abbrev pub name_of_bit : List CommandOption → ℕ → List ℕ
 name_of_bit options bit =
@@ -102,17 +102,17 @@ name_of_bit options bit =
 -- what a rule asks for and isn't there
 abbrev pub lacking : List CommandOption → List ℕ → List Span → Rule → List ℕ
 lacking options operand words (Together a b) =
-    let has = has_option options operand words in
+    let has = has_option_with_bit options operand words in
     if has a && not (has b) then name_of_bit options b else (if has b && not (has a) then name_of_bit options a else [])
 lacking options operand words (NotBoth a b) = []
 lacking options operand words (Needs a b) =
-    let has = has_option options operand words in
+    let has = has_option_with_bit options operand words in
     if has a && not (has b) then name_of_bit options b else []
 lacking options operand words (OneOfTwo a b) =
-    let has = has_option options operand words in
+    let has = has_option_with_bit options operand words in
     if not (has a) && not (has b) then name_of_bit options a ++ codes " OR " ++ name_of_bit options b else []
 lacking options operand words (OneOfThree a b c) =
-    let has = has_option options operand words in
+    let has = has_option_with_bit options operand words in
     if not (has a) && not (has b) && not (has c)
     then name_of_bit options a ++ codes " OR " ++ name_of_bit options b ++ codes " OR " ++ name_of_bit options c else []
 
@@ -126,7 +126,7 @@ lacking_first options operand words rules =
 
 -- a required option that isn't there
 abbrev pub is_lacking : List ℕ → List Span → CommandOption → Bool
-is_lacking operand words option = option.required && not (is_word operand words (option_name option.name))
+is_lacking operand words option = option.required && not (operand_has_word operand words (option_name option.name))
 
 -- a condition, where the command lists conditions; the first required option, or else what the first rule lacks
 abbrev pub missing_in : Command → List ℕ → List Span → List ℕ
@@ -142,4 +142,4 @@ missing_by operand words None = []
 missing_by operand words (Some found) = missing_in found.0 operand (words_after words found.1)
 
 unfoldable pub missing : List ℕ → List ℕ
-missing operand = missing_by operand (words_of operand) (command_of operand (words_of operand))
+missing operand = missing_by operand (word_spans operand) (command_in_words operand (word_spans operand))

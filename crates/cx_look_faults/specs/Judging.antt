@@ -34,8 +34,8 @@ is_kind fault kind = option_map_or (λ found. bytes_eq (fault_row found).1 (kind
 abbrev pub part_context : Whole → Bases → PlacedStatement → Context
 part_context whole bases s = context whole.find (counter_of s) bases (Some (absolute (pos 0)))
 
-abbrev pub literal_fault : Whole → PlacedStatement → List ℕ → Option FaultKind
-literal_fault whole s operand =
+abbrev pub made_literal_fault : Whole → PlacedStatement → List ℕ → Option FaultKind
+made_literal_fault whole s operand =
     option_and_then (λ text. result_err (item_made whole false (counter_of s) text))
     (option_and_then literal_text (literal_in operand))
 
@@ -57,7 +57,8 @@ fault_of_operand whole bases s operand (Some (operation.Directive directive.End)
 fault_of_operand whole bases s operand (Some (operation.Directive directive.Copy)) = copy_fault operand
 fault_of_operand whole bases s operand (Some (operation.Directive d)) = None
 fault_of_operand whole bases s operand (Some o) =
-    lower (result_err (instruction_or_fault o (part_context whole bases s) operand)) (literal_fault whole s operand)
+    lower (result_err (instruction_or_fault o (part_context whole bases s) operand))
+    (made_literal_fault whole s operand)
 
 -- the operand of a statement has a fault of a kind, if this is written in its place
 unfoldable pub has_fault : Whole → Bases → PlacedStatement → SourceKind → List ℕ → Bool

@@ -5,7 +5,7 @@ use Rattle.std.specs.List.{enumerate_from, find, flat_map, position, prefix_len,
 use Rattle.std.specs.Option.{option_map_or}
 use Rattle.std.specs.Str.{byte, bytes_eq}
 use Rattle.cx_ebcdic.specs.Characters.{code_of}
-use Rattle.cx_source.specs.Lines.{columns, is_blank, is_name_character, is_written, skip_blanks, trim_blanks}
+use Rattle.cx_source.specs.Lines.{columns, is_blank, is_symbol_name_character, is_written, skip_blanks, trim_blanks}
 use Rattle.cx_source.specs.Statements.{is_continued}
 use Rattle.cx_source.specs.Mended.{source_read}
 use Rattle.cx_source.specs.declared.source.Item.{Item}
@@ -18,8 +18,8 @@ use Rattle.cx_asm_build.specs.declared.faults.SourceKind.{SourceKind}
 use Rattle.cx_asm_build.specs.declared.faults.SourceKind.TheVariants as kind
 use Rattle.cx_look_faults.specs.Commands.{missing, word_at_fault}
 use Rattle.cx_look_faults.specs.Faults.{kind_at, kinds_of}
-use Rattle.cx_look_faults.specs.Operands.{parts_in}
-use Rattle.cx_look_faults.specs.Spans.{is_bracket, span, text_in}
+use Rattle.cx_look_faults.specs.Operands.{operand_parts_in}
+use Rattle.cx_look_faults.specs.Spans.{is_bracket, span, span_text}
 use Rattle.cx_look_faults.specs.declared.faults.FaultyLine.{FaultyLine}
 use Rattle.cx_look_faults.specs.declared.marks.Mark.{Mark}
 use Rattle.cx_look_faults.specs.declared.operands.OperandPart.{OperandPart}
@@ -41,8 +41,8 @@ bad_continuation number line =
     let at = unwrap_or (position is_written line) (length line) in
     spot number (at + 1) (length (trim_blanks (columns 1 15 line)) - at)
 
-abbrev pub bad_name : ℕ → List ℕ → Spot
-bad_name number line = spot number 1 (unwrap_or (position is_blank line) (length line))
+abbrev pub bad_name_spot : ℕ → List ℕ → Spot
+bad_name_spot number line = spot number 1 (unwrap_or (position is_blank line) (length line))
 
 abbrev pub too_long : ℕ → List ℕ → Spot
 too_long number line =
@@ -53,8 +53,8 @@ too_long number line =
 abbrev pub position_of : ℕ → ℕ × ℕ → Position
 position_of line character = record { line = line; column = character.0; byte = character.1 }
 
-unfoldable pub written_on : ℕ → Item → List Position
-written_on column item = map (position_of item.line) (enumerate_from column (columns column 71 item.text))
+unfoldable pub positions_written_on : ℕ → Item → List Position
+positions_written_on column item = map (position_of item.line) (enumerate_from column (columns column 71 item.text))
 
 -- the lines that continue a line, of those after it
 abbrev pub is_continued_on : Item → Bool
@@ -80,8 +80,8 @@ operation_spot item stmt =
 -- where the characters after the operation stand, and those of the operand
 unfoldable pub positions_after : List Item → Item → Stmt → List Position
 positions_after items item stmt =
-    written_on (operation_column item stmt + length stmt.operation) item
-    ++ flat_map (written_on 16) (continuations item (drop item.line items))
+    positions_written_on (operation_column item stmt + length stmt.operation) item
+    ++ flat_map (positions_written_on 16) (continuations item (drop item.line items))
 
 abbrev pub operand_positions : List Item → Item → Stmt → List Position
 operand_positions items item stmt =
@@ -116,17 +116,17 @@ abbrev pub stands_at : List ℕ → List ℕ → ℕ → Bool
 stands_at text operand at =
     let rest = drop at operand in
     is_border (byte_at operand (at - 1)) && bytes_eq (take (length text) rest) text
-    && not (is_name_character (byte_at rest (length text)))
+    && not (is_symbol_name_character (byte_at rest (length text)))
 
-abbrev pub place_in : List ℕ → List ℕ → Option ℕ
-place_in text operand = find (stands_at text operand) (range_with_len 1 (length operand - 1))
+abbrev pub place_in_operand : List ℕ → List ℕ → Option ℕ
+place_in_operand text operand = find (stands_at text operand) (range_with_len 1 (length operand - 1))
 
 -- the part of a made statement in the operand that it was made of
 abbrev pub part_in : List ℕ → OperandPart → Option Span
 part_in operand found =
-    let text = text_in found.part found.operand in
+    let text = span_text found.part found.operand in
     if bytes_eq operand found.operand then Some found.part
-    else option_map (λ at. span at (at + length text)) (place_in text operand)
+    else option_map (λ at. span at (at + length text)) (place_in_operand text operand)
 
 abbrev pub part_found : List OperandPart → ℕ → List ℕ → Option Span
 part_found parts line operand = option_and_then (part_in operand) (find (λ found. found.line == line) parts)
@@ -162,7 +162,7 @@ statement_spot items parts kind number item =
 
 abbrev pub spot_by : List Item → List OperandPart → List ℕ → ℕ → SourceKind → Spot
 spot_by items parts line number kind.BadCharacter = bad_character number line
-spot_by items parts line number kind.BadName = bad_name number line
+spot_by items parts line number kind.BadName = bad_name_spot number line
 spot_by items parts line number kind.BadContinuation = bad_continuation number line
 spot_by items parts line number kind.TooLong = too_long number line
 spot_by items parts line number kind.NoEnd = spot number 1 2
@@ -184,9 +184,9 @@ mark_of lines items parts fault = record {
 }
 
 -- where the part at fault is of each faulty line of the source that lines make
-abbrev pub parts_of : Source → List FaultyLine → List OperandPart
-parts_of made faults = parts_in (whole_of made) (kind_at (kinds_of faults)) (statements_of made)
+abbrev pub parts_at_fault : Source → List FaultyLine → List OperandPart
+parts_at_fault made faults = operand_parts_in (whole_of made) (kind_at (kinds_of faults)) (statements_of made)
 
 unfoldable pub marks_of : List (List ℕ) → List FaultyLine → List Mark
 marks_of lines faults =
-    let read = source_read lines in map (mark_of lines read.items (parts_of (mended_source read) faults)) faults
+    let read = source_read lines in map (mark_of lines read.items (parts_at_fault (mended_source read) faults)) faults

@@ -22,10 +22,10 @@ use Rattle.cx_asm_expressions.specs.declared.values.Value.{Value}
 use Rattle.cx_asm_operands.specs.Storage.{is_literal}
 use Rattle.cx_asm_pass2.specs.Whole.{Whole, whole_of}
 use Rattle.cx_asm_build.specs.declared.faults.SourceKind.{SourceKind}
-use Rattle.cx_look_faults.specs.Commands.{command_of, is_word, phrases, words_after, words_of, written_phrase}
+use Rattle.cx_look_faults.specs.Commands.{command_in_words, operand_has_word, phrases, words_after, word_spans, written_phrase}
 use Rattle.cx_look_faults.specs.Faults.{kind_at, kinds_of}
 use Rattle.cx_look_faults.specs.Marks.{part_spot}
-use Rattle.cx_look_faults.specs.Spans.{cells_of, span, spans_of, text_in}
+use Rattle.cx_look_faults.specs.Spans.{cells_of, span, spans_of, span_text}
 use Rattle.cx_look_faults.specs.declared.commands.Phrase.{Phrase}
 use Rattle.cx_look_faults.specs.declared.faults.FaultyLine.{FaultyLine}
 use Rattle.cx_look_faults.specs.declared.notes.Note.{Note}
@@ -35,16 +35,16 @@ use Rattle.cx_look_faults.specs.declared.spans.Span.{Span}
 -- a note says something of a part of a statement's operand
 unfoldable pub note_on : List Item → Item → Stmt → List ℕ → Span → Note
 note_on items item stmt said part =
-    record { spot = part_spot items item stmt part; text = text_in part stmt.operand ++ said }
+    record { spot = part_spot items item stmt part; text = span_text part stmt.operand ++ said }
 
 -- ---- an argument
 -- the one after a word; empty where there is none
 abbrev pub bare : List ℕ → List ℕ
 bare text = trim_blanks (skip_blanks text)
 
-abbrev pub argument_of : List ℕ → Phrase → List ℕ
-argument_of operand phrase =
-    option_map_or bare (parenthesized_body (bare (text_in (span phrase.word.end phrase.full.end) operand))) []
+abbrev pub written_argument : List ℕ → Phrase → List ℕ
+written_argument operand phrase =
+    option_map_or bare (parenthesized_body (bare (span_text (span phrase.word.end phrase.full.end) operand))) []
 
 -- a number, or an absolute symbol or expression
 abbrev pub is_absolute : Whole → List ℕ → Bool
@@ -59,12 +59,12 @@ abbrev pub if_literal : List ℕ → List ℕ → Option (List ℕ)
 if_literal text due = if is_literal text then Some (codes " IS WRITTEN: " ++ due) else None
 
 -- of a halfword that the command reads, and of one that it writes
-abbrev pub is_decimal : ℕ → Bool
-is_decimal c = nat_le (byte "0") c && nat_le c (byte "9")
+abbrev pub is_decimal_digit : ℕ → Bool
+is_decimal_digit c = nat_le (byte "0") c && nat_le c (byte "9")
 
 abbrev pub halfword_literal : List ℕ → List ℕ
 halfword_literal text =
-    if list_all is_decimal text then codes "=H'" ++ text ++ codes "'" else codes "=AL2(" ++ text ++ codes ")"
+    if list_all is_decimal_digit text then codes "=H'" ++ text ++ codes "'" else codes "=AL2(" ++ text ++ codes ")"
 
 abbrev pub of_read : Whole → List ℕ → Option (List ℕ)
 of_read whole text = if_absolute whole text (halfword_literal text)
@@ -92,8 +92,8 @@ option_of_word options name = find (λ option. bytes_eq (option_name option.name
 
 unfoldable pub remark_on : Whole → Bool → List CommandOption → List ℕ → Phrase → Option (List ℕ)
 remark_on whole rewrites options operand phrase =
-    option_and_then (λ option. remark whole rewrites (argument_of operand phrase) option.kind)
-    (option_of_word options (text_in phrase.word operand))
+    option_and_then (λ option. remark whole rewrites (written_argument operand phrase) option.kind)
+    (option_of_word options (span_text phrase.word operand))
 
 abbrev pub note_of_phrase : Whole → Bool → List CommandOption → List Item → Item → Stmt → Phrase → Option Note
 note_of_phrase whole rewrites options items item stmt phrase =
@@ -102,30 +102,30 @@ note_of_phrase whole rewrites options items item stmt phrase =
 
 abbrev pub notes_of_command : Whole → List Item → Item → Stmt → Command → List Span → List Note
 notes_of_command whole items item stmt command words =
-    let rewrites = is_word stmt.operand words (codes "REWRITE") in
+    let rewrites = operand_has_word stmt.operand words (codes "REWRITE") in
     filter_map (note_of_phrase whole rewrites (row_of command).options items item stmt) (phrases stmt.operand words)
 
 abbrev pub notes_of_words : Whole → List Item → Item → Stmt → List Span → List Note
 notes_of_words whole items item stmt words =
     option_map_or (λ found. notes_of_command whole items item stmt found.0 (words_after words found.1))
-    (command_of stmt.operand words) []
+    (command_in_words stmt.operand words) []
 
 -- ---- DC
 -- an item of several copies, one of whose terms is `*`: the place of the first copy, in each
 unfoldable pub copies_place : List ℕ → Bool
 copies_place text =
     option_map_or (λ (item : Constant). nat_lt 1 item.duplication) (result_ok (constant_in false text)) false
-    && list_any (λ term. bytes_eq (text_in term text) (codes "*")) (spans_of (cells_of Terms text))
+    && list_any (λ term. bytes_eq (span_text term text) (codes "*")) (spans_of (cells_of Terms text))
 
 abbrev pub note_of_item : List Item → Item → Stmt → Span → Option Note
 note_of_item items item stmt part =
-    if copies_place (text_in part stmt.operand)
+    if copies_place (span_text part stmt.operand)
     then Some (note_on items item stmt (codes " IS THE SAME IN ALL COPIES") part) else None
 
 -- ---- a source
 abbrev pub notes_of_stmt : Whole → List Item → Item → Stmt → List Note
 notes_of_stmt whole items item stmt =
-    if bytes_eq stmt.operation (codes "EXEC") then notes_of_words whole items item stmt (words_of stmt.operand)
+    if bytes_eq stmt.operation (codes "EXEC") then notes_of_words whole items item stmt (word_spans stmt.operand)
     else (if bytes_eq stmt.operation (codes "DC")
     then filter_map (note_of_item items item stmt) (spans_of (cells_of Operands stmt.operand)) else [])
 

@@ -16,7 +16,7 @@ use Rattle.cx_asm_pass2.specs.Whole.{Whole, counter_of}
 use Rattle.cx_asm_build.specs.declared.faults.SourceKind.{SourceKind}
 use Rattle.cx_asm_build.specs.declared.faults.SourceKind.TheVariants as kind
 use Rattle.cx_look_faults.specs.Judging.{has_fault, is_kind}
-use Rattle.cx_look_faults.specs.Spans.{cells_of, span, spans_of, text_in, with_zeros}
+use Rattle.cx_look_faults.specs.Spans.{cells_of, span, spans_of, span_text, with_zeros}
 use Rattle.cx_look_faults.specs.declared.operands.OperandPart.{OperandPart}
 use Rattle.cx_look_faults.specs.declared.spans.Cell.{Cell}
 use Rattle.cx_look_faults.specs.declared.spans.Cut.TheVariants.{Operands, Subfields, Terms}
@@ -58,7 +58,7 @@ last_part s operation kind = None
 -- ---- DC and DS
 -- an item that has the fault
 abbrev pub is_item : Whole → Bases → PlacedStatement → SourceKind → Span → Bool
-is_item whole bases s kind part = has_fault whole bases s kind (text_in part s.stmt.operand)
+is_item whole bases s kind part = has_fault whole bases s kind (span_text part s.stmt.operand)
 
 -- a term of an address whose value has it
 abbrev pub begins_term : ℕ → Bool
@@ -67,7 +67,7 @@ begins_term c = c == byte "(" || c == byte "+" || c == byte "-"
 abbrev pub is_term : Whole → PlacedStatement → SourceKind → Span → Bool
 is_term whole s kind part =
     begins_term (unwrap_or (slice_get s.stmt.operand (part.start - 1)) 0)
-    && is_kind (result_err (value_of whole.find (counter_of s) (text_in part s.stmt.operand))) kind
+    && is_kind (result_err (value_of whole.find (counter_of s) (span_text part s.stmt.operand))) kind
 
 -- the first such term, or else the first such item
 abbrev pub constant_part : Whole → Bases → PlacedStatement → SourceKind → Option Span
@@ -99,5 +99,5 @@ abbrev pub part_at : Whole → (ℕ → Option SourceKind) → List PlacedStatem
 part_at whole kind_of statements entry =
     option_and_then (part_on whole (bases_before whole statements entry.0) entry.1) (kind_of entry.1.line)
 
-unfoldable pub parts_in : Whole → (ℕ → Option SourceKind) → List PlacedStatement → List OperandPart
-parts_in whole kind_of statements = filter_map (part_at whole kind_of statements) (enumerate_from 0 statements)
+unfoldable pub operand_parts_in : Whole → (ℕ → Option SourceKind) → List PlacedStatement → List OperandPart
+operand_parts_in whole kind_of statements = filter_map (part_at whole kind_of statements) (enumerate_from 0 statements)

@@ -12,8 +12,8 @@ use Rattle.cx_look_faults.specs.declared.spans.Span.{Span}
 abbrev pub span : ℕ → ℕ → Span
 span start end = record { start = start; end = end }
 
-abbrev pub text_in : Span → List ℕ → List ℕ
-text_in part text = drop part.start (take part.end text)
+abbrev pub span_text : Span → List ℕ → List ℕ
+span_text part text = drop part.start (take part.end text)
 
 abbrev pub is_bracket : ℕ → Bool
 is_bracket c = c == byte "(" || c == byte ")"
@@ -39,25 +39,25 @@ abbrev pub cells_of : Cut → List ℕ → List Cell
 cells_of cut text = cells_from cut 0 0 (outside_apostrophes text) text
 
 -- the parts between them that aren't empty
-abbrev pub written : ℕ → ℕ → List Span
-written start end = if nat_lt start end then span start end ∷ [] else []
+abbrev pub nonempty_span : ℕ → ℕ → List Span
+nonempty_span start end = if nat_lt start end then span start end ∷ [] else []
 
 abbrev pub spans_from : ℕ → ℕ → List Cell → List Span
-spans_from start at [] = written start at
+spans_from start at [] = nonempty_span start at
 spans_from start at (c ∷ cs) =
-    if c.separates then written start at ++ spans_from (at + 1) (at + 1) cs else spans_from start (at + 1) cs
+    if c.separates then nonempty_span start at ++ spans_from (at + 1) (at + 1) cs else spans_from start (at + 1) cs
 
 abbrev pub spans_of : List Cell → List Span
 spans_of cells = spans_from 0 0 cells
 
 -- a text with 0 in place of each of its parts but one
-abbrev pub covers : Span → ℕ → Bool
-covers part at = nat_le part.start at && nat_lt at part.end
+abbrev pub span_covers : Span → ℕ → Bool
+span_covers part at = nat_le part.start at && nat_lt at part.end
 
 abbrev pub zeros_from : Span → Bool → ℕ → List Cell → List ℕ
 zeros_from kept is_new at [] = []
 zeros_from kept is_new at (c ∷ cs) =
-    (if c.separates || covers kept at then c.byte ∷ [] else (if is_new then byte "0" ∷ [] else []))
+    (if c.separates || span_covers kept at then c.byte ∷ [] else (if is_new then byte "0" ∷ [] else []))
     ++ zeros_from kept c.separates (at + 1) cs
 
 abbrev pub with_zeros : Span → List Cell → List ℕ

@@ -4,12 +4,12 @@ ghost use Rattle.std.specs.Prelude.{◌≡◌, ◌==◌, ◌++◌, IfOk, codes, 
 ghost use Rattle.std.specs.Option.{option_map_or};
 ghost use Rattle.std.specs.List.{find};
 ghost use Rattle.cx_look_faults.specs.Commands.{
-  command_of,
-  has_option,
+  command_in_words,
+  has_option_with_bit,
   head_before,
   is_at_fault,
   is_lacking,
-  is_word,
+  operand_has_word,
   lacking,
   lacking_first,
   lacks,
@@ -20,23 +20,23 @@ ghost use Rattle.cx_look_faults.specs.Commands.{
   name_part,
   phrases,
   tried,
-  word_at,
+  word_text_at,
   word_at_fault,
   word_by,
   words_after,
-  words_of,
+  word_spans,
   written_phrase,
 };
 ghost use Rattle.cx_look_faults.specs.Spans.{span};
 
 use crate::judging::has_exec_fault;
-use crate::spans::{Cut, Span, cells_of, spans_of, text_in};
+use crate::spans::{Cut, Span, cells_of, span_text, spans_of};
 use cx_asm_build::SourceKind;
 use cx_base::{Command, CommandOption, Rule};
 use cx_source::trim_blanks;
 use std::alloc::{AllocError, Global};
 
-/// A word of an EXEC statement.
+/// Where a word of an EXEC statement is in its operand.
 #[derive(Clone, Copy, Debug, PartialEq, Eq)]
 pub struct Phrase {
     /// The word.
@@ -46,31 +46,34 @@ pub struct Phrase {
 }
 
 /// The words of an operand.
-pub(crate) fn words_of(alloc: Global, operand: &[u8]) -> Result<Vec<Span>, AllocError>
-    ensures { IfOk result (λ words. words.items ≡ words_of operand.now) }
+pub(crate) fn word_spans(alloc: Global, operand: &[u8]) -> Result<Vec<Span>, AllocError>
+    ensures { IfOk result (λ words. words.items ≡ word_spans operand.now) }
 {
     let cells = cells_of(alloc, Cut::Words, operand)?;
     spans_of(alloc, &cells)
 }
 
 /// The word at a place, empty past the end.
-fn word_at<'a>(operand: &'a [u8], words: &[Span], place: usize) -> &'a [u8]
-    ensures { result.now ≡ word_at operand.now words.now place }
+fn word_text_at<'a>(operand: &'a [u8], words: &[Span], place: usize) -> &'a [u8]
+    ensures { result.now ≡ word_text_at operand.now words.now place }
 {
     match words.get(place) {
-        Some(word) => text_in(*word, operand),
+        Some(word) => span_text(*word, operand),
         None => &[],
     }
 }
 
 /// The command that the words after CICS name, and how many words its name takes.
-pub(crate) fn command_of(operand: &[u8], words: &[Span]) -> Option<(Command, usize)>
-    ensures { result ≡ command_of operand.now words.now }
+pub(crate) fn command_in_words(operand: &[u8], words: &[Span]) -> Option<(Command, usize)>
+    ensures { result ≡ command_in_words operand.now words.now }
 {
-    if word_at(operand, words, 0) != b"CICS".as_slice() {
+    if word_text_at(operand, words, 0) != b"CICS".as_slice() {
         return None;
     }
-    Command::named(word_at(operand, words, 1), word_at(operand, words, 2))
+    Command::named(
+        word_text_at(operand, words, 1),
+        word_text_at(operand, words, 2),
+    )
 }
 
 /// A word, and what follows it up to the next of the operand's.
@@ -131,7 +134,7 @@ fn tried(
     if matches!(kind, SourceKind::UnknownOption | SourceKind::BadArgument) {
         let mut text = head.to_vec(alloc)?;
         text.push(b' ')?;
-        text.extend_from_slice(text_in(full, operand))?;
+        text.extend_from_slice(span_text(full, operand))?;
         return Ok(text);
     }
     let (front, _) = operand.split_at(operand.len().min(full.end));
@@ -258,24 +261,24 @@ pub(crate) fn word_at_fault(
 ) -> Result<Option<Span>, AllocError>
     ensures { IfOk result (λ found. found ≡ word_at_fault kind operand.now) }
 {
-    let words = words_of(alloc, operand)?;
-    let command = command_of(operand, &words);
+    let words = word_spans(alloc, operand)?;
+    let command = command_in_words(operand, &words);
     word_by(alloc, kind, operand, &words, command)
 }
 
 /// Whether a name is one of some words.
-pub(crate) fn is_word(operand: &[u8], words: &[Span], name: &[u8]) -> bool
-    ensures { result ≡ is_word operand.now words.now name.now }
+pub(crate) fn operand_has_word(operand: &[u8], words: &[Span], name: &[u8]) -> bool
+    ensures { result ≡ operand_has_word operand.now words.now name.now }
 {
-    words.iter().any(|word| text_in(*word, operand) == name)
+    words.iter().any(|word| span_text(*word, operand) == name)
 }
 
 /// Whether an option of a bit is given.
-fn has_option(options: &[CommandOption], operand: &[u8], words: &[Span], bit: u8) -> bool
-    ensures { result ≡ has_option options.now operand.now words.now bit }
+fn has_option_with_bit(options: &[CommandOption], operand: &[u8], words: &[Span], bit: u8) -> bool
+    ensures { result ≡ has_option_with_bit options.now operand.now words.now bit }
 {
     options.iter().any(|option| {
-        option.bit == bit && is_word(operand, words, option.name.name().as_bytes())
+        option.bit == bit && operand_has_word(operand, words, option.name.name().as_bytes())
     })
 }
 
@@ -316,7 +319,7 @@ fn lacking(
 ) -> Result<Vec<u8>, AllocError>
     ensures { IfOk result (λ text. text.items ≡ lacking options.now operand.now words.now rule) }
 {
-    let has = |bit: u8| has_option(options, operand, words, bit);
+    let has = |bit: u8| has_option_with_bit(options, operand, words, bit);
     let name = |bit: u8| name_of_bit(options, bit);
     match rule {
         Rule::Together(a, b) if has(a) && !has(b) => name(b).to_vec(alloc),
@@ -354,7 +357,7 @@ fn lacking_first(
 fn is_lacking(operand: &[u8], words: &[Span], option: &CommandOption) -> bool
     ensures { result ≡ is_lacking operand.now words.now option.now }
 {
-    option.required && !is_word(operand, words, option.name.name().as_bytes())
+    option.required && !operand_has_word(operand, words, option.name.name().as_bytes())
 }
 
 /// The first required option that isn't there.
@@ -395,8 +398,8 @@ fn missing_in(
 pub(crate) fn missing(alloc: Global, operand: &[u8]) -> Result<Vec<u8>, AllocError>
     ensures { IfOk result (λ text. text.items ≡ missing operand.now) }
 {
-    let words = words_of(alloc, operand)?;
-    match command_of(operand, &words) {
+    let words = word_spans(alloc, operand)?;
+    match command_in_words(operand, &words) {
         Some((command, last)) => { missing_in(alloc, command, operand, words_after(&words, last)) }
         None => Ok(Vec::new(alloc)),
     }

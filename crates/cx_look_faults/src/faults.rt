@@ -28,12 +28,12 @@ use cx_translate::{TransFault, translate_with_faults};
 use std::alloc::{AllocError, Global};
 use std::collections::BTreeMap;
 
-/// A line that is faulty, and what is wrong with it.
+/// A line that is faulty, and its fault.
 #[derive(Clone, Copy, Debug, PartialEq, Eq)]
 pub struct FaultyLine {
     /// The line's number in the source, counted from 1; of NoEnd it is the one after the last.
     pub line: usize,
-    /// Its fault.
+    /// The one fault of it that is reported.
     pub kind: SourceKind,
 }
 
@@ -180,15 +180,15 @@ fn by_number(alloc: Global, lines: &[FaultyLine]) -> Result<Vec<FaultyLine>, All
 /// order of the numbers. A source that can be prepared has none.
 ///
 /// Four stages find them: of the lines themselves, of the EXEC statements, of the assembler's first pass, and of its
-/// second pass with the size of the text (TooLarge, at END's line alone, where the second pass finds nothing else). Each
-/// goes on after a fault, and the next one takes what it gives in spite of its faults: a line that continues a statement
-/// wrongly begins anew, DS 0H stands for an EXEC statement at fault, a faulty statement of the first pass defines and
-/// takes what is known of it in spite of its fault. Of a line that several stages find at fault the first one's fault
-/// comes, and of that stage the lowest. After an unknown operation outside the control section, which may have been meant
-/// to begin a section, the first BadOperand of the first pass isn't reported, where no section begins between. After a
-/// line with a USING or the beginning of a section that is at fault, and after any faulty line where no control section
-/// begins, NoAddressability isn't reported. The fault that `cx_asm_build::prepare` refuses the source for is one of them.
-/// An error comes only where an allocation failed.
+/// second pass with the size of the text (TooLarge, at END's line alone, where the second pass finds nothing else).
+/// Each goes on after a fault, and the next one takes what it gives in spite of its faults: a line that continues a
+/// statement wrongly begins anew, DS 0H stands for an EXEC statement at fault, a faulty statement of the first pass
+/// defines and takes what is known of it in spite of its fault. Of a line that several stages find at fault the first
+/// one's fault comes, and of that stage the lowest. After an unknown operation outside the control section, which may
+/// have been meant to begin a section, the first BadOperand of the first pass isn't reported, where no section begins
+/// between. After a line with a USING or the beginning of a section that is at fault, and after any faulty line where
+/// no control section begins, NoAddressability isn't reported. The fault that `cx_asm_build::prepare` refuses the
+/// source for is one of them. An error comes only where an allocation failed.
 #[tactic(auto, unfolding(crate::specs::Faults::faults_of))]
 pub fn faults_of(alloc: Global, lines: &[Text]) -> Result<Vec<FaultyLine>, AllocError>
     ensures { IfOk result (λ all. all.items ≡ faults_of lines.now) }

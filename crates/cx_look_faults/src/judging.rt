@@ -11,7 +11,7 @@ ghost use Rattle.cx_asm_operands.specs.Bases.{none_in_use};
 ghost use Rattle.cx_asm_expressions.specs.Expressions.{value_of};
 ghost use Rattle.cx_asm_operations.specs.declared.operations.Operation.TheVariants as operation;
 ghost use Rattle.cx_asm_pass2.specs.Whole.{counter_of, directive_context};
-ghost use Rattle.cx_look_faults.specs.Judging.{exec_source, fault_of_operand, has_exec_fault, has_fault, is_kind, literal_fault, part_context};
+ghost use Rattle.cx_look_faults.specs.Judging.{exec_source, fault_of_operand, has_exec_fault, has_fault, is_kind, made_literal_fault, part_context};
 
 use cx_asm_build::{PrepareFault, SourceKind};
 use cx_asm_expressions::{FaultKind, TermFault, Value, lower, value_of};
@@ -62,9 +62,13 @@ pub(crate) struct Case<'a, 'p, 's> {
 
 impl Case<'_, '_, '_> {
     /// What is wrong with an operand that is a literal, if the last one is.
-    fn literal_fault(&self, alloc: Global, operand: &[u8]) -> Result<Option<FaultKind>, AllocError>
+    fn made_literal_fault(
+        &self,
+        alloc: Global,
+        operand: &[u8],
+    ) -> Result<Option<FaultKind>, AllocError>
         ensures { let c = self.now in
-            IfOk result (λ fault. fault ≡ literal_fault (whole_by c.places.now) c.statement.now operand.now) }
+            IfOk result (λ fault. fault ≡ made_literal_fault (whole_by c.places.now) c.statement.now operand.now) }
     {
         let Some(part) = literal_in(alloc, operand)? else {
             return Ok(None);
@@ -181,7 +185,7 @@ impl Case<'_, '_, '_> {
             ),
             Some(operation) => {
                 let made = self.instruction_fault(alloc, operation, operand)?;
-                let literal = self.literal_fault(alloc, operand)?;
+                let literal = self.made_literal_fault(alloc, operand)?;
                 Ok(lower(made, literal))
             }
         }

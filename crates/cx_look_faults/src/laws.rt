@@ -7,14 +7,16 @@ ghost use Rattle.cx_look_faults.specs.Faults.{faults_of};
 ghost use Rattle.cx_look_faults.specs.Kept.{kept_faults};
 ghost use Rattle.cx_look_faults.specs.Laws.First.{IsAmong};
 
-/// What a source is refused for is the fault of one of them; a source that isn't refused has none, and no other.
+/// The fault for which `cx_asm_build::prepare` refuses a source is that of one of its faulty lines; a source that isn't
+/// refused has no faulty line.
 #[tactic(auto, using(crate::proofs::FirstLemmas::is_among))]
 pub fn what_a_source_is_refused_for_is_among_them()
     ensures { (listing disassembly : Bool) (all : List (List ℕ))
         → IsAmong (result_err (prepared_of listing disassembly all)) (faults_of all) }
 {}
 
-/// It is on one of the first 10,001 lines: so of these lines' faults there is none exactly where the source isn't refused.
+/// The line of that fault is one of the first 10,001; so a source isn't refused exactly where none of these lines is
+/// faulty.
 #[tactic(auto, using(crate::proofs::KeptLemmas::is_among_kept))]
 pub fn what_a_source_is_refused_for_is_kept()
     ensures { (listing disassembly : Bool) (all : List (List ℕ))

@@ -8,7 +8,7 @@ ghost use Rattle.cx_look_faults.specs.Marks.{
   assembler_spot,
   bad_character,
   bad_continuation,
-  bad_name,
+  bad_name_spot,
   byte_at,
   is_border,
   mark_of,
@@ -17,7 +17,7 @@ ghost use Rattle.cx_look_faults.specs.Marks.{
   missing_in_stmt,
   part_found,
   part_in,
-  place_in,
+  place_in_operand,
   spot_by,
   stands_at,
   statement_spot,
@@ -29,10 +29,10 @@ use crate::commands::{missing, word_at_fault};
 use crate::faults::FaultyLine;
 use crate::operands::{OperandPart, operand_parts};
 use crate::positions::{SourceStmt, Spot, columns};
-use crate::spans::{Span, text_in};
+use crate::spans::{Span, span_text};
 use cx_asm_build::SourceKind;
 use cx_ebcdic::to_ebcdic;
-use cx_source::{Item, Text, is_name_character, source_with_faults, trim_blanks};
+use cx_source::{Item, Text, is_symbol_name_character, source_with_faults, trim_blanks};
 use cx_translate::translate_with_faults;
 use std::alloc::{AllocError, Global};
 
@@ -45,9 +45,9 @@ const MARGIN: usize = 15;
 /// The part of a line that is at fault.
 #[derive(Debug, Drop)]
 pub struct Mark {
-    /// Its fault.
+    /// The fault of its line.
     pub kind: SourceKind,
-    /// Where it is.
+    /// Where that part is on its line.
     pub spot: Spot,
     /// The names of what is missing, empty where nothing is.
     pub missing: Text,
@@ -102,8 +102,8 @@ fn bad_continuation(number: usize, line: &[u8]) -> Spot
 }
 
 /// What begins in column 1.
-fn bad_name(number: usize, line: &[u8]) -> Spot
-    ensures { result ≡ bad_name number line.now }
+fn bad_name_spot(number: usize, line: &[u8]) -> Spot
+    ensures { result ≡ bad_name_spot number line.now }
 {
     Spot {
         line: number,
@@ -155,13 +155,13 @@ fn stands_at(text: &[u8], operand: &[u8], at: usize) -> bool
     let (front, _) = rest.split_at(rest.len().min(text.len()));
     is_border(byte_at(operand, at.saturating_sub(1)))
         && front == text
-        && !is_name_character(byte_at(rest, text.len()))
+        && !is_symbol_name_character(byte_at(rest, text.len()))
 }
 
 /// The first place of a text in an argument.
 #[tactic(auto, using(crate::proofs::MarkLemmas::find_next, crate::proofs::MarkLemmas::find_end))]
-fn place_in(text: &[u8], operand: &[u8]) -> Option<usize>
-    ensures value { result ≡ place_in text.now operand.now }
+fn place_in_operand(text: &[u8], operand: &[u8]) -> Option<usize>
+    ensures value { result ≡ place_in_operand text.now operand.now }
     ensures within { IfSome result (λ at. at < length operand.now) }
 {
     for at in 1..operand.len() {
@@ -179,8 +179,8 @@ fn part_in(operand: &[u8], found: &OperandPart) -> Option<Span>
     if operand == found.operand.as_slice() {
         return Some(found.part);
     }
-    let text = text_in(found.part, found.operand.as_slice());
-    let start = place_in(text, operand)?;
+    let text = span_text(found.part, found.operand.as_slice());
+    let start = place_in_operand(text, operand)?;
     Some(Span {
         start,
         end: start + text.len(),
@@ -296,7 +296,7 @@ fn spot_by(
     let number = fault.line;
     match fault.kind {
         SourceKind::BadCharacter => Ok(bad_character(number, line)),
-        SourceKind::BadName => Ok(bad_name(number, line)),
+        SourceKind::BadName => Ok(bad_name_spot(number, line)),
         SourceKind::BadContinuation => Ok(bad_continuation(number, line)),
         SourceKind::TooLong => Ok(too_long(number, line)),
         SourceKind::NoEnd => Ok(Spot {
@@ -377,9 +377,9 @@ fn marks_in(
 /// Of a line that can't be read it is the character without a code, what is in the margin of a continuation line, what
 /// begins in column 1, what is past column 80, or all of a line that comes after too many. Of an EXEC statement it is
 /// the word by which it has the fault, of BadArgument with its argument, and of MissingOption mostly the command's. Of
-/// other statements it is the smallest of these that has the fault by itself: a term, a subfield, an operand; where none
-/// has, all of the operand; else the operation, or of DuplicateSymbol the name. A part that goes on over several lines
-/// counts as far as its first. An error comes only where an allocation failed.
+/// other statements it is the smallest of these that has the fault by itself: a term, a subfield, an operand; where
+/// none has, all of the operand; else the operation, or of DuplicateSymbol the name. A part that goes on over several
+/// lines counts as far as its first. An error comes only where an allocation failed.
 #[tactic(auto, unfolding(crate::specs::Marks::marks_of))]
 pub fn marks_of(
     alloc: Global,

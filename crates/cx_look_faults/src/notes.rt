@@ -11,14 +11,14 @@ ghost use Rattle.cx_asm_pass1.specs.Locations.{IsPlaced, final_state};
 ghost use Rattle.cx_asm_pass2.specs.Whole.{whole_by, whole_of};
 ghost use Rattle.cx_base.specs.Options.{option_name};
 ghost use Rattle.cx_look_faults.specs.Notes.{
-  argument_of,
+  written_argument,
   bare,
   copies_place,
   halfword_literal,
   if_absolute,
   if_literal,
   is_absolute,
-  is_decimal,
+  is_decimal_digit,
   note_of_item,
   note_of_phrase,
   note_on,
@@ -33,14 +33,14 @@ ghost use Rattle.cx_look_faults.specs.Notes.{
   remark_on,
 };
 ghost use Rattle.cx_look_faults.specs.Faults.{kind_at, kinds_of};
-ghost use Rattle.cx_look_faults.specs.Spans.{text_in};
+ghost use Rattle.cx_look_faults.specs.Spans.{span_text};
 
 use crate::commands::{
-    Phrase, command_of, is_word, phrases, words_after, words_of, written_phrase,
+    Phrase, command_in_words, operand_has_word, phrases, word_spans, words_after, written_phrase,
 };
 use crate::faults::{FaultyLine, Kinds, kind_at, kinds_of};
 use crate::positions::{SourceStmt, Spot};
-use crate::spans::{Cut, Span, cells_of, spans_of, text_in};
+use crate::spans::{Cut, Span, cells_of, span_text, spans_of};
 use cx_asm_expressions::{Constant, TermFault, parenthesized_body, value_of};
 use cx_asm_pass1::{Places, place_with_faults};
 use cx_base::{ArgumentKind, CommandOption};
@@ -51,12 +51,12 @@ use std::alloc::{AllocError, Global};
 /// What is said of an item of several copies with `*`.
 const SAME: &[u8] = b" IS THE SAME IN ALL COPIES";
 
-/// Something that is most likely not meant.
+/// Something in a source that has no fault and is most likely not meant.
 #[derive(Debug, Drop)]
 pub struct Note {
-    /// Where it is.
+    /// Where it is on its line.
     pub spot: Spot,
-    /// What is said of it.
+    /// What is written of it.
     pub text: Text,
 }
 
@@ -68,14 +68,14 @@ fn bare(text: &[u8]) -> &[u8]
 }
 
 /// The argument after a word; empty where there is none.
-fn argument_of(operand: &[u8], phrase: Phrase) -> &[u8]
-    ensures { result.now ≡ argument_of operand.now phrase }
+fn written_argument(operand: &[u8], phrase: Phrase) -> &[u8]
+    ensures { result.now ≡ written_argument operand.now phrase }
 {
     let after = Span {
         start: phrase.word.end,
         end: phrase.full.end,
     };
-    match parenthesized_body(bare(text_in(after, operand))) {
+    match parenthesized_body(bare(span_text(after, operand))) {
         Some(body) => bare(body),
         None => &[],
     }
@@ -104,7 +104,7 @@ fn is_literal(text: &[u8]) -> bool
 
 /// Whether a text is digits alone.
 fn is_digits(text: &[u8]) -> bool
-    ensures { result ≡ list_all is_decimal text.now }
+    ensures { result ≡ list_all is_decimal_digit text.now }
 {
     text.iter().all(|c| b'0' <= *c && *c <= b'9')
 }
@@ -234,10 +234,10 @@ impl Arguments<'_, '_> {
             let due = remark_on (whole_by by.places.now) by.rewrites by.options.now operand.now phrase in
             IfOk result (λ said. said ≡ due) }
     {
-        let Some(option) = option_of_word(self.options, text_in(phrase.word, operand)) else {
+        let Some(option) = option_of_word(self.options, span_text(phrase.word, operand)) else {
             return Ok(None);
         };
-        let text = argument_of(operand, phrase);
+        let text = written_argument(operand, phrase);
         remark(alloc, self.places, self.rewrites, text, option.kind)
     }
 }
@@ -253,7 +253,7 @@ fn note_on(
     ensures { let it = found.now in
         IfOk result (λ note. note ≡ note_on it.items.now it.item.now it.stmt.now said.now part) }
 {
-    let text = between(alloc, text_in(part, found.operand()), said, b"")?;
+    let text = between(alloc, span_text(part, found.operand()), said, b"")?;
     Ok(Note {
         spot: found.part_spot(alloc, part)?,
         text: Text::from_vec(text),
@@ -323,14 +323,14 @@ fn notes_of_words(
         OnOk result (notes.new.items ≡ notes.old.items ++ more) }
 {
     let operand = found.operand();
-    let Some((command, last)) = command_of(operand, words) else {
+    let Some((command, last)) = command_in_words(operand, words) else {
         return Ok(());
     };
     let words = words_after(words, last);
     let phrases = phrases(alloc, operand, words)?;
     let arguments = Arguments {
         places,
-        rewrites: is_word(operand, words, b"REWRITE"),
+        rewrites: operand_has_word(operand, words, b"REWRITE"),
         options: command.options(),
     };
     notes_of_phrases(alloc, notes, &arguments, found, &phrases)
@@ -349,11 +349,11 @@ fn copies_of(text: &[u8]) -> u32
 
 /// Whether one of some parts of a text is `*`.
 fn has_place(text: &[u8], terms: &[Span]) -> bool
-    ensures { result ≡ list_any (λ term. bytes_eq (text_in term text.now) (codes "*")) terms.now }
+    ensures { result ≡ list_any (λ term. bytes_eq (span_text term text.now) (codes "*")) terms.now }
 {
     terms
         .iter()
-        .any(|term| text_in(*term, text) == b"*".as_slice())
+        .any(|term| span_text(*term, text) == b"*".as_slice())
 }
 
 /// Whether an item of a DC has several copies, and `*` in each.
@@ -378,7 +378,7 @@ fn note_of_item(
     ensures { let it = found.now in
         IfOk result (λ note. note ≡ note_of_item it.items.now it.item.now it.stmt.now part) }
 {
-    if !copies_place(alloc, text_in(part, found.operand()))? {
+    if !copies_place(alloc, span_text(part, found.operand()))? {
         return Ok(None);
     }
     let note = note_on(alloc, found, SAME, part)?;
@@ -416,7 +416,7 @@ fn notes_of_stmt(
 {
     let operation = found.stmt.operation.as_slice();
     if operation == b"EXEC".as_slice() {
-        let words = words_of(alloc, found.operand())?;
+        let words = word_spans(alloc, found.operand())?;
         notes_of_words(alloc, notes, places, found, &words)?;
         return Ok(());
     }
@@ -466,7 +466,7 @@ fn notes_in(
 }
 
 /// The notes on lines without a fault, where what they are made into is placed.
-#[tactic(auto, using(crate::proofs::WholeLemmas::whole_is))]
+#[tactic(auto, using(cx_asm_pass2::specs::Facts::Whole::whole_is))]
 fn notes_placed(
     alloc: Global,
     made: &Source,
@@ -499,10 +499,10 @@ fn notes_made(
 /// What is most likely not meant on those lines of the source that lines make, given without their ends, that have no
 /// fault; `faults` are its faulty lines.
 ///
-/// In an EXEC statement each argument is an address. So there is a note where a halfword or a byte is due and the argument
-/// is a number, a length attribute or another absolute expression, and where the command writes and it is a literal. In a
-/// DC there is one on an item of several copies with `*`, which is the same in each. The notes are in the order of the
-/// lines. An error comes only where an allocation failed.
+/// In an EXEC statement each argument is an address. So there is a note where a halfword or a byte is due and the
+/// argument is a number, a length attribute or another absolute expression, and where the command writes and it is a
+/// literal. In a DC there is one on an item of several copies with `*`, which is the same in each. The notes are in the
+/// order of the lines. An error comes only where an allocation failed.
 #[tactic(auto, unfolding(crate::specs::Notes::notes_of))]
 pub fn notes_of(
     alloc: Global,

@@ -6,7 +6,7 @@ ghost use Rattle.cx_asm_operands.specs.Forms.{literal_in};
 ghost use Rattle.cx_asm_pass1.specs.Locations.{IsPlaced, final_state};
 ghost use Rattle.cx_asm_pass2.specs.Statements.{statements_of};
 ghost use Rattle.cx_asm_pass2.specs.Whole.{whole_by, whole_of};
-ghost use Rattle.cx_look_faults.specs.Operands.{alone_in, begins_term, constant_part, is_term, last_part, operand_part, part_on, parts_in, smallest_part, whole_part};
+ghost use Rattle.cx_look_faults.specs.Operands.{alone_in, begins_term, constant_part, is_term, last_part, operand_part, part_on, operand_parts_in, smallest_part, whole_part};
 ghost use Rattle.std.specs.Option.{option_or, option_to_list};
 ghost use Rattle.cx_look_faults.specs.Faults.{kind_at, kinds_of};
 ghost use Rattle.cx_look_faults.specs.Parts.Tests.{passes};
@@ -14,7 +14,7 @@ ghost use Rattle.cx_look_faults.specs.Spans.{cells_of, span, spans_of};
 
 use crate::faults::{FaultyLine, Kinds, kind_at, kinds_of};
 use crate::judging::{Case, is_kind};
-use crate::spans::{Cell, Cut, Span, cells_of, spans_of, text_in, with_zeros};
+use crate::spans::{Cell, Cut, Span, cells_of, span_text, spans_of, with_zeros};
 use cx_asm_build::SourceKind;
 use cx_asm_operands::{Bases, literal_in};
 use cx_asm_operations::{Directive, Operation};
@@ -26,11 +26,11 @@ use std::alloc::{AllocError, Global};
 /// A part of an operand that is at fault.
 #[derive(Debug, Drop)]
 pub struct OperandPart {
-    /// The number of its line.
+    /// The number of the statement's line, counted from 1.
     pub line: usize,
     /// The operand.
     pub operand: Text,
-    /// The part.
+    /// Where the part is in the operand.
     pub part: Span,
 }
 
@@ -93,7 +93,7 @@ impl Case<'_, '_, '_> {
         if !begins_term(byte_before(operand, part.start)) {
             return Ok(false);
         }
-        let fault = self.value_fault(alloc, text_in(part, operand))?;
+        let fault = self.value_fault(alloc, span_text(part, operand))?;
         Ok(is_kind(fault, self.kind))
     }
 
@@ -104,7 +104,7 @@ impl Case<'_, '_, '_> {
     {
         match test {
             Test::Alone(cells) => self.has_fault(alloc, &with_zeros(alloc, part, cells)?),
-            Test::Item => self.has_fault(alloc, text_in(part, self.operand())),
+            Test::Item => self.has_fault(alloc, span_text(part, self.operand())),
             Test::Term => self.is_term(alloc, part),
         }
     }
@@ -293,15 +293,15 @@ fn push_part(found: &mut Vec<OperandPart>, part: Option<OperandPart>) -> Result<
 }
 
 /// The parts of statements that are at fault.
-#[tactic(auto, using(std::proofs::lemmas::List::Sums::fold_more), unfolding(crate::specs::Operands::parts_in))]
-fn parts_in(
+#[tactic(auto, using(std::proofs::lemmas::List::Sums::fold_more), unfolding(crate::specs::Operands::operand_parts_in))]
+fn operand_parts_in(
     alloc: Global,
     places: &Places<'_>,
     kinds: &Kinds,
     statements: &[Statement<'_>],
 ) -> Result<Vec<OperandPart>, AllocError>
     ensures { let kind_of = kind_at kinds.now.entries in
-        IfOk result (λ found. found.items ≡ parts_in (whole_by places.now) kind_of statements.now) }
+        IfOk result (λ found. found.items ≡ operand_parts_in (whole_by places.now) kind_of statements.now) }
 {
     let mut bases = Bases::new();
     let mut found = Vec::new(alloc);
@@ -315,7 +315,7 @@ fn parts_in(
 }
 
 /// The parts of a source's statements that are at fault, where it is placed.
-#[tactic(auto, using(crate::proofs::WholeLemmas::whole_is))]
+#[tactic(auto, using(cx_asm_pass2::specs::Facts::Whole::whole_is))]
 fn parts_placed(
     alloc: Global,
     source: &Source,
@@ -324,11 +324,11 @@ fn parts_placed(
 ) -> Result<Vec<OperandPart>, AllocError>
     requires { IsPlaced (final_state source.now) places.now }
     ensures { let kind_of = kind_at kinds.now.entries in let statements = statements_of source.now in
-        IfOk result (λ found. found.items ≡ parts_in (whole_of source.now) kind_of statements) }
+        IfOk result (λ found. found.items ≡ operand_parts_in (whole_of source.now) kind_of statements) }
 {
     let placed = placed_lines(alloc, source, places.statements.as_slice())?;
     let statements = stated(alloc, placed.as_slice())?;
-    parts_in(alloc, places, kinds, statements.as_slice())
+    operand_parts_in(alloc, places, kinds, statements.as_slice())
 }
 
 /// The parts of the statements on a source's faulty lines that are at fault.
@@ -338,7 +338,7 @@ pub(crate) fn operand_parts(
     faults: &[FaultyLine],
 ) -> Result<Vec<OperandPart>, AllocError>
     ensures { IfOk result (λ found. found.items
-        ≡ parts_in (whole_of source.now) (kind_at (kinds_of faults.now)) (statements_of source.now)) }
+        ≡ operand_parts_in (whole_of source.now) (kind_at (kinds_of faults.now)) (statements_of source.now)) }
 {
     let kinds = kinds_of(alloc, faults)?;
     let (places, _) = place_with_faults(alloc, source)?;

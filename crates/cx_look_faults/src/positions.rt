@@ -3,7 +3,7 @@
 ghost use Rattle.std.specs.Prelude.{◌≡◌, ◌≤◌, ◌+◌, ◌-◌, ◌++◌, IfOk, OnOk, drop, length, take};
 ghost use Rattle.std.specs.List.{flat_map, position, prefix_len};
 ghost use Rattle.cx_source.specs.Lines.{columns, is_written};
-ghost use Rattle.cx_look_faults.specs.Marks.{continuations, is_continued_on, name_spot, operand_positions, operation_column, operation_spot, part_or_operation, part_spot, positions_after, spot, spot_at, written_on};
+ghost use Rattle.cx_look_faults.specs.Marks.{continuations, is_continued_on, name_spot, operand_positions, operation_column, operation_spot, part_or_operation, part_spot, positions_after, spot, spot_at, positions_written_on};
 
 use crate::spans::Span;
 use cx_source::{Item, Stmt, is_continued, skip_blanks};
@@ -15,7 +15,7 @@ const LAST: usize = 71;
 /// The column on which a continuation line begins.
 const CONTINUED: usize = 16;
 
-/// A part of a line.
+/// A part of a line, all of it in one piece.
 #[derive(Clone, Copy, Debug, PartialEq, Eq)]
 pub struct Spot {
     /// The line's number in the source, counted from 1.
@@ -49,9 +49,9 @@ pub(crate) fn columns(text: &[u8], first: usize, last: usize) -> &[u8]
 }
 
 /// Adds the characters of a line from a column on.
-#[tactic(auto, unfolding(crate::specs::Marks::written_on))]
+#[tactic(auto, unfolding(crate::specs::Marks::positions_written_on))]
 fn push_written(positions: &mut Vec<Position>, first: usize, item: &Item) -> Result<(), AllocError>
-    ensures { OnOk result (positions.new.items ≡ positions.old.items ++ written_on first item.now) }
+    ensures { OnOk result (positions.new.items ≡ positions.old.items ++ positions_written_on first item.now) }
 {
     let text = columns(item.text.as_slice(), first, LAST);
     let mut column = first;
@@ -94,7 +94,7 @@ fn continuations<'a>(item: &Item, after: &'a [Item]) -> &'a [Item]
 
 /// Adds the characters of lines that continue one.
 fn push_continued(positions: &mut Vec<Position>, items: &[Item]) -> Result<(), AllocError>
-    ensures { OnOk result (positions.new.items ≡ positions.old.items ++ flat_map (written_on 16) items.now) }
+    ensures { OnOk result (positions.new.items ≡ positions.old.items ++ flat_map (positions_written_on 16) items.now) }
 {
     for item in items {
         push_written(positions, CONTINUED, item)?;

@@ -3,12 +3,12 @@
 ghost use Rattle.std.specs.Prelude.{◌≡◌, ◌≤◌, ◌<◌, ◌+◌, ◌++◌, ◌^◌, IfOk, OnOk, drop, false, option_map, slice_get, take, true, unwrap_or};
 ghost use Rattle.cx_source.specs.Marks.{outside_apostrophes};
 ghost use Rattle.cx_translate.specs.Pieces.{depth_after};
-ghost use Rattle.cx_look_faults.specs.Spans.{cell, cells_from, cells_of, covers, separates, span, spans_from, spans_of, text_in, with_zeros, written, zeros_from};
+ghost use Rattle.cx_look_faults.specs.Spans.{cell, cells_from, cells_of, span_covers, separates, span, spans_from, spans_of, span_text, with_zeros, nonempty_span, zeros_from};
 
 use cx_source::outside;
 use std::alloc::{AllocError, Global};
 
-/// Where a text is cut into parts.
+/// Where the text of an operand is cut into parts.
 #[derive(Clone, Copy, Debug, PartialEq, Eq)]
 pub enum Cut {
     /// Where no word of an EXEC is: at blanks and parentheses, and in parentheses.
@@ -96,7 +96,7 @@ pub(crate) fn cells_of(alloc: Global, cut: Cut, text: &[u8]) -> Result<Vec<Cell>
 
 /// Adds a part that isn't empty.
 fn push_written(spans: &mut Vec<Span>, start: usize, end: usize) -> Result<(), AllocError>
-    ensures { OnOk result (spans.new.items ≡ spans.old.items ++ written start end) }
+    ensures { OnOk result (spans.new.items ≡ spans.old.items ++ nonempty_span start end) }
 {
     if start < end {
         spans.push(Span { start, end })?;
@@ -121,8 +121,8 @@ pub(crate) fn spans_of(alloc: Global, cells: &[Cell]) -> Result<Vec<Span>, Alloc
 }
 
 /// Whether a place is in a part.
-fn covers(span: Span, at: usize) -> bool
-    ensures { result ≡ covers span at }
+fn span_covers(span: Span, at: usize) -> bool
+    ensures { result ≡ span_covers span at }
 {
     span.start <= at && at < span.end
 }
@@ -134,7 +134,7 @@ pub(crate) fn with_zeros(alloc: Global, kept: Span, cells: &[Cell]) -> Result<Ve
     let mut text = Vec::new(alloc);
     let mut is_new = true;
     for (i, cell) in cells.iter().enumerate() {
-        if cell.separates || covers(kept, i) {
+        if cell.separates || span_covers(kept, i) {
             text.push(cell.byte)?;
         } else if is_new {
             text.push(b'0')?;
@@ -145,8 +145,8 @@ pub(crate) fn with_zeros(alloc: Global, kept: Span, cells: &[Cell]) -> Result<Ve
 }
 
 /// The text of a part.
-pub(crate) fn text_in(span: Span, text: &[u8]) -> &[u8]
-    ensures { result.now ≡ text_in span text.now }
+pub(crate) fn span_text(span: Span, text: &[u8]) -> &[u8]
+    ensures { result.now ≡ span_text span text.now }
 {
     let (front, _) = text.split_at(text.len().min(span.end));
     let (_, part) = front.split_at(front.len().min(span.start));

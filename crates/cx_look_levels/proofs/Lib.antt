@@ -2,5 +2,4 @@ pub mod AddLemmas
 pub mod LevelLemmas
 pub mod FieldLemmas
 pub mod KeptLemmas
-pub mod PlaceLemmas
 pub mod NearestLemmas

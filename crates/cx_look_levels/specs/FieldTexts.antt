@@ -60,8 +60,8 @@ abbrev pub standing_at : RegionState → List ℕ → Option ℕ → Option Stan
 standing_at region term k = option_and_then (λ task. standing_in region.shared.programs task k) (task_of region term)
 
 -- the program of a level, in whose source its names are
-abbrev pub program_at : RegionState → List ℕ → Option ℕ → Option (List ℕ)
-program_at region term k = option_map (λ standing. standing.program) (standing_at region term k)
+abbrev pub level_program : RegionState → List ℕ → Option ℕ → Option (List ℕ)
+level_program region term k = option_map (λ standing. standing.program) (standing_at region term k)
 
 unfoldable pub field_text : RegionState → List (List ℕ) → List ℕ → List ℕ → Option ℕ → Lines
 field_text region lines term name k =

@@ -19,9 +19,9 @@ use Rattle.cx_asm_pass1.specs.PassState.{is_control}
 use Rattle.cx_asm_pass2.specs.SecondFaults.{bases_after}
 use Rattle.cx_asm_pass2.specs.Statements.{PlacedStatement, statements_of}
 use Rattle.cx_asm_pass2.specs.Whole.{Whole, whole_of}
-use Rattle.cx_look_symbols.specs.Lines.{holds}
+use Rattle.cx_look_symbols.specs.Lines.{has_offset}
 use Rattle.cx_look_symbols.specs.Places.{spot_before, spot_of}
-use Rattle.cx_look_symbols.specs.Statements.{place_of}
+use Rattle.cx_look_symbols.specs.Statements.{statement_place_of}
 use Rattle.cx_look_symbols.specs.declared.places.Spot.{Spot}
 use Rattle.cx_look_levels.specs.Levels.{resume_address}
 use Rattle.cx_look_levels.specs.declared.fields.Field.{Field}
@@ -59,7 +59,7 @@ own_offset standing =
 
 -- ---- the bases in use in front of the statement that has the byte at an offset
 abbrev pub stands_at : Whole → ℕ → PlacedStatement → Bool
-stands_at whole offset s = option_map_or (holds offset) (place_of whole.control s) false
+stands_at whole offset s = option_map_or (has_offset offset) (statement_place_of whole.control s) false
 
 unfoldable pub bases_at : Whole → ℕ → Bases → List PlacedStatement → Option Bases
 bases_at whole offset bases [] = None

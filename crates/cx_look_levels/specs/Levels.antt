@@ -23,7 +23,7 @@ use Rattle.cx_base.specs.Digits.{digits}
 use Rattle.cx_base.specs.Texts.{shown_name}
 use Rattle.cx_look_tables.specs.Words.{look_line, Lines}
 use Rattle.cx_look_symbols.specs.Lines.{SourcePlaces}
-use Rattle.cx_look_symbols.specs.Places.{address_word, place_of, place_word, spot_before}
+use Rattle.cx_look_symbols.specs.Places.{address_word, place_at_address, place_word, spot_before}
 use Rattle.cx_look_symbols.specs.Sources.{Sources, statement_at}
 
 -- a line of a level, with its number
@@ -50,7 +50,7 @@ unfoldable pub level_line : SharedState → ℕ → Level → Lines
 level_line shared k level =
     level_words (level_number k)
     (codes "PROGRAM" ∷ shown_name level.program ∷ codes "R14"
-    ∷ address_word (place_of shared.programs (resume_address level))
+    ∷ address_word (place_at_address shared.programs (resume_address level))
     ∷ codes "DFHEISTG" ∷ digits 16 6 level.stg ∷ codes "LENGTH" ∷ digits 16 6 level.stg_len ∷ codes "DFHEICAP"
     ∷ cap_word shared.storage level
     ∷ codes "EIBCALEN" ∷ digits 16 4 level.calen ∷ codes "PUSHED" ∷ digits 10 2 (length level.handles.kept) ∷ [])
@@ -71,7 +71,8 @@ ignore_line number condition = level_words number (codes "IGNORE" ∷ (entry_of 
 
 abbrev pub label_line : SourcePlaces → List (List ℕ × Loaded) → List ℕ → Condition → ℕ → Lines
 label_line sources programs number condition label =
-    level_words number (codes "HANDLE" ∷ (entry_of condition).name ∷ place_word sources (place_of programs label) ∷ [])
+    level_words number
+    (codes "HANDLE" ∷ (entry_of condition).name ∷ place_word sources (place_at_address programs label) ∷ [])
 
 abbrev pub handle_line : SourcePlaces → List (List ℕ × Loaded) → List ℕ → Condition → Handler → Lines
 handle_line sources programs number condition entry.NoEntry = []
@@ -85,7 +86,7 @@ handle_lines sources programs number entries conditions =
 -- ---- the exit, and whether it is on
 abbrev pub exit_words : SourcePlaces → List (List ℕ × Loaded) → List ℕ → ℕ → List ℕ → Lines
 exit_words sources programs number label state =
-    level_words number (codes "EXIT" ∷ place_word sources (place_of programs label) ∷ state ∷ [])
+    level_words number (codes "EXIT" ∷ place_word sources (place_at_address programs label) ∷ state ∷ [])
 
 abbrev pub exit_line : SourcePlaces → List (List ℕ × Loaded) → List ℕ → Exit → Lines
 exit_line sources programs number exit.NoExit = []

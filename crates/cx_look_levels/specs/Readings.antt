@@ -6,7 +6,7 @@ use Rattle.std.specs.Result.{result_ok}
 use Rattle.cx_source.specs.declared.source.Source.{Source}
 use Rattle.cx_source.specs.declared.source.Stmt.{Stmt}
 use Rattle.cx_asm_expressions.specs.Items.{Constant, constant_in, length_of}
-use Rattle.cx_asm_expressions.specs.Kinds.{row_of}
+use Rattle.cx_asm_expressions.specs.Kinds.{row_of_kind}
 use Rattle.cx_asm_expressions.specs.Names.{is_same}
 use Rattle.cx_asm_expressions.specs.declared.kinds.ConstantKind.{ConstantKind}
 use Rattle.cx_asm_expressions.specs.declared.kinds.ConstantKind.TheVariants.{Character, Fullword, Halfword}
@@ -27,7 +27,8 @@ reading_by Character is_one = Some Zoned
 reading_by _ is_one = None
 
 abbrev pub reading_of_item : Constant → Option Reading
-reading_of_item item = reading_by item.kind (length_of item == unwrap_or item.modifier (row_of item.kind).alignment)
+reading_of_item item =
+    reading_by item.kind (length_of item == unwrap_or item.modifier (row_of_kind item.kind).alignment)
 
 -- that of the first item of a DS or a DC
 abbrev pub reading_first : Role → Option (List ℕ) → Option Reading

@@ -7,7 +7,7 @@ use Rattle.cx_program.specs.Levels.{all_levels}
 use Rattle.cx_region_state.specs.Call.{Call, call_of}
 use Rattle.cx_region_state.specs.declared.call.CallFault.{CallFault}
 use Rattle.cx_region_state.specs.State.{SharedState, TaskState}
-use Rattle.cx_region_task.specs.Performing.{list_of}
+use Rattle.cx_region_task.specs.Performing.{argument_list}
 use Rattle.cx_region.specs.State.{RegionState}
 use Rattle.cx_region.specs.Tables.{task_of}
 use Rattle.cx_base.specs.Digits.{digits}
@@ -15,7 +15,7 @@ use Rattle.cx_base.specs.Texts.{shown_name}
 use Rattle.cx_look_tables.specs.Registers.{register_lines}
 use Rattle.cx_look_tables.specs.Words.{look_line, Lines}
 use Rattle.cx_look_symbols.specs.Lines.{SourcePlaces}
-use Rattle.cx_look_symbols.specs.Places.{place_of, place_word}
+use Rattle.cx_look_symbols.specs.Places.{place_at_address, place_word}
 use Rattle.cx_look_symbols.specs.Sources.{Sources}
 use Rattle.cx_look_levels.specs.Levels.{levels_text}
 
@@ -26,7 +26,7 @@ called_name (Ok call) = (row_of call.command).name
 called_name (Err fault) = codes "?"
 
 unfoldable pub due_word : Storage → TaskState → List ℕ
-due_word s task = if task.due then codes "DUE " ++ called_name (call_of s (list_of task)) else codes "RUNNING"
+due_word s task = if task.due then codes "DUE " ++ called_name (call_of s (argument_list task)) else codes "RUNNING"
 
 unfoldable pub task_words : List ℕ → TaskState → List ℕ → Lines
 task_words name task due =
@@ -41,7 +41,8 @@ task_line shared name task = task_words name task (due_word shared.storage task)
 unfoldable pub cc_next_line : SourcePlaces → SharedState → TaskState → Lines
 cc_next_line sources shared task =
     look_line
-    (codes "CC" ∷ digits 10 1 task.cc ∷ codes "NEXT" ∷ place_word sources (place_of shared.programs task.next) ∷ [])
+    (codes "CC" ∷ digits 10 1 task.cc ∷ codes "NEXT" ∷ place_word sources (place_at_address shared.programs task.next)
+    ∷ [])
 
 -- ---- all, with its registers, and its levels from the highest, which is number 1
 abbrev pub task_lines_of : Sources → SharedState → List ℕ → TaskState → Lines

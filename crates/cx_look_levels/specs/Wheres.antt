@@ -10,7 +10,7 @@ use Rattle.cx_region.specs.State.{RegionState, TerminalState}
 use Rattle.cx_base.specs.Digits.{digits}
 use Rattle.cx_base.specs.Texts.{shown_name}
 use Rattle.cx_look_tables.specs.Words.{look_line, written_name, Lines}
-use Rattle.cx_look_symbols.specs.Places.{address_word, place_of}
+use Rattle.cx_look_symbols.specs.Places.{address_word, place_at_address}
 use Rattle.cx_look_symbols.specs.Sources.{Sources, led_by, source_lines, statement_at}
 use Rattle.cx_look_symbols.specs.declared.places.Place.{Place}
 use Rattle.cx_look_symbols.specs.declared.places.Spot.{Spot}
@@ -69,6 +69,6 @@ terminal_field_lines programs sources address (term, terminal) =
 -- ---- all: the place, the area that has the byte, and the fields that have it
 unfoldable pub where_text : Sources → RegionState → ℕ → Lines
 where_text sources region address =
-    place_lines sources (place_of region.shared.programs address)
+    place_lines sources (place_at_address region.shared.programs address)
     ++ flat_map (met_line region address) (filter (is_met address 1) (areas_of region.shared.storage))
     ++ flat_map (terminal_field_lines region.shared.programs sources address) region.terminals

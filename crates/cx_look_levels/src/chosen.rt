@@ -86,8 +86,8 @@ impl<'a, S: Store> LevelFields<'a, S> {
         reached.chosen_rows(report, wanted)
     }
 
-    /// Adds the lines of those fields of a source's dummy sections that have one of some names and that a base reaches where the level stands,
-    /// as `fields_text` writes them, in the order of the source.
+    /// Adds the lines of those fields of a source's dummy sections that have one of some names and that a base reaches
+    /// where the level stands, as `fields_text` writes them, in the order of the source.
     ///
     /// An error comes only where memory was refused; then some of them may be there.
     pub fn chosen_fields(

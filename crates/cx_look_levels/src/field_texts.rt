@@ -4,7 +4,7 @@ ghost use Rattle.std.specs.List.{flat_map};
 ghost use Rattle.cx_asm_pass1.specs.Locations.{IsPlaced, final_state};
 ghost use Rattle.cx_storage.specs.Storage.{span};
 ghost use Rattle.cx_base.specs.Texts.{shown_name};
-ghost use Rattle.cx_look_levels.specs.FieldTexts.{field_bytes_word, field_line, field_text, field_there, field_words, fields_text, fields_there, no_field, program_at, symbol_field_line, source_field_lines, standing_at, typed_in};
+ghost use Rattle.cx_look_levels.specs.FieldTexts.{field_bytes_word, field_line, field_text, field_there, field_words, fields_text, fields_there, no_field, level_program, symbol_field_line, source_field_lines, standing_at, typed_in};
 
 use crate::fields::{
     Field, SourcePoint, TypedField, bases_at_offset, field_by, field_in, is_field,
@@ -126,8 +126,8 @@ fn no_field(alloc: Global, term: Name4, name: Name8) -> Result<Report, AllocErro
     Ok(report)
 }
 
-/// Where a level of a terminal's task stands: the level of a number, 1 being the highest, or without one the current level; None where
-/// there is no such level. It takes no memory.
+/// Where a level of a terminal's task stands: the level of a number, 1 being the highest, or without one the current
+/// level; None where there is no such level. It takes no memory.
 pub fn standing_at<S: Store + Drop>(
     region: &Region<S>,
     term: Name4,
@@ -139,10 +139,14 @@ pub fn standing_at<S: Store + Drop>(
     standing_in(&region.shared().programs, task, k)
 }
 
-/// The program of a level of a terminal's task: of its number, 1 being the highest, or without one of the current level; None where there is
-/// no such level. It takes no memory.
-pub fn program_at<S: Store + Drop>(region: &Region<S>, term: Name4, k: Option<u8>) -> Option<Name8>
-    ensures { result ≡ program_at region.now term k }
+/// The program of a level of a terminal's task: of its number, 1 being the highest, or without one of the current
+/// level; None where there is no such level. It takes no memory.
+pub fn level_program<S: Store + Drop>(
+    region: &Region<S>,
+    term: Name4,
+    k: Option<u8>,
+) -> Option<Name8>
+    ensures { result ≡ level_program region.now term k }
 {
     let standing = standing_at(region, term, k)?;
     Some(standing.program)
@@ -156,7 +160,7 @@ fn typed_in(
     name: Name8,
 ) -> Result<Option<TypedField>, AllocError>
     ensures value { IfOk result (λ field. field ≡ typed_in source.now at.entry.regs.now at.entry.offset name) }
-    ensures short { IfOk result (λ field. IfSome field (λ it. it.field.address < 2 ^ 24)) }
+    ensures below_2_24 { IfOk result (λ field. IfSome field (λ it. it.field.address < 2 ^ 24)) }
 {
     let Some(field) = field_in(alloc, source, at, name)? else {
         return Ok(None);
@@ -174,7 +178,7 @@ fn field_there(
     standing: &Standing,
 ) -> Result<Option<TypedField>, AllocError>
     ensures value { IfOk result (λ field. field ≡ field_there lines.now name standing.now) }
-    ensures short { IfOk result (λ field. IfSome field (λ it. it.field.address < 2 ^ 24)) }
+    ensures below_2_24 { IfOk result (λ field. IfSome field (λ it. it.field.address < 2 ^ 24)) }
 {
     let Some(offset) = standing.offset() else {
         return Ok(None);
@@ -189,7 +193,9 @@ fn field_there(
     typed_in(alloc, &source, at, name)
 }
 
-/// The field of a name, where there is such a level and it stands at a statement of its source, which has these lines.
+/// The field of a name, at an address below 2^24, of a level whose program's source has these lines; None where there
+/// is no such level, it isn't at a statement of its source, no base in use reaches the field, or the source has no such
+/// symbol.
 ///
 /// An error comes only where memory was refused.
 pub fn field_at(
@@ -199,7 +205,7 @@ pub fn field_at(
     standing: Option<Standing>,
 ) -> Result<Option<TypedField>, AllocError>
     ensures value { IfOk result (λ field. field ≡ option_and_then (field_there lines.now name) standing) }
-    ensures short { IfOk result (λ field. IfSome field (λ it. it.field.address < 2 ^ 24)) }
+    ensures below_2_24 { IfOk result (λ field. IfSome field (λ it. it.field.address < 2 ^ 24)) }
 {
     match standing {
         Some(standing) => field_there(alloc, lines, name, &standing),
@@ -207,10 +213,22 @@ pub fn field_at(
     }
 }
 
-/// Looks at a field of a level of a terminal's task: the level of a number, 1 being the highest, or without one the current level, whose
-/// program's source has these lines. A line with the field's address, by the base that the assembler would choose for it at the level's
-/// statement, its length attribute, its first bytes, and the number that they are; NONE where there is no such level, it isn't at a statement of its source, no base
-/// in use reaches the field, or the source has no such symbol.
+/// What a look at a field asks.
+#[derive(Clone, Copy)]
+pub struct FieldLook {
+    /// The terminal, whose task has the level.
+    pub term: Name4,
+    /// The field's name.
+    pub name: Name8,
+    /// The level's number, 1 being the highest; without one it is the current level.
+    pub k: Option<u8>,
+}
+
+/// Looks at a field of a level of a terminal's task: the level of a number, 1 being the highest, or without one the
+/// current level, whose program's source has these lines. A line with the field's address, by the base that the
+/// assembler would choose for it at the level's statement, its length attribute, its first 32 bytes or fewer, and the
+/// number that they are; NONE where there is no such level, it isn't at a statement of its source, no base in use
+/// reaches the field, or the source has no such symbol.
 ///
 /// An error comes only where memory was refused.
 #[tactic(auto, unfolding(crate::specs::FieldTexts::field_text))]
@@ -218,18 +236,22 @@ pub fn field_text<S: Store + Drop>(
     alloc: Global,
     region: &Region<S>,
     lines: &[Text],
-    term: Name4,
-    name: Name8,
-    k: Option<u8>,
+    look: FieldLook,
 ) -> Result<Report, AllocError>
-    ensures { IfOk result (λ report. report ≡ field_text region.now lines.now term name k) }
+    ensures { IfOk result (λ report. report ≡ field_text region.now lines.now look.term look.name look.k) }
 {
-    let standing = standing_at(region, term, k);
-    let Some(field) = field_at(alloc, lines, name, standing)? else {
-        return no_field(alloc, term, name);
+    let standing = standing_at(region, look.term, look.k);
+    let Some(field) = field_at(alloc, lines, look.name, standing)? else {
+        return no_field(alloc, look.term, look.name);
     };
     let mut report = Report::new(alloc);
-    field_line(&mut report, &region.shared().store, term, name, field)?;
+    field_line(
+        &mut report,
+        &region.shared().store,
+        look.term,
+        look.name,
+        field,
+    )?;
     Ok(report)
 }
 
@@ -285,7 +307,8 @@ impl<'a, S: Store> ReachedFields<'a, S> {
     }
 }
 
-/// What the fields of a level are written by: storage, the terminal that is written, and where the level stands in its source.
+/// What the fields of a level are written by: storage, the terminal that is written, and where the level stands in its
+/// source.
 #[derive(Drop)]
 pub struct LevelFields<'a, S: Store> {
     pub store: &'a S,
@@ -363,7 +386,7 @@ fn fields_there<S: Store>(
     level.source_field_lines(report, &source)
 }
 
-/// The words that a look at all fields begins with.
+/// The words that the line of a look at all fields begins with: FIELDS and the terminal.
 ///
 /// An error comes only where memory for them was refused.
 pub fn fields_word(alloc: Global, term: Name4) -> Result<Vec<u8>, AllocError>
@@ -375,8 +398,8 @@ pub fn fields_word(alloc: Global, term: Name4) -> Result<Vec<u8>, AllocError>
     Ok(word)
 }
 
-/// Looks at all fields of a level of a terminal's task, as `field_text` does at one: those of the source's dummy sections that a base reaches,
-/// in the order of the source; NONE where there is none.
+/// Looks at all fields of a level of a terminal's task, as `field_text` does at one: those of the source's dummy
+/// sections that a base reaches, in the order of the source; NONE where there is none.
 ///
 /// An error comes only where memory was refused.
 #[tactic(auto, unfolding(crate::specs::FieldTexts::fields_text))]

@@ -12,11 +12,11 @@ use cx_asm_operands::{Address, Bases};
 use cx_asm_pass1::{Places, place_all};
 use cx_asm_pass2::{Statement, control_name, pass_bases, placed_lines, stated};
 use cx_ebcdic::Name8;
-use cx_look_symbols::{holds, is_control, statement_place};
+use cx_look_symbols::{has_offset, is_control, statement_place};
 use cx_source::Source;
 use std::alloc::{AllocError, Global};
 
-/// A field: the address of its first byte, and its length.
+/// A field: the address of its first byte, and its length attribute, in bytes.
 #[derive(Clone, Copy, Debug, PartialEq, Eq)]
 pub struct Field {
     pub address: u32,
@@ -30,7 +30,8 @@ pub struct TypedField {
     pub reading: Option<Reading>,
 }
 
-/// Where a level stands in its source: the registers it has there, and the offset in the control section.
+/// Where a level stands in its source: the registers that it has there, and the offset in the control section, in
+/// bytes.
 #[derive(Clone, Copy)]
 pub struct SourcePoint<'a> {
     pub regs: &'a [u32; 16],
@@ -47,7 +48,7 @@ fn stands_at(
     ensures { IfOk result (λ is_there. is_there ≡ stands_at (whole_by places.now) offset statement.now) }
 {
     match statement_place(alloc, control_name(places), statement)? {
-        Some(place) => Ok(holds(&place, offset)),
+        Some(place) => Ok(has_offset(&place, offset)),
         None => Ok(false),
     }
 }
@@ -72,11 +73,11 @@ fn bases_at(
     Ok(None)
 }
 
-/// The bases in use in a source in front of the statement that has the byte at an offset of its control section; None where no statement has
-/// it. `places` is where everything of the source is.
+/// The bases in use in a source in front of the statement that has the byte at an offset of its control section; None
+/// where no statement has it. `places` is where everything of the source is.
 ///
 /// An error comes only where memory was refused.
-#[tactic(auto, using(cx_look_symbols::specs::Facts::Whole::whole_is))]
+#[tactic(auto, using(cx_asm_pass2::specs::Facts::Whole::whole_is))]
 pub fn bases_at_offset(
     alloc: Global,
     source: &Source,
@@ -105,17 +106,18 @@ fn address_part(regs: &[u32; 16], register: u8) -> u32
 #[tactic(auto, unfolding(cx_exec::specs::Machine::effective))]
 fn effective(regs: &[u32; 16], at: Address) -> u32
     ensures value { result ≡ effective regs.now 0 at.base at.displacement }
-    ensures short { result < 2 ^ 24 }
+    ensures below_2_24 { result < 2 ^ 24 }
 {
     let base = address_part(regs, at.base);
     base.wrapping_add(u32::from(at.displacement)) % 0x100_0000
 }
 
-/// A value's address by the base that the assembler chooses for it, and its length; None where no base in use reaches it. It takes no memory.
+/// The address of a value, below 2^24, by the base that the assembler chooses for it and what that register holds, and
+/// its length; None where the assembler finds no address for it. It takes no memory.
 #[tactic(auto, unfolding(crate::specs::Fields::field_by))]
 pub fn field_by(regs: &[u32; 16], bases: &Bases, value: Value) -> Option<Field>
     ensures value { result ≡ field_by regs.now bases.now value }
-    ensures short { IfSome result (λ field. field.address < 2 ^ 24) }
+    ensures below_2_24 { IfSome result (λ field. field.address < 2 ^ 24) }
 {
     let length = value.length;
     let implied = bases.implied_address(value);
@@ -127,7 +129,7 @@ pub fn field_by(regs: &[u32; 16], bases: &Bases, value: Value) -> Option<Field>
 }
 
 /// The field of a symbol of a source that is placed.
-#[tactic(auto, using(cx_look_symbols::specs::Facts::Whole::whole_is))]
+#[tactic(auto, using(cx_asm_pass2::specs::Facts::Whole::whole_is))]
 fn field_placed(
     alloc: Global,
     source: &Source,
@@ -138,7 +140,7 @@ fn field_placed(
     requires fault { (final_state source.now).fault ≡ None }
     requires placed { IsPlaced (final_state source.now) places.now }
     ensures value { IfOk result (λ field. field ≡ field_in source.now at.entry.regs.now at.entry.offset name) }
-    ensures short { IfOk result (λ field. IfSome field (λ it. it.address < 2 ^ 24)) }
+    ensures below_2_24 { IfOk result (λ field. IfSome field (λ it. it.address < 2 ^ 24)) }
 {
     let Some(bases) = bases_at_offset(alloc, source, places, at.offset)? else {
         return Ok(None);
@@ -157,7 +159,7 @@ pub(crate) fn field_in(
     name: Name8,
 ) -> Result<Option<Field>, AllocError>
     ensures value { IfOk result (λ field. field ≡ field_in source.now at.entry.regs.now at.entry.offset name) }
-    ensures short { IfOk result (λ field. IfSome field (λ it. it.address < 2 ^ 24)) }
+    ensures below_2_24 { IfOk result (λ field. IfSome field (λ it. it.address < 2 ^ 24)) }
 {
     match place_all(alloc, source)? {
         Ok(places) => field_placed(alloc, source, &places, at, name),

@@ -36,7 +36,8 @@ fn after(bytes: &[u8], place: usize) -> &[u8]
     bytes.split_at(place.min(bytes.len())).1
 }
 
-/// The first bytes in hexadecimal digits and in characters, and the number that they are; hyphens where one of them isn't there.
+/// The first bytes in hexadecimal digits and in characters, and the number that they are; hyphens where one of them
+/// isn't there.
 fn first_word(
     alloc: Global,
     bytes: &[u8],
@@ -128,8 +129,9 @@ impl<'a> KeptStorage<'a> {
     }
 }
 
-/// Adds a line for each field of the working storage of a source with these lines, in the order of the source, by the bytes of that storage that
-/// were kept, the first of which was at an address: as `fields_text` has it. A field that isn't all in them has hyphens for its bytes.
+/// Adds a line for each field of the working storage of a source with these lines, in the order of the source, by the
+/// bytes of that storage that were kept, the first of which was at an address: as `fields_text` has it. A field that
+/// isn't all in them has hyphens for its bytes. There are at most 65,520 bytes.
 ///
 /// An error comes only where memory was refused.
 #[tactic(auto, unfolding(crate::specs::KeptFields::kept_fields))]

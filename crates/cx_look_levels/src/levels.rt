@@ -9,7 +9,7 @@ use cx_base::{Condition, EistgField, List, decimal, hexadecimal, shown_name};
 use cx_ebcdic::Name8;
 use cx_load::Loaded;
 use cx_look_symbols::{
-    SourcePlaces, Sources, address_word, place_of, place_word, spot_before, statement_at,
+    SourcePlaces, Sources, address_word, place_at_address, place_word, spot_before, statement_at,
 };
 use cx_look_tables::Report;
 use cx_program::{Entries, Exit, Handler, Handling, Level, LevelStack};
@@ -41,7 +41,7 @@ fn level_line<S: Store + Drop>(
     let alloc = report.alloc();
     let number = decimal::<2>(k);
     let program = shown_name(alloc, level.program)?;
-    let goes_on = place_of(&shared.programs, address_in(level.regs[14]));
+    let goes_on = place_at_address(&shared.programs, address_in(level.regs[14]));
     let place = address_word(alloc, &goes_on)?;
     let stg = hexadecimal::<6>(level.stg);
     let len = hexadecimal::<6>(level.stg_len);
@@ -86,7 +86,8 @@ fn if_stated(report: &mut Report, k: u32, command: &Option<List<u8>>) -> Result<
     }
 }
 
-/// Adds the line of a level's last command, by the byte before the place where it goes on: the last one of the command's EXEC.
+/// Adds the line of a level's last command, by the byte before the place where it goes on: the last one of the
+/// command's EXEC.
 #[tactic(auto, unfolding(crate::specs::Levels::last_command_line))]
 fn last_command_line(
     report: &mut Report,
@@ -158,7 +159,7 @@ impl LevelHandles<'_> {
         let place = place_word(
             report.alloc(),
             self.sources,
-            &place_of(self.programs, label),
+            &place_at_address(self.programs, label),
         )?;
         report.line(&[b"LEVEL", &number, b"HANDLE", name, &place])
     }
@@ -205,7 +206,7 @@ impl LevelHandles<'_> {
         let place = place_word(
             report.alloc(),
             self.sources,
-            &place_of(self.programs, label),
+            &place_at_address(self.programs, label),
         )?;
         report.line(&[b"LEVEL", &number, b"EXIT", &place, state])
     }

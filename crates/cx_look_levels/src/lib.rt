@@ -19,7 +19,8 @@ mod texts;
 mod wheres;
 
 pub use field_texts::{
-    LevelFields, field_at, field_text, fields_text, fields_word, program_at, standing_at,
+    FieldLook, LevelFields, field_at, field_text, fields_text, fields_word, level_program,
+    standing_at,
 };
 pub use fields::{Field, SourcePoint, TypedField, bases_at_offset, field_by, is_field};
 pub use kept::kept_fields;

@@ -49,7 +49,8 @@ fn push_near(nears: &mut Vec<Near>, near: Option<Near>) -> Result<(), AllocError
     Ok(())
 }
 
-/// What the fields of a level are found by: its registers, the bases in use at its statement, and the names of its source.
+/// What the fields of a level are found by: its registers, the bases in use at its statement, and the names of its
+/// source.
 #[derive(Drop)]
 pub struct LevelNames {
     regs: [u32; 16],
@@ -93,8 +94,8 @@ impl LevelNames {
         Ok(nears)
     }
 
-    /// The field that has the byte at an address: of several the one that begins last, and of those that begin together the one that is
-    /// defined first; None where no field has it.
+    /// The field that has the byte at an address: of several the one that begins last, and of those that begin together
+    /// the one that is defined first; None where no field has it.
     ///
     /// An error comes only where memory was refused.
     pub fn nearest(&self, alloc: Global, address: u32) -> Result<Option<Near>, AllocError>
@@ -141,8 +142,8 @@ fn names_in(
     }
 }
 
-/// What the fields of a level are found by, whose program's source has these lines: the source is placed once, for any number of addresses. None
-/// where the level isn't at a statement of its source.
+/// What the fields of a level are found by, whose program's source has these lines: the source is placed once, for any
+/// number of addresses. None where the level isn't at a statement of its source.
 ///
 /// An error comes only where memory was refused.
 pub fn level_names(

@@ -5,7 +5,7 @@ ghost use Rattle.cx_look_levels.specs.Nearest.{nearer_symbol, nearest};
 
 use cx_ebcdic::Name8;
 
-/// A name, and how many bytes an address is after it.
+/// A name, and how many bytes an address is after its first byte.
 #[derive(Clone, Copy, Debug, PartialEq, Eq)]
 pub struct Near {
     pub name: Name8,

@@ -79,8 +79,8 @@ fn decimal_with_sign(digits: &[u8], sign: u8) -> Option<i128>
 
 /// The number of packed bytes.
 fn packed_number(alloc: Global, bytes: &[u8]) -> Result<Option<i128>, AllocError>
-    requires some { 1 ≤ length bytes.now }
-    requires few { length bytes.now ≤ 16 }
+    requires nonempty { 1 ≤ length bytes.now }
+    requires at_most_16 { length bytes.now ≤ 16 }
     ensures { IfOk result (λ number. number ≡ packed_number bytes.now) }
 {
     let halves = halves(alloc, bytes)?;
@@ -90,8 +90,8 @@ fn packed_number(alloc: Global, bytes: &[u8]) -> Result<Option<i128>, AllocError
 
 /// The number of zoned bytes.
 fn zoned_number(alloc: Global, bytes: &[u8]) -> Result<Option<i128>, AllocError>
-    requires some { 1 ≤ length bytes.now }
-    requires few { length bytes.now ≤ 16 }
+    requires nonempty { 1 ≤ length bytes.now }
+    requires at_most_16 { length bytes.now ≤ 16 }
     ensures { IfOk result (λ number. number ≡ zoned_number bytes.now) }
 {
     let (front, last) = bytes.split_at(bytes.len() - 1);
@@ -104,8 +104,8 @@ fn zoned_number(alloc: Global, bytes: &[u8]) -> Result<Option<i128>, AllocError>
 
 /// The number that 1 to 16 bytes are.
 fn number_by(alloc: Global, reading: Reading, bytes: &[u8]) -> Result<Option<i128>, AllocError>
-    requires some { 1 ≤ length bytes.now }
-    requires few { length bytes.now ≤ 16 }
+    requires nonempty { 1 ≤ length bytes.now }
+    requires at_most_16 { length bytes.now ≤ 16 }
     ensures { IfOk result (λ number. number ≡ number_by reading bytes.now) }
 {
     match reading {

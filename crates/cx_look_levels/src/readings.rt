@@ -2,7 +2,7 @@
 ghost use Rattle.std.specs.Prelude.{◌≡◌, ◌==◌, ◌++◌, [], IfOk, OnOk, Some, map, option_and_then, option_map, slice_get, unwrap_or};
 ghost use Rattle.std.specs.List.{cons_option, find};
 ghost use Rattle.cx_asm_expressions.specs.Items.{length_of};
-ghost use Rattle.cx_asm_expressions.specs.Kinds.{row_of};
+ghost use Rattle.cx_asm_expressions.specs.Kinds.{row_of_kind};
 ghost use Rattle.cx_asm_pass1.specs.PassState.{parts_in, role_in};
 ghost use Rattle.cx_asm_pass1.specs.declared.roles.Role.TheVariants.{Storage};
 ghost use Rattle.cx_look_levels.specs.Readings.{reading_by, reading_first, reading_in, reading_named, reading_of_item, readings_of};
@@ -16,7 +16,7 @@ use std::alloc::{AllocError, Global};
 /// How bytes are read as a number.
 #[derive(Clone, Copy, Debug, PartialEq, Eq)]
 pub enum Reading {
-    /// In binary digits, in two's complement.
+    /// As a binary number, in two's complement.
     Binary,
     /// As a packed decimal.
     Packed,
@@ -27,9 +27,9 @@ pub enum Reading {
 /// How the bytes of a name are read.
 #[derive(Clone, Copy, Debug, PartialEq, Eq)]
 pub struct NamedReading {
-    /// The name.
+    /// The name of the DS or DC.
     pub name: Name8,
-    /// How its bytes are read.
+    /// How the bytes there are read.
     pub reading: Reading,
 }
 
@@ -49,7 +49,7 @@ fn reading_by(kind: ConstantKind, is_one: bool) -> Option<Reading>
 
 /// The length of an item without a value.
 fn plain_length(item: &Constant<'_>) -> u128
-    ensures { result ≡ unwrap_or item.now.modifier (row_of item.now.kind).alignment }
+    ensures { result ≡ unwrap_or item.now.modifier (row_of_kind item.now.kind).alignment }
 {
     match item.modifier() {
         Some(modifier) => u128::from(modifier),
@@ -126,8 +126,8 @@ fn push_reading(
     Ok(())
 }
 
-/// How the bytes of a source's fields are read, by their names: those of the DS and DC whose first item is a number or characters, in the
-/// source's order.
+/// How the bytes of a source's fields are read, by their names: those of the DS and DC whose first item is a number or
+/// characters, in the source's order.
 ///
 /// An error comes only where memory was refused.
 #[tactic(auto, using(crate::proofs::AddLemmas::added_before))]
@@ -141,7 +141,7 @@ pub fn readings_of(alloc: Global, source: &Source) -> Result<Vec<NamedReading>, 
     Ok(readings)
 }
 
-/// How the bytes of a name are read, by the first of it; None where there is none. It takes no memory.
+/// How the bytes of a name are read, by the first of `readings` that is of it; None where none is. It takes no memory.
 pub fn reading_named(readings: &[NamedReading], name: Name8) -> Option<Reading>
     ensures { result ≡ reading_named readings.now name }
 {

@@ -5,13 +5,14 @@ ghost use Rattle.cx_look_levels.specs.Fields.{calling, current, level_numbered, 
 
 use cx_ebcdic::Name8;
 use cx_load::Loaded;
-use cx_look_symbols::{Spot, place_of, spot_before};
+use cx_look_symbols::{Spot, place_at_address, spot_before};
 use cx_program::{Level, LevelStack};
 use cx_region_state::Task;
 use cx_storage::address_in;
 use indexmap::IndexMap;
 
-/// Where a level stands: its program, its registers, and a byte of the statement that it is at, if a program has that byte.
+/// Where a level stands: its program, its registers, and a byte of the statement that it is at, if a program has that
+/// byte.
 #[derive(Clone, Copy, Debug, PartialEq, Eq)]
 pub struct Standing {
     pub program: Name8,
@@ -20,7 +21,7 @@ pub struct Standing {
 }
 
 impl Standing {
-    /// The offset in the level's own program; None where it is in no program or another one.
+    /// The offset of that byte in the level's program, in bytes; None where no program has it, or another one.
     pub fn offset(&self) -> Option<u32>
         ensures { result ≡ own_offset self.now }
     {
@@ -51,7 +52,7 @@ fn spot_now(programs: &IndexMap<Name8, Loaded>, task: &Task) -> Option<Spot>
     if task.due {
         spot_before(programs, address_in(task.cpu.regs[14]))
     } else {
-        place_of(programs, task.cpu.next).spot
+        place_at_address(programs, task.cpu.next).spot
     }
 }
 
@@ -89,8 +90,8 @@ fn level_numbered(programs: &IndexMap<Name8, Loaded>, task: &Task, k: u8) -> Opt
     calling_at(programs, &task.levels, k.saturating_sub(1))
 }
 
-/// Where the level of a number stands, 1 being the highest, or without one the current level; None where there is no such level. It takes no
-/// memory.
+/// Where the level of a number stands, 1 being the highest, or without one the current level; None where there is no
+/// such level. It takes no memory.
 #[tactic(auto, unfolding(crate::specs::Fields::standing_in))]
 pub fn standing_in(
     programs: &IndexMap<Name8, Loaded>,

@@ -7,7 +7,7 @@ ghost use Rattle.cx_look_levels.specs.Tasks.{due_word, no_task_line, cc_next_lin
 use crate::levels::levels_text;
 use cx_base::{decimal, shown_name};
 use cx_ebcdic::Name4;
-use cx_look_symbols::{SourcePlaces, Sources, place_of, place_word};
+use cx_look_symbols::{SourcePlaces, Sources, place_at_address, place_word};
 use cx_look_tables::{Report, register_lines};
 use cx_region::Region;
 use cx_region_state::{Shared, Task, read_call};
@@ -65,7 +65,7 @@ fn cc_next_line<S: Store + Drop>(
     ensures { OnOk result (report.new ≡ report.old ++ cc_next_line sources.now.entries shared.now task.now) }
 {
     let cc = decimal::<1>(u32::from(task.cpu.cc));
-    let place = place_of(&shared.programs, task.cpu.next);
+    let place = place_at_address(&shared.programs, task.cpu.next);
     let place = place_word(report.alloc(), sources, &place)?;
     report.line(&[b"CC", &cc, b"NEXT", &place])
 }
@@ -104,7 +104,8 @@ pub(crate) fn task_of<S: Store + Drop>(region: &Region<S>, name: Name4) -> Optio
 
 /// Looks at the task of a terminal: its line, its registers, its condition code and next address, and the lines of each
 /// level, the highest first; NONE where there is no task, or no such terminal. A place in a program that a source
-/// defined is shown with the line of the statement whose bytes hold it, and a level's last command with that line's text.
+/// defined is shown with the line of the statement whose bytes hold it, and a level's last command with that line's
+/// text.
 ///
 /// An error comes only where memory for the report was refused.
 #[tactic(auto, unfolding(crate::specs::Tasks::task_text))]

@@ -37,8 +37,8 @@ fn number_text(alloc: Global, reading: Reading, bytes: &[u8]) -> Result<Vec<u8>,
     Ok(text)
 }
 
-/// The number that a field's bytes are, after the words that say how they are read; nothing where they are none, or how they are read
-/// isn't known.
+/// The number that a field's bytes are, after the words that say how they are read; empty where the bytes are no such
+/// number, or how they are read isn't known.
 ///
 /// An error comes only where memory for the text was refused.
 #[tactic(auto, unfolding(crate::specs::Texts::value_text))]

@@ -11,14 +11,16 @@ use cx_base::{decimal, hexadecimal, shown_name};
 use cx_ebcdic::{Name4, Name8};
 use cx_load::Loaded;
 use cx_look_storage::met_lines;
-use cx_look_symbols::{Place, Sources, Spot, address_word, place_of, push_led_by, statement_at};
+use cx_look_symbols::{
+    Place, Sources, Spot, address_word, place_at_address, push_led_by, statement_at,
+};
 use cx_look_tables::{Report, written_name};
 use cx_region::{Region, Task, Terminal};
 use cx_storage::Store;
 use indexmap::IndexMap;
 use std::alloc::{AllocError, Global};
 
-/// A name between apostrophes, and how far after its first byte, in hexadecimal digits.
+/// A name between apostrophes, a plus, and how many bytes after its first one, in six hexadecimal digits.
 ///
 /// An error comes only where memory for them was refused.
 pub fn near_word(alloc: Global, near: Near) -> Result<Vec<u8>, AllocError>
@@ -186,9 +188,9 @@ fn place_lines(report: &mut Report, sources: &Sources, place: &Place) -> Result<
 }
 
 /// Looks at an address: the program that has it, with its offset in that, and in a program that a source defined the
-/// line of the statement that has its byte, and the nearest label at it or before it; the area that has its byte; and for
-/// each level of each task, the highest level first, the field that has the byte, where one has it, which begins last, and
-/// of those that begin together is defined first.
+/// line of the statement that has its byte, and the nearest label at it or before it; the area that has its byte; and
+/// for each level of each task, the highest level first, the field that has the byte, where one has it, which begins
+/// last, and of those that begin together is defined first.
 ///
 /// An error comes only where memory was refused.
 #[tactic(auto, unfolding(crate::specs::Wheres::where_text))]
@@ -202,7 +204,7 @@ pub fn where_text<S: Store + Drop>(
 {
     let mut report = Report::new(alloc);
     let programs = &region.shared().programs;
-    place_lines(&mut report, sources, &place_of(programs, address))?;
+    place_lines(&mut report, sources, &place_at_address(programs, address))?;
     met_lines(&mut report, region, address, 1)?;
     let sought = SoughtAddress {
         address,

@@ -14,7 +14,7 @@ use Rattle.cx_orders.specs.Laws.{IsOrder}
 use Rattle.cx_orders.specs.Moves.{KeyMoves, TurnMoves, keys_of}
 use Rattle.cx_orders.specs.declared.states.KeyLine.{KeyLine}
 use Rattle.cx_orders.specs.declared.states.OrdersState.{OrdersState}
-use Rattle.cx_look_orders.specs.Laws.{IsRunOf, StepsAreRuns, event_at, event_of}
+use Rattle.cx_look_orders.specs.Laws.{IsRunOf, StepsAreRuns, event_at, event_of_step}
 use Rattle.cx_look_orders.specs.Steps.{AreSteps}
 use Rattle.cx_look_orders.specs.declared.steps.Step.{Step}
 use Rattle.cx_look_orders.proofs.ListLemmas.{mapped_item}
@@ -27,7 +27,7 @@ module _ (turned : TurnsKeepToTheirTask) (keyed : KeysKeepToTheirTerminal) (keys
   record Does (from : OrdersState) (step : Step) (to : OrdersState) : Type 0 where
     what : Event
     answer : Reply
-    is : event_of (names from) keys step ≡ Some what
+    is : event_of_step (names from) keys step ≡ Some what
     order : IsOrder what
     applies : Applies from.region what answer to.region
     same : names to ≡ names from
@@ -64,8 +64,8 @@ module _ (turned : TurnsKeepToTheirTask) (keyed : KeysKeepToTheirTerminal) (keys
   run_on from between to step steps one rest = record {
     events = one.what ∷ rest.events;
     replies = one.answer ∷ rest.replies;
-    are = ap (λ e. e ∷ map (event_of (names from) keys) steps) one.is
-        ∙ ap (λ es. Some one.what ∷ es) (ap (λ ns. map (event_of ns keys) steps) (sym one.same) ∙ rest.are);
+    are = ap (λ e. e ∷ map (event_of_step (names from) keys) steps) one.is
+        ∙ ap (λ es. Some one.what ∷ es) (ap (λ ns. map (event_of_step ns keys) steps) (sym one.same) ∙ rest.are);
     orders = (one.order, rest.orders);
     run = (between.region, one.applies, rest.run);
   }

@@ -41,14 +41,14 @@ event_at keys name (Some came) =
     option_map (λ (key : KeyLine). event.Key name key.aid key.bytes) (slice_get (keys_of keys name) came)
 
 -- the event that a step is, where the terminals have those names
-abbrev pub event_of : List (List ℕ) → List KeyLine → Step → Option Event
-event_of names keys step = option_and_then (λ name. event_at keys name step.key) (slice_get names step.number)
+abbrev pub event_of_step : List (List ℕ) → List KeyLine → Step → Option Event
+event_of_step names keys step = option_and_then (λ name. event_at keys name step.key) (slice_get names step.number)
 
 -- a run of the events that steps are, each a turn or a key
 pub record IsRunOf (keys : List KeyLine) (from : OrdersState) (steps : List Step) (to : OrdersState) : Type 0 where
   pub events : List Event
   pub replies : List Reply
-  pub are : map (event_of (names_of from.region.terminals) keys) steps ≡ map Some events
+  pub are : map (event_of_step (names_of from.region.terminals) keys) steps ≡ map Some events
   pub orders : AllByRecursion IsOrder events
   pub run : Run from.region events replies to.region
 

@@ -10,7 +10,7 @@ use cx_region_laws::laws::{a_key_keeps_to_its_terminal, a_turn_keeps_to_its_task
 use cx_search::laws::one_list_is_sooner;
 use cx_storage::Store;
 
-/// One text is written of a region, and no two of its outcomes have one text.
+/// ORDERS writes one text of a region, and no two of its outcomes have one text.
 pub fn reports_decide<S: Store + Drop, V: Seen<S>>()
     ensures decide { (seen : V) (keys : List KeyLine) → ReportsDecide (V.shows seen) keys }
     ensures once { (seen : V) (keys : List KeyLine) → TextsStandOnce (V.shows seen) keys }
@@ -21,12 +21,12 @@ pub fn reports_decide<S: Store + Drop, V: Seen<S>>()
     one_list_is_sooner();
 }
 
-/// Moves without an end are written of exactly where there are lists of moves of any length.
+/// ORDERS writes that some orders never rest exactly where there are lists of moves of any length.
 pub fn loops_are_endless()
     ensures { (keys : List KeyLine) → LoopsAreEndless keys }
 {}
 
-/// Steps lead the region as the run of their turns and keys does.
+/// Steps lead a region where the run of their turns and keys leads it, without EDF.
 pub fn steps_are_runs()
     ensures { StepsAreRuns }
 {
@@ -34,7 +34,8 @@ pub fn steps_are_runs()
     a_key_keeps_to_its_terminal();
 }
 
-/// The lines of a script ask for its steps, one after another: each for a key, or for 1 to 4,096 turns in a row.
+/// The lines that ORDERS writes of steps ask for these, one after another: each line for a key, or for 1 to 4,096 turns
+/// in a row.
 pub fn scripts_ask_for_steps()
     ensures { ScriptsAskForSteps }
 {}

@@ -86,8 +86,8 @@ fn outcomes_lines<S: Store + Drop>(
     Ok(())
 }
 
-/// The steps that lead first to a state that is come to again from itself; `None` where no list of moves is longer than some number.
-/// After a whole search.
+/// The steps that lead first to a state that is come to again from itself; `None` where no list of moves is longer than
+/// some number. After a whole search.
 ///
 /// An error comes only where memory was refused.
 fn loop_of<S: Store + Drop>(
@@ -245,9 +245,10 @@ fn cut_report<S: Store + Drop>(
     Ok(report)
 }
 
-/// What is written of every order of a region's turns and the keys of `orders`, of at most so many states: how many states can be
-/// come to and how many outcomes there are; of each outcome what is to be seen, and a script that leads there; and whether some
-/// orders never rest, and some can't. The script begins with a line that ends EDF at each of the terminals `edf`.
+/// What is written of every order of a region's turns and the keys of `orders`, of at most `most` states, 1 or more:
+/// how many states can be come to and how many outcomes there are; of each outcome what is to be seen, and a script
+/// that leads there; and whether some orders never rest, and some can't. The script begins with a line that ends EDF at
+/// each of the terminals `edf`.
 ///
 /// An error comes only where memory was refused.
 pub fn orders_text<S: Store + Drop, V: Seen<S>>(

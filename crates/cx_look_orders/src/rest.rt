@@ -169,10 +169,10 @@ fn keys_text<S: Store + Drop>(
     Ok(())
 }
 
-/// What is written of a state at rest: a line `ABENDS` with the terminal and the code of each abend that ended a task on the way,
-/// a line `ANSWERS` with the terminal and the answer of each key that was neither answered Attached nor Given, the line of each
-/// terminal whose task waits, a line `KEYS` with each terminal of which keys couldn't come and how many, and what is to be seen.
-/// The region is at that state.
+/// What is written of a state at rest: a line `ABENDS` with the terminal and the code of each abend that ended a task
+/// on the way, a line `ANSWERS` with the terminal and the answer of each key that was neither answered Attached nor
+/// Given, the line of each terminal whose task waits, a line `KEYS` with each terminal of which keys couldn't come and
+/// how many, and what is to be seen. The region is at that state.
 ///
 /// An error comes only where memory was refused.
 pub fn rest_text<S: Store + Drop, V: Seen<S>>(

@@ -15,7 +15,7 @@ use cx_region::Region;
 use cx_storage::Store;
 use std::alloc::AllocError;
 
-/// Turns of the terminal with that number, so many in a row.
+/// Turns in a row of one terminal: its number, from 0, in the order of their definition, and how many there are.
 #[derive(Clone, Copy, Debug)]
 pub struct Row {
     pub number: usize,
@@ -35,7 +35,7 @@ fn row_goes_on(row: Option<Row>, step: Step) -> bool
 /// How many turns stand in a row before a step that goes on with it.
 fn many_before(row: Option<Row>, step: Step) -> usize
     ensures is { result ≡ many_before row step }
-    ensures few { result < 4096 }
+    ensures below_4096 { result < 4096 }
 {
     let Some(row) = row else {
         return 0;

@@ -9,9 +9,9 @@ use cx_region::Region;
 use cx_storage::Store;
 use std::alloc::{AllocError, Global};
 
-/// What is to be seen of a region.
+/// What is to be seen of a region, as lines.
 pub trait Seen<S: Store + Drop> {
-    /// These lines show a region.
+    /// Which lines show a region.
     ghost shows: { Self → RegionState → Lines → Type 0 };
 
     /// The lines that show a region.
@@ -20,7 +20,7 @@ pub trait Seen<S: Store + Drop> {
     fn seen(&self, alloc: Global, region: &Region<S>) -> Result<Report, AllocError>
         ensures { IfOk result (λ report. shows self.now region.now report) };
 
-    /// No other lines show it.
+    /// A law: lines that show a region are the only ones that do.
     fn shows_decide(&self)
         ensures { (region : RegionState) (one other : Lines)
             → shows self.now region one → shows self.now region other → one ≡ other };

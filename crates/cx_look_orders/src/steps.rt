@@ -16,16 +16,16 @@ use cx_search::{Found, Space};
 use cx_storage::Store;
 use std::alloc::{AllocError, Global};
 
-/// A move of the terminal with that number, in the order of their definition, from 0: its key before which so many of its keys
-/// came, or a turn.
+/// A move of a terminal: its number, from 0, in the order of their definition, and of a key how many of its keys came
+/// before; None of a turn.
 #[derive(Clone, Copy, Debug)]
 pub struct Step {
     pub number: usize,
     pub key: Option<usize>,
 }
 
-/// How many keys of a terminal had come before one that came between, by how many of each terminal came before and after; `None`
-/// where none did.
+/// How many keys of a terminal had come before one that came between, by how many of each terminal came before and
+/// after; `None` where none did.
 fn came_between(before: &[usize], after: &[usize], number: usize) -> Option<usize>
     ensures { result ≡ came_between before.now after.now number }
 {

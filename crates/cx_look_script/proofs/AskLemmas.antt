@@ -1,5 +1,5 @@
 -- The lines of a script of ORDERS are read, and ask for the events that its steps are.
-use Rattle.std.proofs.Common.{◌≡◌, ℕ, zero, suc, ◌+◌, ◌≤◌, true, Option, Some, None, List, [], ◌∷◌, ◌++◌, codes, length, map, nat_le, arith, ap, refl, sym, subst, ◌∙◌, append-nil, cond, length-append}
+use Rattle.std.proofs.Common.{◌≡◌, ℕ, zero, suc, ◌≤◌, true, Option, Some, None, List, [], ◌∷◌, ◌++◌, codes, length, map, nat_le, arith, ap, refl, sym, subst, ◌∙◌, append-nil, cond, length-append}
 use Rattle.std.specs.Prelude.{drop, option_map, replicate, slice_get, unwrap_or}
 use Rattle.std.specs.Char.{is_ascii_digit, to_ascii_uppercase}
 use Rattle.std.specs.Fmt.{decimal}
@@ -12,7 +12,7 @@ use Rattle.std.proofs.lemmas.List.{map-append}
 use Rattle.std.proofs.lemmas.Option.{none-some, same_Some}
 use Rattle.cx_base.specs.Texts.{shown_name}
 use Rattle.cx_ebcdic.specs.Facts.Names.{is_name-decides}
-use Rattle.cx_ebcdic.specs.Names.{is_name, is_name_character, padded_name}
+use Rattle.cx_ebcdic.specs.Names.{is_name_character, padded_name}
 use Rattle.cx_edf.specs.declared.answers.EdfEvent.{EdfEvent}
 use Rattle.cx_edf.specs.declared.answers.EdfEvent.TheVariants as edf_event
 use Rattle.cx_region.specs.State.{RegionState, TerminalState}
@@ -20,7 +20,6 @@ use Rattle.cx_region.specs.declared.replies.Event.{Event}
 use Rattle.cx_region.specs.declared.replies.Event.TheVariants as event
 use Rattle.cx_script_actions.specs.Actions.{edf_switch, line_asked_for, line_of, switch_of}
 use Rattle.cx_script_actions.specs.Words.{after_first_blank, word}
-use Rattle.cx_script_actions.specs.declared.actions.Action.{Action}
 use Rattle.cx_script_actions.specs.declared.actions.Action.TheVariants as edf_action
 use Rattle.cx_script_actions.specs.declared.actions.Line.{Line}
 use Rattle.cx_script_actions.specs.declared.actions.Line.TheVariants as line
@@ -28,10 +27,10 @@ use Rattle.cx_orders.specs.Facts.Keys.{is_of_terminal, of_terminal}
 use Rattle.cx_orders.specs.Moves.{keys_of}
 use Rattle.cx_orders.specs.declared.states.KeyLine.{KeyLine}
 use Rattle.cx_look.specs.Laws.{IsAskedByItsLine}
-use Rattle.cx_look.specs.Looks.{count_of, subject_of}
+use Rattle.cx_look.specs.Looks.{count_up_to, subject_of}
 use Rattle.cx_look.specs.declared.look.Subject.TheVariants as subject
-use Rattle.cx_look_tables.specs.Words.{Lines, line_of as words_line, look_line}
-use Rattle.cx_look_orders.specs.Laws.{IsStepAsked, ScriptsAskForSteps, asked_lines, asked_steps, event_at, event_of}
+use Rattle.cx_look_tables.specs.Words.{Lines, joined_line as words_line, look_line}
+use Rattle.cx_look_orders.specs.Laws.{IsStepAsked, ScriptsAskForSteps, asked_lines, asked_steps, event_at, event_of_step}
 use Rattle.cx_look_orders.specs.Rest.{terminal_name_at}
 use Rattle.cx_look_orders.specs.Script.{key_at, off_line, script_lines, steps_lines}
 use Rattle.cx_look_orders.specs.declared.steps.Step.{Step}
@@ -52,12 +51,12 @@ three_words : (first second third : List ℕ) → words_line (first ∷ second �
 three_words first second third = ap (λ l. first ++ 32 ∷ (second ++ 32 ∷ l)) (append-nil third)
 
 run_asks : (name text digits : List ℕ) (n : ℕ) → padded_name 4 text ≡ Some name → list_all is_in_word text ≡ true → list_all is_in_word digits ≡ true
-    → count_of 4096 digits ≡ Some n → run_of (text ++ 32 ∷ digits) ≡ Some (action.Run name n stop.Never)
+    → count_up_to 4096 digits ≡ Some n → run_of (text ++ 32 ∷ digits) ≡ Some (action.Run name n stop.Never)
 run_asks name text digits n spells one other is =
     ap (λ w. option_and_then (λ nm. turns_of nm (after_first_blank (text ++ 32 ∷ digits))) (padded_name 4 w)) (word_of text digits one)
     ∙ ap (λ rest. option_and_then (λ nm. turns_of nm rest) (padded_name 4 text)) (after_of text digits one)
     ∙ ap (λ o. option_and_then (λ nm. turns_of nm (Some digits)) o) spells
-    ∙ ap (λ w. option_map_or (λ k. run_with name k (after_first_blank digits)) (count_of 4096 w) (run_with name 1000 (Some digits))) (word_alone digits other)
+    ∙ ap (λ w. option_map_or (λ k. run_with name k (after_first_blank digits)) (count_up_to 4096 w) (run_with name 1000 (Some digits))) (word_alone digits other)
     ∙ ap (λ o. option_map_or (λ k. run_with name k (after_first_blank digits)) o (run_with name 1000 (Some digits))) is
     ∙ ap (λ rest. run_with name n rest) (after_alone digits other)
 
@@ -85,7 +84,7 @@ unfolding subject_of
 run_subject = refl
 
 run_line : (number : ℕ) (name text digits : List ℕ) (n : ℕ) → padded_name 4 text ≡ Some name → IsShownAs text name
-    → list_all is_ascii_digit digits ≡ true → length digits ≤ 5 → count_of 4096 digits ≡ Some n
+    → list_all is_ascii_digit digits ≡ true → length digits ≤ 5 → count_up_to 4096 digits ≡ Some n
     → own_line number (three (codes "RUN") text digits) ≡ Some (line.Action (action.Run name n stop.Never))
 unfolding own_line
 run_line number name text digits n spells it all few is =
@@ -289,13 +288,13 @@ module _ (itself : ShownAsItself) (region : RegionState) (keys : List KeyLine) (
   named_asks number key many what (Some name) few at is = step_asks number key many what name few (terminal_of region number name all at) is
 
   all_ask : (asked : List (Step × ℕ)) (events : List Event) → AllByRecursion IsStepAsked asked
-      → map (event_of names keys) (flat_map asked_steps asked) ≡ map Some events
+      → map (event_of_step names keys) (flat_map asked_steps asked) ≡ map Some events
       → AskForEvents (flat_map (asked_lines region keys) asked) (map edf_event.Plain events)
   all_ask [] [] each e = ask_nothing
   all_ask [] (what ∷ events) each e = absurd (none-some (Some what) (ap (λ l. slice_get l 0) e))
   all_ask ((step, zero) ∷ asked) events each e = absurd (omega (arith, each.0.0))
   all_ask ((step, suc many) ∷ asked) events each e =
-      let it = split_off (event_of names keys) step many (flat_map asked_steps asked) events e in
+      let it = split_off (event_of_step names keys) step many (flat_map asked_steps asked) events e in
       subst (λ es. AskForEvents (asked_lines region keys (step, suc many) ++ flat_map (asked_lines region keys) asked) es)
       (sym (ap (λ es. map edf_event.Plain es) it.whole ∙ map-append edf_event.Plain (replicate (suc many) it.what) it.others))
       (ask_both (asked_lines region keys (step, suc many)) (flat_map (asked_lines region keys) asked) (map edf_event.Plain (replicate (suc many) it.what)) (map edf_event.Plain it.others)
@@ -305,6 +304,6 @@ pub scripts_ask : ShownAsItself → ScriptsAskForSteps → ScriptsAskForEvents
 unfolding script_lines
 scripts_ask itself scripts region keys edf steps events all offs read are =
     let it = scripts region keys steps in
-    let lines = all_ask itself region keys all read it.asked events it.each (ap (λ ss. map (event_of (names_of region.terminals) keys) ss) it.done ∙ are) in
+    let lines = all_ask itself region keys all read it.asked events it.each (ap (λ ss. map (event_of_step (names_of region.terminals) keys) ss) it.done ∙ are) in
     ask_both (flat_map off_line edf) (steps_lines region keys None steps) (map edf_event.Off edf) (map edf_event.Plain events) (offs_ask itself edf offs)
     (subst (λ ls. AskForEvents ls (map edf_event.Plain events)) (sym it.written) lines)

@@ -9,7 +9,7 @@ use Rattle.cx_region.specs.declared.replies.Event.TheVariants as event
 use Rattle.cx_script_actions.specs.Actions.{line_asked_for, display_line, event_line, is_blank_or_comment, key_with_text, line_of, source_line, switch_of, edf_switch, wanted_of}
 use Rattle.cx_script_actions.specs.Alterations.{change_of}
 use Rattle.cx_script_actions.specs.Language.{edf_language}
-use Rattle.cx_script_actions.specs.Words.{after_first_blank, hex_bytes, number_of, two_words, word}
+use Rattle.cx_script_actions.specs.Words.{after_first_blank, hex_bytes, number_with_digits, two_words, word}
 use Rattle.cx_script_actions.specs.declared.actions.Action.{Action}
 use Rattle.cx_script_actions.specs.declared.actions.Action.TheVariants as action
 use Rattle.cx_script_actions.specs.declared.actions.Line.{Line}
@@ -54,16 +54,16 @@ source_plain name rest = mapped (λ wanted. line.Source name wanted) (wanted_of 
 
 display_plain : (name : List ℕ) (back : Option (List ℕ)) → IfSome (display_line name back) IsPlainLine
 display_plain name None = tt
-display_plain name (Some back) = mapped (λ k. line.Action (action.Previous name k)) (number_of 1 1 back) (λ k. tt)
+display_plain name (Some back) = mapped (λ k. line.Action (action.Previous name k)) (number_with_digits 1 1 back) (λ k. tt)
 
 asked_plain : (verb text : List ℕ) → IfSome (line_asked_for verb text) IsPlainLine
 unfolding line_asked_for
 asked_plain verb text =
-    either (bytes_eq verb (codes "IMAGE")) _ _ (paired line.Image (padded_name 8) (number_of 1 9) text (λ name length. tt))
+    either (bytes_eq verb (codes "IMAGE")) _ _ (paired line.Image (padded_name 8) (number_with_digits 1 9) text (λ name length. tt))
     (either (bytes_eq verb (codes "SOURCE")) _ _ (chained (λ name. source_line name (after_first_blank text)) (padded_name 8 (word text)) (λ name. source_plain name (after_first_blank text)))
     (either (bytes_eq verb (codes "TRANSACTION")) _ _ (paired (λ t p. event_line (event.Transaction t p)) (padded_name 4) (padded_name 8) text (λ t p. tt))
     (either (bytes_eq verb (codes "TERMINAL")) _ _ (mapped (λ name. event_line (event.Terminal name)) (padded_name 4 text) (λ name. tt))
-    (either (bytes_eq verb (codes "CLOCK")) _ _ (paired (λ t d. event_line (event.Clock t d)) (number_of 6 6) (number_of 5 5) text (λ t d. tt))
+    (either (bytes_eq verb (codes "CLOCK")) _ _ (paired (λ t d. event_line (event.Clock t d)) (number_with_digits 6 6) (number_with_digits 5 5) text (λ t d. tt))
     (either (bytes_eq verb (codes "KEY")) _ _ (paired (λ n key. event_line (event.Key n key.0 key.1)) (padded_name 4) key_with_text text (λ n key. tt))
     (either (bytes_eq verb (codes "TURN")) _ _ (mapped (λ name. event_line (event.Turn name)) (padded_name 4 text) (λ name. tt))
     (either (bytes_eq verb (codes "EDF")) _ _ (paired edf_switch (padded_name 4) switch_of text (λ name on. tt))

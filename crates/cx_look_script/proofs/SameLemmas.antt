@@ -27,7 +27,7 @@ use Rattle.cx_edf.specs.State.{EdfState}
 use Rattle.cx_script.specs.Script.{Script, Step, actions_of, first_place, stepped, step_from, led_to, script_from, script_in}
 use Rattle.cx_script.specs.declared.run.Place.{Place}
 use Rattle.cx_script.specs.Transcript.{PerformsAll}
-use Rattle.cx_look_script.specs.Laws.Scripts.{ActionsStay, ArePlain, HasNoBadLine, IsSame, ScriptsStay, plain_action}
+use Rattle.cx_look_script.specs.Laws.Scripts.{ActionsStay, ArePlainActions, HasNoBadLine, IsSame, ScriptsStay, plain_action}
 use Rattle.cx_look_script.specs.Laws.Watches.{is_watch}
 use Rattle.cx_look_script.specs.Looking.{Acts, LookPerforms}
 use Rattle.cx_look_script.specs.State.{LookState}
@@ -131,7 +131,7 @@ abbrev IsPlainPlace : Place → Type 0
 IsPlainPlace place = IsPlain place.block × (place.bad_look ≡ None)
 
 record IsSameAsked (a : Option Action) (h : Option LookAction) : Type 0 where
-  actions : ArePlain (actions_of look_language h) (actions_of edf_language a)
+  actions : ArePlainActions (actions_of look_language h) (actions_of edf_language a)
   good : option_map_or edf_language.is_bad_look a false ≡ false
   good_here : option_map_or look_language.is_bad_look h false ≡ false
 
@@ -166,13 +166,13 @@ rest_same x y xs ys e = cc
 joined_same : {A : Type 0} (x y : A) (xs ys : List A) → x ≡ y → xs ≡ ys → x ∷ xs ≡ y ∷ ys
 joined_same x y xs ys e f = cc
 
-append_plain : (here : List LookAction) (script : List Action) (more : List LookAction) (rest : List Action) → ArePlain here script → ArePlain more rest → ArePlain (here ++ more) (script ++ rest)
+append_plain : (here : List LookAction) (script : List Action) (more : List LookAction) (rest : List Action) → ArePlainActions here script → ArePlainActions more rest → ArePlainActions (here ++ more) (script ++ rest)
 append_plain [] [] more rest e f = f
 append_plain [] (b ∷ script) more rest e f = cc
 append_plain (a ∷ here) [] more rest e f = cc
 append_plain (a ∷ here) (b ∷ script) more rest e f =
     let first : plain_action a ≡ Some b = first_same (plain_action a) (Some b) (map plain_action here) (map (λ (x : Action). Some x) script) e in
-    let left : ArePlain here script = rest_same (plain_action a) (Some b) (map plain_action here) (map (λ (x : Action). Some x) script) e in
+    let left : ArePlainActions here script = rest_same (plain_action a) (Some b) (map plain_action here) (map (λ (x : Action). Some x) script) e in
     joined_same (plain_action a) (Some b) (map plain_action (here ++ more)) (map (λ (x : Action). Some x) (script ++ rest)) first (append_plain here script more rest left f)
 
 -- this step is that, in `cicsedf` and here
@@ -261,6 +261,6 @@ actions_stay old [] (b ∷ plain) text new e none p = cc
 actions_stay old (a ∷ actions) [] text new e none p = cc
 actions_stay old (a ∷ actions) (b ∷ plain) text new e none p =
     let first : plain_action a ≡ Some b = first_same (plain_action a) (Some b) (map plain_action actions) (map (λ (x : Action). Some x) plain) e in
-    let rest : ArePlain actions plain = rest_same (plain_action a) (Some b) (map plain_action actions) (map (λ (x : Action). Some x) plain) e in
+    let rest : ArePlainActions actions plain = rest_same (plain_action a) (Some b) (map plain_action actions) (map (λ (x : Action). Some x) plain) e in
     let still : p.0.watched ≡ [] = watches_stay old a p.3.own p.0 (no_watch a b first) p.3.acts ∙ none in
     (p.0.edf, p.1, p.2, performs_same old a b p.1 p.0 first none p.3, actions_stay p.0 actions plain p.2 new rest still p.4, p.5)

@@ -15,8 +15,8 @@ use Rattle.cx_base.specs.Texts.{is_filled, shown_name}
 use Rattle.cx_ebcdic.specs.Characters.{code_of, shown_as, table}
 use Rattle.cx_ebcdic.specs.Lookup.{each_some}
 use Rattle.cx_ebcdic.specs.Names.{is_name_character, name_code, pad, padded_name}
-use Rattle.cx_look.specs.Looks.{at_most, count_of}
-use Rattle.cx_script_actions.specs.Words.{after_first_blank, decimal as value_of, is_blank, number_of, word}
+use Rattle.cx_look.specs.Looks.{at_most, count_up_to}
+use Rattle.cx_script_actions.specs.Words.{after_first_blank, decimal as value_of, is_blank, number_with_digits, word}
 
 both : (b c : Bool) → (b && c) ≡ true → (b ≡ true) × (c ≡ true)
 both true true is = (refl, refl)
@@ -244,8 +244,8 @@ few_digits n l =
     let big : 4096 < 10 ^ 5 = lit< tt in
     length-decimal-le 5 n (omega arith) (omega (arith, l, big)) (small n l)
 
-pub counted : (n : ℕ) → 1 ≤ n → n ≤ 4096 → count_of 4096 (decimal n) ≡ Some n
-unfolding count_of number_of
+pub counted : (n : ℕ) → 1 ≤ n → n ≤ 4096 → count_up_to 4096 (decimal n) ≡ Some n
+unfolding count_up_to number_with_digits
 counted n least most =
     let fits = ap (λ b. b && nat_le (length (decimal n)) 5 && list_all is_ascii_digit (decimal n)) (le-leb 1 (length (decimal n)) (decimal_nonempty n (small n most)))
     ∙ ap (λ b. b && list_all is_ascii_digit (decimal n)) (le-leb (length (decimal n)) 5 (few_digits n most)) ∙ all_digits n most in

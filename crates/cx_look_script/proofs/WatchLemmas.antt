@@ -5,7 +5,7 @@ use Rattle.cx_look_ahead.specs.declared.rows.Row.{Row}
 use Rattle.cx_look_tables.specs.Words.{marked}
 use Rattle.cx_look_ahead.specs.Facts.Unchanged.{no_changes}
 use Rattle.cx_look_ahead.specs.Laws.Watching.{ChangesDecide}
-use Rattle.cx_look_ahead.specs.Watching.{AreChanges, AreOfRanges, Effect, kept_in, work_of}
+use Rattle.cx_look_ahead.specs.Watching.{AreChanges, AreOfRanges, ActionEffect, kept_in, work_of}
 use Rattle.cx_look_ahead.specs.declared.watching.Cause.{Cause}
 use Rattle.cx_look_ahead.specs.declared.watching.Kept.{Kept}
 use Rattle.cx_look_ahead.specs.declared.writing.Work.{Work}
@@ -65,7 +65,7 @@ not_watched old a own new acts none =
       is = sym (append-nil own);
     }
 
-abbrev pub effect_with : Cause → Work → LookState → Effect
+abbrev pub effect_with : Cause → Work → LookState → ActionEffect
 effect_with by work new =
     record { by = by; done = work; sources = new.sources; programs = new.edf.region.shared.programs; storage = new.edf.region.shared.storage }
 

@@ -1,6 +1,5 @@
 -- What an action of a script with looks does, and what is written for it (own).
 use Rattle.std.specs.Prelude.{◌≡◌, ℕ, zero, suc, MatchBool, MatchOption, Option, List, [], ◌++◌}
-use Rattle.std.specs.Option.{option_map_or}
 use Rattle.cx_region.specs.State.{RegionState}
 use Rattle.cx_region.specs.Tables.{program_of}
 use Rattle.cx_edf.specs.declared.answers.Answer.{Answer}

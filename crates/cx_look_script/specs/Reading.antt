@@ -15,7 +15,7 @@ use Rattle.cx_script_actions.specs.declared.actions.Line.{Line}
 use Rattle.cx_script_actions.specs.declared.actions.Line.TheVariants as line
 use Rattle.cx_script_blocks.specs.Blocks.{kept_lines}
 use Rattle.cx_look.specs.Orders.{orders_block, orders_with, states_of}
-use Rattle.cx_look.specs.Looks.{count_of, look_of, subject_of}
+use Rattle.cx_look.specs.Looks.{count_up_to, look_of, subject_of}
 use Rattle.cx_look.specs.declared.look.Look.TheVariants as look
 use Rattle.cx_look.specs.declared.look.Subject.{Subject}
 use Rattle.cx_look.specs.declared.look.Subject.TheVariants as subject
@@ -33,7 +33,7 @@ use Rattle.cx_look_script.specs.declared.action.WatchLine.TheVariants as watch
 abbrev pub source_line_of : List ℕ → Option SourceLine
 source_line_of text =
     two_words (λ program line. let it : SourceLine = record { program = program; line = line } in it) (padded_name 8)
-    (count_of 99999) text
+    (count_up_to 99999) text
 
 abbrev pub stop_at_line : List ℕ → Option Stop
 stop_at_line text =
@@ -51,7 +51,7 @@ run_with name n rest = option_map (λ s. action.Run name n s) (stop_asked_for re
 abbrev pub turns_of : List ℕ → Option (List ℕ) → Option LookAction
 turns_of name None = run_with name 1000 None
 turns_of name (Some text) =
-    option_map_or (λ n. run_with name n (after_first_blank text)) (count_of 4096 (word text))
+    option_map_or (λ n. run_with name n (after_first_blank text)) (count_up_to 4096 (word text))
     (run_with name 1000 (Some text))
 
 abbrev pub run_of : List ℕ → Option LookAction
@@ -59,7 +59,7 @@ run_of text = option_and_then (λ name. turns_of name (after_first_blank text)) 
 
 -- WATCH: at most 256 bytes from an address on; a field of a terminal's task; or nothing any more
 abbrev pub watched_range : List ℕ → Option WatchLine
-watched_range text = two_words watch.Range (hex_number 3) (count_of 256) text
+watched_range text = two_words watch.Range (hex_number 3) (count_up_to 256) text
 
 abbrev pub watched_field : List ℕ → Option WatchLine
 watched_field text = two_words watch.Field (padded_name 4) (padded_name 8) text

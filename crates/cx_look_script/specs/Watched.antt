@@ -11,7 +11,7 @@ use Rattle.cx_look_tables.specs.Words.{Lines, look_line, marked, written_name}
 use Rattle.cx_look_ahead.specs.declared.rows.Row.{Row}
 use Rattle.cx_look_levels.specs.FieldTexts.{field_there, standing_at}
 use Rattle.cx_look_levels.specs.declared.fields.Field.{Field}
-use Rattle.cx_look_ahead.specs.Watching.{AreOfRanges, Effect, work_of, begun, kept_in, with_range}
+use Rattle.cx_look_ahead.specs.Watching.{AreOfRanges, ActionEffect, work_of, begun_watch, kept_in, with_range}
 use Rattle.cx_look_ahead.specs.declared.watching.Cause.{Cause}
 use Rattle.cx_look_ahead.specs.declared.watching.Cause.TheVariants as cause
 use Rattle.cx_look_ahead.specs.declared.watching.Kept.{Kept}
@@ -45,9 +45,9 @@ watched_after state (watch.Field term name) =
 abbrev pub watch_lines : LookState → WatchLine → Lines
 watch_lines state watch.Off = look_line (codes "WATCH" ∷ codes "OFF" ∷ [])
 watch_lines state (watch.Range at n) =
-    begun state.watched state.edf.region.shared.storage (record { at = at; length = n })
+    begun_watch state.watched state.edf.region.shared.storage (record { at = at; length = n })
 watch_lines state (watch.Field term name) =
-    option_map_or (begun state.watched state.edf.region.shared.storage) (field_range state term name)
+    option_map_or (begun_watch state.watched state.edf.region.shared.storage) (field_range state term name)
     (no_range term name)
 
 -- ---- after an action
@@ -73,7 +73,7 @@ cause_of (action.RunOn name n s) = cause.Turn name
 cause_of _ = cause.Other
 
 -- what it did, between two states
-abbrev pub effect_of : LookState → Cause → LookState → Effect
+abbrev pub effect_of : LookState → Cause → LookState → ActionEffect
 effect_of old by new =
     record {
       by = by;
@@ -84,7 +84,7 @@ effect_of old by new =
     }
 
 -- a line for each range of which a byte has changed
-pub record ShowsChanges (effect : Effect) (kept : List Kept) (text : List ℕ) : Type 0 where
+pub record ShowsChanges (effect : ActionEffect) (kept : List Kept) (text : List ℕ) : Type 0 where
   pub lines : Lines
   pub are : AreOfRanges effect kept lines
   pub is : text ≡ marked lines

@@ -3,7 +3,7 @@ ghost use Rattle.std.specs.Prelude.{◌≡◌, ◌≤◌, IfOk, IfSome, OnErr, i
 ghost use Rattle.std.specs.Char.{to_ascii_uppercase};
 ghost use Rattle.std.specs.Option.{option_copied, option_map_or};
 ghost use Rattle.cx_script_actions.specs.Allowed.{IsAllowedAction, IsAllowedLine};
-ghost use Rattle.cx_look.specs.Looks.{count_of};
+ghost use Rattle.cx_look.specs.Looks.{count_up_to};
 ghost use Rattle.cx_look_script.specs.Allowed.{IsAllowedLook};
 ghost use Rattle.cx_look_script.specs.Reading.{asked_by, faults_line, look_language, look_line_of, line_of_subject, orders_line, own_line, run_of, run_with, source_line_of, stop_at_line, stop_asked_for, as_look_line, turns_of, watch_of, watched_field, watched_range};
 ghost use Rattle.cx_look_script.specs.Runs.{look_actions_of};
@@ -37,11 +37,12 @@ const MOST_BYTES: u32 = 256;
 /// What ends a RUN in front of a turn, before its turns are done.
 #[derive(Clone, Copy, Debug, PartialEq, Eq)]
 pub enum Stop {
-    /// Nothing does.
+    /// Nothing does: RUN does as many turns as it may.
     Never,
     /// The turn would be answered as an abend, or as one that an exit takes.
     BeforeAbend,
-    /// The turn would do something of a line of a program's source: run an instruction of a statement there, or perform its command.
+    /// The turn would do something of a line of a program's source: run an instruction of a statement there, or perform
+    /// its command.
     BeforeLine(SourceLine),
 }
 
@@ -61,13 +62,14 @@ pub enum WatchLine {
 pub enum LookAction {
     /// What a script of `cicsedf` asks too.
     Script(Action),
-    /// What the end of a source's block asks there: its program's name, its lines, and what they are made into.
+    /// What the end of a source's block asks in a script of `cicsedf`: the program's name, the source's lines, and the
+    /// action that they ask.
     Source(Name8, List<Text>, Action),
     /// RUN: the first of at most this many turns of a terminal, and what ends it before.
     Run(Name4, u16, Stop),
     /// One more turn of RUN, where at most this many are left; where none is, the line that says so.
     RunOn(Name4, u16, Stop),
-    /// What is watched.
+    /// WATCH: what is watched from here on.
     Watch(WatchLine),
     /// A look.
     Look(Look),
@@ -81,9 +83,9 @@ pub enum LookAction {
 const MOST_IN_LINE: usize = 4_096;
 
 /// The number from 1 to a most that at most five decimal digits spell.
-#[tactic(auto, using(std::proofs::lemmas::Bool::Decides::nat_tests), unfolding(cx_look::specs::Looks::count_of))]
-fn count_of(word: &[u8], most: u32) -> Option<u32>
-    ensures value { result ≡ count_of most word.now }
+#[tactic(auto, using(std::proofs::lemmas::Bool::Decides::nat_tests), unfolding(cx_look::specs::Looks::count_up_to))]
+fn count_up_to(word: &[u8], most: u32) -> Option<u32>
+    ensures value { result ≡ count_up_to most word.now }
     ensures most { IfSome result (λ n. n ≤ most) }
 {
     let n = number(word, 1, 5)?;
@@ -99,7 +101,7 @@ fn source_line_of(text: &[u8]) -> Option<SourceLine>
 {
     let (word, rest) = split_word(text);
     let program = name8(word)?;
-    let line = count_of(rest?, LAST_LINE)?;
+    let line = count_up_to(rest?, LAST_LINE)?;
     Some(SourceLine { program, line })
 }
 
@@ -145,7 +147,7 @@ fn turns_of(name: Name4, rest: Option<&[u8]>) -> Option<LookAction>
         return run_with(name, TURNS, rest);
     };
     let (word, more) = split_word(text);
-    match count_of(word, MOST_TURNS) {
+    match count_up_to(word, MOST_TURNS) {
         Some(n) => run_with(name, n as u16, more),
         None => run_with(name, TURNS, rest),
     }
@@ -167,7 +169,7 @@ fn watched_range(text: &[u8]) -> Option<WatchLine>
 {
     let (word, rest) = split_word(text);
     let address = hex_address(word)?;
-    let count = count_of(rest?, MOST_BYTES)?;
+    let count = count_up_to(rest?, MOST_BYTES)?;
     Some(WatchLine::Range(address, count))
 }
 
@@ -290,7 +292,8 @@ fn scripted(line: Line<Action>) -> Line<LookAction>
     }
 }
 
-/// What the line with this number asks where it is not in a block; None, and never Memory, where it is a bad line.
+/// What the line with this number asks where it is not in a block; None where it is a bad line. An error comes only
+/// where an allocation failed, and never for a bad line.
 #[tactic(auto, unfolding(crate::specs::Reading::look_line_of))]
 fn look_line_of(
     alloc: Global,

@@ -8,15 +8,17 @@ ghost use Rattle.cx_look_script.specs.Laws.Scripts.{ActionsStay, ScriptsStay};
 ghost use Rattle.cx_look_script.specs.Laws.Turns.{RunsEndBeforeAbends, RunsEndBeforeLines, RunsTakeTurns, StopsDecide};
 ghost use Rattle.cx_look_script.specs.Laws.Watches.{WatchedTextsDecide, WatchesChangeNothing, WatchesStay};
 
-/// A look changes nothing. Each run has for each of its actions a part, in which an action of `cicsedf` stands for itself, RUN for as
-/// many TURNs as it did, and a look for nothing: the actions of all parts are a run of `cicsedf` from the same state to the same
-/// state, and the text is the texts of that run, with each look's text, that of the state there, at its place, and after each part the
-/// lines of the bytes that are watched and that it changed. The lines of a source are kept after its part.
+/// A look changes nothing. Each run has for each of its actions a part, in which an action of `cicsedf` stands for
+/// itself, RUN for as many TURNs as it did, and a look for nothing: the actions of all parts are a run of `cicsedf`
+/// from the same state to the same state, and the text is the texts of that run, with each look's text, that of the
+/// state there, at its place, and after each part the lines of the bytes that are watched and that it changed. The
+/// lines of a source are kept after its part.
 pub fn looks_change_nothing()
     ensures { LooksChangeNothing }
 {}
 
-/// The text of a look, and what is written for a block of ORDERS, is lines that begin with `> `, each with one LF, at its end.
+/// The text of a look, and what is written for a block of ORDERS, is lines that begin with `> `, each with one LF, at
+/// its end.
 pub fn looks_are_marked()
     ensures looks { LooksAreMarked }
     ensures orders { OrdersAreMarked }
@@ -31,7 +33,8 @@ pub fn looks_are_reported_once()
     cx_look_ahead::laws::turns_reach_it();
 }
 
-/// Where no two terminals share a name, as in every sound region, what is written for a block of ORDERS is a function of the state.
+/// Where no two terminals share a name, as in every sound region, what is written for a block of ORDERS is a function
+/// of the state.
 pub fn orders_are_reported_once()
     ensures { OrdersAreReportedOnce }
 {
@@ -41,9 +44,9 @@ pub fn orders_are_reported_once()
     cx_search::laws::one_list_is_sooner();
 }
 
-/// The lines that ORDERS writes of steps, read as lines of a script, ask for EDF OFF of each terminal that has it on, and then for the
-/// events that the steps are, one after another: a line `RUN` with a number for as many turns, and a key's line for that key. So
-/// it is where a text spells each terminal's name, and the keys are those of lines.
+/// The lines that ORDERS writes of steps, read as lines of a script, ask for EDF OFF of each terminal that has it on,
+/// and then for the events that the steps are, one after another: a line `RUN` with a number for as many turns, and a
+/// key's line for that key. So it is where a text spells each terminal's name, and the keys are those of lines.
 pub fn scripts_ask_for_events()
     ensures { ScriptsAskForEvents }
 {
@@ -51,14 +54,14 @@ pub fn scripts_ask_for_events()
     cx_look_orders::laws::scripts_ask_for_steps();
 }
 
-/// The actions of a RUN are turns of its terminal, one after another: up to one that isn't to be followed by one more or in front of
-/// which RUN ends, or until there are as many as it may do; in these two cases its last line says so.
+/// The actions of a RUN are turns of its terminal, one after another: up to one that isn't to be followed by one more
+/// or in front of which RUN ends, or until there are as many as it may do; in these two cases its last line says so.
 pub fn runs_take_turns()
     ensures { RunsTakeTurns }
 {}
 
-/// A RUN BEFORE ABEND ends in front of a turn exactly where that turn, when it is done, is answered as an abend, and its line names the
-/// code. Whether a RUN ends in front of a turn is a function of the state.
+/// A RUN BEFORE ABEND ends in front of a turn exactly where that turn, when it is done, is answered as an abend, and
+/// its line names the code. Whether a RUN ends in front of a turn is a function of the state.
 pub fn runs_end_before_abends()
     ensures ends { RunsEndBeforeAbends }
     ensures decides { StopsDecide }
@@ -67,39 +70,40 @@ pub fn runs_end_before_abends()
     cx_look_ahead::laws::turns_do_some();
 }
 
-/// A RUN TO a line of a program's source ends in front of a turn exactly where that turn, when it is done, does something of the line: one
-/// of the instructions that it runs is there, or it performs the command that is due there. So none of the turns that the RUN does is such
-/// a one. It does no turn where the line has no statement.
+/// A RUN TO a line of a program's source ends in front of a turn exactly where that turn, when it is done, does
+/// something of the line: one of the instructions that it runs is there, or it performs the command that is due there.
+/// So none of the turns that the RUN does is such a one. It does no turn where the line has no statement.
 pub fn runs_end_before_lines()
     ensures { RunsEndBeforeLines }
 {
     cx_look_ahead::laws::turns_do_some();
 }
 
-/// Whatever is watched, an action that is no WATCH does the same and has the same text of its own: WATCH changes nothing of the
-/// region, of an abend that is kept or of what another look writes. Such an action leaves what is watched.
+/// Whatever is watched, an action that is no WATCH does the same and writes the same for itself: WATCH changes nothing
+/// of the region, of an abend that is kept or of what another look writes. Such an action leaves what is watched.
 pub fn watches_change_nothing()
     ensures same { WatchesChangeNothing }
     ensures stay { WatchesStay }
 {}
 
-/// What is written of the bytes that are watched, with the statement that changed one of them last, is a function of the states before and
-/// after.
+/// What is written of the bytes that are watched, with the statement that changed one of them last, is a function of
+/// the states before and after.
 pub fn watched_texts_decide()
     ensures { WatchedTextsDecide }
 {
     cx_look_ahead::laws::writers_decide();
 }
 
-/// A script of `cicsedf` without a bad line is the same script here, and where nothing is watched its actions do and write the same.
+/// A script of `cicsedf` without a bad line is the same script here, and where nothing is watched its actions do and
+/// write the same.
 pub fn scripts_of_cicsedf_stay()
     ensures scripts { ScriptsStay }
     ensures actions { ActionsStay }
 {}
 
-/// Of a faulty line FAULTS writes, after the place and the fault, the line of the part that is at fault, as it is shown, with
-/// `>>` and `<<` round that part: what stands between them is the part from the mark's column on, and without them the line is
-/// as it was.
+/// Of a faulty line FAULTS writes, after the place and the fault, the line of the part that is at fault, as it is
+/// shown, with `>>` and `<<` round that part: what stands between them is the part from the mark's column on, and
+/// without them the line is as it was.
 pub fn faults_are_marked()
     ensures { FaultsAreMarked }
 {}
@@ -111,8 +115,8 @@ pub fn notes_refuse_nothing()
     cx_look_faults::laws::what_a_source_is_refused_for_is_kept();
 }
 
-/// Of a source that is refused it writes a line for each faulty line, among them the one that the source is refused for: so it writes
-/// that none is faulty exactly of a source that is accepted.
+/// Of a source that is refused FAULTS writes a line for each faulty line, among them the one that the source is refused
+/// for; so it writes that none is faulty exactly of a source that is accepted.
 pub fn refusals_are_written()
     ensures { RefusalsAreWritten }
 {

@@ -13,4 +13,4 @@ mod turns;
 mod watched;
 
 pub use action::{LookAction, Stop, WatchLine};
-pub use performer::{LookPerformer, Looking, look_performer};
+pub use performer::{LookPerformer, LookedRegion, look_performer};

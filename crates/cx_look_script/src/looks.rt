@@ -6,12 +6,12 @@ ghost use Rattle.cx_look_script.specs.Sources.{level_lines};
 
 use crate::faults::faults_text;
 use crate::help::help_text;
-use crate::performer::Looking;
+use crate::performer::LookedRegion;
 use cx_ebcdic::Name4;
 use cx_look::Look;
 use cx_look_abend::{abend_fields_text, abend_storage_text, abend_text};
 use cx_look_ahead::{SourceLine, ahead_text, at_text};
-use cx_look_levels::{field_text, fields_text, program_at, task_text, where_text};
+use cx_look_levels::{FieldLook, field_text, fields_text, level_program, task_text, where_text};
 use cx_look_storage::{areas_text, storage_text, task_areas_text};
 use cx_look_symbols::{symbol_text, symbols_text};
 use cx_look_tables::{Report, item_text, programs_text, queue_text, queues_text, terminals_text};
@@ -24,14 +24,14 @@ use std::alloc::{AllocError, Global};
 
 /// The lines of the source of a level's program.
 pub(crate) fn level_lines<'a, S: Store + Drop>(
-    looking: &'a Looking<S>,
+    looking: &'a LookedRegion<S>,
     region: &Region<S>,
     term: Name4,
     k: Option<u8>,
 ) -> &'a [Text]
     ensures { result.now ≡ level_lines (at_region looking.now region.now) term k }
 {
-    match program_at(region, term, k) {
+    match level_program(region, term, k) {
         Some(program) => looking.sources.source_lines(program),
         None => &[],
     }
@@ -41,7 +41,7 @@ pub(crate) fn level_lines<'a, S: Store + Drop>(
 #[tactic(auto, unfolding(crate::specs::Looking::AreLookLines))]
 fn abend_lines<S: Store + Drop>(
     alloc: Global,
-    looking: &Looking<S>,
+    looking: &LookedRegion<S>,
     region: &Region<S>,
     name: Name4,
 ) -> Result<Report, AllocError>
@@ -56,7 +56,7 @@ fn abend_lines<S: Store + Drop>(
 #[tactic(auto, unfolding(crate::specs::Looking::AreLookLines))]
 pub(crate) fn look_lines<S: Store + Drop>(
     alloc: Global,
-    looking: &Looking<S>,
+    looking: &LookedRegion<S>,
     region: &Region<S>,
     look: &Look,
 ) -> Result<Report, AllocError>
@@ -101,7 +101,7 @@ pub(crate) fn look_lines<S: Store + Drop>(
         Look::Help(word) => help_text(alloc, word),
         Look::Field(term, name, k) => {
             let lines = level_lines(looking, region, term, k);
-            field_text(alloc, region, lines, term, name, k)
+            field_text(alloc, region, lines, FieldLook { term, name, k })
         }
         Look::Fields(term, k) => {
             let lines = level_lines(looking, region, term, k);
@@ -114,7 +114,7 @@ pub(crate) fn look_lines<S: Store + Drop>(
 #[tactic(auto, using(crate::proofs::WatchLawLemmas::same_at))]
 pub(crate) fn look_text<S: Store + Drop>(
     alloc: Global,
-    looking: &Looking<S>,
+    looking: &LookedRegion<S>,
     look: Look,
 ) -> Result<Vec<u8>, AllocError>
     ensures { IfOk result (λ text. IsLookText look looking.now text.items) }

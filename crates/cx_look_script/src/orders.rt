@@ -10,7 +10,7 @@ ghost use Rattle.cx_script_io.specs.Lines.{last_met, lines_met};
 ghost use Rattle.cx_script_io.specs.declared.input.Ending.TheVariants.{AtEnd};
 
 use crate::looks::look_lines;
-use crate::performer::Looking;
+use crate::performer::LookedRegion;
 use cx_ebcdic::Name4;
 use cx_edf::Debugged;
 use cx_look::{OrdersBlock, Sight};
@@ -72,7 +72,7 @@ fn screen_lines<S: Store + Drop>(
 #[tactic(auto, unfolding(crate::specs::Orders::IsSeen))]
 fn sight_lines<S: Store + Drop>(
     alloc: Global,
-    looking: &Looking<S>,
+    looking: &LookedRegion<S>,
     region: &Region<S>,
     sight: &Sight,
 ) -> Result<Report, AllocError>
@@ -89,7 +89,7 @@ fn sight_lines<S: Store + Drop>(
 #[tactic(auto, using(crate::proofs::OrdersLemmas::seen_all, crate::proofs::OrdersLemmas::seen_before_all, crate::proofs::OrdersLemmas::seen_one_more))]
 fn sights_lines<S: Store + Drop>(
     alloc: Global,
-    looking: &Looking<S>,
+    looking: &LookedRegion<S>,
     region: &Region<S>,
     sights: &[Sight],
 ) -> Result<Report, AllocError>
@@ -109,7 +109,7 @@ fn sights_lines<S: Store + Drop>(
 /// What is to be seen of a region in place of the one that is looked at.
 #[derive(Drop)]
 struct Sights<'a, S: Store + Drop> {
-    looking: &'a Looking<S>,
+    looking: &'a LookedRegion<S>,
     sights: &'a [Sight],
 }
 
@@ -174,11 +174,11 @@ fn sights_of<S: Store + Drop>(
 /// What is written for a block of ORDERS.
 pub(crate) fn orders_written<S: Store + Drop>(
     alloc: Global,
-    looking: &Looking<S>,
+    looking: &LookedRegion<S>,
     block: OrdersBlock,
 ) -> Result<Vec<u8>, AllocError>
     requires most { 1 ≤ block.most }
-    requires few { AllByRecursion IsFew block.keys }
+    requires keys_in_range { AllByRecursion IsFew block.keys }
     ensures { IfOk result (λ text. ShowsOrders block looking.now text.items) }
 {
     let OrdersBlock { most, keys, sights } = block;

@@ -9,7 +9,7 @@ ghost use Rattle.cx_look_script.specs.Runs.{AppliesAtLooks, run_over};
 ghost use Rattle.cx_look_script.specs.State.{fresh_look_state};
 ghost use Rattle.cx_look_script.specs.Watched.{ShowsChanges, watch_lines, watched_after};
 ghost use Rattle.cx_look_script.specs.Allowed.{IsAllowedLook};
-ghost use Rattle.cx_look_ahead.specs.Watching.{Effect, begun, with_range};
+ghost use Rattle.cx_look_ahead.specs.Watching.{ActionEffect, begun_watch, with_range};
 ghost use Rattle.cx_look_tables.specs.Words.{marked};
 
 use crate::action::{LookAction, Stop, WatchLine};
@@ -36,10 +36,10 @@ use indexmap::IndexMap;
 use std::alloc::{AllocError, Global};
 use std::marker::Model;
 
-/// A region under EDF that is looked at, with each terminal's last abend, what is kept of the sources that defined programs, the ranges
-/// of bytes that are watched, and whether the last event was a turn that one more turn follows.
+/// A region under EDF that is looked at, with each terminal's last abend, what is kept of the sources that defined
+/// programs, the ranges of bytes that are watched, and whether the last event was a turn that one more turn follows.
 #[derive(Drop)]
-pub struct Looking<S: Store + Drop> {
+pub struct LookedRegion<S: Store + Drop> {
     pub(crate) state: Debugged<S>,
     pub(crate) abends: LastAbends,
     pub(crate) sources: Sources,
@@ -47,7 +47,7 @@ pub struct Looking<S: Store + Drop> {
     pub(crate) goes_on: bool,
 }
 
-impl<S: Store + Drop> Model for Looking<S> {
+impl<S: Store + Drop> Model for LookedRegion<S> {
     ghost use Rattle.cx_look_script.specs.State.{LookState};
 
     ghost Value = { LookState };
@@ -62,9 +62,9 @@ impl<S: Store + Drop> Model for Looking<S> {
         } };
 }
 
-impl<S: Store + Drop> Looking<S> {
+impl<S: Store + Drop> LookedRegion<S> {
     /// A region under EDF without a terminal and without a program, to be looked at. It takes no memory.
-    pub fn new(alloc: Global, state: Debugged<S>) -> Looking<S>
+    pub fn new(alloc: Global, state: Debugged<S>) -> LookedRegion<S>
         ensures { result
             ≡ record {
               edf = state;
@@ -74,7 +74,7 @@ impl<S: Store + Drop> Looking<S> {
               goes_on = false;
             } }
     {
-        Looking {
+        LookedRegion {
             state,
             abends: IndexMap::new(alloc),
             sources: Sources::new(alloc),
@@ -130,7 +130,8 @@ impl<S: Store + Drop> Looking<S> {
         }
     }
 
-    /// Does one more turn of RUN, or writes that none is left; nothing where the last turn isn't to be followed by one more.
+    /// Does one more turn of RUN, or writes that none is left; nothing where the last turn isn't to be followed by one
+    /// more.
     fn run_on(
         &mut self,
         alloc: Global,
@@ -164,8 +165,8 @@ impl<S: Store + Drop> Looking<S> {
         self.state.perform(alloc, action)
     }
 
-    /// Does what the end of a source's block asks in a script of `cicsedf`, and keeps the lines of the source where it defined its
-    /// program. Room for them is made before.
+    /// Does what the end of a source's block asks in a script of `cicsedf`, and keeps the lines of the source where it
+    /// defined its program. Room for them is made before.
     fn define(
         &mut self,
         alloc: Global,
@@ -188,7 +189,7 @@ impl<S: Store + Drop> Looking<S> {
     /// Watches a range more.
     fn watch_range(&mut self, alloc: Global, range: Row) -> Result<Report, AllocError>
         ensures { IfOk result (λ report.
-            (report ≡ begun self.old.watched self.old.edf.region.shared.storage range)
+            (report ≡ begun_watch self.old.watched self.old.edf.region.shared.storage range)
             × (self.new ≡ record self.old { watched = with_range self.old.watched range })) }
     {
         self.watches
@@ -238,7 +239,7 @@ impl<S: Store + Drop> Looking<S> {
         work: &Work,
         kept: &[Kept],
     ) -> Result<Vec<u8>, AllocError>
-        ensures { let done : Effect = record {
+        ensures { let done : ActionEffect = record {
           by = cause;
           done = work.now;
           sources = self.now.sources;
@@ -287,8 +288,8 @@ impl<S: Store + Drop> Looking<S> {
         Ok(text)
     }
 
-    /// Keeps the bytes that are watched and what a turn is going to do, does the action, and adds a line for each range of which a byte has
-    /// changed.
+    /// Keeps the bytes that are watched and what a turn is going to do, does the action, and adds a line for each range
+    /// of which a byte has changed.
     #[tactic(auto, using(crate::proofs::WatchLemmas::is_watched))]
     fn act_watched(&mut self, alloc: Global, action: LookAction) -> Result<Vec<u8>, AllocError>
         requires { IsAllowedLook action }
@@ -306,24 +307,27 @@ impl<S: Store + Drop> Looking<S> {
 }
 
 /// What a script of `cicslook` is performed on.
-pub type LookPerformer = Looking<KeepingStore<PagedStore>>;
+pub type LookPerformer = LookedRegion<KeepingStore<PagedStore>>;
 
 /// The performer of a script of `cicslook` at its beginning: a fresh region, with EDF Off at each terminal.
+///
+/// An error comes only where an allocation failed.
 pub fn look_performer(alloc: Global) -> Result<LookPerformer, AllocError>
     ensures { IfOk result (λ performer. performer ≡ fresh_look_state) }
 {
-    Ok(Looking::new(alloc, edf_performer(alloc)?))
+    Ok(LookedRegion::new(alloc, edf_performer(alloc)?))
 }
 
-impl<S: Store + Drop> Performer for Looking<S> {
+impl<S: Store + Drop> Performer for LookedRegion<S> {
     type Action = LookAction;
 
     ghost performs = { LookPerforms };
 
     ghost refused = { λ _ _ _. Unit {0} };
 
-    /// Does the action, and adds a line for each range that is watched and of which a byte has changed. Where memory for these lines is
-    /// refused the action has been done, as where it is refused for what is written for the action itself.
+    /// Does the action, and adds a line for each range that is watched and of which a byte has changed. Where memory
+    /// for these lines is refused the action has been done, as where it is refused for what is written for the action
+    /// itself.
     fn perform(&mut self, alloc: Global, action: LookAction) -> Result<Vec<u8>, AllocError> {
         if self.watches.is_empty() {
             return self.act_unwatched(alloc, action);

@@ -71,8 +71,8 @@ fn abend_code_in(reply: TurnReply) -> Option<Name4>
     }
 }
 
-/// The code of the abend as which a region's next turn of a terminal would be answered, where it would be. The turn is done in a
-/// region like this one.
+/// The code of the abend as which a region's next turn of a terminal would be answered, where it would be. The turn is
+/// done in a region like this one.
 fn next_abend<S: Store + Drop>(
     alloc: Global,
     region: &Region<S>,
@@ -174,7 +174,8 @@ fn no_line(alloc: Global, name: Name4, to: SourceLine) -> Result<Vec<u8>, AllocE
     report.marked()
 }
 
-/// The line with which a RUN ends in front of a line of a source; None where the terminal's next turn does nothing of it.
+/// The line with which a RUN ends in front of a line of a source; None where the terminal's next turn does nothing of
+/// it.
 fn stop_before_line<S: Store + Drop>(
     alloc: Global,
     sources: &Sources,

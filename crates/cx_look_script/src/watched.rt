@@ -5,7 +5,7 @@ ghost use Rattle.cx_look_script.specs.Watched.{cause_of, cause_of_action, cause_
 
 use crate::action::LookAction;
 use crate::looks::level_lines;
-use crate::performer::Looking;
+use crate::performer::LookedRegion;
 use cx_base::shown_name;
 use cx_ebcdic::{Name4, Name8};
 use cx_edf::EdfEvent;
@@ -33,7 +33,7 @@ fn range_of(field: Field) -> Row
 /// The first bytes of a field of the current level of a terminal's task; None where there is no such field.
 pub(crate) fn field_range<S: Store + Drop>(
     alloc: Global,
-    looking: &Looking<S>,
+    looking: &LookedRegion<S>,
     term: Name4,
     name: Name8,
 ) -> Result<Option<Row>, AllocError>

@@ -13,23 +13,24 @@ use Rattle.cx_look_storage.specs.Uses.{is_met, met_line}
 
 -- a row of sixteen bytes, or of as many as are left: its address, its bytes in digits, and in characters, as on a
 -- storage page
-unfoldable pub row_line : Storage → ℕ → ℕ → Lines
-row_line s at count =
+unfoldable pub storage_row_line : Storage → ℕ → ℕ → Lines
+storage_row_line s at count =
     look_line
     (digits 16 6 at ∷ [] ∷ hex_group s at count 0 ∷ hex_group s at count 4 ∷ hex_group s at count 8
     ∷ hex_group s at count 12
     ∷ [] ∷ in_columns 16 (join (map (character_group s at count) quarters)) ∷ [])
 
 -- the first rows of n bytes from an address on
-abbrev pub first_rows : Storage → ℕ → ℕ → ℕ → Lines
-first_rows s address n zero = []
-first_rows s address n (suc k) = first_rows s address n k ++ row_line s (address_after address (16 * k)) (n - 16 * k)
+abbrev pub first_storage_rows : Storage → ℕ → ℕ → ℕ → Lines
+first_storage_rows s address n zero = []
+first_storage_rows s address n (suc k) =
+    first_storage_rows s address n k ++ storage_row_line s (address_after address (16 * k)) (n - 16 * k)
 
-abbrev pub rows_text : Storage → ℕ → ℕ → Lines
-rows_text s address n = first_rows s address n ((n + 15) / 16)
+abbrev pub storage_rows_text : Storage → ℕ → ℕ → Lines
+storage_rows_text s address n = first_storage_rows s address n ((n + 15) / 16)
 
 -- the bytes, and a line for each area that has one of them
 unfoldable pub storage_text : RegionState → ℕ → ℕ → Lines
 storage_text region address n =
-    rows_text region.shared.storage address n
+    storage_rows_text region.shared.storage address n
     ++ flat_map (met_line region address) (filter (is_met address n) (areas_of region.shared.storage))

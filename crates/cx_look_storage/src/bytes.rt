@@ -3,7 +3,7 @@ ghost use Rattle.std.specs.Prelude.{◌≡◌, ◌-◌, ◌*◌, ◌<◌, ◌^�
 ghost use Rattle.std.specs.List.{filter, flat_map};
 ghost use Rattle.cx_storage.specs.Address.{address_after};
 ghost use Rattle.cx_storage.specs.Storage.{areas_of};
-ghost use Rattle.cx_look_storage.specs.Bytes.{row_line, rows_text, storage_text};
+ghost use Rattle.cx_look_storage.specs.Bytes.{storage_row_line, storage_rows_text, storage_text};
 ghost use Rattle.cx_look_storage.specs.Uses.{is_met, met_line};
 
 use crate::areas::all_areas;
@@ -19,14 +19,14 @@ use std::alloc::{AllocError, Global};
 const ROW: u32 = 16;
 
 /// Adds the line of a row of `count` bytes, of which it shows the first sixteen.
-#[tactic(auto, unfolding(crate::specs::Bytes::row_line))]
-fn row_line<S: Store + Drop>(
+#[tactic(auto, unfolding(crate::specs::Bytes::storage_row_line))]
+fn storage_row_line<S: Store + Drop>(
     report: &mut Report,
     region: &Region<S>,
     at: u32,
     count: u32,
 ) -> Result<(), AllocError>
-    ensures { OnOk result (report.new ≡ report.old ++ row_line region.now.shared.storage at count) }
+    ensures { OnOk result (report.new ≡ report.old ++ storage_row_line region.now.shared.storage at count) }
 {
     let place = hexadecimal::<6>(at);
     let a = hex_group(region, at, count, 0);
@@ -42,17 +42,17 @@ fn row_line<S: Store + Drop>(
 }
 
 /// Adds the rows of `n` bytes from an address on.
-fn rows_text<S: Store + Drop>(
+fn storage_rows_text<S: Store + Drop>(
     report: &mut Report,
     region: &Region<S>,
     address: u32,
     n: u32,
 ) -> Result<(), AllocError>
-    ensures { OnOk result (report.new ≡ report.old ++ rows_text region.now.shared.storage address n) }
+    ensures { OnOk result (report.new ≡ report.old ++ storage_rows_text region.now.shared.storage address n) }
 {
     let rows = ((u64::from(n) + 15) / 16) as u32;
     for k in 0..rows {
-        row_line(report, region, address_after(address, ROW * k), n - ROW * k)?;
+        storage_row_line(report, region, address_after(address, ROW * k), n - ROW * k)?;
     }
     Ok(())
 }
@@ -86,7 +86,8 @@ fn met_areas<S: Store>(
     Ok(areas)
 }
 
-/// Adds a line for each area that has one of `n` bytes from an address on, the one at the lowest address first.
+/// Adds a line for each area that has one of `n` bytes from an address on, as `storage_text` has it, the area at the
+/// lowest address first.
 ///
 /// An error comes only where memory was refused.
 pub fn met_lines<S: Store + Drop>(
@@ -117,7 +118,7 @@ pub fn storage_text<S: Store + Drop>(
     ensures { IfOk result (λ report. report ≡ storage_text region.now address n) }
 {
     let mut report = Report::new(alloc);
-    rows_text(&mut report, region, address, n)?;
+    storage_rows_text(&mut report, region, address, n)?;
     met_lines(&mut report, region, address, n)?;
     Ok(report)
 }

@@ -2,7 +2,7 @@
 
 ghost use Rattle.cx_look_storage.specs.Laws.{MeetsItsBytes};
 
-/// An area is reported with bytes of storage exactly where it has one of them.
+/// STORAGE writes a line of an area exactly where the area has one of the bytes that are looked at.
 pub fn an_area_is_met_where_it_has_a_byte()
     ensures { MeetsItsBytes }
 {}

@@ -176,8 +176,8 @@ pub fn area_line<S: Store + Drop>(
     report.line(&[b"AREA", &start, b"LENGTH", &len, &what, b"OWNER", &owner])
 }
 
-/// Adds the line of an area that has bytes from an address on: as an area's line, with the offset of the first of them in
-/// it.
+/// Adds the line of an area that has bytes from an address on: as an area's line, with the offset of the first of them
+/// in it.
 #[tactic(auto, unfolding(crate::specs::Uses::met_line))]
 pub(crate) fn met_line<S: Store + Drop>(
     report: &mut Report,

@@ -25,7 +25,7 @@ use Rattle.cx_asm_pass1.specs.Facts.Definitions.{defined_once_after, first_value
 use Rattle.cx_asm_pass1.specs.Facts.Faults.{control_named, none_before, sound_statement}
 use Rattle.cx_asm_pass1.specs.Facts.StatementExtents.{lower_none}
 use Rattle.cx_asm_pass1.specs.Given.{aid_rows, definitions, is_any_known, is_in_range, value_in_range, location_counter, symbol_entry, register_rows, resumes, row_symbols, value_given}
-use Rattle.cx_asm_pass1.specs.PassState.{PassState, next_state, after_line, named_control, definitions_in, duplicate_in, fault_in, first_fault_after, given_in, state_after, extent_in, line_fault, literal_fault, name_fault, name_in, operation_fault, own_fault, parts_in, role_in, section_fault}
+use Rattle.cx_asm_pass1.specs.PassState.{PassState, next_state, after_line, named_control, definitions_in, duplicate_in, statement_fault_in, first_fault_after, given_in, state_after, extent_in, line_fault, literal_fault, name_fault, name_in, operation_fault, own_fault, parts_in, role_in, section_fault}
 use Rattle.cx_asm_pass1.specs.Laws.Definitions.{definitions_at, definitions_after}
 use Rattle.cx_asm_pass1.specs.Locations.{IsPlaced, last_pool_extent, final_state}
 use Rattle.cx_asm_pass1.specs.declared.place.ControlSection.{ControlSection}
@@ -86,10 +86,6 @@ pub has_known : (name : List ℕ) (items : List Item) → has name (rows_after i
 has_known name items = has_rows name items ∙ ap is_some (sym (first_value items name))
 
 -- ---- symbols that are put after others
-absent : {V : Type 0} (found : Option V) → is_some found ≡ false → found ≡ None
-absent None e = refl
-absent (Some v) e = let f : true ≡ false = e in cc
-
 or_false : (a b : Bool) → (a || b) ≡ false → (a ≡ false) × (b ≡ false)
 or_false true b e = let f : true ≡ false = e in cc
 or_false false b e = (refl, e)
@@ -225,7 +221,7 @@ fifth a b c d e f h =
 value_sound : (line : ℕ) (stmt : Stmt) (state : PassState) → (next_state line stmt state).fault ≡ None → result_err (given_in stmt state) ≡ None
 unfolding next_state
 value_sound line stmt state e =
-    let none : fault_in stmt state ≡ None = fault_none line (fault_in stmt state) state.fault e in
+    let none : statement_fault_in stmt state ≡ None = fault_none line (statement_fault_in stmt state) state.fault e in
     let own = lower_none (own_fault stmt state) (literal_fault (role_in stmt) (length state.places) (parts_in stmt) state.pool) none in
     fifth (operation_fault (role_in stmt)) (name_fault (role_in stmt) stmt.name)
     (section_fault (role_in stmt) (name_in stmt) state.section state.control) (extent_in stmt state).fault (result_err (given_in stmt state))

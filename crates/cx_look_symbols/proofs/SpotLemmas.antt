@@ -8,7 +8,7 @@ use Rattle.cx_asm_expressions.specs.Names.{is_same}
 use Rattle.cx_ebcdic.specs.Facts.Lookup.{find_passes}
 use Rattle.cx_load.specs.declared.program.Loaded.{Loaded}
 use Rattle.cx_look_symbols.specs.Laws.{IsBeforeInSource, LinesAreInSources}
-use Rattle.cx_look_symbols.specs.Lines.{SourcePlaces, holds, line_at, line_in}
+use Rattle.cx_look_symbols.specs.Lines.{SourcePlaces, has_offset, line_at, line_in}
 use Rattle.cx_look_symbols.specs.Places.{is_in, spot_before, spot_in}
 use Rattle.cx_look_symbols.specs.declared.statements.StatementPlace.{StatementPlace}
 
@@ -23,12 +23,12 @@ among {X} test (y ∷ ys) x e = go (test y) (λ f. among test ys x f) e
 
 by_statement : (sources : SourcePlaces) (programs : List (List ℕ × Loaded)) (before line : ℕ) (program : List ℕ × Loaded) (statements : List StatementPlace)
     → find (λ program. is_in before program.1) programs ≡ Some program → lookup (is_same program.0) sources ≡ Some statements
-    → (o : Option StatementPlace) → find (holds (before - program.1.at)) statements ≡ o → option_map (λ place. place.line) o ≡ Some line
+    → (o : Option StatementPlace) → find (has_offset (before - program.1.at)) statements ≡ o → option_map (λ place. place.line) o ≡ Some line
     → IsBeforeInSource sources programs (suc before) line
 by_statement sources programs before line program statements f g None h e = cc
 by_statement sources programs before line program statements f g (Some statement) h e =
     let there : is_in before program.1 ≡ true = find_passes (λ (program : List ℕ × Loaded). is_in before program.1) programs program f in
-    let has : holds (before - program.1.at) statement ≡ true = find_passes (holds (before - program.1.at)) statements statement h in
+    let has : has_offset (before - program.1.at) statement ≡ true = find_passes (has_offset (before - program.1.at)) statements statement h in
     let p = and_parts (nat_le program.1.at before) (nat_lt before (program.1.at + program.1.len)) there in
     let q = and_parts (nat_le statement.start (before - program.1.at)) (nat_lt (before - program.1.at) statement.end) has in
     let low : program.1.at ≤ before = leb-true program.1.at before p.0 in
@@ -44,7 +44,7 @@ by_statement sources programs before line program statements f g (Some statement
       statements = statements;
       of_source = g;
       statement = statement;
-      of_statements = among (holds (before - program.1.at)) statements statement h;
+      of_statements = among (has_offset (before - program.1.at)) statements statement h;
       first = omega (arith, low, from);
       last = omega (arith, low, to);
       is = line_is;
@@ -56,7 +56,7 @@ by_source : (sources : SourcePlaces) (programs : List (List ℕ × Loaded)) (bef
     → option_and_then (λ places. line_at places (before - program.1.at)) o ≡ Some line → IsBeforeInSource sources programs (suc before) line
 by_source sources programs before line program f None g e = cc
 by_source sources programs before line program f (Some statements) g e =
-    by_statement sources programs before line program statements f g (find (holds (before - program.1.at)) statements) refl e
+    by_statement sources programs before line program statements f g (find (has_offset (before - program.1.at)) statements) refl e
 
 by_program : (sources : SourcePlaces) (programs : List (List ℕ × Loaded)) (before line : ℕ) (o : Option (List ℕ × Loaded))
     → find (λ program. is_in before program.1) programs ≡ o

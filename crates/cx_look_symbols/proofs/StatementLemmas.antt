@@ -13,7 +13,7 @@ use Rattle.cx_asm_pass1.specs.declared.place.ControlSection.{ControlSection}
 use Rattle.cx_asm_pass1.specs.declared.places.Places.{Places}
 use Rattle.cx_asm_pass2.specs.Whole.{whole_by}
 use Rattle.cx_asm.specs.Listing.{object_length}
-use Rattle.cx_look_symbols.specs.Laws.{ListedThere, bytes_at}
+use Rattle.cx_look_symbols.specs.Laws.{ListedThere, text_bytes_at}
 use Rattle.cx_look_symbols.proofs.RowLemmas.{control_reported}
 
 pub control_is : (source : Source) (places : Places) → IsPlaced (final_state source) places → (whole_by places).control ≡ (final_state source).control
@@ -50,7 +50,7 @@ at_place text at n le =
 
 there : (text : List ℕ) (at n line : ℕ) (inside some : Bool) → nat_lt 0 n ≡ some → length text ≤ bound
     → (if inside then take n (drop at text) else [])
-    ≡ bytes_at text (if inside && some then Some (record { start = cap at; end = cap at + cap n; line = line }) else None)
+    ≡ text_bytes_at text (if inside && some then Some (record { start = cap at; end = cap at + cap n; line = line }) else None)
 there text at n line false some e le = refl
 there text at n line true true e le = at_place text at n le
 there text at n line true false e le = let none : n ≡ 0 = grind (arith, nat_tests, e) in rw none refl

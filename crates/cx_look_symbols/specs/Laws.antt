@@ -13,18 +13,18 @@ use Rattle.cx_asm_pass2.specs.Whole.{Whole}
 use Rattle.cx_asm.specs.Listing.{object_of}
 use Rattle.cx_look_symbols.specs.Lines.{SourcePlaces, line_in}
 use Rattle.cx_look_symbols.specs.Places.{spot_before}
-use Rattle.cx_look_symbols.specs.Statements.{place_of}
+use Rattle.cx_look_symbols.specs.Statements.{statement_place_of}
 use Rattle.cx_look_symbols.specs.Symbols.{SourceSymbols, named_of}
 use Rattle.cx_look_symbols.specs.declared.statements.StatementPlace.{StatementPlace}
 
 -- the bytes of a section's text at a place; none without one
-abbrev pub bytes_at : List ℕ → Option StatementPlace → List ℕ
-bytes_at text place = option_map_or (λ it. take (it.end - it.start) (drop it.start text)) place []
+abbrev pub text_bytes_at : List ℕ → Option StatementPlace → List ℕ
+text_bytes_at text place = option_map_or (λ it. take (it.end - it.start) (drop it.start text)) place []
 
 -- The bytes that are listed beside a statement are those at its place; none where it has no place.
 abbrev pub ListedThere : Type 0
 ListedThere = (whole : Whole) (text : List ℕ) (s : PlacedStatement) → length text ≤ bound
-    → object_of whole text s ≡ bytes_at text (place_of whole.control s)
+    → object_of whole text s ≡ text_bytes_at text (statement_place_of whole.control s)
 
 -- The byte before an address is in a program that a source defined, and is one of the bytes of a statement on this
 -- line.

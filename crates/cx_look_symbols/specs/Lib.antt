@@ -8,6 +8,5 @@ pub mod Places
 pub mod Sources
 -- Statements of laws.
 pub mod Laws
-pub mod Facts
 pub mod Parts
 pub use Rattle.cx_look_tables.specs.Words

@@ -5,12 +5,12 @@ use Rattle.std.specs.Map.{lookup}
 use Rattle.cx_asm_expressions.specs.Names.{is_same}
 use Rattle.cx_look_symbols.specs.declared.statements.StatementPlace.{StatementPlace}
 
-abbrev pub holds : ℕ → StatementPlace → Bool
-holds offset place = nat_le place.start offset && nat_lt offset place.end
+abbrev pub has_offset : ℕ → StatementPlace → Bool
+has_offset offset place = nat_le place.start offset && nat_lt offset place.end
 
 -- the line of the first that holds it
 abbrev pub line_at : List StatementPlace → ℕ → Option ℕ
-line_at places offset = option_map (λ place. place.line) (find (holds offset) places)
+line_at places offset = option_map (λ place. place.line) (find (has_offset offset) places)
 
 -- the statements of the programs that a source defined, by their names
 abbrev pub SourcePlaces : Type 0

@@ -20,8 +20,8 @@ spot_in address program = record { program = program.0; offset = address - progr
 abbrev pub spot_of : List (List ℕ × Loaded) → ℕ → Option Spot
 spot_of programs address = option_map (spot_in address) (find (λ program. is_in address program.1) programs)
 
-abbrev pub place_of : List (List ℕ × Loaded) → ℕ → Place
-place_of programs address = record { address = address; spot = spot_of programs address }
+abbrev pub place_at_address : List (List ℕ × Loaded) → ℕ → Place
+place_at_address programs address = record { address = address; spot = spot_of programs address }
 
 -- Where the byte before an address is: where a command leads back to, the last byte of its EXEC.
 unfoldable pub spot_before : List (List ℕ × Loaded) → ℕ → Option Spot

@@ -21,8 +21,8 @@ pub record Sources : Type 0 where
 abbrev pub source_lines : Sources → List ℕ → List (List ℕ)
 source_lines sources name = unwrap_or (lookup (is_name name) sources.lines) []
 
-abbrev pub with_lines : Sources → List ℕ → List (List ℕ) → Sources
-with_lines sources name lines =
+abbrev pub with_source_lines : Sources → List ℕ → List (List ℕ) → Sources
+with_source_lines sources name lines =
     record {
       lines = insert_entry is_name sources.lines name lines;
       places = insert_entry is_name sources.places name (statement_places lines);

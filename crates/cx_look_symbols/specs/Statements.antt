@@ -16,15 +16,16 @@ abbrev pub place_with : PlacedStatement → ℕ → StatementPlace
 place_with s length = record { start = cap s.place.offset; end = cap s.place.offset + cap length; line = s.line }
 
 -- An instruction or a DC of the control section, with the bytes that are listed beside it; none where there is no byte.
-abbrev pub place_of : Option (List ℕ) → PlacedStatement → Option StatementPlace
-place_of control s =
+abbrev pub statement_place_of : Option (List ℕ) → PlacedStatement → Option StatementPlace
+statement_place_of control s =
     let length = object_length s (role_in s.stmt) in
     if is_control s.place.section control && nat_lt 0 length then Some (place_with s length) else None
 
 -- those of a source in its order, where the first pass finds no fault
 abbrev pub places_in : Source → List StatementPlace
 places_in source =
-    if is_none (final_state source).fault then filter_map (place_of (final_state source).control) (statements_of source)
+    if is_none (final_state source).fault
+    then filter_map (statement_place_of (final_state source).control) (statements_of source)
     else []
 
 -- those of lines; none where these aren't a source without a fault

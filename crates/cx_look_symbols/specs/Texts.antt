@@ -18,14 +18,14 @@ use Rattle.cx_look_symbols.specs.Symbols.{SourceSymbols, Rows, named_in}
 use Rattle.cx_look_symbols.specs.declared.rows.Symbol.{Symbol}
 
 -- not negative, and below a number
-abbrev pub is_below : ℤ → ℕ → Bool
-is_below number high = int_le (pos 0) number && int_lt number (pos high)
+abbrev pub is_natural_below : ℤ → ℕ → Bool
+is_natural_below number high = int_le (pos 0) number && int_lt number (pos high)
 
 -- A value in hexadecimal digits: six where it is one of 24 bits, else eight, in two's complement; hyphens for an offset
 -- beyond a word.
 abbrev pub value_word : ℤ → List ℕ
 value_word number =
-    if is_below number (2 ^ 24) then digits 16 6 (unsigned_abs number)
+    if is_natural_below number (2 ^ 24) then digits 16 6 (unsigned_abs number)
     else (if is_in_range number then digits 16 8 (unsigned_abs (int_rem_euclid number (pos (2 ^ 32)))) else codes "--")
 
 -- the section that it is an offset in
@@ -34,9 +34,9 @@ section_word None = codes "ABSOLUTE"
 section_word (Some name) = codes "SECTION " ++ written_name name
 
 -- where a value is in a loaded program: in the control section, from its first byte to its end
-abbrev pub address_in : Option (List ℕ) → Value → Loaded → Option ℕ
-address_in control value loaded =
-    if is_control value.section control && is_below value.number (loaded.len + 1)
+abbrev pub address_of_value : Option (List ℕ) → Value → Loaded → Option ℕ
+address_of_value control value loaded =
+    if is_control value.section control && is_natural_below value.number (loaded.len + 1)
     then Some ((loaded.at + unsigned_abs value.number) % 2 ^ 24) else None
 
 abbrev pub at_words : Option ℕ → List (List ℕ)
@@ -50,7 +50,7 @@ symbol_line control program (name, symbol) =
     (codes "SYMBOL" ∷ written_name name ∷ codes "VALUE" ∷ value_word symbol.value.number
     ∷ section_word symbol.value.section
     ∷ codes "LENGTH" ∷ decimal symbol.value.length ∷ codes "LINE" ∷ decimal symbol.line
-    ∷ at_words (option_and_then (address_in control symbol.value) program))
+    ∷ at_words (option_and_then (address_of_value control symbol.value) program))
 
 -- ---- one symbol
 abbrev pub symbol_found : Option (List ℕ) → Option Loaded → List ℕ → Option Symbol → Lines

@@ -15,7 +15,7 @@ use indexmap::IndexMap;
 use std::alloc::{AllocError, Global};
 use std::collections::BTreeMap;
 
-/// The symbols in the order of their names, letters before digits.
+/// The symbols of a source in the order of their names, letters before digits (as EBCDIC has them).
 ///
 /// An error comes only where memory for them was refused.
 pub fn in_order(

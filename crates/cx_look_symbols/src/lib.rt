@@ -15,9 +15,9 @@ mod symbols;
 mod texts;
 
 pub use all::in_order;
-pub use lines::{SourcePlaces, holds};
+pub use lines::{SourcePlaces, has_offset};
 pub use looks::{symbol_text, symbols_text};
-pub use places::{Place, Spot, address_word, line_word, place_of, place_word, spot_before};
+pub use places::{Place, Spot, address_word, line_word, place_at_address, place_word, spot_before};
 pub use reading::translated_in;
 pub use rows::Symbol;
 pub use shown::{push_led_by, statement_at};

@@ -47,9 +47,9 @@ fn symbol_among(
     symbol_line(report, &names.control, &program, name, symbol)
 }
 
-/// Looks at a symbol of a program, whose source has these lines: a line with its value, its section, its length attribute, the
-/// number of the line that defines it, from 1, and where it is in the program; NONE where there is no such symbol, or
-/// the lines are no source without a fault.
+/// Looks at a symbol of a program, whose source has these lines: a line with its value, its section, its length
+/// attribute, the number of the line that defines it, from 1, and where it is in the program; NONE where there is no
+/// such symbol, or the lines are no source without a fault.
 ///
 /// An error comes only where memory for the report was refused.
 #[tactic(auto, unfolding(crate::specs::Texts::symbol_text))]
@@ -81,8 +81,8 @@ fn symbols_word(alloc: Global, program: Name8) -> Result<Vec<u8>, AllocError>
     Ok(text)
 }
 
-/// Looks at all symbols of a program, whose source has these lines: a line each, as `symbol_text` has it, in the order of their
-/// names, letters before digits; NONE where there is no symbol, or the lines are no source without a fault.
+/// Looks at all symbols of a program, whose source has these lines: a line each, as `symbol_text` has it, in the order
+/// of their names, letters before digits; NONE where there is no symbol, or the lines are no source without a fault.
 ///
 /// An error comes only where memory for the report was refused.
 #[tactic(auto, unfolding(crate::specs::Texts::symbols_text))]

@@ -2,7 +2,7 @@
 ghost use Rattle.std.specs.Prelude.{◌≡◌, IfOk, option_and_then, option_map};
 ghost use Rattle.std.specs.List.{find};
 ghost use Rattle.cx_look_symbols.specs.Lines.{line_in};
-ghost use Rattle.cx_look_symbols.specs.Places.{address_word, is_in, line_word, place_of, place_word, spot_before, spot_of, spot_word};
+ghost use Rattle.cx_look_symbols.specs.Places.{address_word, is_in, line_word, place_at_address, place_word, spot_before, spot_of, spot_word};
 
 use crate::lines::{SourcePlaces, five_digits, line_in};
 use cx_base::{hexadecimal, shown_name};
@@ -11,7 +11,7 @@ use cx_load::Loaded;
 use indexmap::IndexMap;
 use std::alloc::{AllocError, Global};
 
-/// Where a byte is: how many bytes of which program come before it.
+/// Where a byte is: in which program, and how many bytes of that come before it.
 #[derive(Clone, Copy, Debug, PartialEq, Eq)]
 pub struct Spot {
     pub program: Name8,
@@ -53,9 +53,10 @@ fn spot_of(programs: &IndexMap<Name8, Loaded>, address: u32) -> Option<Spot>
     Some(Spot { program, offset })
 }
 
-/// An address and where it is. It takes no memory.
-pub fn place_of(programs: &IndexMap<Name8, Loaded>, address: u32) -> Place
-    ensures { result ≡ place_of programs.now.entries address }
+/// An address, and the program that has its byte with the offset there; no spot where no program has it. It takes no
+/// memory.
+pub fn place_at_address(programs: &IndexMap<Name8, Loaded>, address: u32) -> Place
+    ensures { result ≡ place_at_address programs.now.entries address }
 {
     let spot = spot_of(programs, address);
     Place { address, spot }
@@ -91,8 +92,8 @@ fn line_of(sources: &SourcePlaces, spot: &Option<Spot>) -> Option<usize>
     line_in(sources, spot.program, spot.offset)
 }
 
-/// Words, and the number in five decimal digits of the line of the statement that has a byte; nothing where no source
-/// defined the program, or no statement has the byte.
+/// `words`, and after them the number, in five decimal digits, of the line of the statement that has a byte; nothing at
+/// all where no source defined the program, or no statement has the byte.
 ///
 /// An error comes only where memory for the text was refused.
 #[tactic(auto, unfolding(crate::specs::Places::line_word))]
@@ -125,7 +126,8 @@ pub fn address_word(alloc: Global, place: &Place) -> Result<Vec<u8>, AllocError>
     Ok(text)
 }
 
-/// An address and where it is, and ` LINE nnnnn` with the line of the statement there, if there is one.
+/// An address and where it is, as `address_word` has it, and ` LINE nnnnn` with the line of the statement there, if
+/// there is one.
 ///
 /// An error comes only where memory for the text was refused.
 #[tactic(auto, unfolding(crate::specs::Places::place_word))]

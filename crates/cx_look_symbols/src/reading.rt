@@ -6,7 +6,8 @@ use cx_source::{Source, Text, source_or_faults};
 use cx_translate::translate_or_faults;
 use std::alloc::{AllocError, Global};
 
-/// The source that lines make, translated; None where it has a fault.
+/// The source that lines make, given without their ends, translated; None where a line or an EXEC statement is at
+/// fault.
 ///
 /// An error comes only where memory for it was refused.
 #[tactic(auto, using(crate::proofs::ReadingLemmas::read_alike, crate::proofs::ReadingLemmas::translated_alike))]

@@ -26,7 +26,7 @@ const AIDS: [&str; 16] = [
 /// What a name of a source is: its value, and where it is defined.
 #[derive(Clone, Copy, Debug, PartialEq, Eq)]
 pub struct Symbol {
-    /// Its value.
+    /// Its value, as the assembler has it.
     pub value: Value,
     /// The number of the line whose statement defines it, from 1.
     pub line: usize,

@@ -71,9 +71,9 @@ fn numbered_line(alloc: Global, lines: &[Text], n: usize) -> Result<List<u8>, Al
     Ok(List::from_vec(word))
 }
 
-/// The line of the statement that has a byte, by its number in five decimal digits and its text: columns 1 to 71 without blanks at
-/// either end, a period for a byte that has no character. A statement on several lines, or made from an EXEC, has its first line.
-/// None where no source defined the program, or no statement has the byte.
+/// The line of the statement that has a byte, by its number in five decimal digits and its text: columns 1 to 71
+/// without blanks at either end, a period for a byte that has no character. A statement on several lines, or made from
+/// an EXEC, has its first line. None where no source defined the program, or no statement has the byte.
 ///
 /// An error comes only where memory for the text was refused.
 #[tactic(auto, unfolding(crate::specs::Sources::statement_at))]

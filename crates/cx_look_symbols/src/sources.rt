@@ -1,7 +1,7 @@
 //! What is kept of the sources that programs were defined from.
 ghost use Rattle.std.specs.Prelude.{◌≡◌, ◌≤◌, [], if◌then◌else◌, IsOk, OnOk};
 ghost use Rattle.indexmap.specs.IndexMap.{spare};
-ghost use Rattle.cx_look_symbols.specs.Sources.{source_lines, with_lines};
+ghost use Rattle.cx_look_symbols.specs.Sources.{source_lines, with_source_lines};
 ghost use Rattle.cx_look_symbols.specs.Statements.{statement_places};
 
 use crate::lines::SourcePlaces;
@@ -44,7 +44,7 @@ fn make_room_in<L: Drop, P: Drop>(
 }
 
 impl Sources {
-    /// Those of no program. It takes no memory.
+    /// What is kept where no source has defined a program. It takes no memory.
     pub fn new(alloc: Global) -> Sources
         ensures { result ≡ record { lines = []; places = [] } }
     {
@@ -71,7 +71,7 @@ impl Sources {
         &self.places
     }
 
-    /// Makes room for one program more.
+    /// Makes room for one program more; what is kept stays as it is.
     ///
     /// An error comes only where memory for it was refused.
     pub fn make_room(&mut self) -> Result<(), AllocError>
@@ -80,7 +80,8 @@ impl Sources {
         make_room_in(&mut self.lines, &mut self.places)
     }
 
-    /// Keeps a source's lines, and where its statements are, where it defined its program.
+    /// Keeps a source's lines, and where its statements are (`places`, as `statement_places` gives them), where the
+    /// source defined its program (`is_new`); else nothing changes.
     ///
     /// An error comes only where memory for them was refused.
     pub fn keep(
@@ -91,7 +92,7 @@ impl Sources {
         is_new: bool,
     ) -> Result<(), AllocError>
         requires { places ≡ statement_places lines }
-        ensures { OnOk result (self.new ≡ (if is_new then with_lines self.old name lines else self.old)) }
+        ensures { OnOk result (self.new ≡ (if is_new then with_source_lines self.old name lines else self.old)) }
     {
         if !is_new {
             return Ok(());

@@ -4,7 +4,7 @@ ghost use Rattle.std.specs.List.{cons_option, filter_map};
 ghost use Rattle.cx_asm_pass2.specs.Statements.{statements_of};
 ghost use Rattle.cx_asm_pass2.specs.Whole.{whole_by};
 ghost use Rattle.cx_asm_pass1.specs.Locations.{IsPlaced, final_state};
-ghost use Rattle.cx_look_symbols.specs.Statements.{place_of, places_in, statement_places};
+ghost use Rattle.cx_look_symbols.specs.Statements.{statement_place_of, places_in, statement_places};
 
 use crate::reading::translated_in;
 use crate::texts::is_control;
@@ -20,15 +20,15 @@ use std::alloc::{AllocError, Global};
 /// Where a statement's bytes are in the control section, and the line that it is on.
 #[derive(Clone, Copy, Debug, PartialEq, Eq)]
 pub struct StatementPlace {
-    /// The offset of its first byte.
+    /// The offset of its first byte in the control section, in bytes.
     pub start: u128,
-    /// The offset after its last byte.
+    /// The offset of the byte after its last one.
     pub end: u128,
     /// The number of its line, from 1; of a statement that a translation made the number of its EXEC's.
     pub line: usize,
 }
 
-/// Where a statement's bytes are; None where it has none in the control section.
+/// Where a statement's bytes are; None where it has none in the control section, whose name is `control`.
 ///
 /// An error comes only where memory was refused.
 pub fn statement_place(
@@ -36,7 +36,7 @@ pub fn statement_place(
     control: Option<Name8>,
     statement: &Statement<'_>,
 ) -> Result<Option<StatementPlace>, AllocError>
-    ensures { IfOk result (λ place. place ≡ place_of control statement.now) }
+    ensures { IfOk result (λ place. place ≡ statement_place_of control statement.now) }
 {
     let place = statement.place();
     if !is_control(place.section, control) {
@@ -61,7 +61,7 @@ fn push_place(
     places: &Places<'_>,
     statement: &Statement<'_>,
 ) -> Result<(), AllocError>
-    ensures { let more = cons_option (place_of (whole_by places.now).control statement.now) [] in
+    ensures { let more = cons_option (statement_place_of (whole_by places.now).control statement.now) [] in
         OnOk result (found.new.items ≡ found.old.items ++ more) }
 {
     let Some(place) = statement_place(alloc, control_name(places), statement)? else {
@@ -78,7 +78,7 @@ fn places_among(
     places: &Places<'_>,
     statements: &[Statement<'_>],
 ) -> Result<List<StatementPlace>, AllocError>
-    ensures { IfOk result (λ found. found ≡ filter_map (place_of (whole_by places.now).control) statements.now) }
+    ensures { IfOk result (λ found. found ≡ filter_map (statement_place_of (whole_by places.now).control) statements.now) }
 {
     let mut found = Vec::new(alloc);
     for statement in statements {

@@ -14,10 +14,10 @@ use cx_source::{Source, Text};
 use indexmap::IndexMap;
 use std::alloc::{AllocError, Global};
 
-/// The names of a source.
+/// The names of a source: its control section's, and its symbols.
 #[derive(Drop)]
 pub struct Names {
-    /// The control section's.
+    /// The name of the control section; None where there is none.
     pub control: Option<Name8>,
     /// The symbols, in the order of the lines that define them.
     pub symbols: IndexMap<Name8, Symbol>,

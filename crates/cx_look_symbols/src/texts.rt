@@ -2,7 +2,7 @@
 ghost use Rattle.std.specs.Prelude.{◌≡◌, ◌++◌, IfOk, OnOk, option_and_then};
 ghost use Rattle.std.specs.Fmt.{decimal};
 ghost use Rattle.cx_asm_pass1.specs.PassState.{is_control};
-ghost use Rattle.cx_look_symbols.specs.Texts.{address_in, section_word, symbol_line, value_word};
+ghost use Rattle.cx_look_symbols.specs.Texts.{address_of_value, section_word, symbol_line, value_word};
 
 use crate::rows::Symbol;
 use cx_asm_expressions::Value;
@@ -47,7 +47,7 @@ pub fn length_word(alloc: Global, length: u128) -> Result<Vec<u8>, AllocError>
     Ok(length.to_string(alloc)?.into_bytes())
 }
 
-/// Whether a section is the control section. It takes no memory.
+/// Whether a section is the control section; false where there is none of one of them. It takes no memory.
 pub fn is_control(section: Option<Name8>, control: Option<Name8>) -> bool
     ensures { result ≡ is_control section control }
 {
@@ -58,8 +58,8 @@ pub fn is_control(section: Option<Name8>, control: Option<Name8>) -> bool
 }
 
 /// Where a value is in a loaded program.
-fn address_in(control: Option<Name8>, value: &Value, loaded: &Loaded) -> Option<u32>
-    ensures { result ≡ address_in control value.now loaded.now }
+fn address_of_value(control: Option<Name8>, value: &Value, loaded: &Loaded) -> Option<u32>
+    ensures { result ≡ address_of_value control value.now loaded.now }
 {
     if !is_control(value.section, control) {
         return None;
@@ -72,10 +72,10 @@ fn address_in(control: Option<Name8>, value: &Value, loaded: &Loaded) -> Option<
 
 /// Where a value is in a program, if that is loaded.
 fn address_of(control: Option<Name8>, program: Option<Loaded>, value: &Value) -> Option<u32>
-    ensures { result ≡ option_and_then (address_in control value.now) program }
+    ensures { result ≡ option_and_then (address_of_value control value.now) program }
 {
     let loaded = program?;
-    address_in(control, value, &loaded)
+    address_of_value(control, value, &loaded)
 }
 
 /// Adds the line of a symbol.

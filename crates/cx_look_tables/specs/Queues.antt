@@ -52,13 +52,13 @@ hex_column row =
 abbrev pub row_line : ℕ → List ℕ → Lines
 row_line offset row = look_line (digits 16 4 offset ∷ hex_column row ∷ in_apostrophes (shown_text row) ∷ [])
 
-abbrev pub row_of : ℕ → List ℕ → Lines
-row_of k bytes = row_line (16 * k) (take 16 (drop (16 * k) bytes))
+abbrev pub row_line_at : ℕ → List ℕ → Lines
+row_line_at k bytes = row_line (16 * k) (take 16 (drop (16 * k) bytes))
 
 -- the first rows
 abbrev pub first_rows : ℕ → List ℕ → Lines
 first_rows zero bytes = []
-first_rows (suc k) bytes = first_rows k bytes ++ row_of k bytes
+first_rows (suc k) bytes = first_rows k bytes ++ row_line_at k bytes
 
 abbrev pub rows_text : List ℕ → Lines
 rows_text bytes = first_rows ((length bytes + 15) / 16) bytes

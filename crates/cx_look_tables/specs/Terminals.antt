@@ -23,12 +23,12 @@ unfoldable pub clock_line : ℕ → ℕ → Lines
 clock_line time date = look_line (codes "CLOCK" ∷ digits 10 6 time ∷ digits 10 5 date ∷ [])
 
 -- how many bytes there are, and the first 64 of them
-unfoldable pub bytes_word : List ℕ → List ℕ
-bytes_word bytes = decimal (length bytes) ++ codes " " ++ written_bytes (take 64 bytes)
+unfoldable pub length_and_bytes : List ℕ → List ℕ
+length_and_bytes bytes = decimal (length bytes) ++ codes " " ++ written_bytes (take 64 bytes)
 
 -- ---- what the next key attaches: a transaction, and the COMMAREA that is kept for it
 abbrev pub commarea_word : List ℕ → List ℕ
-commarea_word commarea = if length commarea == 0 then [] else codes " COMMAREA " ++ bytes_word commarea
+commarea_word commarea = if length commarea == 0 then [] else codes " COMMAREA " ++ length_and_bytes commarea
 
 unfoldable pub next_word : Option NextTransaction → List ℕ
 next_word None = codes "--"
@@ -37,7 +37,7 @@ next_word (Some next) = written_name next.tran ++ commarea_word next.commarea
 -- ---- the input that is held, with its key
 unfoldable pub held_word : Option Input → List ℕ
 held_word None = codes "--"
-held_word (Some input) = (key_of input.aid).name ++ codes " " ++ bytes_word input.bytes
+held_word (Some input) = (key_of input.aid).name ++ codes " " ++ length_and_bytes input.bytes
 
 -- ---- EDF: its mode, and its stop conditions
 abbrev pub mode_name : Mode → List ℕ
@@ -45,13 +45,13 @@ mode_name mode.Free = codes "FREE"
 mode_name (mode.Stopped stop) = codes "STOPPED"
 mode_name mode.Suppressed = codes "SUPPRESSED"
 
-abbrev pub condition_word : Stops → Condition → List ℕ
-condition_word stops condition = if names stops condition then byte " " ∷ (entry_of condition).name else []
+abbrev pub stop_condition_word : Stops → Condition → List ℕ
+stop_condition_word stops condition = if names stops condition then byte " " ∷ (entry_of condition).name else []
 
 unfoldable pub stops_word : Stops → List ℕ
 stops_word stops =
     (if stops.abend then codes " ABEND" else []) ++ (if stops.end then codes " END" else [])
-    ++ flat_map (condition_word stops) handled_conditions
+    ++ flat_map (stop_condition_word stops) handled_conditions
 
 unfoldable pub edf_word : Option SessionState → List ℕ
 edf_word None = codes "OFF"

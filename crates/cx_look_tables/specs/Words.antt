@@ -17,13 +17,13 @@ abbrev pub with_blanks : List (List ℕ) → List ℕ
 with_blanks words = flat_map (λ word. byte " " ∷ word) words
 
 -- words, a blank between one and the next
-abbrev pub line_of : List (List ℕ) → List ℕ
-line_of [] = []
-line_of (first ∷ words) = first ++ with_blanks words
+abbrev pub joined_line : List (List ℕ) → List ℕ
+joined_line [] = []
+joined_line (first ∷ words) = first ++ with_blanks words
 
 -- one line
 abbrev pub look_line : List (List ℕ) → Lines
-look_line words = line_of words ∷ []
+look_line words = joined_line words ∷ []
 
 -- the line of a look that finds nothing
 abbrev pub none_line : List ℕ → Lines

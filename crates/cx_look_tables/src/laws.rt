@@ -2,7 +2,7 @@
 
 ghost use Rattle.cx_look_tables.specs.Laws.{StoppedTerminalsAreShown};
 
-/// A terminal is shown as STOPPED exactly where it is stopped.
+/// TERMINALS shows a terminal as STOPPED exactly where EDF has stopped it.
 pub fn stopped_terminals_are_shown()
     ensures { StoppedTerminalsAreShown }
 {}

@@ -35,7 +35,8 @@ pub fn queue_text<S: Store + Drop>(
     Ok(report)
 }
 
-/// Looks at a queue's item number n as a whole, in rows of sixteen bytes; NONE where there is no such item or queue.
+/// Looks at the item of a queue with number `n`, from 1, as a whole, in rows of sixteen bytes; NONE where there is no
+/// such item or queue.
 ///
 /// An error comes only where memory for the report was refused.
 pub fn item_text<S: Store + Drop>(

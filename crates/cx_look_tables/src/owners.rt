@@ -7,8 +7,8 @@ use cx_ebcdic::Name4;
 use cx_region::Terminal;
 use indexmap::IndexMap;
 
-/// The terminal at a position, which areas and resources have as their owner's, with its name; None where there is
-/// none.
+/// The terminal whose position this is, by which areas and resources name their owner, with its name; None where no
+/// terminal has it.
 pub fn terminal_at(terminals: &IndexMap<Name4, Terminal>, slot: u8) -> Option<(Name4, &Terminal)>
     ensures { option_map (λ t. (t.0, t.1.now)) result ≡ terminal_at terminals.now.entries slot }
 {

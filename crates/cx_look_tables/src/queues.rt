@@ -120,7 +120,7 @@ fn whole_item(report: &mut Report, name: &[u8], n: &[u8], item: &[u8]) -> Result
 #[tactic(auto, using(crate::proofs::ItemLemmas::few_bytes))]
 fn item_of(queues: &Queues, name: Name8, n: usize) -> Option<&[u8]>
     ensures value { option_map (λ item. item.now) result ≡ item_of queues.now name n }
-    ensures few { IfSome result (λ item. length item.now ≤ 32767) }
+    ensures at_most_32767 { IfSome result (λ item. length item.now ≤ 32767) }
 {
     let queue = queues.all().get(&name)?;
     let item = queue.item(n)?;

@@ -22,7 +22,7 @@ fn register_line(report: &mut Report, regs: &[u32; 16], k: usize) -> Result<(), 
     ])
 }
 
-/// Adds the lines of sixteen registers, four to a line.
+/// Adds the lines of sixteen registers, from R0 on, four to a line.
 ///
 /// An error comes only where memory for them was refused; then some of them may be there.
 #[tactic(auto, unfolding(crate::specs::Registers::register_lines))]

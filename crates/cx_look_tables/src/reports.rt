@@ -1,7 +1,7 @@
 //! Reports: what a look has to say, a line after the other.
 ghost use Rattle.std.specs.Prelude.{◌≡◌, ◌∷◌, ◌++◌, [], IfOk, OnOk, map};
 ghost use Rattle.std.specs.List.{filter};
-ghost use Rattle.cx_look_tables.specs.Words.{is_in_line, line_of, look_line, marked, marked_line, or_none};
+ghost use Rattle.cx_look_tables.specs.Words.{is_in_line, joined_line, look_line, marked, marked_line, or_none};
 
 use crate::lines::push_words;
 use cx_base::List;
@@ -24,8 +24,8 @@ impl Model for Report {
 }
 
 /// Words with a blank between one and the next.
-fn line_of(alloc: Global, words: &[&[u8]]) -> Result<Vec<u8>, AllocError>
-    ensures { IfOk result (λ line. line.items ≡ line_of (map (λ word. word.now) words.now)) }
+fn joined_line(alloc: Global, words: &[&[u8]]) -> Result<Vec<u8>, AllocError>
+    ensures { IfOk result (λ line. line.items ≡ joined_line (map (λ word. word.now) words.now)) }
 {
     let Some((first, more)) = words.split_first() else {
         return Ok(Vec::new(alloc));
@@ -93,12 +93,12 @@ impl Report {
         }
     }
 
-    /// What the report's memory comes from.
+    /// The allocator that the report's memory comes from.
     pub fn alloc(&self) -> Global {
         self.alloc
     }
 
-    /// Its lines in their order, each without its LF and the `> ` before it.
+    /// Its lines in their order, each without the `> ` before it and the LF at its end.
     pub fn lines(&self) -> &[List<u8>]
         ensures { result.now ≡ self.now }
     {
@@ -121,7 +121,7 @@ impl Report {
     pub fn line(&mut self, words: &[&[u8]]) -> Result<(), AllocError>
         ensures { OnOk result (self.new ≡ self.old ++ look_line (map (λ word. word.now) words.now)) }
     {
-        let line = line_of(self.alloc, words)?;
+        let line = joined_line(self.alloc, words)?;
         self.push(line)
     }
 
@@ -134,7 +134,7 @@ impl Report {
         push_copies(self.alloc, &mut self.lines, more.lines.as_slice())
     }
 
-    /// The report, or where it has no line, the one that says that a look found nothing.
+    /// The report; where it has no line, one with a line of `word` and NONE.
     ///
     /// An error comes only where memory for that was refused.
     pub fn or_none(self, word: &[u8]) -> Result<Report, AllocError>

@@ -1,7 +1,7 @@
 //! Bytes in rows of sixteen.
 ghost use Rattle.std.specs.Prelude.{◌≡◌, ◌*◌, ◌<◌, ◌≤◌, ◌^◌, ◌++◌, IfOk, OnOk, drop, length, take};
 ghost use Rattle.cx_base.specs.Digits.{hex_digits};
-ghost use Rattle.cx_look_tables.specs.Queues.{hex_column, row_line, row_of, rows_text};
+ghost use Rattle.cx_look_tables.specs.Queues.{hex_column, row_line, row_line_at, rows_text};
 
 use crate::{Report, in_apostrophes, spelled};
 use cx_base::{hexadecimal, in_columns, shown};
@@ -58,9 +58,9 @@ fn row_line(report: &mut Report, offset: u32, row: &[u8]) -> Result<(), AllocErr
 }
 
 /// Adds the line of a row, counted from 0.
-fn row_of(report: &mut Report, k: u32, bytes: &[u8]) -> Result<(), AllocError>
+fn row_line_at(report: &mut Report, k: u32, bytes: &[u8]) -> Result<(), AllocError>
     requires { 16 * k < 2 ^ 32 }
-    ensures { OnOk result (report.new ≡ report.old ++ row_of k bytes.now) }
+    ensures { OnOk result (report.new ≡ report.old ++ row_line_at k bytes.now) }
 {
     let offset = ROW * k;
     let row = first_bytes(after(bytes, offset as usize), ROW as usize);
@@ -74,7 +74,7 @@ pub(crate) fn rows_text(report: &mut Report, bytes: &[u8]) -> Result<(), AllocEr
 {
     let rows = (bytes.len() as u32 + 15) / ROW;
     for k in 0..rows {
-        row_of(report, k, bytes)?;
+        row_line_at(report, k, bytes)?;
     }
     Ok(())
 }

@@ -3,7 +3,7 @@ ghost use Rattle.std.specs.Prelude.{◌≡◌, ◌++◌, [], if◌then◌else◌
 ghost use Rattle.std.specs.List.{flat_map};
 ghost use Rattle.std.specs.Option.{option_copied};
 ghost use Rattle.cx_edf.specs.State.{EdfState};
-ghost use Rattle.cx_look_tables.specs.Terminals.{bytes_word, clock_line, commarea_word, condition_word, edf_word, held_word, mode_name, next_word, stops_word, terminal_line, terminal_lines, terminals_text};
+ghost use Rattle.cx_look_tables.specs.Terminals.{length_and_bytes, clock_line, commarea_word, stop_condition_word, edf_word, held_word, mode_name, next_word, stops_word, terminal_line, terminal_lines, terminals_text};
 
 use crate::rows::first_bytes;
 use crate::{Report, decimal, push_word, written_bytes, written_name};
@@ -19,9 +19,9 @@ use std::alloc::{AllocError, Global};
 const MOST_SHOWN: usize = 64;
 
 /// How many bytes there are, and the first of them.
-#[tactic(auto, unfolding(crate::specs::Terminals::bytes_word))]
-fn bytes_word(alloc: Global, bytes: &[u8]) -> Result<Vec<u8>, AllocError>
-    ensures { IfOk result (λ word. word.items ≡ bytes_word bytes.now) }
+#[tactic(auto, unfolding(crate::specs::Terminals::length_and_bytes))]
+fn length_and_bytes(alloc: Global, bytes: &[u8]) -> Result<Vec<u8>, AllocError>
+    ensures { IfOk result (λ word. word.items ≡ length_and_bytes bytes.now) }
 {
     let first = written_bytes(alloc, first_bytes(bytes, MOST_SHOWN))?;
     let mut word = decimal(alloc, bytes.len())?;
@@ -37,7 +37,7 @@ fn push_commarea(word: &mut Vec<u8>, alloc: Global, commarea: &[u8]) -> Result<(
         return Ok(());
     }
     word.extend_from_slice(b" COMMAREA ")?;
-    word.extend_from_slice(&bytes_word(alloc, commarea)?)?;
+    word.extend_from_slice(&length_and_bytes(alloc, commarea)?)?;
     Ok(())
 }
 
@@ -62,7 +62,7 @@ fn held_word(alloc: Global, input: &Option<Input>) -> Result<Vec<u8>, AllocError
     let Some(input) = input else {
         return b"--".to_vec(alloc);
     };
-    let bytes = bytes_word(alloc, input.bytes.as_slice())?;
+    let bytes = length_and_bytes(alloc, input.bytes.as_slice())?;
     let mut word = input.aid.name().as_bytes().to_vec(alloc)?;
     push_word(&mut word, &bytes)?;
     Ok(word)
@@ -81,7 +81,7 @@ fn mode_name(mode: Mode) -> &'static [u8]
 
 /// Adds a condition, where it is a stop condition.
 fn push_condition(word: &mut Vec<u8>, stops: Stops, condition: Condition) -> Result<(), AllocError>
-    ensures { OnOk result (word.new.items ≡ word.old.items ++ condition_word stops condition) }
+    ensures { OnOk result (word.new.items ≡ word.old.items ++ stop_condition_word stops condition) }
 {
     if stops.names(condition) {
         push_word(word, condition.name().as_bytes())?;
@@ -95,7 +95,7 @@ fn push_conditions(
     stops: Stops,
     conditions: &[Condition],
 ) -> Result<(), AllocError>
-    ensures { let more = flat_map (condition_word stops) conditions.now in
+    ensures { let more = flat_map (stop_condition_word stops) conditions.now in
         OnOk result (word.new.items ≡ word.old.items ++ more) }
 {
     for condition in conditions {
@@ -196,8 +196,9 @@ fn clock_line<S: Store + Drop>(report: &mut Report, region: &Region<S>) -> Resul
     report.line(&[b"CLOCK", &time, &date])
 }
 
-/// Looks at the clock and at all terminals of a region, with the sessions of a region under EDF: a line each, the first defined first,
-/// with what its next key attaches, the input that is held, and EDF's mode and stop conditions; NONE where there is no terminal.
+/// Looks at the clock and at all terminals of a region, with the sessions of a region under EDF: a line each, the first
+/// defined first, with what its next key attaches, the input that is held, and EDF's mode and stop conditions; NONE
+/// after the clock where there is no terminal.
 ///
 /// An error comes only where memory for the report was refused.
 #[tactic(auto, unfolding(crate::specs::Terminals::terminals_text))]

@@ -32,7 +32,7 @@ fn are_plain(bytes: &[u8]) -> bool
     bytes.iter().all(|byte| is_plain(*byte))
 }
 
-/// A text between apostrophes.
+/// A text between apostrophes, as it is: one in it isn't doubled.
 ///
 /// An error comes only where memory for it was refused.
 pub fn in_apostrophes(alloc: Global, text: &[u8]) -> Result<Vec<u8>, AllocError>
@@ -68,7 +68,8 @@ fn in_hexadecimal(alloc: Global, bytes: &[u8]) -> Result<Vec<u8>, AllocError>
     Ok(value)
 }
 
-/// Bytes as characters between apostrophes; in hexadecimal where one of them has no character, or is an apostrophe.
+/// Bytes as characters between apostrophes; as `X'..'` in hexadecimal digits where one of them has no character, or is
+/// an apostrophe.
 ///
 /// An error comes only where memory for them was refused.
 #[tactic(auto, unfolding(crate::specs::Words::written_bytes))]
@@ -82,7 +83,7 @@ pub fn written_bytes(alloc: Global, bytes: &[u8]) -> Result<Vec<u8>, AllocError>
     in_apostrophes(alloc, text.as_slice())
 }
 
-/// A name as bytes, without the blanks that fill it.
+/// A name between apostrophes, without the blanks that fill it; as `X'..'` where `written_bytes` would have it so.
 ///
 /// An error comes only where memory for it was refused.
 #[tactic(auto, unfolding(crate::specs::Words::written_name))]

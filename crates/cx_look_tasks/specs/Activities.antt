@@ -3,7 +3,7 @@ use Rattle.std.specs.Prelude.{◌≡◌, Bool, true, false, List, [], ◌∷◌,
 use Rattle.cx_region_state.specs.State.{TaskContext}
 use Rattle.cx_region_task.specs.declared.decision.Decision.{Decision}
 use Rattle.cx_region_task.specs.declared.decision.Decision.TheVariants as decision
-use Rattle.cx_region_task.specs.Decisions.{command_of}
+use Rattle.cx_region_task.specs.Decisions.{decided_command}
 use Rattle.cx_region_task.specs.Performing.{Decides}
 use Rattle.cx_region.specs.State.{RegionState, TerminalState}
 use Rattle.cx_region.specs.Turn.{context_of}
@@ -13,20 +13,20 @@ use Rattle.cx_look_tasks.specs.declared.activities.Activity.TheVariants.{Due, No
 -- a command that is refused is due too: its turn abends
 abbrev pub activity_by : Decision → Activity
 activity_by (decision.Wait call wait) = Waiting wait
-activity_by decided = Due (command_of decided)
+activity_by decided = Due (decided_command decided)
 
 pub record ActsByCommand (r : TaskContext) (activity : Activity) : Type 0 where
   pub decided : Decision
   pub decides : Decides r decided
   pub is : activity ≡ activity_by decided
 
-unfoldable pub Acts : TaskContext → Activity → Type 0
-Acts r activity = MatchBool r.task.due (ActsByCommand r activity) (activity ≡ Running)
+unfoldable pub HasActivity : TaskContext → Activity → Type 0
+HasActivity r activity = MatchBool r.task.due (ActsByCommand r activity) (activity ≡ Running)
 
 -- what a terminal's task is doing
 unfoldable pub IsActivity : RegionState → TerminalState → Activity → Type 0
 IsActivity region terminal activity =
-    MatchOption terminal.task (activity ≡ NoTask) (λ task. Acts (context_of region terminal task) activity)
+    MatchOption terminal.task (activity ≡ NoTask) (λ task. HasActivity (context_of region terminal task) activity)
 
 -- of each terminal in turn
 unfoldable pub AreActivities : RegionState → List (List ℕ × TerminalState) → List Activity → Type 0

@@ -5,7 +5,7 @@ use Rattle.cx_storage.specs.Storage.{Storage}
 use Rattle.cx_region_state.specs.Call.{Call, call_of}
 use Rattle.cx_region_state.specs.declared.call.CallFault.{CallFault}
 use Rattle.cx_region_state.specs.State.{TaskState}
-use Rattle.cx_region_task.specs.Performing.{list_of}
+use Rattle.cx_region_task.specs.Performing.{argument_list}
 use Rattle.cx_region.specs.State.{RegionState}
 use Rattle.cx_region.specs.Tables.{task_of}
 use Rattle.cx_base.specs.Texts.{shown_name}
@@ -17,12 +17,12 @@ abbrev pub command_look_line : List ℕ → List ℕ → Lines
 command_look_line name word = look_line (codes "COMMAND" ∷ shown_name name ∷ word ∷ [])
 
 -- the command that the task's argument list gives, where it can be read
-abbrev pub text_of : Storage → List ℕ → Result Call CallFault → Lines
-text_of s name (Ok call) = call_text s call
-text_of s name (Err fault) = command_look_line name (codes "?")
+abbrev pub due_call_text : Storage → List ℕ → Result Call CallFault → Lines
+due_call_text s name (Ok call) = call_text s call
+due_call_text s name (Err fault) = command_look_line name (codes "?")
 
 unfoldable pub due_text : Storage → List ℕ → TaskState → Lines
-due_text s name task = text_of s name (call_of s (list_of task))
+due_text s name task = due_call_text s name (call_of s (argument_list task))
 
 -- the terminal's task, where a command of it is due
 abbrev pub if_due : TaskState → Option TaskState

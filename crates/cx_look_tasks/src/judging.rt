@@ -4,7 +4,7 @@ ghost use Rattle.std.specs.Prelude.{◌≡◌};
 ghost use Rattle.cx_region_state.specs.State.{context};
 ghost use Rattle.cx_region_commands.specs.Common.{AreSoundPrograms};
 ghost use Rattle.cx_region.specs.Sound.{IsSound};
-ghost use Rattle.cx_look_tasks.specs.Activities.{Acts, IsActivity, activity_by};
+ghost use Rattle.cx_look_tasks.specs.Activities.{HasActivity, IsActivity, activity_by};
 
 use crate::activities::Activity;
 use cx_region::{Region, Terminal};
@@ -23,14 +23,14 @@ fn activity_by(decision: &Decision) -> Activity
 }
 
 /// What a task is doing.
-#[tactic(auto, unfolding(crate::specs::Activities::Acts))]
+#[tactic(auto, unfolding(crate::specs::Activities::HasActivity))]
 fn activity_of_task<S: Store + Drop>(
     shared: &Shared<S>,
     terminal_entry: &TerminalEntry,
     task: &Task,
 ) -> Activity
     requires { AreSoundPrograms shared.now.programs }
-    ensures { Acts (context shared.now terminal_entry.now task.now) result }
+    ensures { HasActivity (context shared.now terminal_entry.now task.now) result }
 {
     if !task.due {
         return Activity::Running;

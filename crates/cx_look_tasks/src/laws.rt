@@ -8,7 +8,7 @@ pub fn waits_are_reported()
     cx_region_task::laws::decisions_decide();
 }
 
-/// What a terminal's task is doing is determined.
+/// A region and a terminal of it determine what the terminal's task is doing.
 pub fn activities_decide()
     ensures { ActivitiesDecide }
 {

@@ -48,7 +48,8 @@ fn task_due<S: Store + Drop>(region: &Region<S>, name: Name4) -> Option<&Task>
     if task.due { Some(task) } else { None }
 }
 
-/// The command that is due at a terminal as a source writes it, and a line for each of its inputs.
+/// The command that is due at a terminal as a source writes it, and a line for each of its inputs; `?` where its
+/// argument list can't be read, NONE where no command is due, no task or no such terminal.
 ///
 /// An error comes only where memory for them was refused.
 #[tactic(auto, unfolding(crate::specs::Looks::command_text))]

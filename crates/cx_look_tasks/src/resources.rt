@@ -155,7 +155,8 @@ fn resource_lines<S: Store + Drop>(
     Ok(report)
 }
 
-/// A line for each resource that is owned, with its owner and count, and one for each terminal whose task waits for it.
+/// A line for each resource that is owned, with its owner and count, and one for each terminal whose task waits for it;
+/// NONE where none is owned.
 ///
 /// An error comes only where memory for it was refused.
 pub fn resources_text<S: Store + Drop>(

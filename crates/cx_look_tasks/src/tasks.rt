@@ -264,7 +264,8 @@ pub fn activities_in<S: Store + Drop>(
     Ok(all)
 }
 
-/// A line for each terminal: its task, and what that is doing.
+/// A line for each terminal, in the order of their definition: its task, and what that is doing; NONE where there is no
+/// terminal.
 ///
 /// An error comes only where memory for it was refused.
 pub fn tasks_text<S: Store + Drop>(alloc: Global, region: &Region<S>) -> Result<Report, AllocError>

@@ -90,8 +90,8 @@ fn waiting_lines<S: Store + Drop>(
     Ok(report)
 }
 
-/// A line for each terminal whose task waits: its transaction, how many levels it has, and what it waits for, as in the line
-/// that `tasks_text` writes of it.
+/// A line for each terminal whose task waits, none where no task does: its transaction, how many levels it has, and
+/// what it waits for, as in the line that `tasks_text` writes of it.
 ///
 /// An error comes only where memory for it was refused.
 pub fn waits_text<S: Store + Drop>(alloc: Global, region: &Region<S>) -> Result<Report, AllocError>

@@ -221,7 +221,8 @@ fn is_data(kind: ArgumentKind) -> bool
     )
 }
 
-/// How an option's argument is read: a COMMAREA as what the program finds there, also that of LINK, which passes its address.
+/// How an option's argument is read: a COMMAREA as what the program finds there, also that of LINK, which passes its
+/// address.
 fn kind_read(name: OptionName, kind: ArgumentKind) -> ArgumentKind
     ensures { result ≡ kind_read name kind }
 {

@@ -17,7 +17,7 @@ use Rattle.cx_base.specs.Facts.Tables.{insert_entry_present}
 use Rattle.cx_asm_expressions.specs.Names.{is_same}
 use Rattle.cx_asm_pass2.specs.Statements.{PlacedStatement}
 use Rattle.cx_look_xref.specs.Literals.{uses_literal}
-use Rattle.cx_look_xref.specs.Parts.Uses.{is_literal, lines_for, with_line}
+use Rattle.cx_look_xref.specs.Parts.Uses.{is_pool_literal, lines_for, with_line}
 use Rattle.cx_look_xref.specs.declared.literals.PoolText.{PoolText}
 use Rattle.cx_look_xref.specs.declared.references.Reference.{Reference}
 
@@ -97,7 +97,7 @@ one_more_name name r rest lines = go (is_same name r.name)
     go false = refl
 
 -- ---- literals
-pub literal_reads : (pool : ℕ) (text : List ℕ) → IsKeyTest (λ (x y : PoolText). nat_eq x.pool y.pool && bytes_eq x.text.now y.text.now) (is_literal pool text)
+pub literal_reads : (pool : ℕ) (text : List ℕ) → IsKeyTest (λ (x y : PoolText). nat_eq x.pool y.pool && bytes_eq x.text.now y.text.now) (is_pool_literal pool text)
 literal_reads pool text x y same =
     ap (λ b. b && bytes_eq text y.text.now) (nat_eq_equiv.congr pool x.pool y.pool (first_so _ _ same))
     ∙ ap (λ b. nat_eq x.pool y.pool && b) (nat_list_eq_equiv.congr text x.text.now y.text.now (second_so _ _ same))

@@ -29,5 +29,5 @@ abbrev pub is_of_eib : Option (List ℕ) → Bool
 is_of_eib section =
     option_map_or (λ name. option_map_or (is_same name) section false) (symbol_name (codes "DFHEIBLK")) false
 
-abbrev pub is_given : List ℕ → Symbol → Bool
-is_given lines symbol = list_any (λ line. line == symbol.line) lines || is_of_eib symbol.value.section
+abbrev pub is_symbol_given : List ℕ → Symbol → Bool
+is_symbol_given lines symbol = list_any (λ line. line == symbol.line) lines || is_of_eib symbol.value.section

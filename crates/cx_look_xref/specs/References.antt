@@ -5,7 +5,7 @@ use Rattle.std.specs.BTreeSet.{insert_key}
 use Rattle.std.specs.List.{filter, flat_map, prefix_len}
 use Rattle.std.specs.Option.{option_map_or, option_to_list}
 use Rattle.std.specs.Ordering.{nat_cmp}
-use Rattle.cx_source.specs.Lines.{is_name_character}
+use Rattle.cx_source.specs.Lines.{is_symbol_name_character}
 use Rattle.cx_source.specs.Marks.{first_mark, outside_apostrophes}
 use Rattle.cx_source.specs.declared.marks.Delimiter.TheVariants.{Parenthesis}
 use Rattle.cx_source.specs.declared.source.Source.{Source}
@@ -30,7 +30,7 @@ name_ended run next = if next == 39 then [] else option_to_list (symbol_name run
 -- `run` is what there is of one already.
 abbrev pub names_from : List ℕ → List ℕ → List Bool → List (List ℕ)
 names_from run (c ∷ after) (lies_outside ∷ more) =
-    if lies_outside && is_name_character c then names_from (run ++ c ∷ []) after more
+    if lies_outside && is_symbol_name_character c then names_from (run ++ c ∷ []) after more
     else name_ended run c ++ names_from [] after more
 names_from run after more = option_to_list (symbol_name run)
 
@@ -40,7 +40,7 @@ names_in text = names_from [] text (outside_apostrophes text)
 -- ---- an operand
 -- A constant begins with its duplication factor, its type and its length modifier, which are no name.
 abbrev pub names_of_constant : List ℕ → List (List ℕ)
-names_of_constant text = names_in (drop (prefix_len is_name_character text) text)
+names_of_constant text = names_in (drop (prefix_len is_symbol_name_character text) text)
 
 -- of an operand that may be a literal
 abbrev pub names_of_part : List ℕ → List (List ℕ)
@@ -59,25 +59,25 @@ names_used (Some (operation.Directive other)) parts = []
 names_used operation parts = flat_map names_of_part parts
 
 -- ---- the operand into which an instruction stores, counted from 0
-abbrev pub stored_by : Op → Option ℕ
-stored_by op.Sth = Some 1
-stored_by op.Stc = Some 1
-stored_by op.Cvd = Some 1
-stored_by op.St = Some 1
-stored_by op.Stm = Some 2
-stored_by op.Stcm = Some 2
-stored_by op.Mvi = Some 0
-stored_by op.Ni = Some 0
-stored_by op.Oi = Some 0
-stored_by op.Mvc = Some 0
-stored_by op.Xc = Some 0
-stored_by op.Tr = Some 0
-stored_by op.Pack = Some 0
-stored_by op.Unpk = Some 0
-stored_by _ = None
+abbrev pub stored_operand : Op → Option ℕ
+stored_operand op.Sth = Some 1
+stored_operand op.Stc = Some 1
+stored_operand op.Cvd = Some 1
+stored_operand op.St = Some 1
+stored_operand op.Stm = Some 2
+stored_operand op.Stcm = Some 2
+stored_operand op.Mvi = Some 0
+stored_operand op.Ni = Some 0
+stored_operand op.Oi = Some 0
+stored_operand op.Mvc = Some 0
+stored_operand op.Xc = Some 0
+stored_operand op.Tr = Some 0
+stored_operand op.Pack = Some 0
+stored_operand op.Unpk = Some 0
+stored_operand _ = None
 
 abbrev pub part_stored : Option Operation → Option ℕ
-part_stored (Some (operation.Machine op)) = stored_by op
+part_stored (Some (operation.Machine op)) = stored_operand op
 part_stored _ = None
 
 -- the names that it has in front of its parentheses

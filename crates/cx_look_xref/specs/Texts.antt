@@ -16,16 +16,16 @@ use Rattle.cx_look_symbols.specs.Symbols.{SourceSymbols, named_of, translated_in
 use Rattle.cx_look_symbols.specs.Texts.{in_order}
 use Rattle.cx_look_symbols.specs.declared.rows.Symbol.{Symbol}
 use Rattle.cx_look_xref.specs.References.{lines_using, references_of, stores_of}
-use Rattle.cx_look_xref.specs.Given.{is_given, lines_given}
+use Rattle.cx_look_xref.specs.Given.{is_symbol_given, lines_given}
 use Rattle.cx_look_xref.specs.Literals.{lines_with, literal_bytes}
 use Rattle.cx_look_xref.specs.Usings.{base_registers, use_end}
 
 -- the numbers of the lines that use something, with an asterisk after those that store into it
-abbrev pub line_word : List ℕ → ℕ → List ℕ
-line_word storing line = decimal line ++ (if list_any (λ other. other == line) storing then codes "*" else [])
+abbrev pub use_line_word : List ℕ → ℕ → List ℕ
+use_line_word storing line = decimal line ++ (if list_any (λ other. other == line) storing then codes "*" else [])
 
 abbrev pub line_words : List ℕ → List ℕ → List (List ℕ)
-line_words storing lines = if length lines == 0 then codes "NONE" ∷ [] else map (line_word storing) lines
+line_words storing lines = if length lines == 0 then codes "NONE" ∷ [] else map (use_line_word storing) lines
 
 abbrev pub used_word : List ℕ → List ℕ → List ℕ
 used_word storing lines = codes "USED" ++ with_blanks (line_words storing lines)
@@ -34,22 +34,22 @@ used_word storing lines = codes "USED" ++ with_blanks (line_words storing lines)
 -- a symbol: the line that defines it, and those that use it; none for one that is given and unused
 abbrev pub name_line : (List ℕ → List ℕ) → (List ℕ → List ℕ) → List ℕ → List ℕ × Symbol → Lines
 name_line storing used given (name, symbol) =
-    if is_given given symbol && (length (used name) == 0) then []
+    if is_symbol_given given symbol && (length (used name) == 0) then []
     else look_line
     (codes "XREF" ∷ written_name name ∷ codes "LINE" ∷ decimal symbol.line ∷ used_word (storing name) (used name)
     ∷ [])
 
 -- ---- literals
 -- bytes in hexadecimal digits; hyphens where there are none
-abbrev pub bytes_word : List ℕ → List ℕ
-bytes_word bytes = if length bytes == 0 then codes "--" else hex_digits bytes
+abbrev pub literal_bytes_word : List ℕ → List ℕ
+literal_bytes_word bytes = if length bytes == 0 then codes "--" else hex_digits bytes
 
 -- a literal in the pool of a number: its offset in the control section, its text, its bytes there, and the lines that
 -- use it
 abbrev pub literal_line : List ℕ → (ℕ → List ℕ → List ℕ) → ℕ → List ℕ × Literal → Lines
 literal_line section used pool (text, literal) =
     look_line (codes "XREF" ∷ codes "LITERAL" ∷ digits 16 6 (literal.offset % 2 ^ 24) ∷ (codes "=" ++ text)
-    ∷ bytes_word (literal_bytes section text literal) ∷ used_word [] (used pool text) ∷ [])
+    ∷ literal_bytes_word (literal_bytes section text literal) ∷ used_word [] (used pool text) ∷ [])
 
 -- those of all pools from the one of a number on
 abbrev pub literals_from : List ℕ → (ℕ → List ℕ → List ℕ) → ℕ → List PlacedLiterals → Lines

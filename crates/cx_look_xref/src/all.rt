@@ -30,7 +30,7 @@ fn last_line(source: &Source) -> usize
 }
 
 /// The lines of a source that is placed, whose control section has this text.
-#[tactic(auto, using(cx_look_symbols::specs::Facts::Whole::whole_is))]
+#[tactic(auto, using(cx_asm_pass2::specs::Facts::Whole::whole_is))]
 fn xref_placed(
     alloc: Global,
     source: &Source,

@@ -2,7 +2,7 @@
 ghost use Rattle.std.specs.Prelude.{◌≡◌, ◌++◌, IfOk, OnOk, false};
 ghost use Rattle.std.specs.Option.{option_map_or};
 ghost use Rattle.cx_asm_pass1.specs.PassState.{role_in};
-ghost use Rattle.cx_look_xref.specs.Given.{gives_symbols, is_given, is_of_eib, line_given, lines_given};
+ghost use Rattle.cx_look_xref.specs.Given.{gives_symbols, is_symbol_given, is_of_eib, line_given, lines_given};
 
 use crate::lines::is_among;
 use cx_asm_expressions::symbol_name;
@@ -60,8 +60,8 @@ fn is_of_eib(section: Option<Name8>) -> bool
 }
 
 /// Whether a symbol is one of DFHREGS, of COPY, whose lines these are, or of the EXEC interface block.
-pub(crate) fn is_given(lines: &[usize], symbol: &Symbol) -> bool
-    ensures { result ≡ is_given lines.now symbol.now }
+pub(crate) fn is_symbol_given(lines: &[usize], symbol: &Symbol) -> bool
+    ensures { result ≡ is_symbol_given lines.now symbol.now }
 {
     is_among(lines, symbol.line) || is_of_eib(symbol.value.section)
 }

@@ -2,7 +2,7 @@
 ghost use Rattle.std.specs.Prelude.{◌≡◌, ◌==◌, ◌++◌, IfOk, OnOk, map};
 ghost use Rattle.std.specs.List.{list_any};
 ghost use Rattle.cx_look_tables.specs.Words.{with_blanks};
-ghost use Rattle.cx_look_xref.specs.Texts.{line_word, used_word};
+ghost use Rattle.cx_look_xref.specs.Texts.{use_line_word, used_word};
 
 use cx_look_tables::{decimal, push_word};
 use std::alloc::{AllocError, Global};
@@ -15,8 +15,8 @@ pub(crate) fn is_among(lines: &[usize], line: usize) -> bool
 }
 
 /// The number of a line, with an asterisk where the line stores.
-fn line_word(alloc: Global, storing: &[usize], line: usize) -> Result<Vec<u8>, AllocError>
-    ensures { IfOk result (λ word. word.items ≡ line_word storing.now line) }
+fn use_line_word(alloc: Global, storing: &[usize], line: usize) -> Result<Vec<u8>, AllocError>
+    ensures { IfOk result (λ word. word.items ≡ use_line_word storing.now line) }
 {
     let mut word = decimal(alloc, line)?;
     if is_among(storing, line) {
@@ -32,16 +32,16 @@ fn push_lines(
     storing: &[usize],
     lines: &[usize],
 ) -> Result<(), AllocError>
-    ensures { OnOk result (text.new.items ≡ text.old.items ++ with_blanks (map (line_word storing.now) lines.now)) }
+    ensures { OnOk result (text.new.items ≡ text.old.items ++ with_blanks (map (use_line_word storing.now) lines.now)) }
 {
     for line in lines {
-        push_word(text, &line_word(alloc, storing, *line)?)?;
+        push_word(text, &use_line_word(alloc, storing, *line)?)?;
     }
     Ok(())
 }
 
-/// USED, and the numbers of the lines that use something, each after a blank, and with an asterisk where it is among those that store;
-/// NONE where there is no line.
+/// USED, and the numbers of the lines that use something, each after a blank, and with an asterisk where it is among
+/// those that store; NONE where there is no line.
 ///
 /// An error comes only where memory for it was refused.
 pub fn used_word(alloc: Global, storing: &[usize], lines: &[usize]) -> Result<Vec<u8>, AllocError>

@@ -6,7 +6,7 @@ ghost use Rattle.std.specs.Str.{bytes_eq};
 ghost use Rattle.cx_asm_pools.specs.Pools.{literal_size, literal_text};
 ghost use Rattle.cx_look_xref.specs.Literals.{lines_with, literal_bytes, uses_literal};
 ghost use Rattle.cx_look_xref.specs.Parts.Uses.{lines_of_literal, uses_part, with_line};
-ghost use Rattle.cx_look_xref.specs.Texts.{bytes_word, literal_line, literals_from};
+ghost use Rattle.cx_look_xref.specs.Texts.{literal_bytes_word, literal_line, literals_from};
 
 use crate::lines::used_word;
 use crate::uses::{lines_for, put};
@@ -132,8 +132,8 @@ fn literal_bytes<'b>(section: &'b [u8], text: &[u8], literal: Literal) -> &'b [u
 }
 
 /// Bytes in hexadecimal digits; hyphens where there are none.
-fn bytes_word(alloc: Global, bytes: &[u8]) -> Result<Vec<u8>, AllocError>
-    ensures { IfOk result (λ text. text.items ≡ bytes_word bytes.now) }
+fn literal_bytes_word(alloc: Global, bytes: &[u8]) -> Result<Vec<u8>, AllocError>
+    ensures { IfOk result (λ text. text.items ≡ literal_bytes_word bytes.now) }
 {
     if bytes.is_empty() {
         return b"--".to_vec(alloc);
@@ -150,7 +150,8 @@ fn literal_word(alloc: Global, text: &[u8]) -> Result<Vec<u8>, AllocError>
     Ok(word)
 }
 
-/// What the literals of the pool of a number are written by: the control section's text, and the lines that use each literal.
+/// What the literals of the pool of a number are written by: the control section's text, and the lines that use each
+/// literal.
 #[derive(Drop)]
 struct PoolLiterals<'a, 't> {
     section: &'a [u8],
@@ -173,7 +174,7 @@ impl<'a, 't> PoolLiterals<'a, 't> {
         let pool = self.number;
         let lines = lines_for(alloc, self.used, &PoolText { pool, text })?;
         let used = used_word(alloc, &[], lines.as_slice())?;
-        let bytes = bytes_word(alloc, literal_bytes(self.section, text, literal))?;
+        let bytes = literal_bytes_word(alloc, literal_bytes(self.section, text, literal))?;
         let word = literal_word(alloc, text)?;
         let offset = hexadecimal::<6>((literal.offset % 0x100_0000) as u32);
         report.line(&[b"XREF", b"LITERAL", &offset, &word, &bytes, &used])
@@ -230,8 +231,9 @@ fn literals_by(
     Ok(())
 }
 
-/// Adds the lines of the literals of pools, pool by pool in the order of their places: the offset in the control section, whose text is
-/// `section`, the literal, its bytes, and the lines of the statements that use it.
+/// Adds the lines of the literals of pools, pool by pool in the order of their places: the offset in the control
+/// section, whose text is `section`, in six hexadecimal digits, the literal, its bytes, hyphens where there are none,
+/// and the lines of the statements that use it.
 ///
 /// An error comes only where memory for them was refused; then some of them may be there.
 pub fn literal_lines(

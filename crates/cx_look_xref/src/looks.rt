@@ -19,9 +19,12 @@ fn xref_word(alloc: Global, program: Name8) -> Result<Vec<u8>, AllocError>
     Ok(text)
 }
 
-/// Looks at the cross-reference of a program, whose source has these lines: a line for each symbol, in the order of their names,
-/// letters before digits, with the number of the line that defines it, from 1, and the numbers of the lines whose statements use it,
-/// ascending, those made of an EXEC statement with that one's; NONE where the lines are no source without a fault.
+/// Looks at the cross-reference of a program, whose source has these lines: a line for each symbol, in the order of
+/// their names, letters before digits, with the number of the line that defines it, from 1, and the numbers of the
+/// lines whose statements use it, ascending, those made of an EXEC statement with that one's; then a line for each
+/// literal, and for each base register of each USING. A symbol of DFHREGS, of COPY DFHAID or of the EXEC interface
+/// block has a line only where it is used. NONE where the lines are no source without a fault, or nothing is to be
+/// written.
 ///
 /// An error comes only where memory for the report was refused.
 #[tactic(auto, unfolding(crate::specs::Texts::xref_text))]

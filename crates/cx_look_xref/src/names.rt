@@ -2,20 +2,20 @@
 ghost use Rattle.std.specs.Prelude.{◌≡◌, ◌++◌, ◌≤◌, [], IfOk, OnOk, length, map, option_and_then, option_map, slice_get, take};
 ghost use Rattle.std.specs.List.{flat_map, prefix_len};
 ghost use Rattle.std.specs.Option.{option_to_list};
-ghost use Rattle.cx_source.specs.Lines.{is_name_character};
+ghost use Rattle.cx_source.specs.Lines.{is_symbol_name_character};
 ghost use Rattle.cx_source.specs.Marks.{first_mark};
 ghost use Rattle.cx_source.specs.declared.marks.Delimiter.TheVariants.{Parenthesis};
 ghost use Rattle.cx_asm_expressions.specs.Names.{symbol_name};
 ghost use Rattle.cx_asm_operations.specs.Operations.{operation_named};
 ghost use Rattle.cx_asm_pass1.specs.PassState.{parts_in};
-ghost use Rattle.cx_look_xref.specs.References.{name_ended, names_from, names_in, names_of_constant, names_of_part, names_stored, names_used, part_stored, stored_by};
+ghost use Rattle.cx_look_xref.specs.References.{name_ended, names_from, names_in, names_of_constant, names_of_part, names_stored, names_used, part_stored, stored_operand};
 
 use cx_asm_expressions::symbol_name;
 use cx_asm_operations::{Directive, Operation};
 use cx_asm_pools::literal_text;
 use cx_code::Op;
 use cx_ebcdic::Name8;
-use cx_source::{Delimiter, Stmt, cut, first_mark, is_name_character, outside};
+use cx_source::{Delimiter, Stmt, cut, first_mark, is_symbol_name_character, outside};
 use std::alloc::{AllocError, Global};
 
 /// Adds the name that characters are, if they are one.
@@ -56,7 +56,7 @@ fn push_outside(
             push_name(names, &run)?;
             return Ok(());
         };
-        if *lies_outside && is_name_character(*c) {
+        if *lies_outside && is_symbol_name_character(*c) {
             run.push(*c)?;
             continue;
         }
@@ -78,11 +78,11 @@ fn push_names(alloc: Global, names: &mut Vec<Name8>, text: &[u8]) -> Result<(), 
 
 /// How many letters and digits a text begins with.
 fn front_len(text: &[u8]) -> usize
-    ensures count { result ≡ prefix_len is_name_character text.now }
+    ensures count { result ≡ prefix_len is_symbol_name_character text.now }
     ensures bound { result ≤ length text.now }
 {
     for (i, c) in text.iter().enumerate() {
-        if !is_name_character(*c) {
+        if !is_symbol_name_character(*c) {
             return i;
         }
     }
@@ -176,8 +176,8 @@ pub(crate) fn names_used(alloc: Global, stmt: &Stmt) -> Result<Vec<Name8>, Alloc
 }
 
 /// The operand, counted from 0, into which an instruction stores.
-fn stored_by(op: Op) -> Option<usize>
-    ensures { result ≡ stored_by op }
+fn stored_operand(op: Op) -> Option<usize>
+    ensures { result ≡ stored_operand op }
 {
     match op {
         Op::Mvi | Op::Ni | Op::Oi | Op::Mvc | Op::Xc | Op::Tr | Op::Pack | Op::Unpk => Some(0),
@@ -192,7 +192,7 @@ fn part_stored(operation: Option<Operation>) -> Option<usize>
     ensures { result ≡ part_stored operation }
 {
     match operation {
-        Some(Operation::Machine(op)) => stored_by(op),
+        Some(Operation::Machine(op)) => stored_operand(op),
         _ => None,
     }
 }

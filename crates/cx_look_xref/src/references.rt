@@ -12,7 +12,7 @@ use indexmap::IndexMap;
 use std::alloc::{AllocError, Global};
 use std::collections::BTreeSet;
 
-/// A name that a statement uses.
+/// A name that a statement uses, or into which it stores.
 #[derive(Clone, Copy, Debug, PartialEq, Eq)]
 pub struct Reference {
     /// The name.
@@ -76,7 +76,8 @@ fn push_stores(
     Ok(())
 }
 
-/// The names into which a source's instructions store, each with its line, in the source's order.
+/// The names in front of the parentheses of the operands into which a source's instructions store, each with its line,
+/// in the source's order.
 ///
 /// An error comes only where memory for them was refused.
 pub fn stores_of(alloc: Global, source: &Source) -> Result<Vec<Reference>, AllocError>

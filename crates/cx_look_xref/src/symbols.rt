@@ -5,7 +5,7 @@ ghost use Rattle.cx_look_xref.specs.Parts.Uses.{lines_of_name};
 ghost use Rattle.cx_look_xref.specs.References.{lines_using};
 ghost use Rattle.cx_look_xref.specs.Texts.{name_line};
 
-use crate::given::is_given;
+use crate::given::is_symbol_given;
 use crate::lines::used_word;
 use crate::references::{Reference, lines_by_name};
 use crate::uses::lines_for;
@@ -33,7 +33,7 @@ impl NameLines<'_> {
     {
         let alloc = report.alloc();
         let lines = lines_for(alloc, self.used, &name)?;
-        if is_given(self.given, symbol) && lines.is_empty() {
+        if is_symbol_given(self.given, symbol) && lines.is_empty() {
             return Ok(());
         }
         let storing = lines_for(alloc, self.stored, &name)?;
@@ -60,7 +60,8 @@ impl NameLines<'_> {
     }
 }
 
-/// Adds the lines of symbols, which these references use, and store into, and of which those that these lines define are given.
+/// Adds the lines of symbols, which these references use, and store into, and of which those that these lines define
+/// are given.
 pub(crate) fn symbol_lines(
     report: &mut Report,
     stores: &[Reference],

@@ -29,7 +29,7 @@ fn register_at(value: Value) -> Option<usize>
 }
 
 /// The register that a statement's operand names.
-#[tactic(auto, unfolding(cx_asm_operands::specs::Context::number_in))]
+#[tactic(auto, unfolding(cx_asm_operands::specs::Context::operand_number))]
 fn register_in(
     alloc: Global,
     places: &Places<'_>,
@@ -220,8 +220,8 @@ impl<'a, 'p, 's> Using<'a, 'p, 's> {
     }
 }
 
-/// Adds the lines of the base registers of a source, by its statements: the register, the line of the USING that names it, the last line
-/// of its use, `last` where no statement ends it, and the place as the USING writes it.
+/// Adds the lines of the base registers of a source, by its statements: the register, the line of the USING that names
+/// it, the last line of its use, which is `last` where no statement ends it, and the place as the USING writes it.
 ///
 /// An error comes only where memory for them was refused; then some of them may be there.
 pub fn using_lines(

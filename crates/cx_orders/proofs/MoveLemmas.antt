@@ -20,7 +20,7 @@ use Rattle.cx_region_task.specs.Laws.Decisions.{is_wait_reply}
 use Rattle.cx_region_task.specs.Laws.HalfTurns.{HalfTurnsStay, is_of_task}
 use Rattle.cx_region_task.specs.declared.decision.Decision.{Decision}
 use Rattle.cx_region_task.specs.declared.decision.Decision.TheVariants as decision
-use Rattle.cx_look_tasks.specs.Activities.{Acts, ActsByCommand, IsActivity, activity_by, is_waiting}
+use Rattle.cx_look_tasks.specs.Activities.{HasActivity, ActsByCommand, IsActivity, activity_by, is_waiting}
 use Rattle.cx_look_tasks.specs.Laws.{ActivitiesDecide, WaitsAreReported}
 use Rattle.cx_look_tasks.specs.declared.activities.Activity.{Activity}
 use Rattle.cx_look_tasks.specs.declared.activities.Activity.TheVariants.{Due, NoTask, Running, Waiting}
@@ -47,7 +47,7 @@ acts_not r true h = by h.decided h.is
 
 -- a terminal of which it is said has no task
 no_task : (region : RegionState) (terminal : TerminalState) → IsActivity region terminal NoTask → terminal.task ≡ None
-unfolding IsActivity Acts
+unfolding IsActivity HasActivity
 no_task region terminal is = by terminal.task is
   where
     by : (task : Option TaskState) → MatchOption task (NoTask ≡ NoTask) (λ t. MatchBool t.due (ActsByCommand (context_of region terminal t) NoTask) (NoTask ≡ Running)) → task ≡ None
@@ -60,7 +60,7 @@ a_task : (region : RegionState) (terminal : TerminalState) (activity : Activity)
 unfolding IsActivity
 a_task region terminal activity is acting = by terminal.task is
   where
-    by : (task : Option TaskState) → MatchOption task (activity ≡ NoTask) (λ t. Acts (context_of region terminal t) activity) → (t : TaskState) × (task ≡ Some t)
+    by : (task : Option TaskState) → MatchOption task (activity ≡ NoTask) (λ t. HasActivity (context_of region terminal t) activity) → (t : TaskState) × (task ≡ Some t)
     by None h = absurd (true≢false (sym acting ∙ ap is_acting h))
     by (Some t) h = (t, refl)
 
@@ -109,12 +109,6 @@ not_acting Running is = refl
 not_acting (Due command) is = refl
 not_acting NoTask is = absurd (true≢false (sym is))
 not_acting (Waiting wait) is = absurd (true≢false (sym is))
-
-not_ready : (activity : Activity) → is_acting activity ≡ true → is_ready activity ≡ true → ⊥
-not_ready Running is ready = true≢false (sym ready)
-not_ready (Due command) is ready = true≢false (sym ready)
-not_ready NoTask is ready = true≢false (sym is)
-not_ready (Waiting wait) is ready = true≢false (sym is)
 
 ready_acts_not : (activity : Activity) → is_ready activity ≡ true → is_acting activity ≡ false
 ready_acts_not NoTask ready = refl
@@ -258,13 +252,6 @@ module _ (turns : TurnsDecide) (keyed : KeysDecide) (reported : WaitsAreReported
       by (inr k) =
           let ready = ap is_ready (once from.region terminal activity k.ready.activity asked.is k.ready.is) ∙ k.ready.ready in
           none-some k.key (sym (none ready) ∙ k.next)
-
--- where no terminal has that number
-pub no_terminal : (keys : List KeyLine) (from : OrdersState) (number : ℕ) → slice_get from.region.terminals number ≡ None → (to : OrdersState) → Moves keys from number to → ⊥
-no_terminal keys from number none to m = none-some (m.name, m.terminal) (sym none ∙ m.at)
-
-pub not_counted : (keys : List KeyLine) (from : OrdersState) (number : ℕ) → slice_get from.come number ≡ None → (to : OrdersState) → Moves keys from number to → ⊥
-not_counted keys from number none to m = none-some m.came (sym none ∙ m.come)
 
 module _ {State : Type 0} (Goes : State → ℕ → State → Type 0) (from : State) (number : ℕ) where
   pub goes_to_none : ((to : State) → Goes from number to → ⊥) → GoesTo Goes from number None

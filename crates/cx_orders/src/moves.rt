@@ -24,22 +24,27 @@ use cx_storage::Store;
 use std::alloc::{AllocError, Global};
 use std::marker::PhantomData;
 
-/// The orders of a region's turns and of these keys, each of at most 1,920 bytes, each terminal's in the order in which they stand
-/// here.
+/// The orders of a region's turns and of these keys, each of at most 1,920 bytes; each terminal's keys come in the
+/// order in which they stand here.
 #[derive(Drop)]
 pub struct Orders<S: Store + Drop> {
     pub alloc: Global,
+    /// The keys of all terminals that are to come.
     pub keys: Vec<KeyLine>,
     pub stores: PhantomData<S>,
     ghost few: { AllByRecursion IsFew keys.items } by { AreFew-prop keys.items },
 }
 
-/// A terminal, its number in the order of their definition, how many of its keys came, and what it is doing.
+/// What is known of a terminal, to find its moves.
 #[derive(Clone, Copy)]
 pub struct Asked {
+    /// The terminal's name.
     pub name: Name4,
+    /// Its number in the order of the terminals' definition, counted from 0.
     pub number: usize,
+    /// How many of its keys came.
     pub came: usize,
+    /// What it is doing.
     pub doing: Activity,
 }
 
@@ -57,7 +62,7 @@ fn is_ready(activity: &Activity) -> bool
     matches!(activity, Activity::NoTask | Activity::Waiting(Wait::Input))
 }
 
-/// The key of a terminal before which so many come.
+/// The key of a terminal that comes when `came` of its keys have come; None where no more is left.
 pub fn key_of(keys: &[KeyLine], name: Name4, came: usize) -> Option<&KeyLine>
     ensures { option_copied result ≡ slice_get (keys_of keys.now name) came }
 {
@@ -94,7 +99,7 @@ impl<S: Store + Drop> Orders<S> {
     /// What the terminal with that number is doing; `None` where there is none.
     fn asked(&self, region: &Region<S>, from: &OrdersState, number: usize) -> Option<Asked>
         requires { region.now ≡ from.now.region }
-        ensures some { IfSome result (IsAsked from.now number) }
+        ensures asked { IfSome result (IsAsked from.now number) }
         ensures none { IfNone result ((to : OrdersState) → Moves self.now.keys.items from.now number to → ⊥) }
     {
         region.counter();

@@ -15,7 +15,8 @@ use cx_storage::Store;
 use std::alloc::{AllocError, Global};
 use std::marker::PhantomData;
 
-/// The state of a region with so many terminals in which orders begin: no key has come.
+/// The state in which the orders of a region begin: none of its terminals' keys has come. `terminals` is how many
+/// terminals it has.
 ///
 /// An error comes only where an allocation failed.
 pub fn begin(
@@ -35,7 +36,8 @@ pub fn begin(
 }
 
 impl<S: Store + Drop> Orders<S> {
-    /// The orders of turns and of these keys, those of each terminal in the order in which they stand here.
+    /// The orders of turns and of these keys, each of at most 1,920 bytes; each terminal's keys come in the order in
+    /// which they stand here.
     pub fn new(alloc: Global, keys: Vec<KeyLine>) -> Orders<S>
         requires { AllByRecursion IsFew keys.items }
         ensures { result.keys ≡ keys }
@@ -47,9 +49,9 @@ impl<S: Store + Drop> Orders<S> {
         }
     }
 
-    /// The states that lists of moves lead to from this state of a region, at most so many of them: each by the list that
-    /// leads there first, in the order of these lists. None is missed, or the outcome says where the search was cut. The
-    /// moves are made in a working region, which is left in any state.
+    /// The states that lists of moves lead to from this state of a region, at most `most` (at least 1) of them: each by
+    /// the list that leads there first, in the order of these lists. None is missed, or the outcome says where the
+    /// search was cut. The moves are made in a working region, which is left in any state.
     ///
     /// An error comes only where an allocation failed.
     pub fn search(
@@ -64,7 +66,7 @@ impl<S: Store + Drop> Orders<S> {
         ensures reaches { IfOk result (λ outcome. MatchOption outcome.cut
             (IsWhole (Moves self.now.keys.items) (begun start) outcome.found.states.entries outcome.found.links.items)
             (λ moves. FindsNearest (Moves self.now.keys.items) (begun start) outcome.found.states.entries most moves)) }
-        ensures few { IfOk result (λ outcome. length outcome.found.states.entries ≤ most) }
+        ensures at_most_most { IfOk result (λ outcome. length outcome.found.states.entries ≤ most) }
     {
         start.restore(work)?;
         let terminals = work.terminals().len();

@@ -9,36 +9,46 @@ use cx_region::KeyReply;
 use cx_region_snapshot::RegionSnapshot;
 use std::hash::{Hash, Hasher};
 
-/// A key that is to come: a terminal's, with the bytes that it sends, and the line of a script that asks for it.
+/// A key that is to come.
 #[derive(Drop)]
 pub struct KeyLine {
+    /// The terminal.
     pub name: Name4,
+    /// The key.
     pub aid: Aid,
+    /// The bytes that it sends.
     pub bytes: Bytes,
+    /// The line of a script that asks for it.
     pub line: List<u8>,
 }
 
 /// What no later state of the region shows, and what therefore is kept of the turns and keys that led to a state.
 #[derive(Clone, Copy, Debug)]
 pub enum Incident {
-    /// A task of it ended by an abend of that code.
+    /// The terminal's task ended by an abend of that code.
     Abended(Name4),
-    /// A key of it was answered so: neither Attached nor Given.
+    /// A key of the terminal was answered so: neither Attached nor Given.
     Refused(KeyReply),
 }
 
-/// What was kept of the terminal with that number, in the order of their definition, from 0.
+/// What was kept of a terminal.
 #[derive(Clone, Copy, Debug)]
 pub struct IncidentAt {
+    /// The terminal's number in the order of their definition, counted from 0.
     pub number: usize,
+    /// What happened there.
     pub incident: Incident,
 }
 
-/// A state: the region, how many of each terminal's keys came, and what is kept of the way.
+/// A state: the region, how many of each terminal's keys came, in the order of the terminals' definition, and what is
+/// kept of the way there.
 #[derive(Drop)]
 pub struct OrdersState {
+    /// The region.
     pub region: RegionSnapshot,
+    /// How many keys of each terminal came, in the order of the terminals' definition.
     pub come: List<usize>,
+    /// What is kept of the way there.
     pub incidents: List<IncidentAt>,
 }
 

@@ -1,7 +1,7 @@
 -- What a level's program has asked to be done for each condition, and on an abend
 -- (Application Programmer's Reference Manual, SC33-0077, HANDLE CONDITION, IGNORE CONDITION, HANDLE ABEND).
 use Rattle.std.specs.Prelude.{ℕ, Option, Some, None, ◌∷◌, get_or, length, replicate, slice_set}
-use Rattle.cx_base.specs.Conditions.{handled_conditions, place_of}
+use Rattle.cx_base.specs.Conditions.{handled_conditions, condition_place}
 use Rattle.cx_base.specs.declared.conditions.Condition.{Condition}
 use Rattle.cx_base.specs.declared.conditions.Condition.TheVariants.{Normal}
 use Rattle.cx_program.specs.declared.entries.Handler.{Handler}
@@ -13,11 +13,11 @@ use Rattle.cx_program.specs.declared.entries.Handling.{Handling}
 
 -- a condition's entry
 unfoldable pub entry_for : Entries → Condition → Handler
-entry_for entries condition = get_or entries.of (place_of condition) NoEntry
+entry_for entries condition = get_or entries.of (condition_place condition) NoEntry
 
 -- the entries, with this entry for one condition
 unfoldable pub with_entry : Entries → Condition → Handler → Entries
-with_entry entries condition entry = record entries { of = slice_set entries.of (place_of condition) entry }
+with_entry entries condition entry = record entries { of = slice_set entries.of (condition_place condition) entry }
 
 -- HANDLE ABEND CANCEL: the exit is off; without one nothing happens
 abbrev pub turned_off : Exit → Exit

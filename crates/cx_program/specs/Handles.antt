@@ -41,15 +41,15 @@ after_pop [] = None
 after_pop (last ∷ rest) = Some (record { active = last; kept = rest })
 
 -- NOSPACE, NOSTG and ENQBUSY wait where they have no entry
-abbrev pub waits : Condition → Bool
-waits Nospace = true
-waits Nostg = true
-waits Enqbusy = true
-waits _ = false
+abbrev pub condition_waits : Condition → Bool
+condition_waits Nospace = true
+condition_waits Nostg = true
+condition_waits Enqbusy = true
+condition_waits _ = false
 
 -- the code of the abend that a condition leads to
-abbrev pub abend_code : Condition → List ℕ
-abend_code condition = unwrap_or (abend_code_of condition) []
+abbrev pub condition_abend_code : Condition → List ℕ
+condition_abend_code condition = unwrap_or (abend_code_of condition) []
 
 -- by an entry: its label takes control, or the program goes on; without one this is done
 abbrev pub choice_by_entry : Handler → Choice → Choice
@@ -62,4 +62,5 @@ choice_by_entry entry.NoEntry otherwise = otherwise
 unfoldable pub choice : Entries → Condition → Choice
 choice entries condition =
     choice_by_entry (entry_for entries condition)
-    (if waits condition then Wait else choice_by_entry (entry_for entries Error) (Abend (abend_code condition)))
+    (if condition_waits condition then Wait
+    else choice_by_entry (entry_for entries Error) (Abend (condition_abend_code condition)))

@@ -24,7 +24,7 @@ impl Model for ConditionCode {
 }
 
 impl ConditionCode {
-    /// The condition code that is this number.
+    /// The condition code that is this number, at most 3.
     pub fn new(code: u8) -> ConditionCode
         requires { code ≤ 3 }
         ensures { result ≡ code }

@@ -64,8 +64,8 @@ impl Exit {
     }
 }
 
-/// The entry of each condition, at the condition's place (`Condition::place`). NORMAL's is the first; no choice is made for NORMAL, so
-/// nothing asks for it.
+/// The entry of each condition, at the condition's place (`Condition::place`). NORMAL's is the first; no choice is made
+/// for NORMAL, so nothing asks for it.
 #[derive(Clone, Copy, Debug, PartialEq, Eq)]
 pub struct Entries {
     /// The entries in the order of the conditions' numbers.
@@ -86,7 +86,7 @@ impl Default for Entries {
 }
 
 impl Entries {
-    /// A condition's entry.
+    /// What is to be done where a command meets a condition.
     #[tactic(auto, unfolding(crate::specs::Entries::entry_for))]
     pub fn entry_for(&self, condition: Condition) -> Handler
         ensures { result ≡ entry_for self.now condition }

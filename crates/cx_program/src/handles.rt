@@ -1,7 +1,7 @@
 //! The handle entries and the exit of one level.
 ghost use Rattle.std.specs.Prelude.{◌≡◌, ◌≢◌, ◌<◌, ◌≤◌, ◌↔◌, if◌then◌else◌, false, length, reverse, IsOk, OnOk, OnErr, IfErr};
 ghost use Rattle.cx_program.specs.Entries.{label_on, turned_off, turned_on};
-ghost use Rattle.cx_program.specs.Handles.{abend_code, after_pop, after_push, choice, choice_by_entry, no_handles, put_entry, put_exit, waits};
+ghost use Rattle.cx_program.specs.Handles.{condition_abend_code, after_pop, after_push, choice, choice_by_entry, no_handles, put_entry, put_exit, condition_waits};
 
 use crate::choice::Choice;
 use crate::entries::{Exit, Handler, Handling};
@@ -15,11 +15,12 @@ use std::mem;
 /// How many PUSH HANDLEs a level keeps.
 pub(crate) const PUSHES: usize = 16;
 
-/// What a level's program has asked to be done for each condition and on an abend, with what its
-/// PUSH HANDLEs keep.
+/// What a level's program has asked to be done for each condition and on an abend, with what its PUSH HANDLEs keep.
 ///
-/// No call takes memory. Contracts see it as `Handles`: what is asked for now (`active`), and what is kept
-/// (`kept`), the last kept first.
+/// No call takes memory. Contracts see it as `Handles`: what is asked for now (`active`), and what is kept (`kept`),
+/// the last kept first.
+///
+/// Application Programmer's Reference Manual, SC33-0077, "Exceptional conditions" and "Abnormal Termination Recovery".
 #[derive(Debug, Drop)]
 pub struct HandleTable {
     pub(crate) active: Handling,
@@ -149,11 +150,12 @@ impl HandleTable {
         Ok(())
     }
 
-    /// What is done for a condition that a command met, where neither NOHANDLE nor RESP was given.
+    /// What is done for a condition that a command met, where neither NOHANDLE nor RESP was given. The condition is
+    /// neither NORMAL nor ERROR, which no command meets.
     ///
-    /// An entry of its own comes first: its label takes control, or the program goes on. Without one
-    /// NOSPACE, NOSTG and ENQBUSY wait; for every other condition ERROR's label takes control, or the
-    /// program goes on where ERROR is ignored, or the task abends with the condition's code.
+    /// The entry of the condition itself comes first: its label takes control, or the program goes on. Without one
+    /// NOSPACE, NOSTG and ENQBUSY wait; for every other condition ERROR's label takes control, or the program goes on
+    /// where ERROR is ignored, or the task abends with the condition's code.
     #[tactic(auto, unfolding(crate::specs::Handles::choice))]
     pub fn choose(&self, condition: Condition) -> Choice
         requires exceptional { condition ≢ Condition.Normal }
@@ -174,23 +176,23 @@ fn without_entry(condition: Condition, error: Handler) -> Choice
     requires exceptional { condition ≢ Condition.Normal }
     requires not_error { condition ≢ Condition.Error }
     ensures { result
-        ≡ (if waits condition then Choice.Wait else choice_by_entry error (Choice.Abend (abend_code condition))) }
+        ≡ (if condition_waits condition then Choice.Wait else choice_by_entry error (Choice.Abend (condition_abend_code condition))) }
 {
     match (condition, error) {
         (Condition::Nospace | Condition::Nostg | Condition::Enqbusy, _) => Choice::Wait,
         (_, Handler::Label(label)) => Choice::Label(label),
         (_, Handler::Ignored) => Choice::GoOn,
-        (_, Handler::NoEntry) => Choice::Abend(abend_code(condition)),
+        (_, Handler::NoEntry) => Choice::Abend(condition_abend_code(condition)),
     }
 }
 
 /// The code of the abend that a condition leads to.
 #[tactic(auto, using(crate::proofs::HandleLemmas::has_code_or_waits))]
-fn abend_code(condition: Condition) -> Name4
+fn condition_abend_code(condition: Condition) -> Name4
     requires exceptional { condition ≢ Condition.Normal }
     requires not_error { condition ≢ Condition.Error }
-    requires abends { waits condition ≡ false }
-    ensures { result ≡ abend_code condition }
+    requires abends { condition_waits condition ≡ false }
+    ensures { result ≡ condition_abend_code condition }
 {
     condition.abend_code().unwrap()
 }

@@ -4,7 +4,7 @@ ghost use Rattle.cx_base.specs.Conditions.{abend_code_of, handled_conditions};
 ghost use Rattle.cx_base.specs.declared.conditions.Condition.{Condition};
 ghost use Rattle.cx_base.specs.declared.conditions.Condition.TheVariants.{Error, Normal};
 ghost use Rattle.cx_program.specs.Entries.{entry_for, with_entry};
-ghost use Rattle.cx_program.specs.Handles.{waits};
+ghost use Rattle.cx_program.specs.Handles.{condition_waits};
 ghost use Rattle.cx_program.specs.Levels.{IsNearestExit};
 ghost use Rattle.cx_program.specs.declared.entries.Entries.{Entries};
 ghost use Rattle.cx_program.specs.declared.entries.Handler.{Handler};
@@ -20,7 +20,7 @@ pub fn an_entry_is_given_to_one_condition()
         → entry_for (with_entry entries condition entry) other ≡ entry_for entries other }
 {}
 
-/// Two sets of entries, one for each condition, that answer alike for each condition are one.
+/// Two sets of entries, each with one for every condition, are equal where they have the same entry for each condition.
 #[tactic(auto, using(crate::proofs::HandleLemmas::entries_same))]
 pub fn entries_are_their_answers()
     ensures { (a b : Entries) → length a.of ≡ length (Normal ∷ handled_conditions)
@@ -28,14 +28,14 @@ pub fn entries_are_their_answers()
         → ((condition : Condition) → entry_for a condition ≡ entry_for b condition) → a ≡ b }
 {}
 
-/// A condition for which a choice is made leads to an abend exactly where it doesn't wait.
+/// A condition other than NORMAL and ERROR has an abend code exactly where it doesn't wait.
 #[tactic(auto, using(crate::proofs::HandleLemmas::has_code_or_waits))]
 pub fn conditions_wait_or_abend()
     ensures { (condition : Condition) → condition ≢ Normal → condition ≢ Error
-        → is_some (abend_code_of condition) ≡ not (waits condition) }
+        → is_some (abend_code_of condition) ≡ not (condition_waits condition) }
 {}
 
-/// At most one answer is the nearest exit of some levels.
+/// A task's levels have one nearest exit, or none.
 #[tactic(auto, using(crate::specs::Facts::NearestExit::nearest_exit_one))]
 pub fn the_nearest_exit_is_one()
     ensures { (levels : List Level) (one other : Option ℕ) → IsNearestExit levels one → IsNearestExit levels other

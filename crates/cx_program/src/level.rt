@@ -3,7 +3,8 @@ use crate::condition_code::ConditionCode;
 use crate::handles::HandleTable;
 use cx_ebcdic::Name8;
 
-/// A program that a task runs: by its first transaction, or linked to by the level above.
+/// A program level of a task: the program of its transaction, one that LINK began, or one that XCTL put in place of
+/// such a one.
 #[derive(Debug, Drop)]
 pub struct Level {
     /// The program's name.
@@ -14,9 +15,10 @@ pub struct Level {
     pub stg_len: u32,
     /// EIBCALEN, a halfword: the length of its COMMAREA in bytes, or zero without one.
     pub calen: u16,
-    /// Registers 0 to 15 as the level keeps them: those of its last command.
+    /// Registers 0 to 15 as the level keeps them: those of its entry, and from its first command on those of its last
+    /// command.
     pub regs: [u32; 16],
-    /// The condition code that it keeps: that of its last command.
+    /// The condition code, 0 to 3, that it keeps with them.
     pub cc: ConditionCode,
     /// What its program has asked to be done for conditions and on an abend.
     pub handles: HandleTable,

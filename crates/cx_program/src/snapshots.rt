@@ -159,7 +159,8 @@ impl Same for LevelSnapshot {
     }
 }
 
-/// The levels of a task, kept apart from it: a level takes some 200 bytes, and 88 for each PUSH HANDLE that keeps something.
+/// The levels of a task, kept apart from it: a level takes some 200 bytes, and 88 for each PUSH HANDLE that keeps
+/// something.
 ///
 /// Contracts see it as `Levels`, as they see the levels themselves.
 #[derive(Drop)]
@@ -180,7 +181,7 @@ impl Model for LevelsSnapshot {
 }
 
 impl LevelsSnapshot {
-    /// The levels of a task.
+    /// A copy of the levels of a task.
     ///
     /// An error comes only where an allocation failed.
     pub fn take(alloc: Global, levels: &LevelStack) -> Result<LevelsSnapshot, AllocError>
@@ -191,7 +192,7 @@ impl LevelsSnapshot {
         Ok(LevelsSnapshot { callers, current })
     }
 
-    /// Levels that are these. It takes no memory.
+    /// A stack of levels that is equal to the one that was copied. It takes no memory.
     pub fn levels(&self) -> LevelStack
         ensures { result ≡ self.now }
     {

@@ -111,8 +111,8 @@ impl LevelStack {
         Some(mem::replace(&mut self.current, caller))
     }
 
-    /// The index of the nearest level, from the current one upward through its callers, whose exit is on;
-    /// None where no level's is.
+    /// The index of the nearest level, from the current one upward through its callers, whose exit is on; None where no
+    /// level's is. It is counted from 0, the highest level, as `get` counts.
     pub fn find_exit(&self) -> Option<usize>
         ensures { IsNearestExit (all_levels self.now) result }
     {

@@ -5,7 +5,7 @@ use Rattle.std.specs.Option.{option_map_or}
 use Rattle.std.specs.Map.{lookup}
 use Rattle.std.proofs.lemmas.Option.{none-some}
 use Rattle.cx_storage.specs.Facts.Sound.{covers_cases}
-use Rattle.cx_storage.specs.Storage.{Storage, with_byte, IsSound as IsSoundStorage}
+use Rattle.cx_storage.specs.Storage.{Storage, with_byte, IsSoundStorage}
 use Rattle.cx_service.specs.Queues.{AreSoundQueues}
 use Rattle.cx_service.specs.Resources.{AreSoundResources}
 use Rattle.cx_region_state.specs.State.{SharedState, TaskContext, TerminalEntryState, TaskState, context}

@@ -4,6 +4,7 @@ use Rattle.cx_ebcdic.specs.declared.aids.Aid.{Aid}
 use Rattle.std.specs.declared.alloc.AllocError.{AllocError}
 use Rattle.cx_region.specs.State.{RegionState}
 use Rattle.cx_region.specs.Attach.{KeyTakesMemory, input_from}
+use Rattle.cx_region.specs.Parts.Asking.{input_with}
 use Rattle.cx_region.specs.Defining.{transaction_fault, terminal_fault}
 use Rattle.cx_region.specs.Events.{Applies, IsDone, MayTakeMemory}
 use Rattle.cx_region.specs.declared.replies.DefineFault.{DefineFault}
@@ -38,9 +39,9 @@ pub terminal_memory : (old : RegionState) (name : List ℕ) (r : Result (Unit {0
 unfolding MayTakeMemory terminal_fault
 terminal_memory old name r h e = none_due (terminal_fault old name) r (λ m. two _ _ m) h e
 
-pub key_memory : (old : RegionState) (name : List ℕ) (aid : Aid) (bytes : List ℕ) → KeyTakesMemory old name (input_from aid bytes).bytes → MayTakeMemory old (event.Key name aid bytes)
-unfolding MayTakeMemory
-key_memory old name aid bytes h = h
+pub key_memory : (old : RegionState) (name : List ℕ) (aid : Aid) (bytes sent : List ℕ) → sent ≡ (input_from aid bytes).bytes → KeyTakesMemory old name (input_with aid sent) → MayTakeMemory old (event.Key name aid bytes)
+unfolding MayTakeMemory input_from
+key_memory old name aid bytes sent is h = subst (λ (b : List ℕ). KeyTakesMemory old name (input_with aid b)) is h
 
 -- an event whose call was refused memory
 pub not_done : {A F : Type 0} (old new : RegionState) (e : Event) (r : Result A F) (fault : F) {refusal : AllocError} → r ≡ Err fault → MayTakeMemory old e → OnErr r (new ≡ old) → IsDone Applies MayTakeMemory old e (Err refusal) new

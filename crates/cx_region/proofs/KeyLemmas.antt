@@ -1,68 +1,71 @@
 -- A key by what it asks for, and what it keeps.
-use Rattle.std.proofs.Common.{◌≡◌, ℕ, Option, Some, None, List, length, refl, sym, ◌∙◌, ap, subst}
-use Rattle.std.specs.Prelude.{IfErr, OnErr, IsSomeAnd, MatchOption, option_and_then, Result, Ok, Err, ⊤}
-use Rattle.std.specs.Option.{option_map_or}
+use Rattle.std.proofs.Common.{◌≡◌, ◌⊎◌, inl, inr, ℕ, true, false, is_some, Option, Some, None, List, length, refl, sym, ◌∙◌, ap, subst}
+use Rattle.std.specs.Prelude.{MatchOption, ⊤}
+use Rattle.std.proofs.lemmas.Option.{none-some, same_Some}
 use Rattle.std.specs.Map.{lookup, set_value}
-use Rattle.cx_storage.specs.Storage.{Storage, IsSound as IsSoundStorage}
-use Rattle.cx_load.specs.declared.program.Loaded.{Loaded}
+use Rattle.cx_storage.specs.Storage.{Storage, IsSoundStorage}
 use Rattle.cx_region_state.specs.Eib.{Content, fields_at_attach}
 use Rattle.cx_ebcdic.specs.declared.aids.Aid.{Aid}
 use Rattle.cx_ebcdic.specs.Aids.{key_of}
 use Rattle.cx_region_state.specs.declared.verdict.NewLevel.{NewLevel}
 use Rattle.cx_region_state.specs.Areas.{system_owner}
 use Rattle.cx_region_state.specs.State.{Input, SharedState, TaskState}
-use Rattle.cx_region.specs.declared.asking.Asked.TheVariants.{Answer}
+use Rattle.cx_region.specs.declared.asking.KeyEffect.TheVariants.{Answer}
 use Rattle.cx_region.specs.declared.asking.Start.{Start}
 use Rattle.cx_region.specs.declared.replies.KeyReply.{KeyReply}
 use Rattle.cx_region.specs.declared.replies.KeyReply.TheVariants as key
 use Rattle.cx_region.specs.State.{RegionState, TerminalState}
 use Rattle.cx_ebcdic.specs.Names.{is_name}
 use Rattle.cx_region.specs.Tables.{program_of, terminal_of, transaction_of, with_terminal}
-use Rattle.cx_region.specs.Attach.{ArePlaced, AttachesTask, Attaches, Gives, HasNoPlaces, KeyTakesMemory, TakesKey, OnlyAnswers, StartsTask, commarea_kept, eib_at_attach, with_areas_filled, next_number, transaction_named, with_task, with_task_areas}
+use Rattle.cx_region.specs.Attach.{ArePlaced, AttachesTask, Attaches, Gives, HasNoPlaces, KeyTakesMemory, TakesKey, OnlyAnswers, StartsTask, commarea_kept, eib_at_attach, input_from, with_areas_filled, next_number, transaction_named, with_task, with_task_areas}
 use Rattle.cx_region.specs.declared.asking.Places.{Places}
-use Rattle.cx_region.specs.Parts.Asking.{asked, asked_at, input_asked, level_of, start_asked, start_of, task_of_start}
-use Rattle.cx_region.specs.declared.attach.StartFault.{StartFault}
-use Rattle.cx_region.specs.Parts.Placing.{AreFaultsOf, HasNoPlacesFor, IsReadyTask}
+use Rattle.cx_region.specs.Parts.Asking.{Asks, Giving, Starting, input_with, level_of, task_of_start}
+use Rattle.cx_region.specs.Parts.Placing.{HasNoPlacesFor, IsReadyTask}
 use Rattle.cx_region.specs.Sound.{IsSound}
-use Rattle.cx_region.specs.Facts.SoundAttach.{Giving, Starting, of_found, of_none, of_some, sound_attached, sound_given}
+use Rattle.cx_region.specs.Facts.SoundAttach.{of_found, of_none, of_some, sound_attached, sound_given}
+
+-- ---- an answer that is due with no change
+some_of : {T : Type 0} (o : Option T) → is_some o ≡ true → (t : T) × o ≡ Some t
+some_of None e = cc
+some_of (Some t) e = (t, refl)
+
+none_of : {T : Type 0} (o : Option T) → is_some o ≡ false → o ≡ None
+none_of None e = refl
+none_of (Some t) e = cc
+
+pub key_nowhere : (r : RegionState) (name : List ℕ) (input : Input) → terminal_of r name ≡ None → TakesKey r name input key.NoSuchTerminal r
+unfolding TakesKey
+key_nowhere r name input none = rw none (refl, refl)
+
+pub key_held : (r : RegionState) (name : List ℕ) (input : Input) (t : TerminalState) → terminal_of r name ≡ Some t → is_some t.task ≡ true → is_some t.entry.input ≡ true
+    → TakesKey r name input key.AlreadyHeldInput r
+unfolding TakesKey
+key_held r name input t there live is =
+    let task = some_of t.task live in
+    let held = some_of t.entry.input is in
+    rw there (rw task.1 (rw held.1 (refl, refl)))
+
+pub key_giving : (r : RegionState) (name : List ℕ) (t : TerminalState) → terminal_of r name ≡ Some t → is_some t.task ≡ true → is_some t.entry.input ≡ false → Giving r name
+key_giving r name t there live none =
+    let task = some_of t.task live in
+    record { terminal = t; there = there; task = task.0; live = task.1; none = none_of t.entry.input none }
+
+pub key_unknown : (r : RegionState) (name : List ℕ) (input : Input) (t : TerminalState) → terminal_of r name ≡ Some t → t.task ≡ None
+    → transaction_of r (transaction_named t.entry.following input.bytes) ≡ None → TakesKey r name input key.NoSuchTransaction r
+unfolding TakesKey
+key_unknown r name input t there idle none = rw there (rw idle (rw none (refl, refl)))
+
+pub key_unloaded : (r : RegionState) (name : List ℕ) (input : Input) (t : TerminalState) (program : List ℕ) → terminal_of r name ≡ Some t → t.task ≡ None
+    → transaction_of r (transaction_named t.entry.following input.bytes) ≡ Some program → program_of r program ≡ None → TakesKey r name input key.NoSuchTransaction r
+unfolding TakesKey
+key_unloaded r name input t program there idle defined none = rw there (rw idle (rw defined (rw none (refl, refl))))
+
+pub keyed_answer : (r : RegionState) (name : List ℕ) (aid : Aid) (bytes sent : List ℕ) (due : KeyReply) → sent ≡ (input_from aid bytes).bytes
+    → Asks r name sent (Answer due) → TakesKey r name (input_from aid bytes) due r
+unfolding input_from
+keyed_answer r name aid bytes sent due is asks = subst (λ (b : List ℕ). TakesKey r name (input_with aid b) due r) is (asks aid)
 
 -- ---- what a key that is asked for so does
-pub keyed_answer : (r : RegionState) (name : List ℕ) (input : Input) (due : KeyReply) → asked r name input.bytes ≡ Answer due → TakesKey r name input due r
-unfolding TakesKey asked start_asked
-keyed_answer r name input due is = by_terminal (terminal_of r name) is
-  where
-    same : (a : KeyReply) → Answer a ≡ Answer due → due ≡ a
-    same a e = cc
-
-    by_program : (t : TerminalState) (tran program : List ℕ) (o : Option Loaded) → option_map_or (start_of t tran program) o (Answer key.NoSuchTransaction) ≡ Answer due
-        → MatchOption o ((due ≡ key.NoSuchTransaction) × (r ≡ r)) (λ loaded. Attaches r name t input tran program loaded due r)
-    by_program t tran program None h = (same key.NoSuchTransaction h, refl)
-    by_program t tran program (Some loaded) h = cc
-
-    by_tran : (t : TerminalState) (tran : List ℕ) (o : Option (List ℕ))
-        → option_map_or (λ program. option_map_or (start_of t tran program) (program_of r program) (Answer key.NoSuchTransaction)) o (Answer key.NoSuchTransaction) ≡ Answer due
-        → MatchOption o ((due ≡ key.NoSuchTransaction) × (r ≡ r)) (λ program. MatchOption (program_of r program) ((due ≡ key.NoSuchTransaction) × (r ≡ r)) (λ loaded. Attaches r name t input tran program loaded due r))
-    by_tran t tran None h = (same key.NoSuchTransaction h, refl)
-    by_tran t tran (Some program) h = by_program t tran program (program_of r program) h
-
-    by_input : (t : TerminalState) (o : Option Input) → input_asked o ≡ Answer due
-        → MatchOption o ((due ≡ key.Given) × (r ≡ with_terminal r name (record t { entry = record t.entry { input = Some input } }))) (λ held. (due ≡ key.AlreadyHeldInput) × (r ≡ r))
-    by_input t None h = cc
-    by_input t (Some held) h = (same key.AlreadyHeldInput h, refl)
-
-    by_task : (t : TerminalState) (o : Option TaskState)
-        → option_map_or (λ (_ : TaskState). input_asked t.entry.input) o (start_asked r t (transaction_named t.entry.following input.bytes)) ≡ Answer due
-        → MatchOption o (MatchOption (transaction_of r (transaction_named t.entry.following input.bytes)) ((due ≡ key.NoSuchTransaction) × (r ≡ r)) (λ program. MatchOption (program_of r program) ((due ≡ key.NoSuchTransaction) × (r ≡ r)) (λ loaded. Attaches r name t input (transaction_named t.entry.following input.bytes) program loaded due r)))
-        (λ task. MatchOption t.entry.input ((due ≡ key.Given) × (r ≡ with_terminal r name (record t { entry = record t.entry { input = Some input } }))) (λ held. (due ≡ key.AlreadyHeldInput) × (r ≡ r)))
-    by_task t None h = by_tran t (transaction_named t.entry.following input.bytes) (transaction_of r (transaction_named t.entry.following input.bytes)) h
-    by_task t (Some task) h = by_input t t.entry.input h
-
-    by_terminal : (o : Option TerminalState) → option_map_or (asked_at r input.bytes) o (Answer key.NoSuchTerminal) ≡ Answer due
-        → MatchOption o ((due ≡ key.NoSuchTerminal) × (r ≡ r)) (λ t. MatchOption t.task (MatchOption (transaction_of r (transaction_named t.entry.following input.bytes)) ((due ≡ key.NoSuchTransaction) × (r ≡ r)) (λ program. MatchOption (program_of r program) ((due ≡ key.NoSuchTransaction) × (r ≡ r)) (λ loaded. Attaches r name t input (transaction_named t.entry.following input.bytes) program loaded due r)))
-        (λ task. MatchOption t.entry.input ((due ≡ key.Given) × (r ≡ with_terminal r name (record t { entry = record t.entry { input = Some input } }))) (λ held. (due ≡ key.AlreadyHeldInput) × (r ≡ r))))
-    by_terminal None h = (same key.NoSuchTerminal h, refl)
-    by_terminal (Some t) h = by_task t t.task h
-
 pub keyed_given : (r new : RegionState) (name : List ℕ) (input : Input) (giving : Giving r name) → new ≡ with_terminal r name (record giving.terminal { entry = record giving.terminal.entry { input = Some input } }) → TakesKey r name input key.Given new
 unfolding TakesKey
 keyed_given r new name input giving is =
@@ -70,10 +73,33 @@ keyed_given r new name input giving is =
     (of_some _ (λ task. Gives r name giving.terminal input key.Given new) giving.terminal.task giving.task giving.live
     (of_none _ (λ held. OnlyAnswers key.AlreadyHeldInput r key.Given new) giving.terminal.entry.input giving.none (refl, is)))
 
-pub given_grows : (r : RegionState) (name bytes : List ℕ) → Giving r name → KeyTakesMemory r name bytes
+pub from_some : {T : Type 0} (A : Type 0) (P : T → Type 0) (o : Option T) (t : T) → o ≡ Some t → MatchOption o A P → P t
+from_some A P None t e h = absurd (none-some t e)
+from_some A P (Some u) t e h = subst P (same_Some u t e) h
+
+from_none : {T : Type 0} (A : Type 0) (P : T → Type 0) (o : Option T) → o ≡ None → MatchOption o A P → A
+from_none A P None e h = h
+from_none A P (Some u) e h = absurd (none-some u (sym e))
+
+-- what is due at a terminal, by its task
+at_terminal : (r new : RegionState) (name : List ℕ) (input : Input) (answer : KeyReply) (t : TerminalState) → terminal_of r name ≡ Some t → TakesKey r name input answer new
+    → MatchOption t.task (StartsTask r name t input (transaction_named t.entry.following input.bytes) answer new) (λ task. Gives r name t input answer new)
+unfolding TakesKey
+at_terminal r new name input answer t there takes =
+    from_some (OnlyAnswers key.NoSuchTerminal r answer new)
+    (λ t. MatchOption t.task (StartsTask r name t input (transaction_named t.entry.following input.bytes) answer new) (λ task. Gives r name t input answer new))
+    (terminal_of r name) t there takes
+
+pub given_grows : (r : RegionState) (name : List ℕ) (input : Input) → Giving r name → KeyTakesMemory r name input
 unfolding KeyTakesMemory
-given_grows r name bytes giving =
-    rw giving.there (of_some _ (λ task. giving.terminal.entry.input ≡ None) giving.terminal.task giving.task giving.live giving.none)
+given_grows r name input giving = λ answer new takes.
+    let t = giving.terminal in
+    let gives : Gives r name t input answer new =
+    from_some (StartsTask r name t input (transaction_named t.entry.following input.bytes) answer new) (λ (task : TaskState). Gives r name t input answer new) t.task giving.task giving.live
+    (at_terminal r new name input answer t giving.there takes) in
+    let given : (answer ≡ key.Given) × (new ≡ with_terminal r name (record t { entry = record t.entry { input = Some input } })) =
+    from_none ((answer ≡ key.Given) × (new ≡ with_terminal r name (record t { entry = record t.entry { input = Some input } }))) (λ (held : Input). OnlyAnswers key.AlreadyHeldInput r answer new) t.entry.input giving.none gives in
+    inr given.0
 
 pub keyed_start : (r new : RegionState) (name : List ℕ) (input : Input) (start : Start) (starting : Starting r name input.bytes start) (reply : KeyReply)
     → Attaches r name starting.terminal input start.tran start.program start.loaded reply new → TakesKey r name input reply new
@@ -86,16 +112,31 @@ keyed_start r new name input start starting reply h =
     (transaction_of r start.tran) start.program starting.defined
     (of_some _ (λ loaded. Attaches r name starting.terminal input start.tran start.program loaded reply new) (program_of r start.program) start.loaded starting.program h))))
 
-pub start_grows : (r : RegionState) (name bytes : List ℕ) (start : Start) → Starting r name bytes start → (HasNoPlacesFor r.shared.storage start → ⊥) → KeyTakesMemory r name bytes
+start_answer : (r new : RegionState) (name : List ℕ) (input : Input) (start : Start) (starting : Starting r name input.bytes start) (answer : KeyReply) → TakesKey r name input answer new
+    → Attaches r name starting.terminal input start.tran start.program start.loaded answer new
+start_answer r new name input start starting answer takes =
+    let t = starting.terminal in
+    let starts : StartsTask r name t input start.tran answer new =
+    subst (λ (tran : List ℕ). StartsTask r name t input tran answer new) (sym starting.tran)
+    (from_none (StartsTask r name t input (transaction_named t.entry.following input.bytes) answer new) (λ (task : TaskState). Gives r name t input answer new) t.task starting.idle
+    (at_terminal r new name input answer t starting.there takes)) in
+    let defined : MatchOption (program_of r start.program) (OnlyAnswers key.NoSuchTransaction r answer new) (λ loaded. Attaches r name t input start.tran start.program loaded answer new) =
+    from_some (OnlyAnswers key.NoSuchTransaction r answer new)
+    (λ program. MatchOption (program_of r program) (OnlyAnswers key.NoSuchTransaction r answer new) (λ loaded. Attaches r name t input start.tran program loaded answer new))
+    (transaction_of r start.tran) start.program starting.defined starts in
+    from_some (OnlyAnswers key.NoSuchTransaction r answer new) (λ loaded. Attaches r name t input start.tran start.program loaded answer new) (program_of r start.program) start.loaded starting.program defined
+
+pub start_grows : (r : RegionState) (name : List ℕ) (input : Input) (start : Start) → Starting r name input.bytes start → (HasNoPlacesFor r.shared.storage start → ⊥) → KeyTakesMemory r name input
 unfolding KeyTakesMemory
-start_grows r name bytes start starting h =
-    let due : HasNoPlaces r.shared.storage (system_owner starting.terminal.entry.slot) (length (commarea_kept starting.terminal.entry.following)) start.loaded.stg_len → ⊥ =
-    λ none. h (rw (starting.slot, starting.calen) none) in
-    rw starting.there
-    (of_none _ (λ task. starting.terminal.entry.input ≡ None) starting.terminal.task starting.idle
-    (subst (λ (tran : List ℕ). IsSomeAnd (option_and_then (program_of r) (transaction_of r tran))
-    (λ loaded. HasNoPlaces r.shared.storage (system_owner starting.terminal.entry.slot) (length (commarea_kept starting.terminal.entry.following)) loaded.stg_len → ⊥)) starting.tran
-    (rw (starting.defined, starting.program) due)))
+start_grows r name input start starting there = λ answer new takes. go answer new (start_answer r new name input start starting answer takes)
+  where
+    go : (answer : KeyReply) (new : RegionState) → Attaches r name starting.terminal input start.tran start.program start.loaded answer new → (answer ≡ key.Attached) ⊎ (answer ≡ key.Given)
+    go key.Attached new it = inl refl
+    go key.NoStorage new it = absurd (there (rw (starting.slot, starting.calen) it.0))
+    go key.Given new it = inr refl
+    go key.AlreadyHeldInput new it = absurd it
+    go key.NoSuchTerminal new it = absurd it
+    go key.NoSuchTransaction new it = absurd it
 
 pub no_places : (r : RegionState) (name bytes : List ℕ) (start : Start) (starting : Starting r name bytes start) → HasNoPlaces r.shared.storage (system_owner start.slot) start.calen start.loaded.stg_len
     → HasNoPlaces r.shared.storage (system_owner starting.terminal.entry.slot) (length (commarea_kept starting.terminal.entry.following)) start.loaded.stg_len
@@ -119,27 +160,12 @@ pub fields_are : (r : RegionState) (name tran terminal : List ℕ) (number code 
     → fields_at_attach (record { time = r.time; date = r.date; tran = tran; number = number; terminal = terminal; calen = start.calen; aid = code }) ≡ eib_at_attach r name start.tran start.calen aid
 fields_are r name tran terminal number code start aid at on n by = rw (at, on, n, by) refl
 
-pub storage_at : (s t u : Storage) (places : Places) (fields shown : List Content) (commarea : List ℕ) (level now : NewLevel) → u ≡ with_areas_filled t places fields commarea level → t ≡ s → fields ≡ shown → level ≡ now
-    → u ≡ with_areas_filled s places shown commarea now
-storage_at s t u places fields shown commarea level now is e f g = is ∙ rw (e, f, g) refl
-
 pub entries_at : (terminals : List (List ℕ × TerminalState)) (counter : ℕ) (name : List ℕ) (terminal : TerminalState) (start : Start) (held input : Input) (task : TaskState) (number : ℕ) (places : Places) (ts : List (List ℕ × TerminalState))
     → ts ≡ set_value (is_name name) terminals (with_task terminal held task) → held ≡ input → task ≡ task_of_start start number places → number ≡ next_number counter
     → ts ≡ set_value (is_name name) terminals (with_task terminal input (task_of_start start (next_number counter) places))
 entries_at terminals counter name terminal start held input task number places ts is e f n = is ∙ rw (e, f, n) refl
 
 -- ---- the whole of an attach
-err_gives : {A E : Type 0} (P : E → Type 0) (r : Result A E) (e : E) → r ≡ Err e → IfErr r P → P e
-err_gives P (Ok a) e is h = cc
-err_gives P (Err f) e is h = let same : f ≡ e = cc in subst P same h
-
-pub faults_are : {A : Type 0} (s : Storage) (start : Start) (r : Result A StartFault) (found fault : StartFault) → r ≡ Err found → found ≡ fault → IfErr r (AreFaultsOf s start) → AreFaultsOf s start fault
-faults_are s start r found fault is same h = subst (AreFaultsOf s start) same (err_gives (AreFaultsOf s start) r found is h)
-
-pub on_refusal : {A E : Type 0} (P : Type 0) (r : Result A E) (found : E) → r ≡ Err found → OnErr r P → P
-on_refusal P (Ok a) found is h = cc
-on_refusal P (Err f) found is h = h
-
 -- a region with what tasks share, its terminals and its counter
 abbrev pub with_shared : RegionState → SharedState → List (List ℕ × TerminalState) → ℕ → RegionState
 with_shared r shared terminals counter =
@@ -200,12 +226,11 @@ keyed_attach r name start input held starting tran terminal code places level ta
     (subst (λ (v : RegionState). AttachesTask r name starting.terminal input start.tran start.program start.loaded v) (sym (rest_same r mid after ts number number e f refl))
     (attached_is r r name input.bytes start starting input places number after.storage ts refl n ready.placed storage parts.terminals))
 
-pub keyed_unplaced : (r : RegionState) (name : List ℕ) (start : Start) (input : Input) (starting : Starting r name input.bytes start) (mid : SharedState)
-    → HasNoPlaces r.shared.storage (system_owner start.slot) start.calen start.loaded.stg_len → mid ≡ record r.shared { storage = mid.storage } → mid.storage ≡ r.shared.storage
-    → TakesKey r name input key.NoStorage (with_shared r mid r.terminals r.counter)
-keyed_unplaced r name start input starting mid none e s =
-    let same : with_shared r mid r.terminals r.counter ≡ r = ap (λ (h : SharedState). record r { shared = h }) e ∙ (λ i. record r { shared = record r.shared { storage = s i } }) in
-    keyed_start r (with_shared r mid r.terminals r.counter) name input start starting key.NoStorage (no_places r name input.bytes start starting none, same)
+pub keyed_unplaced : (r : RegionState) (name : List ℕ) (start : Start) (input : Input) → Starting r name input.bytes start → (mid : SharedState)
+    → HasNoPlacesFor r.shared.storage start × (mid.storage ≡ r.shared.storage) → mid ≡ record r.shared { storage = mid.storage } → TakesKey r name input key.NoStorage (with_shared r mid r.terminals r.counter)
+keyed_unplaced r name start input starting mid nowhere e =
+    let same : with_shared r mid r.terminals r.counter ≡ r = ap (λ (h : SharedState). record r { shared = h }) e ∙ (λ i. record r { shared = record r.shared { storage = nowhere.1 i } }) in
+    keyed_start r (with_shared r mid r.terminals r.counter) name input start starting key.NoStorage (no_places r name input.bytes start starting nowhere.0, same)
 
 pub keyed_give : (r : RegionState) (name : List ℕ) (giving : Giving r name) (held input : Input) (ts : List (List ℕ × TerminalState))
     → MatchOption (lookup (is_name name) r.terminals) ⊤ (λ terminal. ts ≡ set_value (is_name name) r.terminals (record terminal { entry = record terminal.entry { input = Some held } })) → held ≡ input
@@ -225,5 +250,5 @@ sound_give r name giving held ts ok is =
 pub keyed_seen : (r v : RegionState) (name : List ℕ) (input : Input) (reply : KeyReply) (new : RegionState) → r ≡ v → TakesKey r name input reply new → TakesKey v name input reply new
 keyed_seen r v name input reply new e h = subst (λ (k : RegionState). TakesKey k name input reply new) e h
 
-pub memory_seen : (r v : RegionState) (name bytes : List ℕ) → r ≡ v → KeyTakesMemory r name bytes → KeyTakesMemory v name bytes
-memory_seen r v name bytes e h = subst (λ (k : RegionState). KeyTakesMemory k name bytes) e h
+pub memory_seen : (r v : RegionState) (name : List ℕ) (input : Input) → r ≡ v → KeyTakesMemory r name input → KeyTakesMemory v name input
+memory_seen r v name input e h = subst (λ (k : RegionState). KeyTakesMemory k name input) e h

@@ -3,7 +3,7 @@ use Rattle.std.proofs.Common.{◌≡◌, ℕ, Option, Some, None, List, refl, sy
 use Rattle.std.specs.Prelude.{if◌then◌else◌, IfOk, OnErr, MatchOption, Result, Ok, Err}
 use Rattle.std.specs.Map.{lookup, set_value}
 use Rattle.std.proofs.lemmas.Map.Steps.{set_value_same}
-use Rattle.cx_storage.specs.Storage.{IsSound as IsSoundStorage}
+use Rattle.cx_storage.specs.Storage.{IsSoundStorage}
 use Rattle.cx_service.specs.Queues.{AreSoundQueues}
 use Rattle.cx_service.specs.Resources.{AreSoundResources}
 use Rattle.cx_region_state.specs.declared.replies.TurnReply.{TurnReply}

@@ -1,6 +1,6 @@
 -- A key of a terminal: a task is attached, or the input is held for the task that is there (Application Programmer's
 -- Reference Manual, SC33-0077, "Terminal Control", "EXEC Interface Block"). The rules are this product's own.
-use Rattle.std.specs.Prelude.{◌≡◌, ℕ, ◌+◌, ◌==◌, Bool, true, false, if◌then◌else◌, List, [], length, take, min, position, Option, Some, None, unwrap_or, IsSomeAnd, MatchOption, option_and_then}
+use Rattle.std.specs.Prelude.{◌≡◌, ℕ, ◌+◌, ◌==◌, ◌⊎◌, Bool, true, false, if◌then◌else◌, List, [], length, take, min, position, Option, Some, None, unwrap_or, MatchOption}
 use Rattle.std.specs.Option.{option_map, option_map_or}
 use Rattle.cx_ebcdic.specs.declared.aids.Aid.{Aid}
 use Rattle.cx_ebcdic.specs.declared.aids.Aid.TheVariants.{Clear, Pa1, Pa2}
@@ -12,6 +12,7 @@ use Rattle.cx_load.specs.declared.program.Loaded.{Loaded}
 use Rattle.cx_program.specs.Levels.{highest}
 use Rattle.cx_base.specs.Eib.{eib_len}
 use Rattle.cx_region_state.specs.Eib.{Content, fields_at_attach, with_fields}
+use Rattle.cx_region_state.specs.declared.inputs.StorageSpan.{StorageSpan}
 use Rattle.cx_region_state.specs.declared.verdict.NewLevel.{NewLevel}
 use Rattle.cx_region_state.specs.State.{Input, NextTransaction, TaskState}
 use Rattle.cx_region_state.specs.Areas.{IsTaskPlace, entry_level, registers_of, system_owner, with_cap}
@@ -71,22 +72,12 @@ pub record ArePlaced (storage : Storage) (owner : Owner) (len stg_len : ℕ) (ar
 pub record HasNoPlaces (storage : Storage) (owner : Owner) (len stg_len : ℕ) : Type 0 where
   pub none : (areas : Places) → ArePlaced storage owner len stg_len areas → ⊥
 
--- of a terminal's task of a program
-abbrev pub HasNoTaskPlaces : RegionState → TerminalState → Loaded → Type 0
-HasNoTaskPlaces region terminal loaded =
-    HasNoPlaces region.shared.storage (system_owner terminal.entry.slot)
-    (length (commarea_kept terminal.entry.following)) loaded.stg_len
-
 -- ---- the task
 -- the level with which a task begins: its program, where that is, the copy of its COMMAREA, and its DFHEISTG
 abbrev pub first_level : List ℕ → Loaded → ℕ → Places → NewLevel
 first_level program loaded len areas =
-    record {
-      program = program;
-      loaded = loaded;
-      commarea = option_map (λ at. record { place = at; len = len }) areas.commarea;
-      stg = areas.stg;
-    }
+    let copy : Option StorageSpan = option_map (λ at. record { place = at; len = len }) areas.commarea in
+    record { program = program; loaded = loaded; commarea = copy; stg = areas.stg }
 
 unfoldable pub fresh_task : List ℕ → ℕ → ℕ → NewLevel → TaskState
 fresh_task tran number eib level =
@@ -164,7 +155,8 @@ abbrev pub Attaches : RegionState → List ℕ → TerminalState → Input → L
 Attaches old name terminal input tran program loaded key.Attached new =
     AttachesTask old name terminal input tran program loaded new
 Attaches old name terminal input tran program loaded key.NoStorage new =
-    HasNoTaskPlaces old terminal loaded × (new ≡ old)
+    HasNoPlaces old.shared.storage (system_owner terminal.entry.slot)
+    (length (commarea_kept terminal.entry.following)) loaded.stg_len × (new ≡ old)
 Attaches old name terminal input tran program loaded _ new = ⊥
 
 -- the answer, with which all is as before
@@ -194,13 +186,8 @@ TakesKey old name input reply new =
     (StartsTask old name terminal input (transaction_named terminal.entry.following input.bytes) reply new)
     (λ task. Gives old name terminal input reply new))
 
--- a key may take memory: where it holds an input and none is held, or starts a task, whose transaction's program is
--- defined and whose areas have places
-unfoldable pub KeyTakesMemory : RegionState → List ℕ → List ℕ → Type 0
-KeyTakesMemory region name bytes =
-    IsSomeAnd (terminal_of region name) (λ terminal.
-    MatchOption terminal.task
-    (IsSomeAnd
-    (option_and_then (program_of region) (transaction_of region (transaction_named terminal.entry.following bytes)))
-    (λ loaded. HasNoTaskPlaces region terminal loaded → ⊥))
-    (λ task. terminal.entry.input ≡ None))
+-- a key may take memory: where the answer that is due to it is Attached or Given
+unfoldable pub KeyTakesMemory : RegionState → List ℕ → Input → Type 0
+KeyTakesMemory region name input =
+    (answer : KeyReply) (new : RegionState) → TakesKey region name input answer new
+    → (answer ≡ key.Attached) ⊎ (answer ≡ key.Given)

@@ -40,7 +40,7 @@ MayTakeMemory region (event.Program name image) =
     (program_fault region name ≡ None) × (IsProgramPlace region.shared.storage (length image.text) None → ⊥)
 MayTakeMemory region (event.Transaction tran program) = transaction_fault region tran program ≡ None
 MayTakeMemory region (event.Terminal name) = terminal_fault region name ≡ None
-MayTakeMemory region (event.Key name aid bytes) = KeyTakesMemory region name (input_from aid bytes).bytes
+MayTakeMemory region (event.Key name aid bytes) = KeyTakesMemory region name (input_from aid bytes)
 MayTakeMemory region (event.Turn name) =
     IsSomeAnd (terminal_of region name)
     (λ terminal. IsSomeAnd terminal.task (λ task. TakesMemory (context_of region terminal task)))

@@ -144,11 +144,11 @@ impl<S: Store + Drop> Region<S> {
         }
     }
 
-    /// Alters a terminal's task: a register (0 to 15), a byte of storage, the command that is due, or that there is a task at
-    /// all. `Change` says what each does; no exit takes the abend of `Change::Abend`.
+    /// Alters a terminal's task: a register (0 to 15), a byte of storage, the command that is due, or that there is a
+    /// task at all. `Change` says what each does; no exit takes the abend of `Change::Abend`.
     ///
-    /// It is refused by the first that applies of: no such terminal, no task, no command due for `Change::Nop`, no byte at
-    /// the address for `Change::Byte` (from 2^24 on there is none). Then all is as before. It takes no memory.
+    /// It is refused by the first that applies of: no such terminal, no task, no command due for `Change::Nop`, no byte
+    /// at the address for `Change::Byte` (from 2^24 on there is none). Then all is as before. It takes no memory.
     pub fn alter(&mut self, name: Name4, change: Change) -> AlterReply
         requires { IsAllowedChange change }
         ensures alters { Alters self.old name change result self.new }

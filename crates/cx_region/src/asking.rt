@@ -20,11 +20,11 @@ pub struct Start {
 
 /// What a key asks for.
 #[derive(Clone, Copy, Debug, PartialEq, Eq)]
-pub enum Asked {
+pub enum KeyEffect {
     /// This answer, with no change.
     Answer(KeyReply),
     /// That the input be held for the terminal's task.
-    Give,
+    Hold,
     /// That a task be attached.
     Attach(Start),
 }

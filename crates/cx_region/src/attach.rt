@@ -4,21 +4,21 @@ ghost use Rattle.std.specs.List.{AllByRecursion};
 ghost use Rattle.std.specs.Option.{option_copied, option_map};
 ghost use Rattle.std.specs.Map.{lookup, set_value};
 ghost use Rattle.cx_ebcdic.specs.Names.{is_name, pad};
-ghost use Rattle.cx_storage.specs.Storage.{IsSound as IsSoundStorage, is_of_other_slot, with_area, with_areas_kept};
+ghost use Rattle.cx_storage.specs.Storage.{IsSoundStorage, is_of_other_slot, with_area, with_areas_kept};
 ghost use Rattle.cx_storage.specs.Place.{IsLeastPlace};
 ghost use Rattle.cx_base.specs.Eib.{eib_len};
 ghost use Rattle.cx_region_state.specs.Eib.{fields_at_attach};
 ghost use Rattle.cx_region_state.specs.Areas.{IsSoundProgram, IsTaskPlace, system_owner};
 ghost use Rattle.cx_region_state.specs.State.{TaskState};
 ghost use Rattle.cx_region.specs.Tables.{program_of, terminal_of, transaction_of};
-ghost use Rattle.cx_region.specs.Attach.{ArePlaced, IsCopyPlace, KeyTakesMemory, TakesKey, commarea_kept, with_areas_filled, first_word, fresh_task, input_from, next_number, sends_data, transaction_named, with_copy, with_task, with_task_areas};
-ghost use Rattle.cx_region.specs.Parts.Asking.{asked, asked_at, input_asked, level_of, start_asked, start_of, task_of_start};
-ghost use Rattle.cx_region.specs.Parts.Placing.{AreFaultsOf, ArePlacesBelow, HasNoPlacesFor, IsCopyFault, IsPlaceFault, IsReadyTask, IsSlotFree, MayBeFaultsOf, input_of};
+ghost use Rattle.cx_region.specs.Attach.{IsCopyPlace, KeyTakesMemory, TakesKey, commarea_kept, with_areas_filled, first_word, fresh_task, input_from, next_number, sends_data, transaction_named, with_copy, with_task};
+ghost use Rattle.cx_region.specs.Parts.Asking.{Asks, Giving, Starting, input_with, level_of, task_of_start};
+ghost use Rattle.cx_region.specs.Parts.Placing.{ArePlacesBelow, ArePlacesFor, HasNoPlacesFor, IsReadyTask, IsSlotFree, with_areas_of};
 ghost use Rattle.cx_region.specs.Events.{MayTakeMemory};
 ghost use Rattle.cx_region.specs.declared.replies.Event.TheVariants as event;
 ghost use Rattle.cx_region.specs.Sound.{IsSound};
 
-use crate::asking::{Asked, Places, Start};
+use crate::asking::{KeyEffect, Places, Start};
 use crate::replies::KeyReply;
 use crate::state::{Region, Terminal};
 use cx_base::List;
@@ -30,9 +30,9 @@ use cx_region_state::eib::{InitialEib, begin};
 use cx_region_state::{
     FIRST_OF_TASKS, Input, LAST_OF_TASKS, NewLevel, NextTransaction, Shared, StorageSpan, Task,
 };
-use cx_region_task::{entry_level, entry_registers, put_cap};
+use cx_region_task::{entry_level, entry_registers, get_at, put_cap, system_owner};
 use cx_storage::laws::store_is_sound;
-use cx_storage::{Kind, Owner, Store};
+use cx_storage::{Owner, Store};
 use indexmap::IndexMap;
 use std::alloc::{AllocError, Global};
 
@@ -43,7 +43,7 @@ const BLANK: u8 = 0x40;
 #[tactic(auto, unfolding(crate::specs::Attach::input_from))]
 fn bytes_sent(aid: Aid, bytes: &[u8]) -> &[u8]
     ensures value { result.now ≡ (input_from aid bytes.now).bytes }
-    ensures few { length result.now ≤ length bytes.now }
+    ensures no_longer { length result.now ≤ length bytes.now }
 {
     match aid {
         Aid::Clear | Aid::Pa1 | Aid::Pa2 => &[],
@@ -80,20 +80,10 @@ fn pad(word: &[u8]) -> [u8; 4]
     filled
 }
 
-/// The transaction that a key asks for.
-fn transaction_named(following: &Option<NextTransaction>, bytes: &[u8]) -> Name4
-    ensures { result ≡ transaction_named following.now bytes.now }
-{
-    match following {
-        Some(following) => following.tran,
-        None => first_word(bytes),
-    }
-}
-
 /// The COMMAREA kept for a terminal's next transaction; no bytes where there is none.
 fn commarea_kept(following: &Option<NextTransaction>) -> &[u8]
     ensures value { result.now ≡ commarea_kept following.now }
-    ensures short { length result.now ≤ 32767 }
+    ensures at_most_32767 { length result.now ≤ 32767 }
 {
     match following {
         Some(following) => following.commarea.as_slice(),
@@ -101,110 +91,60 @@ fn commarea_kept(following: &Option<NextTransaction>) -> &[u8]
     }
 }
 
-/// Why a task can't be attached.
-#[derive(Drop)]
-pub enum StartFault {
-    /// Storage has no place for its areas.
-    NoStorage,
-    /// An allocation failed.
-    Memory(AllocError),
-}
-
-impl From<AllocError> for StartFault {
-    ghost use Rattle.cx_region.specs.declared.attach.StartFault.TheVariants.{Memory};
-
-    ghost from_gives = { λ refused fault. fault ≡ Memory refused };
-
-    fn from(refused: AllocError) -> StartFault {
-        StartFault::Memory(refused)
-    }
-}
-
 /// The length of an EIB.
 const EIB_LEN: u32 = 88;
 
-/// Makes an area of a task. NoStorage comes exactly where there is no place; then, and where an allocation failed, all
-/// is as before.
-#[tactic(auto, using(cx_storage::specs::Facts::Places::place_decides, cx_region_state::specs::Facts::Areas::place_below, crate::proofs::PlacingLemmas::no_area))]
-fn get_task_area<S: Store>(store: &mut S, len: u32, owner: Owner) -> Result<u32, StartFault>
-    requires { 0 < len }
-    ensures place { IfOk result (λ start. IsTaskPlace (S.storage store.old) len (Some start)) }
-    ensures after { let before = S.storage store.old in
-        IfOk result (λ start. S.storage store.new ≡ with_area before (Some start) len owner) }
-    ensures address { IfOk result (λ start. start < 2 ^ 24) }
-    ensures fault { IfErr result (IsPlaceFault (S.storage store.old) len) }
+/// Makes the area of the copy of a COMMAREA at its place, where there is one.
+///
+/// An error comes only where an allocation failed; then all is as before.
+#[tactic(auto, using(crate::proofs::PlacingLemmas::copy_nonempty, crate::proofs::PlacingLemmas::no_area))]
+fn get_copy<S: Store>(
+    store: &mut S,
+    place: Option<u32>,
+    len: u16,
+    owner: Owner,
+) -> Result<(), AllocError>
+    requires { IsCopyPlace (S.storage store.old) len place }
+    ensures ok { OnOk result (S.storage store.new ≡ with_area (S.storage store.old) place len owner) }
     ensures err { OnErr result (S.storage store.new ≡ S.storage store.old) }
 {
-    match store.get_area(FIRST_OF_TASKS, LAST_OF_TASKS, len, owner)? {
-        Some(start) => Ok(start),
-        None => Err(StartFault::NoStorage),
+    match place {
+        Some(place) => get_at(store, place, u32::from(len), owner),
+        None => Ok(()),
     }
 }
 
-/// Makes the area of the copy of a COMMAREA, where it has bytes.
-#[tactic(auto, unfolding(cx_storage::specs::Storage::with_area))]
-fn get_copy_area<S: Store>(store: &mut S, len: u32, owner: Owner) -> Result<Option<u32>, StartFault>
-    ensures place { IfOk result (λ start. IsCopyPlace (S.storage store.old) len start) }
-    ensures after { IfOk result (λ start. S.storage store.new ≡ with_area (S.storage store.old) start len owner) }
-    ensures address { IfOk result (λ start. IfSome start (λ a. a < 2 ^ 24)) }
-    ensures fault { IfErr result (IsCopyFault (S.storage store.old) len) }
-    ensures err { OnErr result (S.storage store.new ≡ S.storage store.old) }
-{
-    if len == 0 {
-        return Ok(None);
-    }
-    let start = get_task_area(store, len, owner)?;
-    Ok(Some(start))
-}
-
-/// Makes the areas of a task. After an error some of them may be there; all belong to the slot.
-#[tactic(auto, using(crate::proofs::PlacingLemmas::none_for_eib))]
-fn get_task_areas<S: Store>(store: &mut S, start: &Start) -> Result<Places, StartFault>
-    requires { 0 < start.now.loaded.stg_len }
-    ensures placed { let owner = system_owner start.now.slot in
-        IfOk result (ArePlaced (S.storage store.old) owner start.now.calen start.now.loaded.stg_len) }
-    ensures after { let owner = system_owner start.now.slot in
-        let made = with_task_areas (S.storage store.old) owner start.now.calen start.now.loaded.stg_len in
-        IfOk result (λ places. S.storage store.new ≡ made places) }
-    ensures addresses { IfOk result ArePlacesBelow }
-    ensures fault { IfErr result (MayBeFaultsOf (S.storage store.old) start.now) }
+/// Makes the areas of a task at their places. After an error some of them may be there; all belong to the slot.
+fn make_areas<S: Store>(store: &mut S, start: &Start, places: &Places) -> Result<(), AllocError>
+    requires stg { 0 < start.now.loaded.stg_len }
+    requires placed { ArePlacesFor (S.storage store.old) start.now places.now }
+    ensures ok { OnOk result (S.storage store.new ≡ with_areas_of (S.storage store.old) start.now places.now) }
     ensures others { OnErr result (with_areas_kept (is_of_other_slot start.now.slot) (S.storage store.new)
         ≡ with_areas_kept (is_of_other_slot start.now.slot) (S.storage store.old)) }
 {
-    let owner = Owner {
-        slot: start.slot,
-        kind: Kind::System,
-    };
-    let eib = get_task_area(store, EIB_LEN, owner)?;
-    let commarea = match get_copy_area(store, start.calen as u32, owner) {
-        Ok(commarea) => commarea,
-        Err(fault) => return Err(fault),
-    };
-    match get_task_area(store, start.loaded.stg_len, owner) {
-        Ok(stg) => Ok(Places { eib, commarea, stg }),
-        Err(fault) => Err(fault),
-    }
+    let owner = system_owner(start.slot);
+    get_at(store, places.eib, EIB_LEN, owner)?;
+    get_copy(store, places.commarea, start.calen, owner)?;
+    get_at(store, places.stg, start.loaded.stg_len, owner)?;
+    Ok(())
 }
 
-/// Makes the areas of a task whose slot has none; or none of them.
+/// Makes the areas of a task whose slot has none at their places; or none of them.
+///
+/// An error comes only where an allocation failed; then all is as before.
 #[tactic(auto, using(crate::proofs::PlacingLemmas::given_back))]
-fn place_task<S: Store>(store: &mut S, start: &Start) -> Result<Places, StartFault>
+fn place_task<S: Store>(store: &mut S, start: &Start, places: &Places) -> Result<(), AllocError>
     requires stg { 0 < start.now.loaded.stg_len }
     requires free { IsSlotFree (S.storage store.old) start.now.slot }
-    ensures placed { let owner = system_owner start.now.slot in
-        IfOk result (ArePlaced (S.storage store.old) owner start.now.calen start.now.loaded.stg_len) }
-    ensures after { let owner = system_owner start.now.slot in
-        let made = with_task_areas (S.storage store.old) owner start.now.calen start.now.loaded.stg_len in
-        IfOk result (λ places. S.storage store.new ≡ made places) }
-    ensures addresses { IfOk result ArePlacesBelow }
-    ensures fault { IfErr result (MayBeFaultsOf (S.storage store.old) start.now) }
+    requires placed { ArePlacesFor (S.storage store.old) start.now places.now }
+    ensures ok { OnOk result (S.storage store.new ≡ with_areas_of (S.storage store.old) start.now places.now) }
     ensures err { OnErr result (S.storage store.new ≡ S.storage store.old) }
 {
-    match get_task_areas(store, start) {
-        Ok(places) => Ok(places),
-        Err(fault) => {
+    match make_areas(store, start, places) {
+        Ok(_done) => Ok(()),
+        Err(refused) => {
             store.free_slot(start.slot);
-            Err(fault)
+            Err(refused)
         }
     }
 }
@@ -251,9 +191,9 @@ fn fresh_task(
 }
 
 /// What a key sent.
-fn input_of(alloc: Global, aid: Aid, bytes: &[u8]) -> Result<Input, AllocError>
+fn input_with(alloc: Global, aid: Aid, bytes: &[u8]) -> Result<Input, AllocError>
     requires { length bytes.now ≤ 1920 }
-    ensures { IfOk result (λ input. input ≡ input_of aid bytes.now) }
+    ensures { IfOk result (λ input. input ≡ input_with aid bytes.now) }
 {
     let bytes = List::from_slice(alloc, bytes)?;
     Ok(Input { aid, bytes })
@@ -281,53 +221,23 @@ struct Ready {
 fn make_ready(alloc: Global, new_task: &NewTask<'_>, places: Places) -> Result<Ready, AllocError>
     requires eib { places.eib < 2 ^ 24 }
     requires entry { new_task.now.start.loaded.entry < 2 ^ 24 }
-    requires few { length new_task.now.bytes.now ≤ 1920 }
+    requires at_most_1920 { length new_task.now.bytes.now ≤ 1920 }
     ensures places { IfOk result (λ ready. ready.places ≡ places) }
     ensures level { IfOk result (λ ready. ready.level ≡ level_of new_task.now.start places) }
     ensures task { IfOk result (λ ready.
         ready.task ≡ task_of_start new_task.now.start new_task.now.number places) }
-    ensures input { IfOk result (λ ready. ready.input ≡ input_of new_task.now.aid new_task.now.bytes.now) }
+    ensures input { IfOk result (λ ready. ready.input ≡ input_with new_task.now.aid new_task.now.bytes.now) }
 {
     let start = &new_task.start;
     let level = level_of(start, &places);
     let task = fresh_task(alloc, start.tran, new_task.number, places.eib, &level)?;
-    let input = input_of(alloc, new_task.aid, new_task.bytes)?;
+    let input = input_with(alloc, new_task.aid, new_task.bytes)?;
     Ok(Ready {
         places,
         level,
         task,
         input,
     })
-}
-
-/// Makes the areas of a task, the task and its input; or nothing.
-#[tactic(auto, using(crate::proofs::PlacingLemmas::given_back_areas))]
-fn try_prepare<S: Store>(
-    alloc: Global,
-    store: &mut S,
-    new_task: &NewTask<'_>,
-) -> Result<Ready, StartFault>
-    requires program { IsSoundProgram new_task.now.start.loaded }
-    requires free { IsSlotFree (S.storage store.old) new_task.now.start.slot }
-    requires few { length new_task.now.bytes.now ≤ 1920 }
-    ensures ready { let before = S.storage store.old in let after = S.storage store.new in
-        let input = input_of new_task.now.aid new_task.now.bytes.now in
-        let is_ready = IsReadyTask before new_task.now.start new_task.now.number input in
-        IfOk result (λ it. is_ready it.places it.level it.task it.input after) }
-    ensures fault { IfErr result (MayBeFaultsOf (S.storage store.old) new_task.now.start) }
-    ensures err { OnErr result (S.storage store.new ≡ S.storage store.old) }
-{
-    let places = match place_task(store, &new_task.start) {
-        Ok(places) => places,
-        Err(fault) => return Err(fault),
-    };
-    match make_ready(alloc, new_task, places) {
-        Ok(ready) => Ok(ready),
-        Err(refused) => {
-            store.free_slot(new_task.start.slot);
-            Err(StartFault::Memory(refused))
-        }
-    }
 }
 
 /// The least place in a range, beside an area that isn't made.
@@ -383,13 +293,13 @@ fn place_beside_both<S: Store>(
     }
 }
 
-/// Whether there are places for the areas of a task whose EIB has this one, where none of them is made.
-#[tactic(auto, using(crate::proofs::PlacingLemmas::stg_decides, crate::proofs::PlacingLemmas::stg_decides_alone, crate::proofs::PlacingLemmas::none_for_copy, crate::proofs::PlacingLemmas::placed_high, crate::proofs::PlacingLemmas::placed_below))]
-fn has_places_beside<S: Store>(store: &S, start: &Start, eib: u32) -> bool
+/// The places of the areas of a task whose EIB has this one, where none of them is made.
+#[tactic(auto, using(crate::proofs::PlacingLemmas::placed_without, crate::proofs::PlacingLemmas::placed_with, crate::proofs::PlacingLemmas::none_without, crate::proofs::PlacingLemmas::none_for_copy, crate::proofs::PlacingLemmas::none_with, crate::proofs::PlacingLemmas::placed_high, crate::proofs::PlacingLemmas::placed_below))]
+fn places_beside<S: Store>(store: &S, start: &Start, eib: u32) -> Option<Places>
     requires stg { 0 < start.now.loaded.stg_len }
     requires eib { IsTaskPlace (S.storage store.now) eib_len (Some eib) }
-    ensures { let nowhere = HasNoPlacesFor (S.storage store.now) start.now in
-        MatchBool result (nowhere → ⊥) nowhere }
+    ensures { MatchOption result (HasNoPlacesFor (S.storage store.now) start.now)
+        (ArePlacesFor (S.storage store.now) start.now) }
 {
     let area = StorageSpan {
         place: eib,
@@ -398,74 +308,62 @@ fn has_places_beside<S: Store>(store: &S, start: &Start, eib: u32) -> bool
     let stg_len = start.loaded.stg_len;
     let len = start.calen;
     if len == 0 {
-        return place_beside(store, FIRST_OF_TASKS, LAST_OF_TASKS, stg_len, area).is_some();
+        let stg = place_beside(store, FIRST_OF_TASKS, LAST_OF_TASKS, stg_len, area)?;
+        return Some(Places {
+            eib,
+            commarea: None,
+            stg,
+        });
     }
-    match place_beside(store, FIRST_OF_TASKS, LAST_OF_TASKS, u32::from(len), area) {
-        Some(place) => place_beside_both(
-            store,
-            stg_len,
-            area,
-            StorageSpan { place, len },
-        ).is_some(),
-        None => false,
-    }
+    let place = place_beside(store, FIRST_OF_TASKS, LAST_OF_TASKS, u32::from(len), area)?;
+    let stg = place_beside_both(store, stg_len, area, StorageSpan { place, len })?;
+    Some(Places {
+        eib,
+        commarea: Some(place),
+        stg,
+    })
 }
 
-/// Whether there are places for the areas of a task. It takes no memory.
+/// The places of a task's areas, where none of them is made; None where there are no places for all. It takes no memory.
 #[tactic(auto, using(crate::proofs::PlacingLemmas::none_for_eib))]
-fn has_places<S: Store>(store: &S, start: &Start) -> bool
-    requires { 0 < start.now.loaded.stg_len }
-    ensures { let nowhere = HasNoPlacesFor (S.storage store.now) start.now in
-        MatchBool result (nowhere → ⊥) nowhere }
+fn find_places<S: Store>(store: &S, start: &Start) -> Option<Places>
+    requires { IsSoundProgram start.now.loaded }
+    ensures { MatchOption result (HasNoPlacesFor (S.storage store.now) start.now)
+        (ArePlacesFor (S.storage store.now) start.now) }
 {
     match store.place(FIRST_OF_TASKS, LAST_OF_TASKS, EIB_LEN) {
-        Some(eib) => has_places_beside(store, start, eib),
-        None => false,
+        Some(eib) => places_beside(store, start, eib),
+        None => None,
     }
 }
 
-/// Makes the areas of a task, the task and its input; or nothing. Where an allocation failed there were places for the areas.
-fn prepare_in<S: Store>(
-    alloc: Global,
-    store: &mut S,
-    new_task: &NewTask<'_>,
-) -> Result<Ready, StartFault>
-    requires program { IsSoundProgram new_task.now.start.loaded }
-    requires free { IsSlotFree (S.storage store.old) new_task.now.start.slot }
-    requires few { length new_task.now.bytes.now ≤ 1920 }
-    ensures ready { let before = S.storage store.old in let after = S.storage store.new in
-        let input = input_of new_task.now.aid new_task.now.bytes.now in
-        let is_ready = IsReadyTask before new_task.now.start new_task.now.number input in
-        IfOk result (λ it. is_ready it.places it.level it.task it.input after) }
-    ensures fault { IfErr result (AreFaultsOf (S.storage store.old) new_task.now.start) }
-    ensures err { OnErr result (S.storage store.new ≡ S.storage store.old) }
-{
-    match try_prepare(alloc, store, new_task) {
-        Ok(ready) => Ok(ready),
-        Err(StartFault::Memory(refused)) if has_places(store, &new_task.start) => {
-            Err(StartFault::Memory(refused))
-        }
-        Err(_) => Err(StartFault::NoStorage),
-    }
-}
-
-/// Makes the areas of a task, the task and its input; or nothing.
+/// Makes a task, its input, and its areas; None where there are no places for the areas.
+///
+/// An error comes only where there are, and an allocation failed. Then, and with None, all is as before.
+#[tactic(auto, using(crate::proofs::PlacingLemmas::eib_below, crate::proofs::PlacingLemmas::places_below, crate::proofs::PlacingLemmas::places_there))]
 fn prepare<S: Store + Drop>(
     shared: &mut Shared<S>,
     new_task: &NewTask<'_>,
-) -> Result<Ready, StartFault>
+) -> Result<Option<Ready>, AllocError>
     requires program { IsSoundProgram new_task.now.start.loaded }
     requires free { IsSlotFree shared.old.storage new_task.now.start.slot }
-    requires few { length new_task.now.bytes.now ≤ 1920 }
+    requires at_most_1920 { length new_task.now.bytes.now ≤ 1920 }
     ensures ready { let before = shared.old.storage in let after = shared.new.storage in
-        let input = input_of new_task.now.aid new_task.now.bytes.now in
+        let input = input_with new_task.now.aid new_task.now.bytes.now in
+        let nowhere = HasNoPlacesFor before new_task.now.start × (after ≡ before) in
         let is_ready = IsReadyTask before new_task.now.start new_task.now.number input in
-        IfOk result (λ it. is_ready it.places it.level it.task it.input after) }
+        IfOk result (λ found.
+        MatchOption found nowhere (λ it. is_ready it.places it.level it.task it.input after)) }
     ensures rest { shared.new ≡ record shared.old { storage = shared.new.storage } }
-    ensures fault { IfErr result (AreFaultsOf shared.old.storage new_task.now.start) }
+    ensures memory { OnErr result (HasNoPlacesFor shared.old.storage new_task.now.start → ⊥) }
     ensures err { OnErr result (shared.new.storage ≡ shared.old.storage) }
 {
-    prepare_in(shared.alloc, &mut shared.store, new_task)
+    let Some(places) = find_places(&shared.store, &new_task.start) else {
+        return Ok(None);
+    };
+    let ready = make_ready(shared.alloc, new_task, places)?;
+    place_task(&mut shared.store, &new_task.start, &ready.places)?;
+    Ok(Some(ready))
 }
 
 /// Fills the areas of a task that begins.
@@ -478,7 +376,7 @@ fn fill<S: Store>(
     level: &NewLevel,
 )
     requires below { ArePlacesBelow places.now }
-    requires short { length commarea.now ≤ 32767 }
+    requires at_most_32767 { length commarea.now ≤ 32767 }
     ensures { S.storage store.new
         ≡ with_areas_filled (S.storage store.old) places.now (fields_at_attach begun.now) commarea.now level.now }
 {
@@ -555,51 +453,47 @@ fn next_number(counter: u32) -> u32
 }
 
 impl Terminal {
-    /// What a key asks for where the terminal has a task; None where it has none.
-    fn asked_of_task(&self) -> Option<Asked>
-        ensures { result ≡ option_map (λ (_ : TaskState). input_asked self.now.entry.input) self.now.task }
-    {
-        if self.task.is_none() {
-            return None;
-        }
-        if self.entry.input.is_some() {
-            return Some(Asked::Answer(KeyReply::AlreadyHeldInput));
-        }
-        Some(Asked::Give)
-    }
-
     /// The transaction that a key asks for.
     fn transaction_named(&self, bytes: &[u8]) -> Name4
         ensures { result ≡ transaction_named self.now.entry.following bytes.now }
     {
-        transaction_named(&self.entry.following, bytes)
-    }
-
-    /// A task to be attached.
-    fn start_of(&self, tran: Name4, program: Name8, loaded: Loaded) -> Asked
-        ensures { result ≡ start_of self.now tran program loaded }
-    {
-        Asked::Attach(Start {
-            slot: self.entry.slot,
-            tran,
-            program,
-            loaded,
-            calen: commarea_kept(&self.entry.following).len() as u16,
-        })
+        match &self.entry.following {
+            Some(following) => following.tran,
+            None => first_word(bytes),
+        }
     }
 }
 
 impl<S: Store + Drop> Region<S> {
     /// What a key asks for.
-    #[tactic(auto, unfolding(crate::specs::Parts::Asking::asked))]
-    fn asked(&self, name: Name4, bytes: &[u8]) -> Asked
-        ensures value { result ≡ asked self.now name bytes.now }
+    #[tactic(auto, using(crate::proofs::KeyLemmas::key_nowhere, crate::proofs::KeyLemmas::key_unknown, crate::proofs::KeyLemmas::key_unloaded))]
+    fn asked(&self, name: Name4, bytes: &[u8]) -> KeyEffect
+        ensures value { Asks self.now name bytes.now result }
         ensures sound { IsSound self.now }
     {
         let Some(terminal) = self.terminal(name) else {
-            return Asked::Answer(KeyReply::NoSuchTerminal);
+            return KeyEffect::Answer(KeyReply::NoSuchTerminal);
         };
-        self.asked_at(terminal, bytes)
+        if terminal.task.is_some() {
+            if terminal.entry.input.is_some() {
+                return KeyEffect::Answer(KeyReply::AlreadyHeldInput);
+            }
+            return KeyEffect::Hold;
+        }
+        let tran = terminal.transaction_named(bytes);
+        let Some(program) = self.transaction(tran) else {
+            return KeyEffect::Answer(KeyReply::NoSuchTransaction);
+        };
+        let Some(loaded) = self.program(program) else {
+            return KeyEffect::Answer(KeyReply::NoSuchTransaction);
+        };
+        KeyEffect::Attach(Start {
+            slot: terminal.entry.slot,
+            tran,
+            program,
+            loaded,
+            calen: commarea_kept(&terminal.entry.following).len() as u16,
+        })
     }
 
     /// The terminal of a name.
@@ -608,16 +502,6 @@ impl<S: Store + Drop> Region<S> {
         ensures sound { IsSound self.now }
     {
         self.terminals.get(&name)
-    }
-
-    /// What a key of this terminal asks for.
-    fn asked_at(&self, terminal: &Terminal, bytes: &[u8]) -> Asked
-        ensures { result ≡ asked_at self.now bytes.now terminal.now }
-    {
-        match terminal.asked_of_task() {
-            Some(asked) => asked,
-            None => self.start_asked(terminal, terminal.transaction_named(bytes)),
-        }
     }
 
     /// The program's name of a transaction.
@@ -634,20 +518,6 @@ impl<S: Store + Drop> Region<S> {
         self.shared.programs.get(&name).copied()
     }
 
-    /// What a key asks for where the terminal has no task.
-    #[tactic(auto, unfolding(crate::specs::Parts::Asking::start_asked))]
-    fn start_asked(&self, terminal: &Terminal, tran: Name4) -> Asked
-        ensures { result ≡ start_asked self.now terminal.now tran }
-    {
-        let Some(program) = self.transaction(tran) else {
-            return Asked::Answer(KeyReply::NoSuchTransaction);
-        };
-        let Some(loaded) = self.program(program) else {
-            return Asked::Answer(KeyReply::NoSuchTransaction);
-        };
-        terminal.start_of(tran, program, loaded)
-    }
-
     /// Attaches a task.
     fn attach_task(
         &mut self,
@@ -656,10 +526,10 @@ impl<S: Store + Drop> Region<S> {
         bytes: &[u8],
         start: &Start,
     ) -> Result<KeyReply, AllocError>
-        requires asked { asked self.old name bytes.now ≡ Asked.Attach start.now }
-        requires few { length bytes.now ≤ 1920 }
-        ensures keyed { IfOk result (λ reply. TakesKey self.old name (input_of aid bytes.now) reply self.new) }
-        ensures memory { OnErr result (KeyTakesMemory self.old name bytes.now) }
+        requires starting { Starting self.old name bytes.now start.now }
+        requires at_most_1920 { length bytes.now ≤ 1920 }
+        ensures keyed { IfOk result (λ reply. TakesKey self.old name (input_with aid bytes.now) reply self.new) }
+        ensures memory { OnErr result (KeyTakesMemory self.old name (input_with aid bytes.now)) }
         ensures err { OnErr result (self.new ≡ self.old) }
         ensures sound { IsSound self.new }
     {
@@ -670,11 +540,9 @@ impl<S: Store + Drop> Region<S> {
             aid,
             bytes,
         };
-        let prepared = prepare(&mut self.shared, &new_task);
-        let ready = match prepared {
-            Ok(ready) => ready,
-            Err(StartFault::NoStorage) => return Ok(KeyReply::NoStorage),
-            Err(StartFault::Memory(refused)) => return Err(refused),
+        let prepared = prepare(&mut self.shared, &new_task)?;
+        let Some(ready) = prepared else {
+            return Ok(KeyReply::NoStorage);
         };
         let begun = InitialEib {
             time: self.time,
@@ -693,27 +561,28 @@ impl<S: Store + Drop> Region<S> {
 
     /// Holds an input for a terminal's task.
     fn hold_input(&mut self, name: Name4, aid: Aid, bytes: &[u8]) -> Result<(), AllocError>
-        requires asked { asked self.old name bytes.now ≡ Asked.Give }
-        requires few { length bytes.now ≤ 1920 }
-        ensures keyed { OnOk result (TakesKey self.old name (input_of aid bytes.now) KeyReply.Given self.new) }
-        ensures memory { OnErr result (KeyTakesMemory self.old name bytes.now) }
+        requires giving { Giving self.old name }
+        requires at_most_1920 { length bytes.now ≤ 1920 }
+        ensures keyed { OnOk result (TakesKey self.old name (input_with aid bytes.now) KeyReply.Given self.new) }
+        ensures memory { OnErr result (KeyTakesMemory self.old name (input_with aid bytes.now)) }
         ensures err { OnErr result (self.new ≡ self.old) }
         ensures sound { IsSound self.new }
     {
-        let input = input_of(self.alloc, aid, bytes)?;
+        let input = input_with(self.alloc, aid, bytes)?;
         hold_input_at(&mut self.terminals, name, input);
         Ok(())
     }
 
-    /// A key of a terminal with the bytes that it sends, at most 1,920. CLEAR, PA1 and PA2 send none: theirs are dropped.
+    /// A key of a terminal with the bytes that it sends, at most 1,920. CLEAR, PA1 and PA2 send none: theirs are
+    /// dropped.
     ///
     /// Without a task, the terminal's next transaction, or that of the bytes before the first blank, at most four, is
-    /// attached: Attached; or NoSuchTransaction where it isn't defined, or NoStorage where its areas have no place. With
-    /// a task the input is held for it: Given; or AlreadyHeldInput. NoSuchTerminal where there is no such terminal. All
-    /// answers but Attached and Given leave all as before.
+    /// attached: Attached; or NoSuchTransaction where it isn't defined, or NoStorage where its areas have no place.
+    /// With a task the input is held for it: Given; or AlreadyHeldInput. NoSuchTerminal where there is no such
+    /// terminal. All answers but Attached and Given leave all as before.
     ///
-    /// An error comes only where an allocation failed; then no answer that names or held input give is due, the areas of
-    /// a task to be attached have their places, and all is as before.
+    /// An error comes only where an allocation failed; then no answer that names or held input give is due, the areas
+    /// of a task to be attached have their places, and all is as before.
     #[tactic(auto, using(crate::proofs::KeyLemmas::keyed_answer, crate::proofs::EventLemmas::key_memory), unfolding(crate::specs::Attach::input_from))]
     pub fn key(&mut self, name: Name4, aid: Aid, bytes: &[u8]) -> Result<KeyReply, AllocError>
         requires { length bytes.now ≤ 1920 }
@@ -724,12 +593,12 @@ impl<S: Store + Drop> Region<S> {
     {
         let sent = bytes_sent(aid, bytes);
         match self.asked(name, sent) {
-            Asked::Answer(reply) => Ok(reply),
-            Asked::Give => {
+            KeyEffect::Answer(reply) => Ok(reply),
+            KeyEffect::Hold => {
                 self.hold_input(name, aid, sent)?;
                 Ok(KeyReply::Given)
             }
-            Asked::Attach(start) => self.attach_task(name, aid, sent, &start),
+            KeyEffect::Attach(start) => self.attach_task(name, aid, sent, &start),
         }
     }
 }

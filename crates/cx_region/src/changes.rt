@@ -5,9 +5,9 @@ ghost use Rattle.cx_region.specs.Replies.{alter_reply_name};
 /// What an operator alters of a terminal's task.
 #[derive(Clone, Copy, Debug, PartialEq, Eq)]
 pub enum Change {
-    /// A register, 0 to 15, gets this value; where a command is due, so does the one that the current level kept.
+    /// A register, 0 to 15, gets this value; where a command is due, the one that the current level keeps gets it too.
     Register(u8, u32),
-    /// The byte at an address gets this value.
+    /// The byte at an address gets this value. From 2^24 on there is none.
     Byte(u32, u8),
     /// The command that is due is dropped: the program goes on after it, at the address in bits 8 to 31 of R14.
     Nop,

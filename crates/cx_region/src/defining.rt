@@ -4,7 +4,7 @@ ghost use Rattle.std.specs.List.{IsDistinct};
 ghost use Rattle.std.specs.Result.{result_err};
 ghost use Rattle.std.specs.Map.{keys_of};
 ghost use Rattle.indexmap.specs.IndexMap.{insert_entry};
-ghost use Rattle.cx_storage.specs.Storage.{IsSound as IsSoundStorage};
+ghost use Rattle.cx_storage.specs.Storage.{IsSoundStorage};
 ghost use Rattle.cx_load.specs.Program.{IsLoaded, IsProgramPlace};
 ghost use Rattle.cx_ebcdic.specs.Names.{is_name};
 ghost use Rattle.cx_region.specs.Defining.{DefinesProgram, fresh_region, program_fault, terminal_fault, transaction_fault};
@@ -78,8 +78,8 @@ impl<S: Store + Drop> Region<S> {
         })
     }
 
-    /// Sets the clock, for the tasks attached later: the time as hhmmss (at most 999,999) and the date as yyddd (at most
-    /// 99,999). It takes no memory.
+    /// Sets the clock, for the tasks attached later: the time as hhmmss (at most 999,999) and the date as yyddd (at
+    /// most 99,999). It takes no memory.
     pub fn set_clock(&mut self, time: u32, date: u32)
         requires time { time ≤ 999999 }
         requires date { date ≤ 99999 }

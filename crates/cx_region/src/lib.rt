@@ -14,7 +14,7 @@ mod state;
 mod turn;
 
 #[doc(hidden)]
-pub use asking::{Asked, Places, Start};
+pub use asking::{KeyEffect, Places, Start};
 pub use changes::{AlterReply, Change};
 pub use cx_region_state::{Call, CallFault, TurnReply, read_call};
 #[doc(hidden)]

@@ -22,7 +22,7 @@ pub struct RegionParts<S: Store + Drop> {
     pub time: u32,
     /// The date, yyddd.
     pub date: u32,
-    /// The last task's number.
+    /// The number of the last task that was attached; 0 before the first.
     pub counter: u32,
 }
 
@@ -74,7 +74,8 @@ impl<S: Store + Drop> Region<S> {
         self.counter
     }
 
-    /// Puts these parts in the place of all that the region keeps. It takes no memory.
+    /// Puts these parts, which must be sound (`IsSound`), in the place of all that the region keeps, which is dropped.
+    /// It takes no memory.
     #[doc(hidden)]
     pub fn put(&mut self, parts: RegionParts<S>)
         requires { IsSound parts }

@@ -8,7 +8,8 @@ use indexmap::IndexMap;
 use std::alloc::Global;
 use std::marker::Model;
 
-/// A terminal with its task, where it has one: its position, its screen, the input held for its task, and what its next key attaches.
+/// A terminal with its task, where it has one: its position, its screen, the input held for its task, and what its next
+/// key attaches.
 #[derive(Drop)]
 pub struct Terminal {
     pub(crate) entry: TerminalEntry,
@@ -37,7 +38,8 @@ impl Terminal {
     }
 }
 
-/// A region: programs, queues, resources and storage that tasks share; transactions and terminals; the clock, and the last task's number.
+/// A region: programs, queues, resources and storage that tasks share; transactions and terminals; the clock, and the
+/// last task's number. Contracts see it as `RegionState`; it is always sound (`IsSound`).
 #[derive(Drop)]
 pub struct Region<S: Store + Drop> {
     pub(crate) alloc: Global,

@@ -1,7 +1,7 @@
 //! Turns of terminals.
 ghost use Rattle.std.specs.Prelude.{◌≡◌, if◌then◌else◌, IfOk, OnErr, None};
 ghost use Rattle.cx_region_state.specs.Replies.{is_over};
-ghost use Rattle.cx_storage.specs.Storage.{IsSound as IsSoundStorage};
+ghost use Rattle.cx_storage.specs.Storage.{IsSoundStorage};
 ghost use Rattle.cx_service.specs.Queues.{AreSoundQueues};
 ghost use Rattle.cx_service.specs.Resources.{AreSoundResources};
 ghost use Rattle.cx_region_commands.specs.Common.{AreSoundPrograms};
@@ -69,7 +69,8 @@ pub(crate) fn services_are_sound<S: Store + Drop>(shared: &Shared<S>)
 
 impl<S: Store + Drop> Region<S> {
     /// A turn of a terminal: its task runs up to its next command, an interruption or the limit of 65,536 instructions;
-    /// or the command that is due is performed.
+    /// or the command that is due is performed. It is answered NoSuchTerminal where there is no such terminal, and Idle
+    /// where the terminal has no task; then all is as before.
     ///
     /// An error comes only where an allocation failed, and only where the change that the command makes takes memory
     /// and no refusal, wait or abend applies. Then all is as before.
@@ -83,7 +84,7 @@ impl<S: Store + Drop> Region<S> {
         Ok(reply)
     }
 
-    /// A turn of a terminal, as `turn`, that reports why it leads to an abend, where it does.
+    /// A turn of a terminal, as `turn`, with a record of the abend to which it leads, where it leads to one.
     ///
     /// An error comes only where an allocation failed, and only where the change that the command makes takes memory
     /// and no refusal, wait or abend applies. Then all is as before.

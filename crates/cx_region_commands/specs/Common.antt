@@ -57,8 +57,8 @@ pub record AtPlace (storage : Storage) (len : ℕ) (row : Option ℕ → Verdict
   pub is : verdict ≡ row place
 
 -- where the program of a name is
-unfoldable pub program_of : List (List ℕ × Loaded) → List ℕ → Option Loaded
-program_of programs name = lookup (is_name name) programs
+unfoldable pub program_named : List (List ℕ × Loaded) → List ℕ → Option Loaded
+program_named programs name = lookup (is_name name) programs
 
 -- each program's working storage has a length, and its entry is an address
 abbrev pub AreSoundPrograms : List (List ℕ × Loaded) → Type 0
@@ -73,7 +73,7 @@ commarea_of storage call =
 unfoldable pub named_program : Storage → Call → List (List ℕ × Loaded) → Option Called
 named_program storage call programs =
     let name = name_at storage call Program in
-    option_map (λ loaded. record { name = name; loaded = loaded }) (program_of programs name)
+    option_map (λ loaded. record { name = name; loaded = loaded }) (program_named programs name)
 
 -- a level of the program that begins, with DFHEISTG at this place
 abbrev pub new_level : Called → Option StorageSpan → ℕ → NewLevel

@@ -7,12 +7,12 @@ use Rattle.cx_base.specs.declared.options.OptionName.TheVariants.{Queue}
 use Rattle.cx_storage.specs.Storage.{Storage}
 use Rattle.cx_service.specs.Queues.{Queues, count_of}
 use Rattle.cx_region_state.specs.Call.{Call}
-use Rattle.cx_region_state.specs.declared.verdict.TaskChange.TheVariants.{Ends}
-use Rattle.cx_region_state.specs.declared.verdict.Ended.TheVariants.{QueueGone}
+use Rattle.cx_region_state.specs.declared.verdict.TaskChange.TheVariants.{After}
+use Rattle.cx_region_state.specs.declared.verdict.AfterOutputs.TheVariants.{QueueGone}
 use Rattle.cx_region_state.specs.declared.verdict.Verdict.{Verdict}
 use Rattle.cx_region_commands.specs.Common.{does, condition_alone, name_at}
 
 unfoldable pub deleteq_row : Storage → Queues → Call → Verdict
 deleteq_row storage queues call =
     let name = name_at storage call Queue in
-    if is_none (count_of queues name) then condition_alone Qiderr else does (Ends (QueueGone name))
+    if is_none (count_of queues name) then condition_alone Qiderr else does (After (QueueGone name))

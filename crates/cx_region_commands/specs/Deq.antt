@@ -6,12 +6,12 @@ use Rattle.std.specs.Prelude.{if◌then◌else◌}
 use Rattle.cx_base.specs.declared.conditions.Condition.TheVariants.{Lengerr}
 use Rattle.cx_storage.specs.Storage.{Storage}
 use Rattle.cx_region_state.specs.Call.{Call}
-use Rattle.cx_region_state.specs.declared.verdict.TaskChange.TheVariants.{Ends}
-use Rattle.cx_region_state.specs.declared.verdict.Ended.TheVariants.{Dequeues}
+use Rattle.cx_region_state.specs.declared.verdict.TaskChange.TheVariants.{After}
+use Rattle.cx_region_state.specs.declared.verdict.AfterOutputs.TheVariants.{Dequeues}
 use Rattle.cx_region_state.specs.declared.verdict.Verdict.{Verdict}
 use Rattle.cx_region_commands.specs.Common.{does, condition_alone}
 use Rattle.cx_region_commands.specs.Enq.{is_wrong_length, resource_at}
 
 unfoldable pub deq_row : Storage → Call → Verdict
 deq_row storage call =
-    if is_wrong_length storage call then condition_alone Lengerr else does (Ends (Dequeues (resource_at storage call)))
+    if is_wrong_length storage call then condition_alone Lengerr else does (After (Dequeues (resource_at storage call)))

@@ -14,8 +14,8 @@ use Rattle.cx_service.specs.ResourceNames.{is_name_length}
 use Rattle.cx_service.specs.Resources.{Resources, enq_fault}
 use Rattle.cx_region_state.specs.Call.{Call, place_of}
 use Rattle.cx_region_state.specs.Inputs.{bytes_of, length_option}
-use Rattle.cx_region_state.specs.declared.verdict.TaskChange.TheVariants.{Makes}
-use Rattle.cx_region_state.specs.declared.verdict.Made.TheVariants.{Enqueues}
+use Rattle.cx_region_state.specs.declared.verdict.TaskChange.TheVariants.{Before}
+use Rattle.cx_region_state.specs.declared.verdict.BeforeOutputs.TheVariants.{Enqueues}
 use Rattle.cx_region_state.specs.declared.verdict.Verdict.{Verdict}
 use Rattle.cx_region_commands.specs.Common.{does, has, condition_alone}
 use Rattle.cx_region_commands.specs.Services.{fault_or_verdict}
@@ -38,4 +38,4 @@ unfoldable pub enq_row : Storage → Resources → ℕ → Call → Verdict
 enq_row storage resources slot call =
     let name = resource_at storage call in
     if is_wrong_length storage call then condition_alone Lengerr
-    else fault_or_verdict (enq_fault resources slot name) (does (Makes (Enqueues name)))
+    else fault_or_verdict (enq_fault resources slot name) (does (Before (Enqueues name)))

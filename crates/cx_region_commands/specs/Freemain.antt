@@ -11,8 +11,8 @@ use Rattle.cx_storage.specs.declared.areas.Kind.{Kind}
 use Rattle.cx_storage.specs.declared.areas.Kind.TheVariants.{Got}
 use Rattle.cx_storage.specs.Storage.{Storage, area_at}
 use Rattle.cx_region_state.specs.Call.{Call}
-use Rattle.cx_region_state.specs.declared.verdict.TaskChange.TheVariants.{Ends}
-use Rattle.cx_region_state.specs.declared.verdict.Ended.TheVariants.{Frees}
+use Rattle.cx_region_state.specs.declared.verdict.TaskChange.TheVariants.{After}
+use Rattle.cx_region_state.specs.declared.verdict.AfterOutputs.TheVariants.{Frees}
 use Rattle.cx_region_state.specs.declared.verdict.Verdict.{Verdict}
 use Rattle.cx_region_commands.specs.Common.{does, condition_alone, place_at}
 
@@ -27,5 +27,5 @@ is_got_by slot area = (area.owner.slot == slot) && is_got area.owner.kind
 unfoldable pub freemain_row : Storage → ℕ → Call → Verdict
 freemain_row storage slot call =
     let place = place_at call Data in
-    if option_map_or (is_got_by slot) (area_at storage place) false then does (Ends (Frees place))
+    if option_map_or (is_got_by slot) (area_at storage place) false then does (After (Frees place))
     else condition_alone Invreq

@@ -9,8 +9,8 @@ use Rattle.cx_base.specs.declared.conditions.Condition.TheVariants.{Invreq}
 use Rattle.cx_program.specs.declared.entries.Handling.{Handling}
 use Rattle.cx_region_state.specs.Call.{Call}
 use Rattle.cx_region_state.specs.Listed.{listed_of}
-use Rattle.cx_region_state.specs.declared.verdict.TaskChange.TheVariants.{Makes}
-use Rattle.cx_region_state.specs.declared.verdict.Made.TheVariants.{Handles}
+use Rattle.cx_region_state.specs.declared.verdict.TaskChange.TheVariants.{Before}
+use Rattle.cx_region_state.specs.declared.verdict.BeforeOutputs.TheVariants.{Handles}
 use Rattle.cx_region_state.specs.declared.verdict.Request.{Request}
 use Rattle.cx_region_state.specs.declared.verdict.Request.TheVariants.{Handle, Ignore, Push, Pop}
 use Rattle.cx_region_state.specs.declared.verdict.Verdict.{Verdict}
@@ -18,7 +18,7 @@ use Rattle.cx_region_commands.specs.Common.{does, condition_alone}
 
 -- the current level is asked to handle conditions so
 abbrev pub asks : Request → Verdict
-asks request = does (Makes (Handles request))
+asks request = does (Before (Handles request))
 
 unfoldable pub handle_row : Call → Verdict
 handle_row call = asks (Handle (listed_of call))

@@ -8,8 +8,8 @@ use Rattle.cx_base.specs.declared.conditions.Condition.TheVariants.{Normal, Leng
 use Rattle.cx_base.specs.declared.options.OptionName.TheVariants.{Into, Length}
 use Rattle.cx_region_state.specs.declared.outputs.OutputValue.TheVariants.{Text, Half}
 use Rattle.cx_region_state.specs.State.{Input}
-use Rattle.cx_region_state.specs.declared.verdict.TaskChange.TheVariants.{Ends}
-use Rattle.cx_region_state.specs.declared.verdict.Ended.TheVariants.{TakesInput}
+use Rattle.cx_region_state.specs.declared.verdict.TaskChange.TheVariants.{After}
+use Rattle.cx_region_state.specs.declared.verdict.AfterOutputs.TheVariants.{TakesInput}
 use Rattle.cx_region_state.specs.declared.verdict.Verdict.{Verdict}
 use Rattle.cx_region_state.specs.declared.verdict.Verdict.TheVariants.{Meets, Waits}
 use Rattle.cx_region_commands.specs.Common.{output}
@@ -18,4 +18,4 @@ unfoldable pub receive_row : Option Input → ℕ → Verdict
 receive_row None room = Waits
 receive_row (Some input) room =
     Meets (if nat_le (length input.bytes) room then Normal else Lengerr)
-    (output Into (Text room) ∷ output Length (Half (length input.bytes)) ∷ []) (Ends TakesInput)
+    (output Into (Text room) ∷ output Length (Half (length input.bytes)) ∷ []) (After TakesInput)

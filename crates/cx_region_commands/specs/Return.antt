@@ -13,12 +13,12 @@ use Rattle.cx_program.specs.declared.level.Level.{Level}
 use Rattle.cx_region_state.specs.Call.{Call}
 use Rattle.cx_region_state.specs.Inputs.{bytes_of, is_length_negative}
 use Rattle.cx_region_state.specs.declared.verdict.TaskChange.TheVariants.{LevelEnds, TaskEnds}
-use Rattle.cx_region_state.specs.declared.verdict.Next.{Next}
+use Rattle.cx_region_state.specs.declared.verdict.RequestedTransaction.{RequestedTransaction}
 use Rattle.cx_region_state.specs.declared.verdict.Verdict.{Verdict}
 use Rattle.cx_region_commands.specs.Common.{commarea_of, does, has, condition_alone}
 
 -- what the terminal's next key attaches
-unfoldable pub next_of : Storage → Call → Option Next
+unfoldable pub next_of : Storage → Call → Option RequestedTransaction
 next_of storage call =
     option_map (λ tran. record { tran = tran; commarea = commarea_of storage call }) (bytes_of storage call Transid 4)
 

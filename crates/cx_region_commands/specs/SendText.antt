@@ -8,12 +8,12 @@ use Rattle.cx_base.specs.declared.options.OptionName.TheVariants.{Erase, From}
 use Rattle.cx_storage.specs.Storage.{Storage}
 use Rattle.cx_region_state.specs.Call.{Call}
 use Rattle.cx_region_state.specs.Inputs.{is_length_negative}
-use Rattle.cx_region_state.specs.declared.verdict.TaskChange.TheVariants.{Makes}
-use Rattle.cx_region_state.specs.declared.verdict.Made.TheVariants.{Shows}
+use Rattle.cx_region_state.specs.declared.verdict.TaskChange.TheVariants.{Before}
+use Rattle.cx_region_state.specs.declared.verdict.BeforeOutputs.TheVariants.{Shows}
 use Rattle.cx_region_state.specs.declared.verdict.Verdict.{Verdict}
 use Rattle.cx_region_commands.specs.Common.{does, has, condition_alone, piece_at}
 
 unfoldable pub send_text_row : Storage → Call → Verdict
 send_text_row storage call =
     if is_length_negative storage call then condition_alone Lengerr
-    else does (Makes (Shows (piece_at storage call From) (has call Erase)))
+    else does (Before (Shows (piece_at storage call From) (has call Erase)))

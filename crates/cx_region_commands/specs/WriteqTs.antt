@@ -12,8 +12,8 @@ use Rattle.cx_service.specs.Queues.{Queues, count_of, rewrite_fault, write_fault
 use Rattle.cx_region_state.specs.Call.{Call}
 use Rattle.cx_region_state.specs.Inputs.{halfword_of}
 use Rattle.cx_region_state.specs.declared.outputs.OutputValue.TheVariants.{Half}
-use Rattle.cx_region_state.specs.declared.verdict.TaskChange.TheVariants.{Makes}
-use Rattle.cx_region_state.specs.declared.verdict.Made.TheVariants.{ItemAt, ItemLast}
+use Rattle.cx_region_state.specs.declared.verdict.TaskChange.TheVariants.{Before}
+use Rattle.cx_region_state.specs.declared.verdict.BeforeOutputs.TheVariants.{ItemAt, ItemLast}
 use Rattle.cx_region_state.specs.declared.verdict.Verdict.{Verdict}
 use Rattle.cx_region_state.specs.declared.verdict.Verdict.TheVariants.{Meets}
 use Rattle.cx_region_commands.specs.Common.{does, has, output, name_at, piece_at}
@@ -30,6 +30,6 @@ writeq_row storage queues call =
     let piece = piece_at storage call From in
     let n = item_named storage call in
     if has call Rewrite
-    then fault_or_verdict (rewrite_fault queues name n piece.len) (does (Makes (ItemAt name n piece)))
+    then fault_or_verdict (rewrite_fault queues name n piece.len) (does (Before (ItemAt name n piece)))
     else fault_or_verdict (write_fault queues name piece.len)
-    (Meets Normal (output Item (Half (unwrap_or (count_of queues name) 0 + 1)) ∷ []) (Makes (ItemLast name piece)))
+    (Meets Normal (output Item (Half (unwrap_or (count_of queues name) 0 + 1)) ∷ []) (Before (ItemLast name piece)))

@@ -7,7 +7,10 @@ use cx_base::{Abend, OptionName};
 use cx_region_state::{Call, TaskChange, Verdict, name4};
 use cx_storage::Store;
 
-/// How an ABEND is judged.
+/// How an ABEND is judged: it meets NORMAL, and the task abends with the code in ABCODE, or with `????` without it.
+/// With CANCEL no exit takes the abend.
+///
+/// Application Programmer's Reference Manual, SC33-0077, "Abnormal Termination Recovery".
 #[tactic(auto, unfolding(crate::specs::Abend::abend_row))]
 pub(crate) fn judge_abend<S: Store>(store: &S, call: &Call) -> Verdict
     ensures { result ≡ abend_row (S.storage store.now) call.now }

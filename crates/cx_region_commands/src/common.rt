@@ -1,7 +1,9 @@
 //! What the rows have in common.
 ghost use Rattle.std.specs.Prelude.{◌≡◌, ◌<◌, ◌≤◌, ◌+◌, ◌^◌, IfSome};
+ghost use Rattle.cx_storage.specs.Storage.{Storage};
 ghost use Rattle.cx_region_state.specs.Areas.{IsSoundProgram, IsTaskPlace, first_of_tasks};
-ghost use Rattle.cx_region_commands.specs.Common.{AreSoundPrograms, commarea_of, does, name_at, named_program, new_level, condition_alone, piece_at, place_at, program_of};
+ghost use Rattle.cx_region_state.specs.Inputs.{halfword_of};
+ghost use Rattle.cx_region_commands.specs.Common.{AreSoundPrograms, commarea_of, does, name_at, named_program, new_level, condition_alone, piece_at, place_at, program_named};
 
 use cx_base::{Condition, OptionName};
 use cx_ebcdic::Name8;
@@ -30,12 +32,14 @@ pub(crate) fn name_at<S: Store>(store: &S, call: &Call, option: OptionName) -> N
     name8(store, call, option).unwrap_or(Name8::from_bytes([0; 8]))
 }
 
-/// The bytes that LENGTH measures at an argument that the command always has; none where it isn't there.
+/// The bytes that LENGTH, with the halfword `length`, measures at an argument that the command always has; none where
+/// it isn't there.
 #[tactic(auto, unfolding(crate::specs::Common::piece_at))]
-pub(crate) fn piece_at<S: Store>(store: &S, call: &Call, option: OptionName) -> StorageSpan
-    ensures { result ≡ piece_at (S.storage store.now) call.now option }
+pub(crate) fn piece_at(call: &Call, length: Option<u16>, option: OptionName) -> StorageSpan
+    ensures { (storage : Storage) → length ≡ halfword_of storage call.now OptionName.Length
+        → result ≡ piece_at storage call.now option }
 {
-    piece_of(store, call, option).unwrap_or(StorageSpan { place: 0, len: 0 })
+    piece_of(call, length, option).unwrap_or(StorageSpan { place: 0, len: 0 })
 }
 
 /// A condition alone: no output, no change.
@@ -70,9 +74,9 @@ pub struct Called {
 }
 
 /// Where the program of a name is.
-#[tactic(auto, unfolding(crate::specs::Common::program_of))]
-fn program_of(programs: &IndexMap<Name8, Loaded>, name: Name8) -> Option<Loaded>
-    ensures { result ≡ program_of programs.now.entries name }
+#[tactic(auto, unfolding(crate::specs::Common::program_named))]
+fn program_named(programs: &IndexMap<Name8, Loaded>, name: Name8) -> Option<Loaded>
+    ensures { result ≡ program_named programs.now.entries name }
 {
     programs.get(&name).copied()
 }
@@ -89,7 +93,7 @@ pub(crate) fn named_program<S: Store>(
     ensures sound { IfSome result (λ called. IsSoundProgram called.loaded) }
 {
     let name = name_at(store, call, OptionName::Program);
-    let loaded = program_of(programs, name)?;
+    let loaded = program_named(programs, name)?;
     Some(Called { name, loaded })
 }
 
@@ -105,13 +109,14 @@ pub(crate) fn new_level(called: Called, commarea: Option<StorageSpan>, stg: u32)
     }
 }
 
-/// The COMMAREA that a call passes on, where it has bytes.
+/// The COMMAREA that a call passes on, where it has bytes, by LENGTH's halfword `length`.
 #[tactic(auto, unfolding(crate::specs::Common::commarea_of))]
-pub(crate) fn commarea_of<S: Store>(store: &S, call: &Call) -> Option<StorageSpan>
-    ensures value { result ≡ commarea_of (S.storage store.now) call.now }
-    ensures some { IfSome result (λ piece. 0 < piece.len) }
+pub(crate) fn commarea_of(call: &Call, length: Option<u16>) -> Option<StorageSpan>
+    ensures value { (storage : Storage) → length ≡ halfword_of storage call.now OptionName.Length
+        → result ≡ commarea_of storage call.now }
+    ensures nonempty { IfSome result (λ piece. 0 < piece.len) }
 {
-    let piece = piece_of(store, call, OptionName::Commarea)?;
+    let piece = piece_of(call, length, OptionName::Commarea)?;
     if piece.len == 0 {
         return None;
     }

@@ -4,11 +4,13 @@ ghost use Rattle.cx_region_commands.specs.DeleteqTs.{deleteq_row};
 
 use crate::common::{condition_alone, does, name_at};
 use cx_base::{Condition, OptionName};
-use cx_region_state::{Call, Ended, TaskChange, Verdict};
+use cx_region_state::{AfterOutputs, Call, TaskChange, Verdict};
 use cx_service::Queues;
 use cx_storage::Store;
 
-/// How a DELETEQ TS is judged.
+/// How a DELETEQ TS is judged: QIDERR where there is no such queue; else it meets NORMAL, and the queue is gone.
+///
+/// Application Programmer's Reference Manual, SC33-0077, "Temporary Storage Control".
 #[tactic(auto, unfolding(crate::specs::DeleteqTs::deleteq_row))]
 pub(crate) fn judge_deleteq_ts<S: Store>(store: &S, queues: &Queues, call: &Call) -> Verdict
     ensures { result ≡ deleteq_row (S.storage store.now) queues.now call.now }
@@ -17,5 +19,5 @@ pub(crate) fn judge_deleteq_ts<S: Store>(store: &S, queues: &Queues, call: &Call
     if queues.items(name).is_none() {
         return condition_alone(Condition::Qiderr);
     }
-    does(TaskChange::Ends(Ended::QueueGone(name)))
+    does(TaskChange::After(AfterOutputs::QueueGone(name)))
 }

@@ -4,7 +4,7 @@ ghost use Rattle.cx_region_commands.specs.Freemain.{freemain_row, is_got_by};
 
 use crate::common::{condition_alone, does, place_at};
 use cx_base::{Condition, OptionName};
-use cx_region_state::{Call, Ended, TaskChange, Verdict};
+use cx_region_state::{AfterOutputs, Call, TaskChange, Verdict};
 use cx_storage::{Area, Kind, Store};
 
 /// Whether the task of this slot got the area.
@@ -14,14 +14,17 @@ fn is_got_by(slot: u8, area: Area) -> bool
     area.owner.slot == slot && matches!(area.owner.kind, Kind::Got)
 }
 
-/// How a FREEMAIN is judged.
+/// How a FREEMAIN is judged: INVREQ where no area starts at DATA that the task got by GETMAIN or READQ TS with SET;
+/// else it meets NORMAL, and the area is freed. `slot` is the position of the task's terminal, counted from 1.
+///
+/// Application Programmer's Reference Manual, SC33-0077, "Storage Control".
 #[tactic(auto, unfolding(crate::specs::Freemain::freemain_row))]
 pub(crate) fn judge_freemain<S: Store>(store: &S, slot: u8, call: &Call) -> Verdict
     ensures { result ≡ freemain_row (S.storage store.now) slot call.now }
 {
     let place = place_at(call, OptionName::Data);
     match store.area_at(place) {
-        Some(area) if is_got_by(slot, area) => does(TaskChange::Ends(Ended::Frees(place))),
+        Some(area) if is_got_by(slot, area) => does(TaskChange::After(AfterOutputs::Frees(place))),
         _ => condition_alone(Condition::Invreq),
     }
 }

@@ -1,24 +1,16 @@
 //! GETMAIN.
 ghost use Rattle.std.specs.Prelude.{◌≡◌, ◌≤◌};
+ghost use Rattle.cx_region_state.specs.Inputs.{halfword_of};
 ghost use Rattle.cx_region_commands.specs.Common.{AtPlace};
-ghost use Rattle.cx_region_commands.specs.Getmain.{GetmainRow, asked_len, fill_byte, gets, is_area_length};
+ghost use Rattle.cx_region_commands.specs.Getmain.{GetmainRow, fill_byte, gets, is_area_length};
 
 use crate::common::{condition_alone, task_place};
 use cx_base::{Condition, OptionName};
-use cx_region_state::{
-    Call, Fill, Got, OutputValue, Outputs, TaskChange, Verdict, halfword, read_argument,
-};
+use cx_region_state::{Call, Fill, Got, OutputValue, Outputs, TaskChange, Verdict, read_argument};
 use cx_storage::Store;
 
 /// The most bytes of an area.
 const MOST_BYTES: u16 = 65_520;
-
-/// How many bytes LENGTH asks for.
-fn asked_len<S: Store>(store: &S, call: &Call) -> u16
-    ensures { result ≡ asked_len (S.storage store.now) call.now }
-{
-    halfword(store, call, OptionName::Length).unwrap_or(0)
-}
 
 /// INITIMG's byte, or zero without it.
 #[tactic(auto, unfolding(crate::specs::Getmain::fill_byte))]
@@ -49,12 +41,16 @@ fn gets(len: u16, byte: u8, place: Option<u32>) -> Verdict
     Verdict::Meets(Condition::Normal, outputs, TaskChange::Gets(got))
 }
 
-/// How a GETMAIN is judged.
+/// How a GETMAIN is judged: LENGERR where LENGTH is 0 or above 65,520; then NOSTG where task storage has no place; else
+/// it meets NORMAL, the task gets an area at the least place, each byte INITIMG's or zero, and SET gets its address.
+///
+/// Application Programmer's Reference Manual, SC33-0077, "Storage Control".
 #[tactic(auto, unfolding(crate::specs::Getmain::GetmainRow))]
-pub(crate) fn judge_getmain<S: Store>(store: &S, call: &Call) -> Verdict
+pub(crate) fn judge_getmain<S: Store>(store: &S, call: &Call, length: Option<u16>) -> Verdict
+    requires length { length ≡ halfword_of (S.storage store.now) call.now OptionName.Length }
     ensures { GetmainRow (S.storage store.now) call.now result }
 {
-    let len = asked_len(store, call);
+    let len = length.unwrap_or(0);
     if len == 0 || len > MOST_BYTES {
         return condition_alone(Condition::Lengerr);
     }

@@ -18,7 +18,10 @@ fn exit_asked(label: Option<u32>, cancels: bool) -> Request
     }
 }
 
-/// How a HANDLE ABEND is judged.
+/// How a HANDLE ABEND is judged: it meets NORMAL, and the current level's exit is set and on (LABEL), off (CANCEL) or
+/// on again (RESET).
+///
+/// Application Programmer's Reference Manual, SC33-0077, "Abnormal Termination Recovery".
 #[tactic(auto, unfolding(crate::specs::HandleAbend::handle_abend_row))]
 pub(crate) fn judge_handle_abend(call: &Call) -> Verdict
     ensures { result ≡ handle_abend_row call.now }

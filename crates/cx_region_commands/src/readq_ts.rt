@@ -1,35 +1,22 @@
 //! READQ TS.
-ghost use Rattle.std.specs.Prelude.{◌≡◌, ◌<◌, ◌≤◌, None};
-ghost use Rattle.cx_service.specs.Queues.{read_fault};
+ghost use Rattle.std.specs.Prelude.{◌≡◌, ◌≤◌};
+ghost use Rattle.cx_region_state.specs.Inputs.{halfword_of};
 ghost use Rattle.cx_region_commands.specs.Common.{AtPlace};
-ghost use Rattle.cx_region_commands.specs.ReadqTs.{Reads, ReadsItem, ReadqRow, item_asked, reads_into, reads_to};
+ghost use Rattle.cx_region_commands.specs.ReadqTs.{ReadsQueue, ReadsQueueItem, ReadqRow, reads_into, reads_to};
 
 use crate::common::{condition_alone, name_at, task_place};
-use crate::services::fault_or_verdict;
 use cx_base::{Condition, OptionName};
 use cx_ebcdic::Name8;
 use cx_region_state::{
-    Call, Ended, Fill, Got, OutputValue, Outputs, TaskChange, Verdict, halfword,
+    AfterOutputs, Call, Fill, Got, OutputValue, Outputs, TaskChange, Verdict, halfword,
     is_length_negative, length_option,
 };
-use cx_service::{Queues, ServiceFault};
+use cx_service::{Queues, Reading, ServiceFault};
 use cx_storage::Store;
 
-/// The item that a READQ TS reads, without its bytes.
-#[derive(Clone, Copy, Debug, PartialEq, Eq)]
-pub struct Reading {
-    /// The queue, and the item's number, counted from 1.
-    pub name: Name8,
-    pub n: usize,
-    /// The item's length in bytes.
-    pub len: u16,
-    /// The number of the queue's items.
-    pub count: u16,
-}
-
 /// With INTO.
-fn reads_into(room: u16, reading: Reading) -> Verdict
-    ensures { result ≡ reads_into room reading }
+fn reads_into(room: u16, name: Name8, reading: Reading) -> Verdict
+    ensures { result ≡ reads_into room name reading }
 {
     let condition = if reading.len <= room {
         Condition::Normal
@@ -40,18 +27,25 @@ fn reads_into(room: u16, reading: Reading) -> Verdict
         .with(OptionName::Into, OutputValue::Text(room))
         .with(OptionName::Length, OutputValue::Half(reading.len))
         .with(OptionName::Numitems, OutputValue::Half(reading.count));
-    let change = TaskChange::Ends(Ended::ReadOf(reading.name, reading.n));
+    let change = TaskChange::After(AfterOutputs::MarksRead(name, reading));
     Verdict::Meets(condition, outputs, change)
 }
 
-/// An item that there is.
-#[tactic(auto, unfolding(crate::specs::ReadqTs::Reads))]
-fn reads<S: Store>(store: &S, call: &Call, reading: Reading) -> Verdict
-    requires { 0 < reading.len }
-    ensures { Reads (S.storage store.now) call.now reading result }
+/// An item that there is, where LENGTH has the halfword `length`.
+#[tactic(auto, unfolding(crate::specs::ReadqTs::ReadsQueueItem, cx_region_state::specs::Inputs::length_option))]
+fn reads<S: Store>(
+    store: &S,
+    call: &Call,
+    length: Option<u16>,
+    name: Name8,
+    reading: Reading,
+) -> Verdict
+    requires length { length ≡ halfword_of (S.storage store.now) call.now OptionName.Length }
+    requires nonempty { 1 ≤ reading.len }
+    ensures { ReadsQueueItem (S.storage store.now) call.now name reading result }
 {
     if !call.has(OptionName::Set) {
-        return reads_into(length_option(store, call), reading);
+        return reads_into(length_option(length), name, reading);
     }
     let Some(place) = task_place(store, u32::from(reading.len)) else {
         return condition_alone(Condition::Nostg);
@@ -63,42 +57,55 @@ fn reads<S: Store>(store: &S, call: &Call, reading: Reading) -> Verdict
     let got = Got {
         place,
         len: u32::from(reading.len),
-        fill: Fill::Item(reading.name, reading.n),
+        fill: Fill::Item(name, reading.number),
     };
     Verdict::Meets(Condition::Normal, outputs, TaskChange::Gets(got))
 }
 
-/// The queue of that name.
-#[tactic(auto, using(crate::specs::Facts::Queues::few_read, crate::specs::Facts::Queues::few_items, crate::specs::Facts::Queues::few_bytes, crate::specs::Facts::Queues::some_bytes), unfolding(crate::specs::ReadqTs::item_asked, crate::specs::ReadqTs::reading_of))]
-fn reads_queue<S: Store>(store: &S, queues: &Queues, call: &Call, name: Name8) -> Verdict
-    ensures { let storage = S.storage store.now in let n = item_asked storage queues.now call.now name in
-        ReadsItem storage queues.now call.now name n (read_fault queues.now name n) result }
+/// The number of the item that ITEM asks for.
+fn item_asked<S: Store>(store: &S, call: &Call) -> Option<usize>
+    ensures { result ≡ halfword_of (S.storage store.now) call.now OptionName.Item }
 {
-    let next = queues.last_read(name).unwrap_or(0) + 1;
-    let n = halfword(store, call, OptionName::Item).map_or(next, |n| usize::from(n));
-    match queues.can_read(name, n) {
-        Ok(()) => {
-            let count = queues.items(name).unwrap_or(0) as u16;
-            let len = queues.item_len(name, n).unwrap_or(0) as u16;
-            let reading = Reading {
-                name,
-                n,
-                len,
-                count,
-            };
-            reads(store, call, reading)
-        }
-        Err(fault) => fault_or_verdict(Err(fault), condition_alone(Condition::Qiderr)),
+    halfword(store, call, OptionName::Item).map(|n| usize::from(n))
+}
+
+/// The queue of that name, where LENGTH has the halfword `length`.
+fn reads_queue<S: Store>(
+    store: &S,
+    queues: &Queues,
+    call: &Call,
+    length: Option<u16>,
+    name: Name8,
+) -> Verdict
+    requires length { length ≡ halfword_of (S.storage store.now) call.now OptionName.Length }
+    ensures { ReadsQueue (S.storage store.now) queues.now call.now name result }
+{
+    match queues.reading(name, item_asked(store, call)) {
+        Ok(reading) => reads(store, call, length, name, reading),
+        Err(fault) if fault == ServiceFault::Qiderr => condition_alone(Condition::Qiderr),
+        Err(_no_item) => condition_alone(Condition::Itemerr),
     }
 }
 
-/// How a READQ TS is judged.
-#[tactic(auto, unfolding(crate::specs::ReadqTs::ReadqRow))]
-pub(crate) fn judge_readq_ts<S: Store>(store: &S, queues: &Queues, call: &Call) -> Verdict
+/// How a READQ TS is judged. LENGERR where LENGTH is negative and INTO is there; then QIDERR where there is no such
+/// queue; then ITEMERR where there is no such item; then NOSTG with SET where task storage has no place. Else the item
+/// is the one last read; with INTO, LENGERR where it is longer than LENGTH, and its first bytes are written all the
+/// same; else NORMAL.
+///
+/// Application Programmer's Reference Manual, SC33-0077, "Temporary Storage Control".
+#[tactic(auto, unfolding(crate::specs::ReadqTs::ReadqRow, cx_region_state::specs::Inputs::is_length_negative))]
+pub(crate) fn judge_readq_ts<S: Store>(
+    store: &S,
+    queues: &Queues,
+    call: &Call,
+    length: Option<u16>,
+) -> Verdict
+    requires length { length ≡ halfword_of (S.storage store.now) call.now OptionName.Length }
     ensures { ReadqRow (S.storage store.now) queues.now call.now result }
 {
-    if call.has(OptionName::Into) && is_length_negative(store, call) {
+    if call.has(OptionName::Into) && is_length_negative(length) {
         return condition_alone(Condition::Lengerr);
     }
-    reads_queue(store, queues, call, name_at(store, call, OptionName::Queue))
+    let name = name_at(store, call, OptionName::Queue);
+    reads_queue(store, queues, call, length, name)
 }

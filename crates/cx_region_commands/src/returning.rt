@@ -1,22 +1,24 @@
 //! RETURN.
 ghost use Rattle.std.specs.Prelude.{◌≡◌, ◌||◌, if◌then◌else◌};
+ghost use Rattle.cx_region_state.specs.Inputs.{halfword_of};
 ghost use Rattle.cx_region_commands.specs.Return.{highest_return, next_of, return_row};
 ghost use Rattle.cx_region_commands.specs.Common.{does, has, condition_alone};
 
 use crate::common::{commarea_of, condition_alone, does};
 use cx_base::{Condition, OptionName};
 use cx_program::LevelStack;
-use cx_region_state::{Call, Next, TaskChange, Verdict, is_length_negative, name4};
+use cx_region_state::{Call, RequestedTransaction, TaskChange, Verdict, is_length_negative, name4};
 use cx_storage::Store;
 
 /// What the terminal's next key attaches.
 #[tactic(auto, unfolding(crate::specs::Return::next_of))]
-fn next_of<S: Store>(store: &S, call: &Call) -> Option<Next>
+fn next_of<S: Store>(store: &S, call: &Call, length: Option<u16>) -> Option<RequestedTransaction>
+    requires length { length ≡ halfword_of (S.storage store.now) call.now OptionName.Length }
     ensures { result ≡ next_of (S.storage store.now) call.now }
 {
     let tran = name4(store, call, OptionName::Transid)?;
-    let commarea = commarea_of(store, call);
-    Some(Next { tran, commarea })
+    let commarea = commarea_of(call, length);
+    Some(RequestedTransaction { tran, commarea })
 }
 
 /// At a lower level.
@@ -32,26 +34,38 @@ fn lower_return(call: &Call) -> Verdict
 }
 
 /// At the highest level.
-fn highest_return<S: Store>(store: &S, call: &Call) -> Verdict
+#[tactic(auto, unfolding(cx_region_state::specs::Inputs::is_length_negative))]
+fn highest_return<S: Store>(store: &S, call: &Call, length: Option<u16>) -> Verdict
+    requires length { length ≡ halfword_of (S.storage store.now) call.now OptionName.Length }
     ensures { result ≡ highest_return (S.storage store.now) call.now }
 {
     let lacks_transid = call.has(OptionName::Commarea) && !call.has(OptionName::Transid);
     if lacks_transid {
         return condition_alone(Condition::Invreq);
     }
-    if is_length_negative(store, call) {
+    if is_length_negative(length) {
         return condition_alone(Condition::Lengerr);
     }
-    does(TaskChange::TaskEnds(next_of(store, call)))
+    does(TaskChange::TaskEnds(next_of(store, call, length)))
 }
 
-/// How a RETURN is judged.
+/// How a RETURN is judged. Below the highest level: INVREQ where TRANSID or COMMAREA is there, else the level ends. At
+/// the highest level: INVREQ where COMMAREA is there without TRANSID; then LENGERR where LENGTH is negative; else the
+/// task ends, and leaves TRANSID and the COMMAREA for the terminal's next key.
+///
+/// Application Programmer's Reference Manual, SC33-0077, "Program Control".
 #[tactic(auto, unfolding(crate::specs::Return::return_row))]
-pub(crate) fn judge_return<S: Store>(store: &S, levels: &LevelStack, call: &Call) -> Verdict
+pub(crate) fn judge_return<S: Store>(
+    store: &S,
+    levels: &LevelStack,
+    call: &Call,
+    length: Option<u16>,
+) -> Verdict
+    requires length { length ≡ halfword_of (S.storage store.now) call.now OptionName.Length }
     ensures { result ≡ return_row (S.storage store.now) levels.now.callers call.now }
 {
     if levels.len() == 1 {
-        highest_return(store, call)
+        highest_return(store, call, length)
     } else {
         lower_return(call)
     }

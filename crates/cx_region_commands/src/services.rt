@@ -8,7 +8,7 @@ use cx_base::Condition;
 use cx_region_state::Verdict;
 use cx_service::ServiceFault;
 
-/// The condition that a service would meet, or the verdict where it would meet none.
+/// The condition that a service would meet, with no output and no change; or the verdict where it would meet none.
 pub(crate) fn fault_or_verdict(tested: Result<(), ServiceFault>, verdict: Verdict) -> Verdict
     ensures { result ≡ fault_or_verdict (result_err tested) verdict }
 {

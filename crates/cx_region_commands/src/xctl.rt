@@ -1,13 +1,14 @@
 //! XCTL.
 ghost use Rattle.std.specs.Prelude.{◌≡◌, ◌<◌, ◌≤◌, ◌+◌, ◌^◌, ℕ, Some, option_map};
 ghost use Rattle.cx_region_state.specs.Areas.{IsSoundProgram, IsTaskPlace, first_of_tasks, with_copy_area};
+ghost use Rattle.cx_region_state.specs.Inputs.{halfword_of};
 ghost use Rattle.cx_region_commands.specs.Common.{AreSoundPrograms, AtPlace};
 ghost use Rattle.cx_region_commands.specs.Xctl.{Copies, Transfers, XctlRow, XctlTo, replaces};
 
 use crate::common::{
     Called, commarea_of, condition_alone, does, named_program, new_level, task_place,
 };
-use cx_base::{Abend, Condition};
+use cx_base::{Abend, Condition, OptionName};
 use cx_ebcdic::Name8;
 use cx_load::Loaded;
 use cx_region_state::{
@@ -42,7 +43,7 @@ fn replaces(called: Called, copying: Option<Copying>, stg: Option<u32>) -> Verdi
 /// the copy, every place below does too.
 #[tactic(auto, using(crate::proofs::PlaceLemmas::none_beside, crate::proofs::PlaceLemmas::below_copy, crate::proofs::PlaceLemmas::above_copy, crate::proofs::PlaceLemmas::after_copy))]
 fn place_beside<S: Store>(store: &S, copying: Copying, len: u32) -> Option<u32>
-    requires some { 0 < len }
+    requires nonempty { 0 < len }
     requires low { first_of_tasks ≤ copying.to }
     requires high { copying.to + copying.from.len ≤ 2 ^ 24 }
     ensures { (slot : ℕ) → IsTaskPlace (with_copy_area (S.storage store.now) slot (Some copying)) len result }
@@ -63,7 +64,7 @@ fn place_beside<S: Store>(store: &S, copying: Copying, len: u32) -> Option<u32>
 /// An XCTL with a COMMAREA that has bytes.
 fn copy_to<S: Store>(store: &S, called: Called, piece: StorageSpan) -> Verdict
     requires sound { IsSoundProgram called.loaded }
-    requires some { 0 < piece.len }
+    requires nonempty { 0 < piece.len }
     ensures { (slot : ℕ) → Copies (S.storage store.now) slot called piece result }
 {
     let Some(to) = task_place(store, u32::from(piece.len)) else {
@@ -76,11 +77,12 @@ fn copy_to<S: Store>(store: &S, called: Called, piece: StorageSpan) -> Verdict
 
 /// An XCTL to a program that there is.
 #[tactic(auto, unfolding(crate::specs::Xctl::XctlTo, cx_region_state::specs::Areas::with_copy_area))]
-fn xctl_to<S: Store>(store: &S, call: &Call, called: Called) -> Verdict
-    requires { IsSoundProgram called.loaded }
+fn xctl_to<S: Store>(store: &S, call: &Call, length: Option<u16>, called: Called) -> Verdict
+    requires length { length ≡ halfword_of (S.storage store.now) call.now OptionName.Length }
+    requires sound { IsSoundProgram called.loaded }
     ensures { (slot : ℕ) → XctlTo (S.storage store.now) slot call.now called result }
 {
-    match commarea_of(store, call) {
+    match commarea_of(call, length) {
         Some(piece) => copy_to(store, called, piece),
         None => {
             let stg = task_place(store, called.loaded.stg_len);
@@ -89,21 +91,27 @@ fn xctl_to<S: Store>(store: &S, call: &Call, called: Called) -> Verdict
     }
 }
 
-/// How an XCTL is judged.
-#[tactic(auto, unfolding(crate::specs::Xctl::XctlRow))]
+/// How an XCTL is judged: LENGERR where LENGTH is negative; then PGMIDERR where there is no such program; then the
+/// abend XSTG where there is no place for the copy of the COMMAREA, or then for DFHEISTG, both with the old DFHEISTG
+/// still there; else it meets NORMAL, and a level of the program begins in place of the current one.
+///
+/// Application Programmer's Reference Manual, SC33-0077, "Program Control".
+#[tactic(auto, unfolding(crate::specs::Xctl::XctlRow, cx_region_state::specs::Inputs::is_length_negative))]
 pub(crate) fn judge_xctl<S: Store>(
     store: &S,
     programs: &IndexMap<Name8, Loaded>,
     call: &Call,
+    length: Option<u16>,
 ) -> Verdict
-    requires { AreSoundPrograms programs.now.entries }
+    requires length { length ≡ halfword_of (S.storage store.now) call.now OptionName.Length }
+    requires programs { AreSoundPrograms programs.now.entries }
     ensures { (slot : ℕ) → XctlRow (S.storage store.now) slot programs.now.entries call.now result }
 {
-    if is_length_negative(store, call) {
+    if is_length_negative(length) {
         return condition_alone(Condition::Lengerr);
     }
     match named_program(store, call, programs) {
-        Some(called) => xctl_to(store, call, called),
+        Some(called) => xctl_to(store, call, length, called),
         None => condition_alone(Condition::Pgmiderr),
     }
 }

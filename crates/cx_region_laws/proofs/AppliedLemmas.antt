@@ -10,12 +10,12 @@ use Rattle.cx_storage.specs.Storage.{Storage, span, with_area, after_write}
 use Rattle.cx_storage.specs.Facts.Spans.{span_length}
 use Rattle.cx_region_state.specs.declared.inputs.StorageSpan.{StorageSpan}
 use Rattle.cx_region_state.specs.declared.verdict.TaskChange.{TaskChange}
-use Rattle.cx_region_state.specs.declared.verdict.TaskChange.TheVariants.{Nothing, Makes, Ends, Gets, Enters, Replaces, LevelEnds, TaskEnds, AbendsWith}
+use Rattle.cx_region_state.specs.declared.verdict.TaskChange.TheVariants.{Nothing, Before, After, Gets, Enters, Replaces, LevelEnds, TaskEnds, AbendsWith}
 use Rattle.cx_region_state.specs.declared.verdict.Copying.{Copying}
 use Rattle.cx_region_state.specs.declared.verdict.Fill.{Fill}
 use Rattle.cx_region_state.specs.declared.verdict.Fill.TheVariants.{Byte, Item}
-use Rattle.cx_region_state.specs.declared.verdict.Made.{Made}
-use Rattle.cx_region_state.specs.declared.verdict.Made.TheVariants as made
+use Rattle.cx_region_state.specs.declared.verdict.BeforeOutputs.{BeforeOutputs}
+use Rattle.cx_region_state.specs.declared.verdict.BeforeOutputs.TheVariants as made
 use Rattle.cx_region_state.specs.declared.verdict.NewLevel.{NewLevel}
 use Rattle.cx_region_state.specs.Areas.{IsTaskPlace, bytes_in, got_owner, system_owner, with_cap, with_copied, with_copy_area, with_filled, with_stg_area}
 use Rattle.cx_region_state.specs.State.{TaskContext}
@@ -124,7 +124,7 @@ replaced_others slot s copying level copy fits =
 at_storage : (slot : ℕ) (made to : TaskContext) → made ≡ to → others_storage slot made.shared.storage ≡ others_storage slot to.shared.storage
 at_storage slot made to e = ap (λ (r : TaskContext). others_storage slot r.shared.storage) e
 
-made_others : (it : Made) (slot : ℕ) (before made : TaskContext) → AppliesBefore (Makes it) before made → others_storage slot made.shared.storage ≡ others_storage slot before.shared.storage
+made_others : (it : BeforeOutputs) (slot : ℕ) (before made : TaskContext) → AppliesBefore (Before it) before made → others_storage slot made.shared.storage ≡ others_storage slot before.shared.storage
 unfolding AppliesBefore
 made_others (made.ItemLast name piece) slot before after applied = at_storage slot after _ applied
 made_others (made.ItemAt name n piece) slot before after applied = at_storage slot after _ applied
@@ -136,8 +136,8 @@ pub applied_others : (change : TaskChange) (before after : TaskContext) → Fits
     → others_storage before.terminal_entry.slot after.shared.storage ≡ others_storage before.terminal_entry.slot before.shared.storage
 unfolding AppliesBefore with_got
 applied_others Nothing before after fits applied = at_storage before.terminal_entry.slot after _ applied
-applied_others (Makes it) before after fits applied = made_others it before.terminal_entry.slot before after applied
-applied_others (Ends it) before after fits applied = at_storage before.terminal_entry.slot after _ applied
+applied_others (Before it) before after fits applied = made_others it before.terminal_entry.slot before after applied
+applied_others (After it) before after fits applied = at_storage before.terminal_entry.slot after _ applied
 applied_others (Gets got) before after fits applied =
     at_storage before.terminal_entry.slot after _ applied
     ∙ filled_others before.terminal_entry.slot before.shared.storage got.place got.len (got_owner before.terminal_entry.slot) (fill_bytes got.fill got.len before.shared.queues) fits.some fits.place refl (fill_fits got.fill got.len before fits.fill)
@@ -169,7 +169,7 @@ pub task_on : (before between after : TaskContext) → SameTask before between �
 task_on before between after one two =
     record { slot = two.slot ∙ one.slot; eib = two.eib ∙ one.eib; callers = two.callers ∙ one.callers; stg = two.stg ∙ one.stg }
 
-made_task : (it : Made) (before after : TaskContext) → AppliesBefore (Makes it) before after → SameTask before after
+made_task : (it : BeforeOutputs) (before after : TaskContext) → AppliesBefore (Before it) before after → SameTask before after
 unfolding AppliesBefore
 made_task (made.ItemLast name piece) before after applied = task_at before _ after applied (record { slot = refl; eib = refl; callers = refl; stg = refl })
 made_task (made.ItemAt name n piece) before after applied = task_at before _ after applied (record { slot = refl; eib = refl; callers = refl; stg = refl })
@@ -180,8 +180,8 @@ made_task (made.Handles request) before after applied = task_at before _ after a
 pub applied_task : (change : TaskChange) (before after : TaskContext) → AppliesBefore change before after → SameTask before after
 unfolding AppliesBefore
 applied_task Nothing before after applied = task_at before _ after applied (record { slot = refl; eib = refl; callers = refl; stg = refl })
-applied_task (Makes it) before after applied = made_task it before after applied
-applied_task (Ends it) before after applied = task_at before _ after applied (record { slot = refl; eib = refl; callers = refl; stg = refl })
+applied_task (Before it) before after applied = made_task it before after applied
+applied_task (After it) before after applied = task_at before _ after applied (record { slot = refl; eib = refl; callers = refl; stg = refl })
 applied_task (Gets got) before after applied = task_at before _ after applied (record { slot = refl; eib = refl; callers = refl; stg = refl })
 applied_task (Enters level) before after applied = task_at before _ after applied (record { slot = refl; eib = refl; callers = refl; stg = refl })
 applied_task (Replaces copying level) before after applied = task_at before _ after applied (record { slot = refl; eib = refl; callers = refl; stg = refl })

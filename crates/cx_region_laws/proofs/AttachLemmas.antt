@@ -15,7 +15,7 @@ use Rattle.cx_load.specs.declared.program.Loaded.{Loaded}
 use Rattle.cx_storage.specs.declared.areas.Owner.{Owner}
 use Rattle.cx_storage.specs.Address.{address_after}
 use Rattle.cx_storage.specs.Place.{IsLeastPlace}
-use Rattle.cx_storage.specs.Storage.{Storage, after_write, area_at, area_from, byte_at, span, with_area, IsSound as IsSoundStorage}
+use Rattle.cx_storage.specs.Storage.{Storage, after_write, area_at, area_from, byte_at, span, with_area, IsSoundStorage}
 use Rattle.cx_storage.specs.Facts.Areas.{area_span}
 use Rattle.cx_storage.specs.Facts.Sound.{sound_with_area}
 use Rattle.cx_storage.specs.Facts.Spans.{span_at, span_first, span_from, span_has}

@@ -12,7 +12,7 @@ use Rattle.cx_base.specs.Eib.{eib_field, eib_len}
 use Rattle.cx_program.specs.declared.level.Level.{Level}
 use Rattle.cx_program.specs.Levels.{Levels}
 use Rattle.cx_storage.specs.Address.{address_after, distance}
-use Rattle.cx_storage.specs.Storage.{Storage, area_from, areas_of, byte_at, span, with_areas_kept, IsSound as IsSoundStorage}
+use Rattle.cx_storage.specs.Storage.{Storage, area_from, areas_of, byte_at, span, with_areas_kept, IsSoundStorage}
 use Rattle.cx_storage.specs.Facts.Areas.{area_of_areas}
 use Rattle.cx_storage.specs.Facts.Writes.{present_after_write}
 use Rattle.cx_region_state.specs.declared.outputs.Output.{Output}
@@ -26,7 +26,7 @@ use Rattle.cx_region_state.specs.declared.replies.TurnReply.TheVariants as turn
 use Rattle.cx_region_state.specs.declared.verdict.Copying.{Copying}
 use Rattle.cx_region_state.specs.declared.verdict.NewLevel.{NewLevel}
 use Rattle.cx_region_state.specs.declared.verdict.TaskChange.{TaskChange}
-use Rattle.cx_region_state.specs.declared.verdict.TaskChange.TheVariants.{Nothing, Makes, Ends, Gets, Enters, Replaces, LevelEnds, TaskEnds, AbendsWith}
+use Rattle.cx_region_state.specs.declared.verdict.TaskChange.TheVariants.{Nothing, Before, After, Gets, Enters, Replaces, LevelEnds, TaskEnds, AbendsWith}
 use Rattle.cx_region_state.specs.declared.verdict.Verdict.TheVariants.{Meets}
 use Rattle.cx_region_state.specs.State.{TaskContext}
 use Rattle.cx_region_task.specs.declared.continuation.Continuation.{Continuation}
@@ -173,8 +173,8 @@ exits_find_reports law keeps before after code ok apart due half = elim (exits_m
 -- the change with which a level begins, or ends
 enters_change : (change : TaskChange) (level : NewLevel) → continuation_by change ≡ continuation.Enters level → change ≡ Enters level
 enters_change Nothing level e = cc
-enters_change (Makes it) level e = cc
-enters_change (Ends it) level e = cc
+enters_change (Before it) level e = cc
+enters_change (After it) level e = cc
 enters_change (Gets got) level e = cc
 enters_change (Enters own) level e = let same : own ≡ level = cc in ap Enters same
 enters_change (Replaces copying own) level e = cc
@@ -188,8 +188,8 @@ pub record IsReplacing (change : TaskChange) (level : NewLevel) : Type 0 where
 
 replaces_change : (change : TaskChange) (level : NewLevel) → continuation_by change ≡ continuation.Replaces level → IsReplacing change level
 replaces_change Nothing level e = cc
-replaces_change (Makes it) level e = cc
-replaces_change (Ends it) level e = cc
+replaces_change (Before it) level e = cc
+replaces_change (After it) level e = cc
 replaces_change (Gets got) level e = cc
 replaces_change (Enters own) level e = cc
 replaces_change (Replaces copying own) level e = let same : own ≡ level = cc in record { copying = copying; is = ap (Replaces copying) same }
@@ -199,8 +199,8 @@ replaces_change (AbendsWith code cancel) level e = cc
 
 ends_change : (change : TaskChange) → continuation_by change ≡ continuation.LevelEnds → change ≡ LevelEnds
 ends_change Nothing e = cc
-ends_change (Makes it) e = cc
-ends_change (Ends it) e = cc
+ends_change (Before it) e = cc
+ends_change (After it) e = cc
 ends_change (Gets got) e = cc
 ends_change (Enters own) e = cc
 ends_change (Replaces copying own) e = cc

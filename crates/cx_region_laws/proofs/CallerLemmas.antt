@@ -15,9 +15,9 @@ use Rattle.cx_region_state.specs.declared.outputs.Output.{Output}
 use Rattle.cx_region_state.specs.Call.{Call}
 use Rattle.cx_region_state.specs.declared.replies.TurnReply.{TurnReply}
 use Rattle.cx_region_state.specs.declared.verdict.TaskChange.{TaskChange}
-use Rattle.cx_region_state.specs.declared.verdict.TaskChange.TheVariants.{Nothing, Makes, Ends, Gets, Enters, Replaces, LevelEnds, TaskEnds, AbendsWith}
+use Rattle.cx_region_state.specs.declared.verdict.TaskChange.TheVariants.{Nothing, Before, After, Gets, Enters, Replaces, LevelEnds, TaskEnds, AbendsWith}
 use Rattle.cx_region_state.specs.declared.verdict.NewLevel.{NewLevel}
-use Rattle.cx_region_state.specs.declared.verdict.Verdict.TheVariants.{Waits, Meets}
+use Rattle.cx_region_state.specs.declared.verdict.Verdict.TheVariants.{Meets}
 use Rattle.cx_region_state.specs.State.{TaskContext}
 use Rattle.cx_region_state.specs.Areas.{entry_level}
 use Rattle.cx_region_task.specs.declared.continuation.Continuation.{Continuation}
@@ -88,8 +88,8 @@ IsKept _ start committed = committed.task.levels.callers ≡ start.task.levels.c
 kept_by_change : (change : TaskChange) (call : Call) (condition : Condition) (outputs : List Output) (start after : TaskContext) → Commits call condition outputs change start after → IsKept (continuation_by change) start after
 unfolding IsKept is_request
 kept_by_change Nothing call condition outputs start after it = (settles_task call condition outputs Nothing start after it).callers
-kept_by_change (Makes made) call condition outputs start after it = (settles_task call condition outputs (Makes made) start after it).callers
-kept_by_change (Ends ended) call condition outputs start after it = (settles_task call condition outputs (Ends ended) start after it).callers
+kept_by_change (Before made) call condition outputs start after it = (settles_task call condition outputs (Before made) start after it).callers
+kept_by_change (After ended) call condition outputs start after it = (settles_task call condition outputs (After ended) start after it).callers
 kept_by_change (Gets got) call condition outputs start after it = (settles_task call condition outputs (Gets got) start after it).callers
 kept_by_change (Enters level) call condition outputs start after it = enters_levels level call condition outputs start after it
 kept_by_change (Replaces copying level) call condition outputs start after it = (settles_task call condition outputs (Replaces copying level) start after it).callers

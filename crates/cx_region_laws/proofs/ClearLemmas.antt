@@ -7,7 +7,7 @@ use Rattle.cx_base.specs.Eib.{eib_len}
 use Rattle.cx_storage.specs.declared.areas.Area.{Area}
 use Rattle.cx_storage.specs.Address.{address_in}
 use Rattle.cx_storage.specs.Place.{CanPlace, IsLeastPlace, Misses}
-use Rattle.cx_storage.specs.Storage.{Held, Storage, area_at, area_from, areas_of, covers, end_of, is_of_other_slot, with_areas_kept, AreOrdered, IsWhole, IsSound}
+use Rattle.cx_storage.specs.Storage.{Held, Storage, area_at, area_from, areas_of, covers, end_of, is_of_other_slot, with_areas_kept, AreOrdered, IsWhole, IsSoundStorage}
 use Rattle.cx_storage.specs.Facts.Areas.{area_bounds}
 use Rattle.cx_storage.specs.Facts.Sound.{All-filter, covers_cases, covers_from}
 use Rattle.cx_program.specs.declared.level.Level.{Level}
@@ -65,8 +65,8 @@ own_uncovered_in (h ∷ hs) slot p x mine whole ordered found own low high = eli
       ]
 ]
 
-pub own_uncovered : (s : Storage) (slot p x : ℕ) (mine : Area) → IsSound s → area_at s p ≡ Some mine → mine.owner.slot ≡ slot → p ≤ x → x < p + mine.len → Uncovered (others_storage slot s) x
-unfolding IsSound
+pub own_uncovered : (s : Storage) (slot p x : ℕ) (mine : Area) → IsSoundStorage s → area_at s p ≡ Some mine → mine.owner.slot ≡ slot → p ≤ x → x < p + mine.len → Uncovered (others_storage slot s) x
+unfolding IsSoundStorage
 own_uncovered s slot p x mine ok found own low high = own_uncovered_in s slot p x mine ok.0 ok.1 found own low high
 
 -- where no area has the address, none starts there
@@ -84,8 +84,8 @@ none_starts (h ∷ hs) p whole clear = (
 )
 
 -- no other's area starts where an own one does
-pub own_elsewhere : (s : Storage) (slot p : ℕ) (mine : Area) → IsSound s → area_at s p ≡ Some mine → mine.owner.slot ≡ slot → Elsewhere (others_storage slot s) p
-unfolding IsSound with_areas_kept
+pub own_elsewhere : (s : Storage) (slot p : ℕ) (mine : Area) → IsSoundStorage s → area_at s p ≡ Some mine → mine.owner.slot ≡ slot → Elsewhere (others_storage slot s) p
+unfolding IsSoundStorage with_areas_kept
 own_elsewhere s slot p mine ok found own =
     let bounds = area_bounds s p mine ok found in
     let some = bounds.1 in
@@ -118,7 +118,7 @@ pub record Clear (others : Storage) (eib : ℕ) (callers : List Level) (stg : �
   pub stg_clear : Elsewhere others (address_in stg)
   pub callers_clear : AllByRecursion (λ (level : Level). Elsewhere others (address_in level.stg)) callers
 
-start_clear : (s : Storage) (slot start len : ℕ) → IsSound s → IsAreaOf s slot start len → Elsewhere (others_storage slot s) (address_in start)
+start_clear : (s : Storage) (slot start len : ℕ) → IsSoundStorage s → IsAreaOf s slot start len → Elsewhere (others_storage slot s) (address_in start)
 start_clear s slot start len ok there =
     let bounds = area_bounds s start (area_from start len (system_owner slot)) ok there in
     let some = bounds.1 in
@@ -126,12 +126,12 @@ start_clear s slot start len ok there =
     let here : address_in start ≡ start = omega (arith, some, ends) in
     rw here (own_elsewhere s slot start (area_from start len (system_owner slot)) ok there refl)
 
-callers_clear_of : (s : Storage) (slot : ℕ) (callers : List Level) → IsSound s → AllByRecursion (IsSoundLevel s slot) callers
+callers_clear_of : (s : Storage) (slot : ℕ) (callers : List Level) → IsSoundStorage s → AllByRecursion (IsSoundLevel s slot) callers
     → AllByRecursion (λ (level : Level). Elsewhere (others_storage slot s) (address_in level.stg)) callers
 callers_clear_of s slot [] ok all = tt
 callers_clear_of s slot (l ∷ ls) ok all = (start_clear s slot l.stg l.stg_len ok all.0.stg, callers_clear_of s slot ls ok all.1)
 
-pub clear_of : (s : Storage) (slot : ℕ) (task : TaskState) → IsSound s → IsSoundTask s slot task → Clear (others_storage slot s) task.eib task.levels.callers task.levels.current.stg
+pub clear_of : (s : Storage) (slot : ℕ) (task : TaskState) → IsSoundStorage s → IsSoundTask s slot task → Clear (others_storage slot s) task.eib task.levels.callers task.levels.current.stg
 clear_of s slot task ok own =
     let bounds = area_bounds s task.eib (area_from task.eib eib_len (system_owner slot)) ok own.eib in
     let ends = bounds.2 in

@@ -8,9 +8,9 @@ use Rattle.cx_base.specs.Abends.{abend_code}
 use Rattle.cx_base.specs.declared.conditions.Condition.{Condition}
 use Rattle.cx_base.specs.Eib.{eib_len}
 use Rattle.cx_storage.specs.Address.{address_in}
-use Rattle.cx_storage.specs.Storage.{Storage, area_from, areas_of, byte_at, IsSound as IsSoundStorage}
+use Rattle.cx_storage.specs.Storage.{Storage, area_from, areas_of, byte_at, IsSoundStorage}
 use Rattle.cx_service.specs.Queues.{AreSoundQueues}
-use Rattle.cx_region_state.specs.Answer.{resource_of}
+use Rattle.cx_region_state.specs.Report.{resource_of}
 use Rattle.cx_region_state.specs.declared.outputs.Output.{Output}
 use Rattle.cx_region_state.specs.Call.{Call, resp_place}
 use Rattle.cx_region_state.specs.Laws.Calls.{CallIsRead, IsCallAt, list_word}
@@ -18,9 +18,9 @@ use Rattle.cx_region_commands.specs.Common.{AreSoundPrograms}
 use Rattle.cx_region_commands.specs.Facts.Fits.{judged_fits}
 use Rattle.cx_region_state.specs.declared.replies.TurnReply.{TurnReply}
 use Rattle.cx_region_state.specs.declared.verdict.TaskChange.{TaskChange}
-use Rattle.cx_region_state.specs.declared.verdict.TaskChange.TheVariants.{Nothing, Makes, Ends, Gets, Enters, Replaces, LevelEnds, TaskEnds, AbendsWith}
-use Rattle.cx_region_state.specs.declared.verdict.Ended.{Ended}
-use Rattle.cx_region_state.specs.declared.verdict.Ended.TheVariants.{TakesInput, ReadOf, QueueGone, Dequeues, Frees}
+use Rattle.cx_region_state.specs.declared.verdict.TaskChange.TheVariants.{Nothing, Before, After, Gets, Enters, Replaces, LevelEnds, TaskEnds, AbendsWith}
+use Rattle.cx_region_state.specs.declared.verdict.AfterOutputs.{AfterOutputs}
+use Rattle.cx_region_state.specs.declared.verdict.AfterOutputs.TheVariants.{TakesInput, MarksRead, QueueGone, Dequeues, Frees}
 use Rattle.cx_region_state.specs.declared.verdict.Fill.{Fill}
 use Rattle.cx_region_state.specs.declared.verdict.Fill.TheVariants.{Byte, Item}
 use Rattle.cx_region_state.specs.declared.verdict.Verdict.TheVariants.{Meets}
@@ -31,7 +31,7 @@ use Rattle.cx_region_state.specs.Verdicts.{handed_over}
 use Rattle.cx_region_task.specs.Abends.{Abends}
 use Rattle.cx_region_task.specs.Decisions.{continuation_at}
 use Rattle.cx_region_task.specs.Changes.{AppliesBefore, Commits, apply_after, write_outputs, read_for, report_of, write_report}
-use Rattle.cx_region_task.specs.Performing.{LeavesAll, list_of}
+use Rattle.cx_region_task.specs.Performing.{LeavesAll, argument_list}
 use Rattle.cx_region_task.specs.Facts.Met.{IsMet, by_decision}
 use Rattle.cx_region_task.specs.declared.cause.AbendRecord.{AbendRecord}
 use Rattle.cx_region_task.specs.Sound.{IsSoundTask}
@@ -44,12 +44,12 @@ use Rattle.cx_region_laws.proofs.WrittenLemmas.{AreLow, or_none, puts_left, repo
 use Rattle.cx_region_laws.proofs.EndedLemmas.{IsClear, abends_others, goes_others}
 
 -- ---- what ends after the report
-ended_others : (it : Ended) (start mid : TaskContext) → IsSoundStorage start.shared.storage → FitsEnded it start
+ended_others : (it : AfterOutputs) (start mid : TaskContext) → IsSoundStorage start.shared.storage → FitsEnded it start
     → areas_of (others_storage start.terminal_entry.slot mid.shared.storage) ≡ areas_of (others_storage start.terminal_entry.slot start.shared.storage)
-    → others_storage start.terminal_entry.slot (apply_after (Ends it) mid).shared.storage ≡ others_storage start.terminal_entry.slot mid.shared.storage
+    → others_storage start.terminal_entry.slot (apply_after (After it) mid).shared.storage ≡ others_storage start.terminal_entry.slot mid.shared.storage
 unfolding apply_after
 ended_others TakesInput start mid ok fits same = refl
-ended_others (ReadOf name n) start mid ok fits same = refl
+ended_others (MarksRead name n) start mid ok fits same = refl
 ended_others (QueueGone name) start mid ok fits same = refl
 ended_others (Dequeues resource) start mid ok fits same = refl
 ended_others (Frees place) start mid ok fits same =
@@ -66,8 +66,8 @@ finished_others : (change : TaskChange) (start mid : TaskContext) → IsSoundSto
     → others_storage start.terminal_entry.slot (apply_after change mid).shared.storage ≡ others_storage start.terminal_entry.slot mid.shared.storage
 unfolding apply_after
 finished_others Nothing start mid ok fits same = refl
-finished_others (Makes it) start mid ok fits same = refl
-finished_others (Ends it) start mid ok fits same = ended_others it start mid ok fits same
+finished_others (Before it) start mid ok fits same = refl
+finished_others (After it) start mid ok fits same = ended_others it start mid ok fits same
 finished_others (Gets got) start mid ok fits same = read_others got.fill start.terminal_entry.slot mid
 finished_others (Enters level) start mid ok fits same = refl
 finished_others (Replaces copying level) start mid ok fits same = refl
@@ -75,10 +75,10 @@ finished_others LevelEnds start mid ok fits same = refl
 finished_others (TaskEnds next) start mid ok fits same = refl
 finished_others (AbendsWith code cancel) start mid ok fits same = refl
 
-ended_task : (it : Ended) (r : TaskContext) → SameTask r (apply_after (Ends it) r)
+ended_task : (it : AfterOutputs) (r : TaskContext) → SameTask r (apply_after (After it) r)
 unfolding apply_after
 ended_task TakesInput r = record { slot = refl; eib = refl; callers = refl; stg = refl }
-ended_task (ReadOf name n) r = record { slot = refl; eib = refl; callers = refl; stg = refl }
+ended_task (MarksRead name n) r = record { slot = refl; eib = refl; callers = refl; stg = refl }
 ended_task (QueueGone name) r = record { slot = refl; eib = refl; callers = refl; stg = refl }
 ended_task (Dequeues resource) r = record { slot = refl; eib = refl; callers = refl; stg = refl }
 ended_task (Frees place) r = record { slot = refl; eib = refl; callers = refl; stg = refl }
@@ -90,8 +90,8 @@ read_task (Item name n) r = record { slot = refl; eib = refl; callers = refl; st
 pub finished_task : (change : TaskChange) (r : TaskContext) → SameTask r (apply_after change r)
 unfolding apply_after
 finished_task Nothing r = record { slot = refl; eib = refl; callers = refl; stg = refl }
-finished_task (Makes it) r = record { slot = refl; eib = refl; callers = refl; stg = refl }
-finished_task (Ends it) r = ended_task it r
+finished_task (Before it) r = record { slot = refl; eib = refl; callers = refl; stg = refl }
+finished_task (After it) r = ended_task it r
 finished_task (Gets got) r = read_task got.fill r
 finished_task (Enters level) r = record { slot = refl; eib = refl; callers = refl; stg = refl }
 finished_task (Replaces copying level) r = record { slot = refl; eib = refl; callers = refl; stg = refl }
@@ -104,12 +104,12 @@ finished_task (AbendsWith code cancel) r = record { slot = refl; eib = refl; cal
 pub resource_reported : (call : Call) (condition : Condition) (change : TaskChange) (r : TaskContext) → (report_of call condition change r).resource ≡ resource_of r.shared.storage call
 unfolding report_of
 resource_reported call condition Nothing r = refl
-resource_reported call condition (Makes it) r = refl
-resource_reported call condition (Ends TakesInput) r = refl
-resource_reported call condition (Ends (ReadOf name n)) r = refl
-resource_reported call condition (Ends (QueueGone name)) r = refl
-resource_reported call condition (Ends (Dequeues resource)) r = refl
-resource_reported call condition (Ends (Frees place)) r = refl
+resource_reported call condition (Before it) r = refl
+resource_reported call condition (After TakesInput) r = refl
+resource_reported call condition (After (MarksRead name n)) r = refl
+resource_reported call condition (After (QueueGone name)) r = refl
+resource_reported call condition (After (Dequeues resource)) r = refl
+resource_reported call condition (After (Frees place)) r = refl
 resource_reported call condition (Gets got) r = refl
 resource_reported call condition (Enters level) r = refl
 resource_reported call condition (Replaces copying level) r = refl
@@ -121,8 +121,8 @@ resource_reported call condition (AbendsWith code cancel) r = refl
 pub text_same : (change : TaskChange) (start made : TaskContext) → AppliesBefore change start made → handed_over change made ≡ handed_over change start
 unfolding AppliesBefore handed_over
 text_same Nothing start made applied = refl
-text_same (Makes it) start made applied = refl
-text_same (Ends it) start made applied = ap (λ (r : TaskContext). handed_over (Ends it) r) applied
+text_same (Before it) start made applied = refl
+text_same (After it) start made applied = ap (λ (r : TaskContext). handed_over (After it) r) applied
 text_same (Gets got) start made applied = refl
 text_same (Enters level) start made applied = refl
 text_same (Replaces copying level) start made applied = refl
@@ -231,7 +231,7 @@ commanded_written law x before after reply abend_record ok programs queues own i
     met_written : IsMet reply before after → Written x before after
     met_written met =
         let verdict = Meets met.condition met.outputs met.change in
-        let low = call_low before.shared.storage (list_of before.task) met.call ((law before.shared.storage (list_of before.task) met.call ok (omega arith)).0 met.reads) in
+        let low = call_low before.shared.storage (argument_list before.task) met.call ((law before.shared.storage (argument_list before.task) met.call ok (omega arith)).0 met.reads) in
         let fits = judged_fits met.call before verdict queues low programs met.inputs met.judged in
         met_reported x before after reply met ok low clear fits.1 (λ yes. record { call = met.call; reads = met.reads; verdict = verdict; judged = met.judged; writes = yes })
 

@@ -14,7 +14,7 @@ use Rattle.cx_base.specs.declared.options.OptionName.TheVariants as option
 use Rattle.cx_base.specs.Eib.{eib_len}
 use Rattle.cx_program.specs.declared.level.Level.{Level}
 use Rattle.cx_storage.specs.Address.{address_after, address_in, distance}
-use Rattle.cx_storage.specs.Storage.{Storage, after_write, area_at, area_from, areas_of, byte_at, span, starts_elsewhere, with_area, with_areas_kept, AreOrdered, IsSound as IsSoundStorage}
+use Rattle.cx_storage.specs.Storage.{Storage, after_write, area_at, area_from, areas_of, byte_at, span, starts_elsewhere, with_area, with_areas_kept, AreOrdered, IsSoundStorage}
 use Rattle.cx_storage.specs.Place.{IsLeastPlace}
 use Rattle.cx_storage.specs.Word.{word_at}
 use Rattle.cx_storage.specs.Facts.Areas.{area_bounds, area_of_areas, area_span}
@@ -24,7 +24,7 @@ use Rattle.cx_storage.specs.Facts.Writes.{areas_after_write, span_after_write, s
 use Rattle.cx_region_state.specs.declared.call.CallFault.{CallFault}
 use Rattle.cx_region_state.specs.declared.inputs.StorageSpan.{StorageSpan}
 use Rattle.cx_region_state.specs.declared.outputs.Output.{Output}
-use Rattle.cx_region_state.specs.Answer.{with_answer}
+use Rattle.cx_region_state.specs.Report.{with_report}
 use Rattle.cx_region_state.specs.Call.{Call, call_of, place_of, resp_place}
 use Rattle.cx_region_state.specs.Facts.Inputs.{place_below}
 use Rattle.cx_region_state.specs.Inputs.{are_inputs_there, length_option}
@@ -45,7 +45,7 @@ use Rattle.cx_region_state.specs.Verdicts.{handed_over}
 use Rattle.cx_region_task.specs.Changes.{AppliesBefore, apply_after, report_of, with_replacement, with_stg, write_outputs, write_report}
 use Rattle.cx_region_task.specs.Continuations.{enter_level, replace_level}
 use Rattle.cx_region_task.specs.Laws.HalfTurns.{HalfTurnsKeep}
-use Rattle.cx_region_task.specs.Performing.{list_of}
+use Rattle.cx_region_task.specs.Performing.{argument_list}
 use Rattle.cx_region_task.specs.Turn.{HalfTurn}
 use Rattle.cx_region_laws.specs.Laws.Bytes.{is_among}
 use Rattle.cx_region_laws.specs.Laws.Commareas.{EnteredFindCommareas, FindsCommarea, IsCommareaApart, passed_by}
@@ -220,8 +220,8 @@ committed_storage before after all nothing =
     let task = applied_task met.change before made met.commits.applied in
     ap (λ (r : TaskContext). r.shared.storage) met.commits.committed
     ∙ nothing (write_report met.call (report_of met.call met.condition met.change before) (write_outputs met.call met.outputs met.change made))
-    ∙ ap (λ (text : List ℕ). with_answer (put_out made.shared.storage met.call text met.outputs) made.task.eib met.call (report_of met.call met.condition met.change before)) (text_same met.change before made met.commits.applied)
-    ∙ ap (λ (eib : ℕ). with_answer (put_from before met.call met.outputs met.change made) eib met.call (report_of met.call met.condition met.change before)) task.eib
+    ∙ ap (λ (text : List ℕ). with_report (put_out made.shared.storage met.call text met.outputs) made.task.eib met.call (report_of met.call met.condition met.change before)) (text_same met.change before made met.commits.applied)
+    ∙ ap (λ (eib : ℕ). with_report (put_from before met.call met.outputs met.change made) eib met.call (report_of met.call met.condition met.change before)) task.eib
     ∙ ap (λ (r : TaskContext). answered_from before met.call met.condition met.outputs met.change r) (sym all.made)
 
 enters_nothing : (level : NewLevel) (change : TaskChange) → change ≡ Enters level → (r : TaskContext) → (apply_after change r).shared.storage ≡ r.shared.storage
@@ -571,6 +571,6 @@ same_call (Err fault) one two e f = cc
 pub entered_find_commareas : CallIsRead → HalfTurnsKeep → EnteredFindCommareas
 entered_find_commareas law keeps before after call bytes ok apart reads passed commarea half =
     let all = all_in_storage law keeps before after turn.Entered Normal ok apart half refl in
-    let same : call ≡ all.met.call = same_call (call_of before.shared.storage (list_of before.task)) call all.met.call reads all.met.reads in
+    let same : call ≡ all.met.call = same_call (call_of before.shared.storage (argument_list before.task)) call all.met.call reads all.met.reads in
     entered_so keeps before after all bytes ok (subst (λ (c : Call). passed_by before.shared.storage c ≡ Some bytes) same passed)
     (subst (λ (c : Call). IsCommareaApart c.command before.task.eib c before.shared.storage) same commarea) half

@@ -8,7 +8,6 @@ use Rattle.cx_exec.specs.declared.machine.Halt.{Halt}
 use Rattle.cx_exec.specs.declared.machine.Halt.TheVariants as halt
 use Rattle.cx_program.specs.declared.level.Level.{Level}
 use Rattle.cx_region_state.specs.declared.replies.TurnReply.{TurnReply}
-use Rattle.cx_region_state.specs.declared.verdict.Verdict.TheVariants.{Waits}
 use Rattle.cx_region_state.specs.Replies.{is_over}
 use Rattle.cx_region_state.specs.State.{TaskContext}
 use Rattle.cx_region_task.specs.declared.continuation.Continuation.{Continuation}

@@ -11,9 +11,9 @@ use Rattle.cx_storage.specs.Address.{address_after}
 use Rattle.cx_storage.specs.Storage.{Storage, after_write, areas_of, byte_at, span}
 use Rattle.cx_storage.specs.Facts.Spans.{span_inside}
 use Rattle.cx_storage.specs.Facts.Writes.{areas_after_write, present_after_write, span_after_write}
-use Rattle.cx_region_state.specs.declared.answer.Answer.{Answer}
+use Rattle.cx_region_state.specs.declared.report.CommandReport.{CommandReport}
 use Rattle.cx_region_state.specs.declared.outputs.Output.{Output}
-use Rattle.cx_region_state.specs.Answer.{with_answer, with_eib, with_set}
+use Rattle.cx_region_state.specs.Report.{with_report, with_eib, with_set}
 use Rattle.cx_region_state.specs.Call.{Call, place_of, resp_place}
 use Rattle.cx_region_state.specs.Eib.{content, with_calen, with_field}
 use Rattle.cx_region_state.specs.Outputs.{bytes_from, put_out, with_output}
@@ -88,7 +88,7 @@ aid_long : (o : Option ℕ) (bytes : List ℕ) → option_map (λ byte. byte ∷
 aid_long None bytes e = cc
 aid_long (Some b) bytes e = let is : b ∷ [] ≡ bytes = cc in ap length (sym is)
 
-pub record InEib (s : Storage) (eib : ℕ) (answer : Answer) : Type 0 where
+pub record InEib (s : Storage) (eib : ℕ) (answer : CommandReport) : Type 0 where
   pub fn : field_at (with_eib s eib answer) eib Fn ≡ Some (to_be_bytes w16 answer.function)
   pub rcode : field_at (with_eib s eib answer) eib Rcode ≡ Some (answer.condition ∷ 0 ∷ 0 ∷ 0 ∷ 0 ∷ 0 ∷ [])
   pub resp : field_at (with_eib s eib answer) eib Resp ≡ Some (to_be_bytes w32 answer.condition)
@@ -96,7 +96,7 @@ pub record InEib (s : Storage) (eib : ℕ) (answer : Answer) : Type 0 where
   pub unnamed : answer.resource ≡ None → field_at (with_eib s eib answer) eib Rsrce ≡ field_at s eib Rsrce
   pub calen : (n : ℕ) → answer.calen ≡ Some n → field_at (with_eib s eib answer) eib Calen ≡ Some (to_be_bytes w16 n)
 
-pub in_eib : (s : Storage) (eib : ℕ) (answer : Answer) → eib + eib_len ≤ 2 ^ 24 → IsEibThere s eib → ((bytes : List ℕ) → answer.resource ≡ Some bytes → length bytes ≡ 8) → InEib s eib answer
+pub in_eib : (s : Storage) (eib : ℕ) (answer : CommandReport) → eib + eib_len ≤ 2 ^ 24 → IsEibThere s eib → ((bytes : List ℕ) → answer.resource ≡ Some bytes → length bytes ≡ 8) → InEib s eib answer
 unfolding with_eib with_calen with_set
 in_eib s eib answer low there eight =
     let function = to_be_bytes w16 answer.function in
@@ -200,8 +200,8 @@ unfolding with_calen
 calen_areas s eib None = refl
 calen_areas s eib (Some n) = field_areas s eib Calen (to_be_bytes w16 n)
 
-pub answer_areas : (s : Storage) (eib : ℕ) (call : Call) (answer : Answer) → areas_of (with_answer s eib call answer) ≡ areas_of s
-unfolding with_answer with_eib
+pub answer_areas : (s : Storage) (eib : ℕ) (call : Call) (answer : CommandReport) → areas_of (with_report s eib call answer) ≡ areas_of s
+unfolding with_report with_eib
 answer_areas s eib call answer =
     output_areas (with_eib s eib answer) (resp_place call) (to_be_bytes w32 answer.condition)
     ∙ calen_areas _ eib answer.calen

@@ -13,17 +13,17 @@ use Rattle.cx_region_state.specs.declared.outputs.Output.{Output}
 use Rattle.cx_region_state.specs.Call.{Call}
 use Rattle.cx_region_state.specs.Inputs.{is_length_negative}
 use Rattle.cx_region_state.specs.declared.verdict.TaskChange.{TaskChange}
-use Rattle.cx_region_state.specs.declared.verdict.TaskChange.TheVariants.{Nothing, Makes, Ends, Gets, Enters, Replaces, LevelEnds, TaskEnds, AbendsWith}
-use Rattle.cx_region_state.specs.declared.verdict.Ended.{Ended}
-use Rattle.cx_region_state.specs.declared.verdict.Ended.TheVariants as ended
+use Rattle.cx_region_state.specs.declared.verdict.TaskChange.TheVariants.{Nothing, Before, After, Gets, Enters, Replaces, LevelEnds, TaskEnds, AbendsWith}
+use Rattle.cx_region_state.specs.declared.verdict.AfterOutputs.{AfterOutputs}
+use Rattle.cx_region_state.specs.declared.verdict.AfterOutputs.TheVariants as ended
 use Rattle.cx_region_state.specs.declared.verdict.Fill.{Fill}
 use Rattle.cx_region_state.specs.declared.verdict.Fill.TheVariants.{Byte, Item}
-use Rattle.cx_region_state.specs.declared.verdict.Made.{Made}
-use Rattle.cx_region_state.specs.declared.verdict.Made.TheVariants as made
+use Rattle.cx_region_state.specs.declared.verdict.BeforeOutputs.{BeforeOutputs}
+use Rattle.cx_region_state.specs.declared.verdict.BeforeOutputs.TheVariants as made
 use Rattle.cx_region_state.specs.declared.verdict.Request.TheVariants.{Push}
 use Rattle.cx_region_state.specs.declared.verdict.Verdict.{Verdict}
 use Rattle.cx_region_state.specs.declared.verdict.Verdict.TheVariants.{Meets, Refuses, Waits}
-use Rattle.cx_region_state.specs.State.{TaskContext}
+use Rattle.cx_region_state.specs.State.{TaskContext, TaskState}
 use Rattle.cx_region_commands.specs.Common.{does, has, condition_alone}
 use Rattle.cx_region_commands.specs.Abend.{abend_row}
 use Rattle.cx_region_commands.specs.Address.{address_row}
@@ -38,7 +38,7 @@ use Rattle.cx_region_laws.proofs.RowLemmas.{IsApart, IsOfNoOther, deleteq_none, 
 
 -- ---- which changes ask for handles
 unfoldable pub is_request : TaskChange → Bool
-is_request (Makes (made.Handles request)) = true
+is_request (Before (made.Handles request)) = true
 is_request _ = false
 
 apart : IsApart is_request
@@ -81,7 +81,7 @@ push_well : (kept : List Handling) → IsWell (push_row kept)
 unfolding push_row is_request
 push_well kept = go _
   where
-    go : (b : Bool) → IsWell (if b then does (Makes (made.Handles Push)) else condition_alone Invreq)
+    go : (b : Bool) → IsWell (if b then does (Before (made.Handles Push)) else condition_alone Invreq)
     go true = λ e. refl
     go false = λ e. cc
 
@@ -131,34 +131,35 @@ judged_well call r v judged = go call.command judged
     go command.SendText is = row_none v _ is (send_text_none is_request apart r.shared.storage call)
 
 -- ---- levels
-ended_levels : (it : Ended) (r : TaskContext) → (apply_after (Ends it) r).task.levels ≡ r.task.levels
+ended_task : (it : AfterOutputs) (r : TaskContext) → (apply_after (After it) r).task ≡ r.task
 unfolding apply_after
-ended_levels ended.TakesInput r = refl
-ended_levels (ended.ReadOf name n) r = refl
-ended_levels (ended.QueueGone name) r = refl
-ended_levels (ended.Dequeues resource) r = refl
-ended_levels (ended.Frees place) r = refl
+ended_task ended.TakesInput r = refl
+ended_task (ended.MarksRead name n) r = refl
+ended_task (ended.QueueGone name) r = refl
+ended_task (ended.Dequeues resource) r = refl
+ended_task (ended.Frees place) r = refl
 
-read_levels : (fill : Fill) (r : TaskContext) → (read_for fill r).task.levels ≡ r.task.levels
-read_levels (Byte b) r = refl
-read_levels (Item name n) r = refl
+read_task : (fill : Fill) (r : TaskContext) → (read_for fill r).task ≡ r.task
+read_task (Byte b) r = refl
+read_task (Item name n) r = refl
 
-finished_levels : (change : TaskChange) (r : TaskContext) → (apply_after change r).task.levels ≡ r.task.levels
+-- what is done after the outputs leaves the task
+pub finished_task : (change : TaskChange) (r : TaskContext) → (apply_after change r).task ≡ r.task
 unfolding apply_after
-finished_levels Nothing r = refl
-finished_levels (Makes it) r = refl
-finished_levels (Ends it) r = ended_levels it r
-finished_levels (Gets got) r = read_levels got.fill r
-finished_levels (Enters level) r = refl
-finished_levels (Replaces copying level) r = refl
-finished_levels LevelEnds r = refl
-finished_levels (TaskEnds next) r = refl
-finished_levels (AbendsWith code cancel) r = refl
+finished_task Nothing r = refl
+finished_task (Before it) r = refl
+finished_task (After it) r = ended_task it r
+finished_task (Gets got) r = read_task got.fill r
+finished_task (Enters level) r = refl
+finished_task (Replaces copying level) r = refl
+finished_task LevelEnds r = refl
+finished_task (TaskEnds next) r = refl
+finished_task (AbendsWith code cancel) r = refl
 
 levels_at : (before after to : TaskContext) → after ≡ to → to.task.levels ≡ before.task.levels → after.task.levels ≡ before.task.levels
 levels_at before after to e same = ap (λ (r : TaskContext). r.task.levels) e ∙ same
 
-made_levels : (it : Made) (before after : TaskContext) → is_request (Makes it) ≡ false → AppliesBefore (Makes it) before after → after.task.levels ≡ before.task.levels
+made_levels : (it : BeforeOutputs) (before after : TaskContext) → is_request (Before it) ≡ false → AppliesBefore (Before it) before after → after.task.levels ≡ before.task.levels
 unfolding AppliesBefore is_request
 made_levels (made.ItemLast name piece) before after unasked applied = levels_at before after _ applied refl
 made_levels (made.ItemAt name n piece) before after unasked applied = levels_at before after _ applied refl
@@ -169,8 +170,8 @@ made_levels (made.Handles request) before after unasked applied = cc
 applied_levels : (change : TaskChange) (before after : TaskContext) → is_request change ≡ false → AppliesBefore change before after → after.task.levels ≡ before.task.levels
 unfolding AppliesBefore
 applied_levels Nothing before after unasked applied = levels_at before after _ applied refl
-applied_levels (Makes it) before after unasked applied = made_levels it before after unasked applied
-applied_levels (Ends it) before after unasked applied = levels_at before after _ applied refl
+applied_levels (Before it) before after unasked applied = made_levels it before after unasked applied
+applied_levels (After it) before after unasked applied = levels_at before after _ applied refl
 applied_levels (Gets got) before after unasked applied = levels_at before after _ applied refl
 applied_levels (Enters level) before after unasked applied = levels_at before after _ applied refl
 applied_levels (Replaces copying level) before after unasked applied = levels_at before after _ applied refl
@@ -183,4 +184,4 @@ pub settles_levels : (call : Call) (condition : Condition) (outputs : List Outpu
     → Commits call condition outputs change start after → after.task.levels ≡ start.task.levels
 unfolding write_outputs write_report
 settles_levels call condition outputs change start after unasked it =
-    ap (λ (r : TaskContext). r.task.levels) it.committed ∙ finished_levels change _ ∙ applied_levels change start it.made unasked it.applied
+    ap (λ (r : TaskContext). r.task.levels) it.committed ∙ ap (λ (task : TaskState). task.levels) (finished_task change _) ∙ applied_levels change start it.made unasked it.applied

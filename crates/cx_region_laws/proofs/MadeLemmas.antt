@@ -4,14 +4,14 @@ use Rattle.std.specs.Option.{option_map_or}
 use Rattle.std.specs.Int.{w32, to_be_bytes}
 use Rattle.cx_storage.specs.declared.areas.Owner.{Owner}
 use Rattle.cx_storage.specs.Address.{address_after}
-use Rattle.cx_storage.specs.Storage.{Storage, after_write, byte_at, with_area, AreOrdered, IsSound}
+use Rattle.cx_storage.specs.Storage.{Storage, after_write, byte_at, with_area, AreOrdered, IsSoundStorage}
 use Rattle.cx_storage.specs.Facts.Sound.{sound_with_area}
 use Rattle.cx_storage.specs.Facts.Writes.{areas_after_write}
 use Rattle.cx_region_state.specs.declared.verdict.TaskChange.{TaskChange}
-use Rattle.cx_region_state.specs.declared.verdict.TaskChange.TheVariants.{Nothing, Makes, Ends, Gets, Enters, Replaces, LevelEnds, TaskEnds, AbendsWith}
+use Rattle.cx_region_state.specs.declared.verdict.TaskChange.TheVariants.{Nothing, Before, After, Gets, Enters, Replaces, LevelEnds, TaskEnds, AbendsWith}
 use Rattle.cx_region_state.specs.declared.verdict.Copying.{Copying}
-use Rattle.cx_region_state.specs.declared.verdict.Made.{Made}
-use Rattle.cx_region_state.specs.declared.verdict.Made.TheVariants as made
+use Rattle.cx_region_state.specs.declared.verdict.BeforeOutputs.{BeforeOutputs}
+use Rattle.cx_region_state.specs.declared.verdict.BeforeOutputs.TheVariants as made
 use Rattle.cx_region_state.specs.declared.verdict.NewLevel.{NewLevel}
 use Rattle.cx_region_state.specs.Areas.{IsTaskPlace, bytes_in, got_owner, system_owner, with_cap, with_copied, with_copy_area, with_filled, with_stg_area}
 use Rattle.cx_region_state.specs.State.{TaskContext}
@@ -26,11 +26,11 @@ pub record Stays (s t : Storage) : Type 0 where
   pub bytes : (x b : ℕ) → x < 2 ^ 24 → byte_at s x ≡ Some b → byte_at t x ≡ Some b
   pub ordered : AreOrdered t
 
-stays_same : (s t : Storage) → IsSound s → t ≡ s → Stays s t
+stays_same : (s t : Storage) → IsSoundStorage s → t ≡ s → Stays s t
 stays_same s t ok e = subst (Stays s) (sym e) (record { bytes = λ x b low at. at; ordered = order_of s ok })
 
 -- ---- an area got
-area_sound : (s : Storage) (len a : ℕ) (owner : Owner) → IsSound s → 0 < len → IsTaskPlace s len (Some a) → IsSound (with_area s (Some a) len owner)
+area_sound : (s : Storage) (len a : ℕ) (owner : Owner) → IsSoundStorage s → 0 < len → IsTaskPlace s len (Some a) → IsSoundStorage (with_area s (Some a) len owner)
 area_sound s len a owner ok some least = sound_with_area s 0x200000 0xFFFFFF len (Some a) owner ok (omega arith) some least
 
 write_ordered : (s : Storage) (a : ℕ) (bytes : List ℕ) → AreOrdered s → AreOrdered (after_write s a bytes)
@@ -43,7 +43,7 @@ start_leaves s t len a bytes x b least low fits below was there =
     let at : address_after a 0 ≡ a = omega (arith, low) in
     rw at at (inside_leaves s t len a 0 bytes x b least (omega (arith, fits)) below was there)
 
-filled_stays : (s : Storage) (a len : ℕ) (owner : Owner) (bytes : List ℕ) → IsSound s → 0 < len → a < 2 ^ 24 → IsTaskPlace s len (Some a) → length bytes ≤ len → Stays s (with_filled s a len owner bytes)
+filled_stays : (s : Storage) (a len : ℕ) (owner : Owner) (bytes : List ℕ) → IsSoundStorage s → 0 < len → a < 2 ^ 24 → IsTaskPlace s len (Some a) → length bytes ≤ len → Stays s (with_filled s a len owner bytes)
 unfolding with_filled
 filled_stays s a len owner bytes ok some low least fits =
     record {
@@ -63,7 +63,7 @@ pub cap_ordered : (s : Storage) (level : NewLevel) → AreOrdered s → AreOrder
 unfolding with_cap
 cap_ordered s level ok = write_ordered s (address_after level.stg 76) _ ok
 
-stg_stays : (s : Storage) (slot : ℕ) (level : NewLevel) → IsSound s → FitsLevel s level → Stays s (with_stg s slot level)
+stg_stays : (s : Storage) (slot : ℕ) (level : NewLevel) → IsSoundStorage s → FitsLevel s level → Stays s (with_stg s slot level)
 unfolding with_stg
 stg_stays s slot level ok fits =
     let long = fits.program.stg_low in
@@ -73,7 +73,7 @@ stg_stays s slot level ok fits =
     }
 
 -- ---- a level in place of another
-pub copy_sound : (s : Storage) (slot : ℕ) (copying : Option Copying) → IsSound s → FitsCopy copying s → IsSound (with_copy_area s slot copying)
+pub copy_sound : (s : Storage) (slot : ℕ) (copying : Option Copying) → IsSoundStorage s → FitsCopy copying s → IsSoundStorage (with_copy_area s slot copying)
 unfolding with_copy_area
 copy_sound s slot None ok fits = ok
 copy_sound s slot (Some copying) ok fits = area_sound s copying.from.len copying.to (system_owner slot) ok fits.some fits.place
@@ -102,7 +102,7 @@ copied_few : (s : Storage) (copying : Option Copying)
 copied_few s None = omega arith
 copied_few s (Some copying) = bytes_fit s copying.from
 
-replacement_stays : (s : Storage) (slot : ℕ) (copying : Option Copying) (level : NewLevel) → IsSound s → FitsCopy copying s → FitsLevel (with_copy_area s slot copying) level
+replacement_stays : (s : Storage) (slot : ℕ) (copying : Option Copying) (level : NewLevel) → IsSoundStorage s → FitsCopy copying s → FitsLevel (with_copy_area s slot copying) level
     → Stays s (with_replacement s slot copying level)
 unfolding with_replacement
 replacement_stays s slot copying level ok copy fits =
@@ -122,13 +122,13 @@ replacement_stays s slot copying level ok copy fits =
     }
 
 -- ---- each change
-at_once : (before made to : TaskContext) → made ≡ to → IsSound before.shared.storage → to.shared.storage ≡ before.shared.storage → Stays before.shared.storage made.shared.storage
+at_once : (before made to : TaskContext) → made ≡ to → IsSoundStorage before.shared.storage → to.shared.storage ≡ before.shared.storage → Stays before.shared.storage made.shared.storage
 at_once before made to e ok same = stays_same before.shared.storage made.shared.storage ok (ap (λ (r : TaskContext). r.shared.storage) e ∙ same)
 
 stays_at : (before made to : TaskContext) → made ≡ to → Stays before.shared.storage to.shared.storage → Stays before.shared.storage made.shared.storage
 stays_at before made to e stays = subst (λ (r : TaskContext). Stays before.shared.storage r.shared.storage) (sym e) stays
 
-made_stays : (it : Made) (before after : TaskContext) → IsSound before.shared.storage → AppliesBefore (Makes it) before after → Stays before.shared.storage after.shared.storage
+made_stays : (it : BeforeOutputs) (before after : TaskContext) → IsSoundStorage before.shared.storage → AppliesBefore (Before it) before after → Stays before.shared.storage after.shared.storage
 unfolding AppliesBefore
 made_stays (made.ItemLast name piece) before after ok applied = at_once before after _ applied ok refl
 made_stays (made.ItemAt name n piece) before after ok applied = at_once before after _ applied ok refl
@@ -136,12 +136,12 @@ made_stays (made.Enqueues resource) before after ok applied = at_once before aft
 made_stays (made.Shows piece erase) before after ok applied = at_once before after _ applied.others ok refl
 made_stays (made.Handles request) before after ok applied = at_once before after _ applied ok refl
 
-pub applied_stays : (change : TaskChange) (before after : TaskContext) → IsSound before.shared.storage → FitsChange change before → AppliesBefore change before after
+pub applied_stays : (change : TaskChange) (before after : TaskContext) → IsSoundStorage before.shared.storage → FitsChange change before → AppliesBefore change before after
     → Stays before.shared.storage after.shared.storage
 unfolding AppliesBefore with_got
 applied_stays Nothing before after ok fits applied = at_once before after _ applied ok refl
-applied_stays (Makes it) before after ok fits applied = made_stays it before after ok applied
-applied_stays (Ends it) before after ok fits applied = at_once before after _ applied ok refl
+applied_stays (Before it) before after ok fits applied = made_stays it before after ok applied
+applied_stays (After it) before after ok fits applied = at_once before after _ applied ok refl
 applied_stays (Gets got) before after ok fits applied =
     let s = before.shared.storage in
     let some = fits.some in

@@ -22,14 +22,14 @@ use Rattle.cx_region_state.specs.Call.{Call}
 use Rattle.cx_region_state.specs.State.{TaskContext}
 use Rattle.cx_region_state.specs.declared.replies.TurnReply.{TurnReply}
 use Rattle.cx_region_state.specs.declared.replies.TurnReply.TheVariants as turn
-use Rattle.cx_region_state.specs.declared.verdict.Ended.{Ended}
-use Rattle.cx_region_state.specs.declared.verdict.Ended.TheVariants.{TakesInput, ReadOf, QueueGone, Dequeues, Frees}
+use Rattle.cx_region_state.specs.declared.verdict.AfterOutputs.{AfterOutputs}
+use Rattle.cx_region_state.specs.declared.verdict.AfterOutputs.TheVariants.{TakesInput, MarksRead, QueueGone, Dequeues, Frees}
 use Rattle.cx_region_state.specs.declared.verdict.Fill.{Fill}
 use Rattle.cx_region_state.specs.declared.verdict.Fill.TheVariants.{Byte, Item}
 use Rattle.cx_region_state.specs.declared.verdict.NewLevel.{NewLevel}
 use Rattle.cx_region_state.specs.declared.verdict.TaskChange.{TaskChange}
-use Rattle.cx_region_state.specs.declared.verdict.TaskChange.TheVariants.{Nothing, Makes, Ends, Gets, Enters, Replaces, LevelEnds, TaskEnds, AbendsWith}
-use Rattle.cx_region_state.specs.declared.verdict.Verdict.TheVariants.{Meets, Waits}
+use Rattle.cx_region_state.specs.declared.verdict.TaskChange.TheVariants.{Nothing, Before, After, Gets, Enters, Replaces, LevelEnds, TaskEnds, AbendsWith}
+use Rattle.cx_region_state.specs.declared.verdict.Verdict.TheVariants.{Meets}
 use Rattle.cx_region_commands.specs.CommandVerdicts.{HasVerdict}
 use Rattle.cx_region_task.specs.declared.continuation.Continuation.{Continuation}
 use Rattle.cx_region_task.specs.declared.continuation.Continuation.TheVariants as continuation
@@ -122,12 +122,12 @@ function_own : (call : Call) (condition : Condition) (change : TaskChange) (r : 
     → (report_of call condition change r).function ≡ (row_of call.command).function
 unfolding report_of ends_level
 function_own call condition Nothing r e = refl
-function_own call condition (Makes it) r e = refl
-function_own call condition (Ends TakesInput) r e = refl
-function_own call condition (Ends (ReadOf name n)) r e = refl
-function_own call condition (Ends (QueueGone name)) r e = refl
-function_own call condition (Ends (Dequeues resource)) r e = refl
-function_own call condition (Ends (Frees place)) r e = refl
+function_own call condition (Before it) r e = refl
+function_own call condition (After TakesInput) r e = refl
+function_own call condition (After (MarksRead name n)) r e = refl
+function_own call condition (After (QueueGone name)) r e = refl
+function_own call condition (After (Dequeues resource)) r e = refl
+function_own call condition (After (Frees place)) r e = refl
 function_own call condition (Gets got) r e = refl
 function_own call condition (Enters level) r e = refl
 function_own call condition (Replaces copying level) r e = refl
@@ -139,8 +139,8 @@ function_links : (call : Call) (condition : Condition) (change : TaskChange) (r 
     → (report_of call condition change r).function ≡ (row_of command.Link).function
 unfolding report_of ends_level
 function_links call condition Nothing r e = cc
-function_links call condition (Makes it) r e = cc
-function_links call condition (Ends it) r e = cc
+function_links call condition (Before it) r e = cc
+function_links call condition (After it) r e = cc
 function_links call condition (Gets got) r e = cc
 function_links call condition (Enters level) r e = cc
 function_links call condition (Replaces copying level) r e = cc
@@ -151,12 +151,12 @@ function_links call condition (AbendsWith code cancel) r e = cc
 pub number_reported : (call : Call) (condition : Condition) (change : TaskChange) (r : TaskContext) → (report_of call condition change r).condition ≡ (entry_of condition).number
 unfolding report_of
 number_reported call condition Nothing r = refl
-number_reported call condition (Makes it) r = refl
-number_reported call condition (Ends TakesInput) r = refl
-number_reported call condition (Ends (ReadOf name n)) r = refl
-number_reported call condition (Ends (QueueGone name)) r = refl
-number_reported call condition (Ends (Dequeues resource)) r = refl
-number_reported call condition (Ends (Frees place)) r = refl
+number_reported call condition (Before it) r = refl
+number_reported call condition (After TakesInput) r = refl
+number_reported call condition (After (MarksRead name n)) r = refl
+number_reported call condition (After (QueueGone name)) r = refl
+number_reported call condition (After (Dequeues resource)) r = refl
+number_reported call condition (After (Frees place)) r = refl
 number_reported call condition (Gets got) r = refl
 number_reported call condition (Enters level) r = refl
 number_reported call condition (Replaces copying level) r = refl
@@ -167,8 +167,8 @@ number_reported call condition (AbendsWith code cancel) r = refl
 ends_change : (change : TaskChange) → ends_level change ≡ true → continuation_by change ≡ continuation.LevelEnds
 unfolding ends_level
 ends_change Nothing e = cc
-ends_change (Makes it) e = cc
-ends_change (Ends it) e = cc
+ends_change (Before it) e = cc
+ends_change (After it) e = cc
 ends_change (Gets got) e = cc
 ends_change (Enters level) e = cc
 ends_change (Replaces copying level) e = cc
@@ -207,10 +207,10 @@ function_reported reply call condition outputs change before committed after jud
 ]
 
 -- ---- what is freed when all is done, and on the way
-pub ended_freed : (it : Ended) (r : TaskContext) → IsFreed r.shared.storage (apply_after (Ends it) r).shared.storage
+pub ended_freed : (it : AfterOutputs) (r : TaskContext) → IsFreed r.shared.storage (apply_after (After it) r).shared.storage
 unfolding apply_after
 ended_freed TakesInput r = none_freed _ _ refl
-ended_freed (ReadOf name n) r = none_freed _ _ refl
+ended_freed (MarksRead name n) r = none_freed _ _ refl
 ended_freed (QueueGone name) r = none_freed _ _ refl
 ended_freed (Dequeues resource) r = none_freed _ _ refl
 ended_freed (Frees place) r = record { keeps = starts_elsewhere place; is = refl }
@@ -222,8 +222,8 @@ read_freed (Item name n) r = none_freed _ _ refl
 pub finished_freed : (change : TaskChange) (r : TaskContext) → IsFreed r.shared.storage (apply_after change r).shared.storage
 unfolding apply_after
 finished_freed Nothing r = none_freed _ _ refl
-finished_freed (Makes it) r = none_freed _ _ refl
-finished_freed (Ends it) r = ended_freed it r
+finished_freed (Before it) r = none_freed _ _ refl
+finished_freed (After it) r = ended_freed it r
 finished_freed (Gets got) r = read_freed got.fill r
 finished_freed (Enters level) r = none_freed _ _ refl
 finished_freed (Replaces copying level) r = none_freed _ _ refl

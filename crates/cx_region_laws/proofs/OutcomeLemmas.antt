@@ -20,37 +20,37 @@ use Rattle.cx_region_state.specs.Inputs.{are_inputs_there}
 use Rattle.cx_service.specs.Lines.{AreLinesOf}
 use Rattle.cx_storage.specs.Storage.{Storage}
 use Rattle.cx_region_commands.specs.CommandVerdicts.{HasVerdict, JudgedBy}
-use Rattle.cx_region_commands.specs.Common.{AtPlace, commarea_of, has, name_at, named_program}
+use Rattle.cx_region_commands.specs.Common.{AtPlace, commarea_of, condition_alone, has, name_at, named_program}
 use Rattle.cx_region_commands.specs.Getmain.{GetmainRow, asked_len, is_area_length}
 use Rattle.cx_region_commands.specs.Link.{LinkRow, Links}
-use Rattle.cx_region_commands.specs.ReadqTs.{ReadqRow, Reads, ReadsItem, item_asked, reading_of}
+use Rattle.cx_region_commands.specs.ReadqTs.{ReadqRow, ReadsQueueItem}
 use Rattle.cx_region_commands.specs.Xctl.{Copies, Transfers, XctlRow, XctlTo, copying_to, replaces}
 use Rattle.cx_region_commands.specs.declared.common.Called.{Called}
-use Rattle.cx_region_commands.specs.declared.readq_ts.Reading.{Reading}
-use Rattle.cx_region_state.specs.Inputs.{is_length_negative}
+use Rattle.cx_service.specs.declared.queues.Reading.{Reading}
+use Rattle.cx_region_state.specs.Inputs.{halfword_of, is_length_negative}
 use Rattle.cx_region_state.specs.declared.call.CallFault.{CallFault}
 use Rattle.cx_region_state.specs.declared.inputs.StorageSpan.{StorageSpan}
 use Rattle.cx_region_state.specs.Areas.{bytes_in, first_of_tasks, last_of_tasks, with_copy_area}
 use Rattle.cx_region_state.specs.State.{Input, TaskContext, TaskState}
 use Rattle.cx_region_state.specs.declared.replies.TurnReply.{TurnReply}
 use Rattle.cx_region_state.specs.declared.replies.TurnReply.TheVariants as turn
-use Rattle.cx_region_state.specs.declared.verdict.Made.{Made}
-use Rattle.cx_region_state.specs.declared.verdict.Made.TheVariants as made
+use Rattle.cx_region_state.specs.declared.verdict.BeforeOutputs.{BeforeOutputs}
+use Rattle.cx_region_state.specs.declared.verdict.BeforeOutputs.TheVariants as made
 use Rattle.cx_region_state.specs.declared.verdict.TaskChange.{TaskChange}
-use Rattle.cx_region_state.specs.declared.verdict.TaskChange.TheVariants.{Makes, Gets, Enters, Replaces, TaskEnds}
+use Rattle.cx_region_state.specs.declared.verdict.TaskChange.TheVariants.{Before, Gets, Enters, Replaces, TaskEnds}
 use Rattle.cx_region_state.specs.declared.verdict.Verdict.{Verdict}
 use Rattle.cx_region_state.specs.declared.verdict.Verdict.TheVariants.{Refuses}
 use Rattle.cx_region_task.specs.Decisions.{decision_by}
 use Rattle.cx_region_task.specs.Changes.{AppliesBefore, apply_after, report_of, write_outputs, write_report}
-use Rattle.cx_region_task.specs.Performing.{CarriesOut, Decides, DecidesCall, Does, LeavesAll, fault_abend, list_of}
+use Rattle.cx_region_task.specs.Performing.{CarriesOut, Decides, DecidesCall, Does, LeavesAll, fault_abend, argument_list}
 use Rattle.cx_region_task.specs.declared.cause.AbendRecord.{AbendRecord}
 use Rattle.cx_region_task.specs.declared.decision.Act.{Act}
 use Rattle.cx_region_task.specs.declared.decision.Decision.{Decision}
 use Rattle.cx_region_task.specs.declared.decision.Decision.TheVariants as decision
 use Rattle.cx_region_task.specs.Turn.{EndsRun, HalfTurnWith, PerformsCommand, RunsOn, after_machine, machine_of}
-use Rattle.cx_service.specs.Queues.{Queues, read_fault}
+use Rattle.cx_service.specs.Queues.{Queues, queue_of, reading_of_queue}
 use Rattle.cx_service.specs.Screen.{screen_before_text, with_lines}
-use Rattle.cx_service.specs.declared.faults.ServiceFault.{ServiceFault}
+use Rattle.cx_base.specs.declared.conditions.Condition.TheVariants.{Itemerr}
 use Rattle.cx_region.specs.Alter.{Alters, alter_refusal, altered_region}
 use Rattle.cx_region.specs.Attach.{Gives, OnlyAnswers, StartsTask, TakesKey, input_from, transaction_named}
 use Rattle.cx_region.specs.Defining.{DefinesProgram, DefinesTerminal, DefinesTransaction, LoadsProgram, program_fault, terminal_fault, transaction_fault}
@@ -107,20 +107,23 @@ link storage programs levels call =
     either _ _ (is_length_negative storage call) (_, refl)
     (optional _ (λ called verdict. Links storage call levels called verdict) (named_program storage call programs) (_, refl) (λ called. links storage call levels called))
 
-reads : (storage : Storage) (call : Call) (reading : Reading) → Found (Reads storage call reading)
-unfolding Reads
-reads storage call reading = either _ _ (has call option.Set) (at_place _ _ _) (_, refl)
+reads : (storage : Storage) (call : Call) (name : List ℕ) (reading : Reading) → Found (ReadsQueueItem storage call name reading)
+unfolding ReadsQueueItem
+reads storage call name reading = either _ _ (has call option.Set) (at_place _ _ _) (_, refl)
 
-reads_item : (storage : Storage) (queues : Queues) (call : Call) (name : List ℕ) (n : ℕ) (fault : Option ServiceFault) → Found (ReadsItem storage queues call name n fault)
-reads_item storage queues call name n None = reads storage call (reading_of queues name n)
-reads_item storage queues call name n (Some fault) = (_, refl)
+reads_in : (storage : Storage) (call : Call) (name : List ℕ) (o : Option Reading)
+    → Found (λ verdict. MatchOption o (verdict ≡ condition_alone Itemerr) (λ reading. ReadsQueueItem storage call name reading verdict))
+reads_in storage call name o = optional _ (λ reading verdict. ReadsQueueItem storage call name reading verdict) o (_, refl) (reads storage call name)
 
 readq : (storage : Storage) (queues : Queues) (call : Call) → Found (ReadqRow storage queues call)
 unfolding ReadqRow
 readq storage queues call =
     let name = name_at storage call option.Queue in
-    let n = item_asked storage queues call name in
-    either _ _ (has call option.Into && is_length_negative storage call) (_, refl) (reads_item storage queues call name n (read_fault queues name n))
+    let asked = halfword_of storage call option.Item in
+    either _ _ (has call option.Into && is_length_negative storage call) (_, refl)
+    (optional _
+    (λ queue verdict. MatchOption (reading_of_queue asked queue) (verdict ≡ condition_alone Itemerr) (λ reading. ReadsQueueItem storage call name reading verdict))
+    (queue_of queues name) (_, refl) (λ queue. reads_in storage call name (reading_of_queue asked queue)))
 
 copies_to : (storage : Storage) (slot : ℕ) (called : Called) (piece : StorageSpan) → (place : Option ℕ)
     → Found (λ verdict. MatchOption place (verdict ≡ Refuses abend.Xstg) (λ to. Transfers storage slot called (Some (copying_to piece to)) verdict))
@@ -157,7 +160,7 @@ unfolding HasVerdict
 has_verdict call r = judged call.command call r
 
 -- ---- what a verdict leads to
-made_of : HaveLines → (it : Made) (before : TaskContext) → Found (AppliesBefore (Makes it) before)
+made_of : HaveLines → (it : BeforeOutputs) (before : TaskContext) → Found (AppliesBefore (Before it) before)
 unfolding AppliesBefore
 made_of law (made.ItemLast name piece) before = (_, refl)
 made_of law (made.ItemAt name n piece) before = (_, refl)
@@ -170,7 +173,7 @@ made_of law (made.Handles request) before = (_, refl)
 
 applied : HaveLines → (change : TaskChange) (before : TaskContext) → Found (AppliesBefore change before)
 unfolding AppliesBefore
-applied law (Makes it) before = made_of law it before
+applied law (Before it) before = made_of law it before
 applied law (Gets got) before = (_, refl)
 applied law (Enters level) before = (_, refl)
 applied law (Replaces copying level) before = (_, refl)
@@ -198,7 +201,7 @@ decides_call call before = let verdict = has_verdict call before in (decision_by
 
 decides : (before : TaskContext) → Found (Decides before)
 unfolding Decides
-decides before = go (call_of before.shared.storage (list_of before.task))
+decides before = go (call_of before.shared.storage (argument_list before.task))
   where
     go : (r : Result Call CallFault)
         → Found (λ decided. MatchResult r (λ call. MatchBool (are_inputs_there before.shared.storage call) (DecidesCall call before decided) (decided ≡ decision.Refuse (Some call) abend.Xarg))

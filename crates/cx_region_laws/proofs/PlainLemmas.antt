@@ -7,15 +7,16 @@ use Rattle.std.proofs.lemmas.Bool.{cases_Bool, ltb-true}
 use Rattle.cx_base.specs.declared.abends.Abend.TheVariants as abend
 use Rattle.cx_base.specs.declared.commands.Command.{Command}
 use Rattle.cx_base.specs.declared.commands.Command.TheVariants as command
-use Rattle.cx_base.specs.declared.conditions.Condition.TheVariants.{Invreq, Lengerr, Qiderr}
+use Rattle.cx_base.specs.declared.conditions.Condition.TheVariants.{Itemerr, Lengerr, Qiderr}
 use Rattle.cx_base.specs.declared.options.OptionName.TheVariants as option
 use Rattle.cx_base.specs.Arguments.{bytes_of_length}
 use Rattle.cx_storage.specs.Storage.{Storage, area_at}
 use Rattle.cx_program.specs.declared.entries.Handling.{Handling}
 use Rattle.cx_program.specs.declared.level.Level.{Level}
 use Rattle.cx_service.specs.declared.faults.ServiceFault.{ServiceFault}
+use Rattle.cx_service.specs.declared.queues.Reading.{Reading}
 use Rattle.cx_service.specs.declared.faults.ServiceFault.TheVariants as fault
-use Rattle.cx_service.specs.Queues.{Queues, count_of, read_fault, rewrite_fault, write_fault}
+use Rattle.cx_service.specs.Queues.{Queues, count_of, queue_of, reading_of_queue, rewrite_fault, write_fault}
 use Rattle.cx_service.specs.Resources.{enq_fault}
 use Rattle.cx_region_state.specs.Call.{Call}
 use Rattle.cx_region_state.specs.declared.inputs.StorageSpan.{StorageSpan}
@@ -26,9 +27,9 @@ use Rattle.cx_region_state.specs.Inputs.{halfword_of, is_length_negative, length
 use Rattle.cx_region_state.specs.Areas.{IsTaskPlace}
 use Rattle.cx_region_state.specs.State.{Input, TaskContext}
 use Rattle.cx_region_state.specs.declared.verdict.TaskChange.{TaskChange}
-use Rattle.cx_region_state.specs.declared.verdict.TaskChange.TheVariants.{Nothing, Makes, Ends, Gets}
+use Rattle.cx_region_state.specs.declared.verdict.TaskChange.TheVariants.{Nothing, Before, After, Gets}
 use Rattle.cx_region_state.specs.declared.verdict.Copying.{Copying}
-use Rattle.cx_region_state.specs.declared.verdict.Ended.TheVariants.{Frees}
+use Rattle.cx_region_state.specs.declared.verdict.AfterOutputs.TheVariants.{Frees}
 use Rattle.cx_region_state.specs.declared.verdict.Verdict.{Verdict}
 use Rattle.cx_region_state.specs.declared.verdict.Verdict.TheVariants.{Meets, Refuses, Waits}
 use Rattle.cx_region_commands.specs.declared.common.Called.{Called}
@@ -45,7 +46,7 @@ use Rattle.cx_region_commands.specs.HandleAbend.{handle_abend_row}
 use Rattle.cx_region_commands.specs.Handling.{handle_row, ignore_row, pop_row, push_row}
 use Rattle.cx_region_commands.specs.CommandVerdicts.{HasVerdict, JudgedBy}
 use Rattle.cx_region_commands.specs.Link.{LinkRow, Links, enters}
-use Rattle.cx_region_commands.specs.ReadqTs.{ReadqRow, Reads, ReadsItem, item_asked, reading_of, reads_into, reads_to}
+use Rattle.cx_region_commands.specs.ReadqTs.{ReadqRow, ReadsQueueItem, reads_into, reads_to}
 use Rattle.cx_region_commands.specs.Receive.{receive_row}
 use Rattle.cx_region_commands.specs.Return.{return_row}
 use Rattle.cx_region_commands.specs.SendText.{send_text_row}
@@ -67,9 +68,9 @@ AreShort outputs = AllByRecursion (λ output. IsShort output.source) outputs
 -- the change frees no area, and begins or ends no level
 abbrev pub keeps_areas : TaskChange → Bool
 keeps_areas Nothing = true
-keeps_areas (Makes made) = true
-keeps_areas (Ends (Frees place)) = false
-keeps_areas (Ends ended) = true
+keeps_areas (Before made) = true
+keeps_areas (After (Frees place)) = false
+keeps_areas (After ended) = true
 keeps_areas (Gets got) = true
 keeps_areas _ = false
 
@@ -124,26 +125,24 @@ getmain_plain s call v row =
         row_plain v _ is (inr (refl, (omega (arith, ends), tt)))
 
 readq_plain : (s : Storage) (queues : Queues) (call : Call) (v : Verdict) → ReadqRow s queues call v → IsPlain v
-unfolding ReadqRow Reads
+unfolding ReadqRow ReadsQueueItem
 readq_plain s queues call v row =
     by_test (has call option.Into && is_length_negative s call) row
     (λ _ is. row_plain v (condition_alone Lengerr) is (inl refl))
-    (λ _ reads.
-    let name = name_at s call option.Queue in
-    by_fault name (item_asked s queues call name) (read_fault queues name (item_asked s queues call name)) reads)
+    (λ _ reads. by_option (queue_of queues name) reads (λ is. row_plain v (condition_alone Qiderr) is (inl refl))
+    (λ queue _ found. by_option (reading_of_queue (halfword_of s call option.Item) queue) found (λ is. row_plain v (condition_alone Itemerr) is (inl refl))
+    (λ reading _ item. by_test (has call option.Set) item
+    (λ _ at. placed reading at.place at.least at.is)
+    (λ _ is. row_plain v (reads_into (length_option s call) name reading) is (inr (refl, (measured_few s call, (tt, (tt, tt)))))))))
   where
-    placed : (name : List ℕ) (n : ℕ) (place : Option ℕ) → IsTaskPlace s (reading_of queues name n).len place → v ≡ reads_to (reading_of queues name n) place → IsPlain v
-    placed name n None least is = row_plain v _ is (inl refl)
-    placed name n (Some place) least is =
-        let ends = placed_ends s (reading_of queues name n).len place least in
-        row_plain v _ is (inr (refl, (tt, (omega (arith, ends), (tt, tt)))))
+    name : List ℕ
+    name = name_at s call option.Queue
 
-    by_fault : (name : List ℕ) (n : ℕ) (o : Option ServiceFault) → ReadsItem s queues call name n o v → IsPlain v
-    by_fault name n None reads =
-        by_test (has call option.Set) reads
-        (λ _ at. placed name n at.place at.least at.is)
-        (λ _ is. row_plain v (reads_into (length_option s call) (reading_of queues name n)) is (inr (refl, (measured_few s call, (tt, (tt, tt))))))
-    by_fault name n (Some fault) is = row_plain v (fault_or_verdict (Some fault) (condition_alone Qiderr)) is (unless_plain (Some fault) (condition_alone Qiderr) (inl refl))
+    placed : (reading : Reading) (place : Option ℕ) → IsTaskPlace s reading.len place → v ≡ reads_to name reading place → IsPlain v
+    placed reading None least is = row_plain v _ is (inl refl)
+    placed reading (Some place) least is =
+        let ends = placed_ends s reading.len place least in
+        row_plain v _ is (inr (refl, (tt, (omega (arith, ends), (tt, tt)))))
 
 writeq_plain : (s : Storage) (queues : Queues) (call : Call) → IsPlain (writeq_row s queues call)
 unfolding writeq_row

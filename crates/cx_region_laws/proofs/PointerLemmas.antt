@@ -20,23 +20,23 @@ use Rattle.cx_region_commands.specs.Common.{output as output_of}
 use Rattle.cx_region_commands.specs.CommandVerdicts.{HasVerdict}
 use Rattle.cx_region_state.specs.declared.replies.TurnReply.TheVariants as turn
 use Rattle.cx_region_state.specs.declared.verdict.TaskChange.{TaskChange}
-use Rattle.cx_region_state.specs.declared.verdict.TaskChange.TheVariants.{Nothing, Makes, Ends, Gets, Enters, Replaces, LevelEnds, TaskEnds, AbendsWith}
-use Rattle.cx_region_state.specs.declared.verdict.Ended.{Ended}
-use Rattle.cx_region_state.specs.declared.verdict.Ended.TheVariants.{TakesInput, ReadOf, QueueGone, Dequeues, Frees}
+use Rattle.cx_region_state.specs.declared.verdict.TaskChange.TheVariants.{Nothing, Before, After, Gets, Enters, Replaces, LevelEnds, TaskEnds, AbendsWith}
+use Rattle.cx_region_state.specs.declared.verdict.AfterOutputs.{AfterOutputs}
+use Rattle.cx_region_state.specs.declared.verdict.AfterOutputs.TheVariants.{TakesInput, MarksRead, QueueGone, Dequeues, Frees}
 use Rattle.cx_region_state.specs.declared.verdict.Fill.{Fill}
 use Rattle.cx_region_state.specs.declared.verdict.Fill.TheVariants.{Byte, Item}
-use Rattle.cx_region_state.specs.declared.verdict.Made.{Made}
-use Rattle.cx_region_state.specs.declared.verdict.Made.TheVariants as made
-use Rattle.cx_region_state.specs.declared.verdict.Verdict.TheVariants.{Meets, Waits}
+use Rattle.cx_region_state.specs.declared.verdict.BeforeOutputs.{BeforeOutputs}
+use Rattle.cx_region_state.specs.declared.verdict.BeforeOutputs.TheVariants as made
+use Rattle.cx_region_state.specs.declared.verdict.Verdict.TheVariants.{Meets}
 use Rattle.cx_region_state.specs.Areas.{got_owner, with_filled}
-use Rattle.cx_region_state.specs.State.{TaskContext}
+use Rattle.cx_region_state.specs.State.{TaskContext, TaskState}
 use Rattle.cx_region_state.specs.Verdicts.{handed_over}
 use Rattle.cx_region_task.specs.declared.continuation.Continuation.{Continuation}
 use Rattle.cx_region_task.specs.declared.continuation.Continuation.TheVariants as continuation
 use Rattle.cx_region_task.specs.Abends.{Abends, AbendsAt}
 use Rattle.cx_region_task.specs.Decisions.{has_room, continuation_at}
 use Rattle.cx_region_task.specs.Changes.{AppliesBefore, Commits, fill_bytes, apply_after, write_outputs, read_for, report_of, write_report, with_got}
-use Rattle.cx_region_task.specs.Performing.{LeavesAll, list_of}
+use Rattle.cx_region_task.specs.Performing.{LeavesAll, argument_list}
 use Rattle.cx_region_task.specs.Facts.Met.{IsMet, by_decision}
 use Rattle.cx_region_task.specs.declared.cause.AbendRecord.{AbendRecord}
 use Rattle.cx_region_task.specs.Turn.{HalfTurn, HalfTurnWith, PerformsCommand, EndsRun, RunsOn}
@@ -46,6 +46,7 @@ use Rattle.cx_region_laws.specs.Laws.Pointers.{OutputsStand, OutputsStay, Pointe
 use Rattle.cx_region_laws.proofs.ClearLemmas.{clear_of}
 use Rattle.cx_region_laws.proofs.CommandLemmas.{call_low, resource_reported, text_same}
 use Rattle.cx_region_laws.proofs.AppliedLemmas.{applied_task}
+use Rattle.cx_region_laws.proofs.LevelLemmas.{finished_task}
 use Rattle.cx_region_laws.proofs.PlainLemmas.{AreShort, IsShort, judged_plain, keeps_areas}
 use Rattle.cx_region_laws.proofs.StandLemmas.{KeepsPresent, area_present, puts_stand, report_elsewhere, room_in, short_bytes, short_in, spans_kept, word_stands, write_present}
 use Rattle.cx_region_laws.proofs.WrittenLemmas.{AreLow, resource_fits}
@@ -54,7 +55,7 @@ use Rattle.cx_region_laws.proofs.WrittenLemmas.{AreLow, resource_fits}
 abbrev program_of : TaskContext → List ℕ × ℕ
 program_of r = (r.task.regs, r.task.cc)
 
-made_program : (it : Made) (before after : TaskContext) → AppliesBefore (Makes it) before after → program_of after ≡ program_of before
+made_program : (it : BeforeOutputs) (before after : TaskContext) → AppliesBefore (Before it) before after → program_of after ≡ program_of before
 unfolding AppliesBefore
 made_program (made.ItemLast name piece) before after applied = ap program_of applied
 made_program (made.ItemAt name n piece) before after applied = ap program_of applied
@@ -65,8 +66,8 @@ made_program (made.Handles request) before after applied = ap program_of applied
 applied_program : (change : TaskChange) (before after : TaskContext) → AppliesBefore change before after → program_of after ≡ program_of before
 unfolding AppliesBefore
 applied_program Nothing before after applied = ap program_of applied
-applied_program (Makes it) before after applied = made_program it before after applied
-applied_program (Ends it) before after applied = ap program_of applied
+applied_program (Before it) before after applied = made_program it before after applied
+applied_program (After it) before after applied = ap program_of applied
 applied_program (Gets got) before after applied = ap program_of applied
 applied_program (Enters level) before after applied = ap program_of applied
 applied_program (Replaces copying level) before after applied = ap program_of applied
@@ -74,35 +75,11 @@ applied_program LevelEnds before after applied = ap program_of applied
 applied_program (TaskEnds next) before after applied = ap program_of applied
 applied_program (AbendsWith code cancel) before after applied = ap program_of applied
 
-ended_program : (it : Ended) (r : TaskContext) → program_of (apply_after (Ends it) r) ≡ program_of r
-unfolding apply_after
-ended_program TakesInput r = refl
-ended_program (ReadOf name n) r = refl
-ended_program (QueueGone name) r = refl
-ended_program (Dequeues resource) r = refl
-ended_program (Frees place) r = refl
-
-read_program : (fill : Fill) (r : TaskContext) → program_of (read_for fill r) ≡ program_of r
-read_program (Byte b) r = refl
-read_program (Item name n) r = refl
-
-finished_program : (change : TaskChange) (r : TaskContext) → program_of (apply_after change r) ≡ program_of r
-unfolding apply_after
-finished_program Nothing r = refl
-finished_program (Makes it) r = refl
-finished_program (Ends it) r = ended_program it r
-finished_program (Gets got) r = read_program got.fill r
-finished_program (Enters level) r = refl
-finished_program (Replaces copying level) r = refl
-finished_program LevelEnds r = refl
-finished_program (TaskEnds next) r = refl
-finished_program (AbendsWith code cancel) r = refl
-
 settles_program : (call : Call) (condition : Condition) (outputs : List Output) (change : TaskChange) (start after : TaskContext) → Commits call condition outputs change start after
     → program_of after ≡ program_of start
 unfolding write_outputs write_report
 settles_program call condition outputs change start after it =
-    ap program_of it.committed ∙ finished_program change _ ∙ applied_program change start it.made it.applied
+    ap program_of it.committed ∙ ap (λ (task : TaskState). (task.regs, task.cc)) (finished_task change _) ∙ applied_program change start it.made it.applied
 
 -- ---- storage
 got_present : (before : TaskContext) (s : Storage) (place len : ℕ) (bytes : List ℕ) → KeepsPresent s (with_filled s place len (got_owner before.terminal_entry.slot) bytes)
@@ -114,7 +91,7 @@ got_present before s place len bytes x there =
 same_present : (before after to : TaskContext) → after ≡ to → KeepsPresent before.shared.storage to.shared.storage → KeepsPresent before.shared.storage after.shared.storage
 same_present before after to e keeps = subst (λ (r : TaskContext). KeepsPresent before.shared.storage r.shared.storage) (sym e) keeps
 
-made_present : (it : Made) (before after : TaskContext) → AppliesBefore (Makes it) before after → KeepsPresent before.shared.storage after.shared.storage
+made_present : (it : BeforeOutputs) (before after : TaskContext) → AppliesBefore (Before it) before after → KeepsPresent before.shared.storage after.shared.storage
 unfolding AppliesBefore
 made_present (made.ItemLast name piece) before after applied = same_present before after _ applied (λ x e. e)
 made_present (made.ItemAt name n piece) before after applied = same_present before after _ applied (λ x e. e)
@@ -125,8 +102,8 @@ made_present (made.Handles request) before after applied = same_present before a
 applied_present : (change : TaskChange) (before after : TaskContext) → keeps_areas change ≡ true → AppliesBefore change before after → KeepsPresent before.shared.storage after.shared.storage
 unfolding AppliesBefore with_got
 applied_present Nothing before after keeps applied = same_present before after _ applied (λ x e. e)
-applied_present (Makes it) before after keeps applied = made_present it before after applied
-applied_present (Ends it) before after keeps applied = same_present before after _ applied (λ x e. e)
+applied_present (Before it) before after keeps applied = made_present it before after applied
+applied_present (After it) before after keeps applied = same_present before after _ applied (λ x e. e)
 applied_present (Gets got) before after keeps applied =
     same_present before after _ applied (got_present before before.shared.storage got.place got.len (fill_bytes got.fill got.len before.shared.queues))
 applied_present (Enters level) before after keeps applied = cc
@@ -135,10 +112,10 @@ applied_present LevelEnds before after keeps applied = cc
 applied_present (TaskEnds next) before after keeps applied = cc
 applied_present (AbendsWith code cancel) before after keeps applied = cc
 
-ended_storage : (it : Ended) (r : TaskContext) → keeps_areas (Ends it) ≡ true → (apply_after (Ends it) r).shared.storage ≡ r.shared.storage
+ended_storage : (it : AfterOutputs) (r : TaskContext) → keeps_areas (After it) ≡ true → (apply_after (After it) r).shared.storage ≡ r.shared.storage
 unfolding apply_after
 ended_storage TakesInput r keeps = refl
-ended_storage (ReadOf name n) r keeps = refl
+ended_storage (MarksRead name n) r keeps = refl
 ended_storage (QueueGone name) r keeps = refl
 ended_storage (Dequeues resource) r keeps = refl
 ended_storage (Frees place) r keeps = cc
@@ -150,8 +127,8 @@ read_storage (Item name n) r = refl
 finished_storage : (change : TaskChange) (r : TaskContext) → keeps_areas change ≡ true → (apply_after change r).shared.storage ≡ r.shared.storage
 unfolding apply_after
 finished_storage Nothing r keeps = refl
-finished_storage (Makes it) r keeps = refl
-finished_storage (Ends it) r keeps = ended_storage it r keeps
+finished_storage (Before it) r keeps = refl
+finished_storage (After it) r keeps = ended_storage it r keeps
 finished_storage (Gets got) r keeps = read_storage got.fill r
 finished_storage (Enters level) r keeps = refl
 finished_storage (Replaces copying level) r keeps = refl
@@ -162,7 +139,7 @@ finished_storage (AbendsWith code cancel) r keeps = refl
 -- ---- the command that is answered so
 record IsDone (condition : Condition) (before after : TaskContext) : Type 0 where
   call : Call
-  reads : call_of before.shared.storage (list_of before.task) ≡ Ok call
+  reads : call_of before.shared.storage (argument_list before.task) ≡ Ok call
   outputs : List Output
   change : TaskChange
   judged : HasVerdict call before (Meets condition outputs change)
@@ -320,7 +297,7 @@ pointers_stand condition before after done places low front later option place p
 pub outputs_stay : CallIsRead → OutputsStay
 outputs_stay law before after condition ok own half =
     let done = (half_done condition before after half).1 in
-    let places = call_low before.shared.storage (list_of before.task) done.call ((law before.shared.storage (list_of before.task) done.call ok (omega arith)).0 done.reads) in
+    let places = call_low before.shared.storage (argument_list before.task) done.call ((law before.shared.storage (argument_list before.task) done.call ok (omega arith)).0 done.reads) in
     let ends = (clear_of before.shared.storage before.terminal_entry.slot before.task ok own).low in
     let low : before.task.eib < 2 ^ 24 = omega (arith, ends) in
     record {

@@ -7,13 +7,13 @@ use Rattle.cx_base.specs.declared.eib.EibField.{EibField}
 use Rattle.cx_base.specs.declared.eib.EibField.TheVariants.{Calen, Fn, Rcode, Resp, Rsrce}
 use Rattle.cx_base.specs.Eib.{eib_field, eib_len}
 use Rattle.cx_storage.specs.Address.{address_after}
-use Rattle.cx_storage.specs.Storage.{Storage, after_write, area_from, byte_at, span, AreOrdered, IsSound as IsSoundStorage}
+use Rattle.cx_storage.specs.Storage.{Storage, after_write, area_from, byte_at, span, AreOrdered, IsSoundStorage}
 use Rattle.cx_storage.specs.Facts.Areas.{area_bounds, area_span}
 use Rattle.cx_storage.specs.Facts.Spans.{span_at, span_first, span_from, span_length}
 use Rattle.cx_storage.specs.Facts.Writes.{span_present_after_write}
-use Rattle.cx_region_state.specs.declared.answer.Answer.{Answer}
+use Rattle.cx_region_state.specs.declared.report.CommandReport.{CommandReport}
 use Rattle.cx_region_state.specs.declared.outputs.Output.{Output}
-use Rattle.cx_region_state.specs.Answer.{resource_of, with_answer, with_eib}
+use Rattle.cx_region_state.specs.Report.{resource_of, with_report, with_eib}
 use Rattle.cx_region_state.specs.Call.{Call, call_of, place_of, resp_place}
 use Rattle.cx_region_state.specs.Laws.Calls.{CallIsRead}
 use Rattle.cx_region_state.specs.Outputs.{bytes_from, put_out, with_output}
@@ -30,7 +30,7 @@ use Rattle.cx_region_state.specs.State.{TaskContext}
 use Rattle.cx_region_state.specs.Verdicts.{handed_over}
 use Rattle.cx_region_task.specs.Changes.{AppliesBefore, Commits, report_of, write_outputs, write_report}
 use Rattle.cx_region_task.specs.Laws.HalfTurns.{HalfTurnsKeep}
-use Rattle.cx_region_task.specs.Performing.{list_of}
+use Rattle.cx_region_task.specs.Performing.{argument_list}
 use Rattle.cx_region_task.specs.Facts.Met.{IsMet}
 use Rattle.cx_region_task.specs.Turn.{HalfTurn}
 use Rattle.cx_region_laws.specs.Laws.Bytes.{is_among}
@@ -76,7 +76,7 @@ put_from before call outputs change made = put_out made.shared.storage call (han
 
 abbrev pub answered_from : TaskContext → Call → Condition → List Output → TaskChange → TaskContext → Storage
 answered_from before call condition outputs change made =
-    with_answer (put_from before call outputs change made) before.task.eib call (report_of call condition change before)
+    with_report (put_from before call outputs change made) before.task.eib call (report_of call condition change before)
 
 -- a storage that comes from it
 pub record IsAnswered (before : TaskContext) (call : Call) (condition : Condition) (outputs : List Output) (change : TaskChange) (t : Storage) : Type 0 where
@@ -93,8 +93,8 @@ commits_answered before call condition outputs change committed commits =
     let written = write_report call answer (write_outputs call outputs change made) in
     let task = applied_task change before made commits.applied in
     let same : written.shared.storage ≡ answered_from before call condition outputs change made =
-    ap (λ (text : List ℕ). with_answer (put_out made.shared.storage call text outputs) made.task.eib call answer) (text_same change before made commits.applied)
-    ∙ ap (λ (eib : ℕ). with_answer (put_from before call outputs change made) eib call answer) task.eib in
+    ap (λ (text : List ℕ). with_report (put_out made.shared.storage call text outputs) made.task.eib call answer) (text_same change before made commits.applied)
+    ∙ ap (λ (eib : ℕ). with_report (put_from before call outputs change made) eib call answer) task.eib in
     let freed : IsFreed written.shared.storage committed.shared.storage = subst (λ (r : TaskContext). IsFreed written.shared.storage r.shared.storage) (sym commits.committed) (finished_freed change written) in
     record { made = made; applied = commits.applied; freed = subst (λ (s : Storage). IsFreed s committed.shared.storage) same freed }
 
@@ -141,13 +141,13 @@ pub record InStorage (before : TaskContext) (call : Call) (condition : Condition
   pub report : StoresReport before call condition outputs change t
   pub calen : (n : ℕ) → (report_of call condition change before).calen ≡ Some n → field_at t before.task.eib Calen ≡ Some (to_be_bytes w16 n)
 
-pub low_places : CallIsRead → (before : TaskContext) (call : Call) → IsSoundContext before → call_of before.shared.storage (list_of before.task) ≡ Ok call → AreLow call.places
-low_places law before call ok reads = call_low before.shared.storage (list_of before.task) call ((law before.shared.storage (list_of before.task) call ok.storage (omega arith)).0 reads)
+pub low_places : CallIsRead → (before : TaskContext) (call : Call) → IsSoundContext before → call_of before.shared.storage (argument_list before.task) ≡ Ok call → AreLow call.places
+low_places law before call ok reads = call_low before.shared.storage (argument_list before.task) call ((law before.shared.storage (argument_list before.task) call ok.storage (omega arith)).0 reads)
 
 pub in_storage : (before : TaskContext) (call : Call) (condition : Condition) (outputs : List Output) (change : TaskChange) (t : Storage) (slot : ℕ) → IsSoundContext before → AreLow call.places
     → ((x : ℕ) → is_among x (Some before.task.eib) eib_len ≡ true → is_among x (resp_place call) 4 ≡ false) → FitsChange change before
     → IsAnswered before call condition outputs change t → IsAreaOf t slot before.task.eib eib_len → InStorage before call condition outputs change t
-unfolding with_answer
+unfolding with_report
 in_storage before call condition outputs change t slot ok low apart fits it area =
     record {
       report = record {
@@ -169,7 +169,7 @@ in_storage before call condition outputs change t slot ok low apart fits it area
     eib : ℕ
     eib = before.task.eib
 
-    answer : Answer
+    answer : CommandReport
     answer = report_of call condition change before
 
     made : TaskContext
@@ -277,7 +277,7 @@ all_in_storage law keeps before after reply condition ok apart half given =
     }
 
 pub has_reported : (reply : TurnReply) (condition : Condition) (before after : TaskContext) (call : Call) (outputs : List Output) (change : TaskChange)
-    → call_of before.shared.storage (list_of before.task) ≡ Ok call → HasVerdict call before (Meets condition outputs change)
+    → call_of before.shared.storage (argument_list before.task) ≡ Ok call → HasVerdict call before (Meets condition outputs change)
     → (report_of call condition change before).function ≡ function_after reply call
     → StoresReport before call condition outputs change after.shared.storage → HasReported reply condition before after
 unfolding resource_of

@@ -18,11 +18,11 @@ use Rattle.cx_region_state.specs.Inputs.{is_length_negative}
 use Rattle.cx_region_state.specs.State.{TaskContext}
 use Rattle.cx_region_state.specs.declared.replies.TurnReply.TheVariants as turn
 use Rattle.cx_region_state.specs.declared.verdict.TaskChange.{TaskChange}
-use Rattle.cx_region_state.specs.declared.verdict.TaskChange.TheVariants.{Nothing, Makes, Ends, Gets, Enters, Replaces, LevelEnds, TaskEnds, AbendsWith}
-use Rattle.cx_region_state.specs.declared.verdict.Made.TheVariants.{Handles}
+use Rattle.cx_region_state.specs.declared.verdict.TaskChange.TheVariants.{Nothing, Before, After, Gets, Enters, Replaces, LevelEnds, TaskEnds, AbendsWith}
+use Rattle.cx_region_state.specs.declared.verdict.BeforeOutputs.TheVariants.{Handles}
 use Rattle.cx_region_state.specs.declared.verdict.Request.{Request}
 use Rattle.cx_region_state.specs.declared.verdict.Verdict.{Verdict}
-use Rattle.cx_region_state.specs.declared.verdict.Verdict.TheVariants.{Meets, Waits}
+use Rattle.cx_region_state.specs.declared.verdict.Verdict.TheVariants.{Meets}
 use Rattle.cx_region_commands.specs.Common.{has}
 use Rattle.cx_region_commands.specs.Abend.{abend_row}
 use Rattle.cx_region_commands.specs.Address.{address_row}
@@ -66,7 +66,7 @@ others =
       replaces = λ copying level. refl;
     }
 
-no_handles : (r : Request) → ends_level (Makes (Handles r)) ≡ false
+no_handles : (r : Request) → ends_level (Before (Handles r)) ≡ false
 unfolding ends_level
 no_handles r = refl
 
@@ -126,8 +126,8 @@ judged_ends call r v judged e = go call.command judged
 ends_by : (change : TaskChange) → continuation_by change ≡ continuation.LevelEnds → ends_level change ≡ true
 unfolding ends_level
 ends_by Nothing e = cc
-ends_by (Makes made) e = cc
-ends_by (Ends ended) e = cc
+ends_by (Before made) e = cc
+ends_by (After ended) e = cc
 ends_by (Gets got) e = cc
 ends_by (Enters level) e = cc
 ends_by (Replaces copying level) e = cc

@@ -3,28 +3,29 @@ use Rattle.std.proofs.Common.{◌≡◌, ℕ, Bool, true, false, nat_lt, List, [
 use Rattle.std.specs.Prelude.{◌&&◌, is_none, MatchOption}
 use Rattle.std.specs.Option.{option_map_or}
 use Rattle.std.proofs.lemmas.Bool.{cases_Bool, true≢false}
-use Rattle.cx_base.specs.declared.conditions.Condition.TheVariants.{Invreq, Lengerr, Pgmiderr, Qiderr}
+use Rattle.cx_base.specs.declared.conditions.Condition.TheVariants.{Itemerr, Lengerr, Pgmiderr, Qiderr}
 use Rattle.cx_base.specs.declared.abends.Abend.TheVariants as abend
 use Rattle.cx_base.specs.declared.options.OptionName.TheVariants as option
 use Rattle.cx_storage.specs.Storage.{Storage, area_at}
 use Rattle.cx_program.specs.declared.entries.Handling.{Handling}
 use Rattle.cx_service.specs.declared.faults.ServiceFault.{ServiceFault}
+use Rattle.cx_service.specs.declared.queues.Reading.{Reading}
 use Rattle.cx_service.specs.declared.faults.ServiceFault.TheVariants as fault
 use Rattle.cx_service.specs.declared.resources.ResourceName.{ResourceName}
-use Rattle.cx_service.specs.Queues.{Queues, count_of, read_fault, rewrite_fault, write_fault}
+use Rattle.cx_service.specs.Queues.{Queues, count_of, queue_of, reading_of_queue, rewrite_fault, write_fault}
 use Rattle.cx_service.specs.Resources.{enq_fault}
 use Rattle.cx_region_state.specs.Call.{Call}
-use Rattle.cx_region_state.specs.Inputs.{is_length_negative, length_option}
+use Rattle.cx_region_state.specs.Inputs.{halfword_of, is_length_negative, length_option}
 use Rattle.cx_region_state.specs.declared.inputs.StorageSpan.{StorageSpan}
 use Rattle.cx_region_state.specs.State.{Input, TaskContext}
 use Rattle.cx_region_state.specs.declared.verdict.TaskChange.{TaskChange}
-use Rattle.cx_region_state.specs.declared.verdict.TaskChange.TheVariants.{Nothing, Makes, Ends, Gets, Enters, Replaces}
+use Rattle.cx_region_state.specs.declared.verdict.TaskChange.TheVariants.{Nothing, Before, After, Gets, Enters, Replaces}
 use Rattle.cx_region_state.specs.declared.verdict.Copying.{Copying}
-use Rattle.cx_region_state.specs.declared.verdict.Ended.{Ended}
-use Rattle.cx_region_state.specs.declared.verdict.Ended.TheVariants.{Dequeues, Frees, QueueGone, TakesInput}
+use Rattle.cx_region_state.specs.declared.verdict.AfterOutputs.{AfterOutputs}
+use Rattle.cx_region_state.specs.declared.verdict.AfterOutputs.TheVariants.{Dequeues, Frees, QueueGone, TakesInput}
 use Rattle.cx_region_state.specs.declared.verdict.Got.{Got}
 use Rattle.cx_region_state.specs.declared.verdict.NewLevel.{NewLevel}
-use Rattle.cx_region_state.specs.declared.verdict.Made.TheVariants.{Enqueues, Handles, ItemAt, ItemLast, Shows}
+use Rattle.cx_region_state.specs.declared.verdict.BeforeOutputs.TheVariants.{Enqueues, Handles, ItemAt, ItemLast, Shows}
 use Rattle.cx_region_state.specs.declared.verdict.Request.{Request}
 use Rattle.cx_region_state.specs.declared.verdict.Request.TheVariants.{Push, Pop}
 use Rattle.cx_region_state.specs.declared.verdict.Verdict.{Verdict}
@@ -37,7 +38,7 @@ use Rattle.cx_region_commands.specs.Deq.{deq_row}
 use Rattle.cx_region_commands.specs.Enq.{enq_row, is_wrong_length, resource_at}
 use Rattle.cx_region_commands.specs.Getmain.{GetmainRow, asked_len, fill_byte, gets, is_area_length}
 use Rattle.cx_region_commands.specs.Link.{LinkRow, Links, enters}
-use Rattle.cx_region_commands.specs.ReadqTs.{ReadqRow, Reads, ReadsItem, item_asked, reading_of, reads_into, reads_to}
+use Rattle.cx_region_commands.specs.ReadqTs.{ReadqRow, ReadsQueueItem, reads_into, reads_to}
 use Rattle.cx_region_commands.specs.WriteqTs.{item_named, writeq_row}
 use Rattle.cx_region_commands.specs.Xctl.{Transfers, XctlRow, XctlTo, copying_to, replaces}
 use Rattle.cx_region_commands.specs.Facts.FitsParts.{by_option, by_test}
@@ -55,14 +56,14 @@ passes p (Refuses abend) = false
 -- the test is of none of these changes
 pub record IsApart (p : TaskChange → Bool) : Type 0 where
   pub none : p Nothing ≡ false
-  pub ends : (e : Ended) → p (Ends e) ≡ false
-  pub shows : (piece : StorageSpan) (erase : Bool) → p (Makes (Shows piece erase)) ≡ false
+  pub ends : (e : AfterOutputs) → p (After e) ≡ false
+  pub shows : (piece : StorageSpan) (erase : Bool) → p (Before (Shows piece erase)) ≡ false
 
 -- nor of these
 pub record IsOfNoService (p : TaskChange → Bool) : Type 0 where
-  pub last : (name : List ℕ) (piece : StorageSpan) → p (Makes (ItemLast name piece)) ≡ false
-  pub at : (name : List ℕ) (n : ℕ) (piece : StorageSpan) → p (Makes (ItemAt name n piece)) ≡ false
-  pub enqueues : (name : ResourceName) → p (Makes (Enqueues name)) ≡ false
+  pub last : (name : List ℕ) (piece : StorageSpan) → p (Before (ItemLast name piece)) ≡ false
+  pub at : (name : List ℕ) (n : ℕ) (piece : StorageSpan) → p (Before (ItemAt name n piece)) ≡ false
+  pub enqueues : (name : ResourceName) → p (Before (Enqueues name)) ≡ false
   pub gets : (got : Got) → p (Gets got) ≡ false
 
 -- nor of those of a level that begins
@@ -92,14 +93,14 @@ unfolding receive_row passes
 receive_none p apart None room = refl
 receive_none p apart (Some input) room = apart.ends TakesInput
 
-pub push_none : (p : TaskChange → Bool) → IsApart p → ((r : Request) → p (Makes (Handles r)) ≡ false) → (kept : List Handling) → passes p (push_row kept) ≡ false
+pub push_none : (p : TaskChange → Bool) → IsApart p → ((r : Request) → p (Before (Handles r)) ≡ false) → (kept : List Handling) → passes p (push_row kept) ≡ false
 unfolding push_row passes
 push_none p apart handles kept = elim (cases_Bool (nat_lt (length kept) 16)) [
   | inl t ↦ rw t (handles Push)
   | inr f ↦ rw f apart.none
 ]
 
-pub pop_none : (p : TaskChange → Bool) → IsApart p → ((r : Request) → p (Makes (Handles r)) ≡ false) → (kept : List Handling) → passes p (pop_row kept) ≡ false
+pub pop_none : (p : TaskChange → Bool) → IsApart p → ((r : Request) → p (Before (Handles r)) ≡ false) → (kept : List Handling) → passes p (pop_row kept) ≡ false
 unfolding pop_row passes
 pop_none p apart handles [] = apart.none
 pop_none p apart handles (last ∷ rest) = handles Pop
@@ -142,24 +143,22 @@ getmain_none p apart others call r v row e = by_test (is_area_length (asked_len 
     got (Some place) is = never p v _ is (others.gets _) e
 
 pub readq_none : (p : TaskChange → Bool) → IsApart p → IsOfNoService p → (call : Call) (r : TaskContext) (v : Verdict) → ReadqRow r.shared.storage r.shared.queues call v → passes p v ≡ true → {P : Type 0} → P
-unfolding ReadqRow Reads passes
+unfolding ReadqRow ReadsQueueItem passes
 readq_none p apart others call r v row e =
     by_test (has call option.Into && is_length_negative r.shared.storage call) row
     (λ _ is. never p v (condition_alone Lengerr) is apart.none e)
-    (λ _ reads.
-    let name = name_at r.shared.storage call option.Queue in
-    by_fault name (item_asked r.shared.storage r.shared.queues call name) (read_fault r.shared.queues name (item_asked r.shared.storage r.shared.queues call name)) reads)
+    (λ _ reads. by_option (queue_of r.shared.queues name) reads (λ is. never p v (condition_alone Qiderr) is apart.none e)
+    (λ queue _ found. by_option (reading_of_queue (halfword_of r.shared.storage call option.Item) queue) found (λ is. never p v (condition_alone Itemerr) is apart.none e)
+    (λ reading _ item. by_test (has call option.Set) item
+    (λ _ at. placed reading at.place at.is)
+    (λ _ is. never p v (reads_into (length_option r.shared.storage call) name reading) is (apart.ends _) e))))
   where
-    placed : {P : Type 0} (name : List ℕ) (n : ℕ) (place : Option ℕ) → v ≡ reads_to (reading_of r.shared.queues name n) place → P
-    placed name n None is = never p v _ is apart.none e
-    placed name n (Some place) is = never p v _ is (others.gets _) e
+    name : List ℕ
+    name = name_at r.shared.storage call option.Queue
 
-    by_fault : {P : Type 0} (name : List ℕ) (n : ℕ) (o : Option ServiceFault) → ReadsItem r.shared.storage r.shared.queues call name n o v → P
-    by_fault name n None reads =
-        by_test (has call option.Set) reads
-        (λ _ at. placed name n at.place at.is)
-        (λ _ is. never p v (reads_into (length_option r.shared.storage call) (reading_of r.shared.queues name n)) is (apart.ends _) e)
-    by_fault name n (Some fault) is = never p v (fault_or_verdict (Some fault) (condition_alone Qiderr)) is (unless_none p apart (Some fault) (condition_alone Qiderr) apart.none) e
+    placed : {P : Type 0} (reading : Reading) (place : Option ℕ) → v ≡ reads_to name reading place → P
+    placed reading None is = never p v _ is apart.none e
+    placed reading (Some place) is = never p v _ is (others.gets _) e
 
 pub link_none : (p : TaskChange → Bool) → IsApart p → IsOfNoOther p → (call : Call) (r : TaskContext) (v : Verdict) → LinkRow r.shared.storage r.shared.programs r.task.levels call v → passes p v ≡ true → {P : Type 0} → P
 unfolding LinkRow Links passes

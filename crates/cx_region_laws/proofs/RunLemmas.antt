@@ -22,7 +22,7 @@ use Rattle.cx_region_state.specs.State.{TaskContext, TaskState}
 use Rattle.cx_region_task.specs.Abends.{Abends, AbendsAt}
 use Rattle.cx_region_task.specs.Changes.{after_request, with_ignored, with_labels}
 use Rattle.cx_region_task.specs.Turn.{HalfTurnWith, PerformsCommand, EndsRun, RunsOn}
-use Rattle.cx_region_laws.specs.Laws.Levels.{CommandsAreKept, HasBegun, IsBack, IsBalanced, Keeps, LeavesCallers, Links, LinksAreReturned, PopsRestore, RunsBelow, Turned, handled_all}
+use Rattle.cx_region_laws.specs.Laws.Levels.{CommandsAreKept, HasBegun, IsBack, IsBalanced, Keeps, LeavesCallers, HasLinked, LinksAreReturned, PopsRestore, RunsBelow, Turned, handled_all}
 use Rattle.cx_region_laws.proofs.CallerLemmas.{half_turns_leave_callers}
 
 -- ---- the last levels of a list
@@ -96,7 +96,7 @@ runs_keep depth (turned ∷ rest) from to run deep =
     ∙ ap (last_of (suc depth)) run.0
 
 -- ---- a LINK and its RETURN
-link_callers : (linking entered : TaskContext) → Links linking entered → entered.task.levels.callers ≡ linking.task.levels.current ∷ linking.task.levels.callers
+link_callers : (linking entered : TaskContext) → HasLinked linking entered → entered.task.levels.callers ≡ linking.task.levels.current ∷ linking.task.levels.callers
 unfolding LeavesCallers
 link_callers linking entered link =
     let begun : HasBegun linking.task entered.task = half_turns_leave_callers linking entered turn.Entered link.enters in

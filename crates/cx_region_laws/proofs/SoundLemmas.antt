@@ -27,9 +27,9 @@ use Rattle.cx_region.specs.Defining.{DefinesProgram, DefinesTerminal, DefinesTra
 use Rattle.cx_region.specs.Attach.{Attaches, Gives, TakesKey, OnlyAnswers, StartsTask, with_task_attached, commarea_kept, eib_at_attach, input_from, next_number, transaction_named, with_task}
 use Rattle.cx_region.specs.Alter.{Alters, alter_refusal, altered_region}
 use Rattle.cx_region.specs.Sound.{IsSound}
-use Rattle.cx_region.specs.Parts.Asking.{level_of, task_of_start}
+use Rattle.cx_region.specs.Parts.Asking.{Giving, Starting, level_of, task_of_start}
 use Rattle.cx_region.specs.Facts.SoundAlter.{sound_altered}
-use Rattle.cx_region.specs.Facts.SoundAttach.{Giving, Starting, sound_attached, sound_given}
+use Rattle.cx_region.specs.Facts.SoundAttach.{sound_attached, sound_given}
 use Rattle.cx_region.specs.Facts.SoundDefining.{sound_loaded, sound_program, sound_terminal, sound_transaction}
 use Rattle.cx_region.specs.Facts.SoundTurned.{sound_turned}
 use Rattle.cx_region_laws.specs.Facts.Alterations.{alter_reply}

@@ -18,11 +18,11 @@ use Rattle.cx_storage.specs.Word.{word_at}
 use Rattle.cx_storage.specs.Facts.Sound.{covers_cases}
 use Rattle.cx_storage.specs.Facts.Spans.{span_at, span_from}
 use Rattle.cx_storage.specs.Facts.Writes.{present_after_write, span_after_write, span_present_after_write, written_none, written_whole}
-use Rattle.cx_region_state.specs.declared.answer.Answer.{Answer}
+use Rattle.cx_region_state.specs.declared.report.CommandReport.{CommandReport}
 use Rattle.cx_region_state.specs.declared.outputs.Output.{Output}
 use Rattle.cx_region_state.specs.declared.outputs.OutputValue.{OutputValue}
 use Rattle.cx_region_state.specs.declared.outputs.OutputValue.TheVariants.{Half, Text, Word}
-use Rattle.cx_region_state.specs.Answer.{with_answer, with_eib, with_set}
+use Rattle.cx_region_state.specs.Report.{with_report, with_eib, with_set}
 use Rattle.cx_region_state.specs.Call.{Call, place_of, resp_place}
 use Rattle.cx_region_state.specs.Eib.{Content, content, with_calen, with_field}
 use Rattle.cx_region_state.specs.Outputs.{bytes_from, can_put, is_room, put_out, with_output}
@@ -146,7 +146,7 @@ unfolding with_set
 set_elsewhere s eib field None x low far fits = refl
 set_elsewhere s eib field (Some bytes) x low far fits = field_elsewhere s eib (content field bytes) x low far (fits bytes refl)
 
-eib_elsewhere : (s : Storage) (eib : ℕ) (answer : Answer) (x : ℕ) → eib < 2 ^ 24 → eib_len ≤ distance eib x → ((bytes : List ℕ) → answer.resource ≡ Some bytes → length bytes ≡ 8)
+eib_elsewhere : (s : Storage) (eib : ℕ) (answer : CommandReport) (x : ℕ) → eib < 2 ^ 24 → eib_len ≤ distance eib x → ((bytes : List ℕ) → answer.resource ≡ Some bytes → length bytes ≡ 8)
     → byte_at (with_eib s eib answer) x ≡ byte_at s x
 unfolding with_eib
 eib_elsewhere s eib answer x low far eight =
@@ -169,10 +169,10 @@ resp_elsewhere : (s : Storage) (place : Option ℕ) (n x : ℕ) → ((p : ℕ) �
 resp_elsewhere s None n x low apart = refl
 resp_elsewhere s (Some p) n x low apart = write_elsewhere s p (to_be_bytes w32 n) x (low p refl) (ltb-false _ _ apart)
 
-pub report_elsewhere : (s : Storage) (eib : ℕ) (call : Call) (answer : Answer) (x : ℕ) → AreLow call.places → eib < 2 ^ 24
+pub report_elsewhere : (s : Storage) (eib : ℕ) (call : Call) (answer : CommandReport) (x : ℕ) → AreLow call.places → eib < 2 ^ 24
     → ((bytes : List ℕ) → answer.resource ≡ Some bytes → length bytes ≡ 8) → is_among x (Some eib) eib_len ≡ false → is_among x (resp_place call) 4 ≡ false
-    → byte_at (with_answer s eib call answer) x ≡ byte_at s x
-unfolding with_answer
+    → byte_at (with_report s eib call answer) x ≡ byte_at s x
+unfolding with_report
 report_elsewhere s eib call answer x places low eight off_eib off_resp =
     resp_elsewhere (with_eib s eib answer) (resp_place call) answer.condition x (λ p e. resp_low call p places e) off_resp
     ∙ eib_elsewhere s eib answer x low (ltb-false _ _ off_eib) eight

@@ -8,7 +8,7 @@ use Rattle.cx_storage.specs.declared.areas.Area.{Area}
 use Rattle.cx_storage.specs.declared.areas.Owner.{Owner}
 use Rattle.cx_storage.specs.Address.{address_after}
 use Rattle.cx_storage.specs.Place.{CanPlace, IsLeastPlace}
-use Rattle.cx_storage.specs.Storage.{Held, Storage, after_write, area_at, area_from, areas_of, byte_at, covers, end_of, span, with_area, with_areas_kept, AreOrdered, IsSound}
+use Rattle.cx_storage.specs.Storage.{Held, Storage, after_write, area_at, area_from, areas_of, byte_at, covers, end_of, span, with_area, with_areas_kept, AreOrdered, IsSoundStorage}
 use Rattle.cx_storage.specs.Facts.Areas.{byte_after_get, byte_before}
 use Rattle.cx_storage.specs.Facts.Sound.{All-filter, covers_cases, covers_from}
 use Rattle.cx_region_state.specs.Areas.{IsTaskPlace, first_of_tasks, last_of_tasks}
@@ -87,8 +87,8 @@ ordered_same (h ∷ hs) (g ∷ gs) e ok =
       ordered_same hs gs rest ok.1,
     )
 
-pub order_of : (s : Storage) → IsSound s → AreOrdered s
-unfolding IsSound
+pub order_of : (s : Storage) → IsSoundStorage s → AreOrdered s
+unfolding IsSoundStorage
 order_of s ok = ok.1
 
 -- ---- areas freed

@@ -13,8 +13,8 @@ use Rattle.cx_region_state.specs.declared.outputs.Output.{Output}
 use Rattle.cx_region_state.specs.Call.{Call}
 use Rattle.cx_region_state.specs.declared.replies.TurnReply.TheVariants as turn
 use Rattle.cx_region_state.specs.declared.verdict.TaskChange.{TaskChange}
-use Rattle.cx_region_state.specs.declared.verdict.TaskChange.TheVariants.{Nothing, Makes, Ends, Gets, Enters, Replaces, LevelEnds, TaskEnds, AbendsWith}
-use Rattle.cx_region_state.specs.declared.verdict.Verdict.TheVariants.{Meets, Waits}
+use Rattle.cx_region_state.specs.declared.verdict.TaskChange.TheVariants.{Nothing, Before, After, Gets, Enters, Replaces, LevelEnds, TaskEnds, AbendsWith}
+use Rattle.cx_region_state.specs.declared.verdict.Verdict.TheVariants.{Meets}
 use Rattle.cx_region_state.specs.State.{TaskContext}
 use Rattle.cx_region_task.specs.declared.continuation.Continuation.{Continuation}
 use Rattle.cx_region_task.specs.declared.continuation.Continuation.TheVariants as continuation
@@ -25,7 +25,7 @@ use Rattle.cx_region_task.specs.Facts.Met.{IsMet, by_decision}
 use Rattle.cx_region_task.specs.declared.cause.AbendRecord.{AbendRecord}
 use Rattle.cx_region_task.specs.Turn.{HalfTurnWith, PerformsCommand, EndsRun, RunsOn, machine_of, most_steps}
 use Rattle.cx_region_task.specs.Continuations.{Goes, choice_for, is_normal, continuation_by, continuation_chosen, continuation_of}
-use Rattle.cx_region_laws.specs.Laws.Exits.{ComesTo, ComesToExit, HalfTurnsTakeExits, HasDone, HaveRun, TakesExit}
+use Rattle.cx_region_laws.specs.Laws.Exits.{ComesToAbend, ComesToExit, HalfTurnsTakeExits, HasDone, HaveRun, TakesExit}
 use Rattle.cx_region_laws.proofs.ExitLemmas.{exits_are_nearest}
 use Rattle.cx_region_laws.proofs.LevelLemmas.{IsWell, is_request, judged_well, settles_levels}
 
@@ -37,8 +37,8 @@ is_abend _ = false
 change_asks_none : (change : TaskChange) → is_abend (continuation_by change) ≡ true → is_request change ≡ false
 unfolding is_abend is_request
 change_asks_none Nothing e = cc
-change_asks_none (Makes made) e = cc
-change_asks_none (Ends ended) e = cc
+change_asks_none (Before made) e = cc
+change_asks_none (After ended) e = cc
 change_asks_none (Gets got) e = cc
 change_asks_none (Enters level) e = cc
 change_asks_none (Replaces copying level) e = cc
@@ -141,7 +141,7 @@ runs_come code before after abend_record it = by_halt it.how it.advances it.ends
     by_halt (halt.Interrupt cause place) advances abends = come (halt.Interrupt cause place) advances (takes (abend_code kind.Asra) false code it.between after abends)
     by_halt halt.Limit advances abends = come halt.Limit advances (takes (abend_code kind.Aica) false code it.between after abends)
 
-comes_by : (before abend : TaskContext) (b : Bool) → before.task.due ≡ b → MatchBool b ((abend ≡ before) ⊎ HasDone before abend) (HaveRun before abend) → ComesTo before abend
+comes_by : (before abend : TaskContext) (b : Bool) → before.task.due ≡ b → MatchBool b ((abend ≡ before) ⊎ HasDone before abend) (HaveRun before abend) → ComesToAbend before abend
 comes_by before abend b due it = subst (λ b. MatchBool b ((abend ≡ before) ⊎ HasDone before abend) (HaveRun before abend)) (sym due) it
 
 pub half_turns_take_exits : HalfTurnsTakeExits

@@ -1,36 +1,34 @@
 -- Which commands' changes take memory.
-use Rattle.std.proofs.Common.{◌≡◌, ℕ, Bool, true, false, List, [], ◌∷◌, Option, Some, None, refl, sym, ◌∙◌, ap, inl, inr}
+use Rattle.std.proofs.Common.{◌≡◌, ℕ, Bool, true, List, [], ◌∷◌, Option, Some, None, refl, sym, ◌∙◌, ap, inl, inr}
 use Rattle.std.specs.Prelude.{◌&&◌, ◌||◌, not, is_some}
 use Rattle.std.specs.Option.{option_map}
 use Rattle.std.proofs.lemmas.Bool.{cases_Bool, true≢false}
 use Rattle.cx_base.specs.declared.commands.Command.{Command}
 use Rattle.cx_base.specs.declared.commands.Command.TheVariants as command
-use Rattle.cx_base.specs.declared.conditions.Condition.TheVariants.{Lengerr, Qiderr}
+use Rattle.cx_base.specs.declared.conditions.Condition.TheVariants.{Itemerr, Lengerr, Qiderr}
 use Rattle.cx_base.specs.declared.options.OptionName.TheVariants as option
 use Rattle.cx_program.specs.declared.level.Level.{Level}
-use Rattle.cx_service.specs.declared.faults.ServiceFault.{ServiceFault}
-use Rattle.cx_service.specs.Queues.{read_fault}
+use Rattle.cx_service.specs.Queues.{queue_of, reading_of_queue}
 use Rattle.cx_region_state.specs.Call.{Call}
-use Rattle.cx_region_state.specs.Inputs.{bytes_of, is_length_negative, length_option}
+use Rattle.cx_region_state.specs.Inputs.{bytes_of, halfword_of, is_length_negative, length_option}
 use Rattle.cx_region_state.specs.State.{TaskContext}
 use Rattle.cx_region_state.specs.declared.verdict.TaskChange.TheVariants.{TaskEnds}
 use Rattle.cx_region_state.specs.declared.verdict.Verdict.{Verdict}
 use Rattle.cx_region_state.specs.declared.verdict.Verdict.TheVariants.{Meets}
 use Rattle.cx_region_commands.specs.Common.{commarea_of, does, has, name_at, condition_alone}
-use Rattle.cx_region_commands.specs.Services.{fault_or_verdict}
 use Rattle.cx_region_commands.specs.Abend.{abend_row}
 use Rattle.cx_region_commands.specs.Address.{address_row}
 use Rattle.cx_region_commands.specs.HandleAbend.{handle_abend_row}
 use Rattle.cx_region_commands.specs.Handling.{handle_row, ignore_row}
 use Rattle.cx_region_commands.specs.CommandVerdicts.{HasVerdict, JudgedBy}
-use Rattle.cx_region_commands.specs.ReadqTs.{ReadqRow, Reads, ReadsItem, item_asked, reading_of, reads_into}
+use Rattle.cx_region_commands.specs.ReadqTs.{ReadqRow, ReadsQueueItem, reads_into}
 use Rattle.cx_region_commands.specs.Return.{highest_return, next_of, return_row}
 use Rattle.cx_region_commands.specs.Suspend.{suspend_row}
-use Rattle.cx_region_commands.specs.Facts.FitsParts.{by_test}
+use Rattle.cx_region_commands.specs.Facts.FitsParts.{by_option, by_test}
 use Rattle.cx_region_task.specs.Facts.Met.{to_be_done}
 use Rattle.cx_region_task.specs.Changes.{change_takes_memory}
 use Rattle.cx_region_laws.specs.Laws.TaskMemory.{OnlyTheseTakeMemory, takes_memory}
-use Rattle.cx_region_laws.proofs.RowLemmas.{IsApart, deleteq_none, deq_none, freemain_none, never, passes, pop_none, push_none, receive_none, send_text_none, unless_none}
+use Rattle.cx_region_laws.proofs.RowLemmas.{IsApart, deleteq_none, deq_none, freemain_none, never, passes, pop_none, push_none, receive_none, send_text_none}
 
 -- whether a verdict's change takes memory
 takes : Verdict → Bool
@@ -41,23 +39,17 @@ apart = record { none = refl; ends = λ e. refl; shows = λ piece erase. refl }
 
 -- ---- rows whose change takes memory in one case
 readq_takes : (call : Call) (r : TaskContext) (v : Verdict) → ReadqRow r.shared.storage r.shared.queues call v → takes v ≡ true → has call option.Set ≡ true
-unfolding ReadqRow Reads takes passes
-readq_takes call r v row e = elim (cases_Bool (has call option.Set)) [
-  | inl t ↦ t
-  | inr f ↦
-      by_test (has call option.Into && is_length_negative r.shared.storage call) row
-      (λ _ is. never change_takes_memory v (condition_alone Lengerr) is refl e)
-      (λ _ reads.
-      let name = name_at r.shared.storage call option.Queue in
-      by_fault f name (item_asked r.shared.storage r.shared.queues call name) (read_fault r.shared.queues name (item_asked r.shared.storage r.shared.queues call name)) reads)
-]
+unfolding ReadqRow ReadsQueueItem takes passes
+readq_takes call r v row e =
+    by_test (has call option.Into && is_length_negative r.shared.storage call) row
+    (λ _ is. never change_takes_memory v (condition_alone Lengerr) is refl e)
+    (λ _ reads. by_option (queue_of r.shared.queues name) reads (λ is. never change_takes_memory v (condition_alone Qiderr) is refl e)
+    (λ queue _ found. by_option (reading_of_queue (halfword_of r.shared.storage call option.Item) queue) found (λ is. never change_takes_memory v (condition_alone Itemerr) is refl e)
+    (λ reading _ item. by_test (has call option.Set) item (λ t _. t)
+    (λ _ is. never change_takes_memory v (reads_into (length_option r.shared.storage call) name reading) is refl e))))
   where
-    by_fault : has call option.Set ≡ false → (name : List ℕ) (n : ℕ) (o : Option ServiceFault) → ReadsItem r.shared.storage r.shared.queues call name n o v → has call option.Set ≡ true
-    by_fault f name n None reads =
-        by_test (has call option.Set) reads
-        (λ t _. t)
-        (λ _ is. never change_takes_memory v (reads_into (length_option r.shared.storage call) (reading_of r.shared.queues name n)) is refl e)
-    by_fault f name n (Some fault) is = never change_takes_memory v (fault_or_verdict (Some fault) (condition_alone Qiderr)) is (unless_none change_takes_memory apart (Some fault) (condition_alone Qiderr) refl) e
+    name : List ℕ
+    name = name_at r.shared.storage call option.Queue
 
 return_takes : (call : Call) (r : TaskContext) (v : Verdict) → v ≡ return_row r.shared.storage r.task.levels.callers call → takes v ≡ true → is_some (commarea_of r.shared.storage call) ≡ true
 unfolding return_row next_of takes passes

@@ -11,9 +11,9 @@ use Rattle.cx_base.specs.declared.options.OptionName.{OptionName}
 use Rattle.cx_base.specs.declared.options.OptionName.TheVariants.{Program, Queue}
 use Rattle.cx_storage.specs.Storage.{Storage, span}
 use Rattle.cx_storage.specs.Facts.Spans.{span_length}
-use Rattle.cx_region_state.specs.declared.answer.Answer.{Answer}
+use Rattle.cx_region_state.specs.declared.report.CommandReport.{CommandReport}
 use Rattle.cx_region_state.specs.declared.outputs.Output.{Output}
-use Rattle.cx_region_state.specs.Answer.{with_answer, resource_of, with_eib, with_set}
+use Rattle.cx_region_state.specs.Report.{with_report, resource_of, with_eib, with_set}
 use Rattle.cx_region_state.specs.Call.{Call, has_resp, place_of, resp_place}
 use Rattle.cx_region_state.specs.Eib.{Content, content, with_calen, with_field}
 use Rattle.cx_region_state.specs.Inputs.{bytes_of}
@@ -63,9 +63,6 @@ resp_low call p low e = go (has_resp call.second) e
     go true e = at_low call.places (length call.places - 1) p low e
     go false e = cc
 
-four : (n : ℕ) → length (to_be_bytes w32 n) ≡ 4
-four n = refl
-
 resp_left : (slot x : ℕ) (writes : Bool) (s : Storage) (place : Option ℕ) (n : ℕ) → ((p : ℕ) → place ≡ Some p → p < 2 ^ 24)
     → (writes ≡ false → is_among x place 4 ≡ false) → Left slot x writes s (with_output s place (to_be_bytes w32 n))
 resp_left slot x writes s None n low apart = left_same slot x writes s s refl
@@ -112,7 +109,7 @@ resource_fits s call bytes e = go (bytes_of s call Program 8) (λ found is. name
     go None long e = named s call Queue bytes e
     go (Some found) long e = let is : found ≡ bytes = cc in subst (λ (l : List ℕ). length l ≡ 8) is (long found refl)
 
-eib_others : (slot : ℕ) (s : Storage) (eib : ℕ) (answer : Answer) → Own slot s eib eib_len → ((bytes : List ℕ) → answer.resource ≡ Some bytes → length bytes ≡ 8)
+eib_others : (slot : ℕ) (s : Storage) (eib : ℕ) (answer : CommandReport) → Own slot s eib eib_len → ((bytes : List ℕ) → answer.resource ≡ Some bytes → length bytes ≡ 8)
     → others_storage slot (with_eib s eib answer) ≡ others_storage slot s
 unfolding with_eib
 eib_others slot s eib answer own eight =
@@ -132,11 +129,11 @@ eib_others slot s eib answer own eight =
     calen_others slot s keyed eib answer.calen own fifth
 
 -- ---- the report
-pub report_left : (slot x : ℕ) (writes : Bool) (s : Storage) (eib : ℕ) (call : Call) (answer : Answer) → AreLow call.places → Own slot s eib eib_len
+pub report_left : (slot x : ℕ) (writes : Bool) (s : Storage) (eib : ℕ) (call : Call) (answer : CommandReport) → AreLow call.places → Own slot s eib eib_len
     → ((bytes : List ℕ) → answer.resource ≡ Some bytes → length bytes ≡ 8) → (writes ≡ false → is_among x (resp_place call) 4 ≡ false)
-    → Left slot x writes s (with_answer s eib call answer)
-unfolding with_answer
+    → Left slot x writes s (with_report s eib call answer)
+unfolding with_report
 report_left slot x writes s eib call answer low own eight apart =
     let mid = with_eib s eib answer in
-    left_on slot x writes s mid (with_answer s eib call answer) (left_same slot x writes s mid (eib_others slot s eib answer own eight))
+    left_on slot x writes s mid (with_report s eib call answer) (left_same slot x writes s mid (eib_others slot s eib answer own eight))
     (resp_left slot x writes mid (resp_place call) answer.condition (λ p e. resp_low call p low e) apart)

@@ -31,9 +31,9 @@ pub fn a_pointer_stays()
 }
 
 /// A command that is performed reports itself: EIBFN is its function value, EIBRCODE and EIBRESP have the number of the
-/// condition that it met, EIBRSRCE the name at PROGRAM or QUEUE, and RESP's word the number. A level that begins, and one that is
-/// returned to, is reported with NORMAL, and after RETURN EIBFN is LINK's. Where an exit takes a command's abend the program
-/// finds the report of the condition, or, where the command was refused, the report before it.
+/// condition that it met, EIBRSRCE the name at PROGRAM or QUEUE, and RESP's word the number. A level that begins, and
+/// one that is returned to, is reported with NORMAL, and after RETURN EIBFN is LINK's. Where an exit takes a command's
+/// abend the program finds the report of the condition, or, where the command was refused, the report before it.
 pub fn a_command_reports_itself()
     ensures performed { CommandsReport }
     ensures exits { ExitsFindReports }
@@ -42,7 +42,8 @@ pub fn a_command_reports_itself()
     cx_region_task::laws::half_turns_keep();
 }
 
-/// Where a level begins, by LINK, by XCTL or by a key, is returned to, or takes an abend, EIBCALEN is the length of its COMMAREA.
+/// Where a level begins, by LINK, by XCTL or by a key, is returned to, or takes an abend, EIBCALEN is the length of its
+/// COMMAREA.
 pub fn eibcalen_is_the_current_levels()
     ensures turned { CalenIsTheLevels }
     ensures attached { AttachedCalenIsTheLevels }
@@ -51,8 +52,8 @@ pub fn eibcalen_is_the_current_levels()
     cx_region_task::laws::half_turns_keep();
 }
 
-/// A program that is entered finds the COMMAREA that is passed to it: EIBCALEN says how many bytes it has, DFHEICAP has its
-/// address, or 0 where it has no bytes, and the bytes are those that the command found.
+/// A program that is entered finds the COMMAREA that is passed to it: EIBCALEN says how many bytes it has, DFHEICAP has
+/// its address, or 0 where it has no bytes, and the bytes are those that the command found.
 pub fn an_entered_program_finds_its_commarea()
     ensures entered { EnteredFindCommareas }
     ensures attached { AttachedFindCommareas }
@@ -61,11 +62,11 @@ pub fn an_entered_program_finds_its_commarea()
     cx_region_task::laws::half_turns_keep();
 }
 
-/// An abend's exit is the nearest that is on, and it is off then: the next abend goes to one above it. The levels below its
-/// own have ended, and their areas are freed. The program goes on at the exit's label with the registers that the level kept, R15
-/// the label, and EIBCALEN is the level's; every other byte stays. Where an exit is on an abend goes to one, unless it is asked for
-/// with CANCEL. A half-turn comes to an abend that an exit takes with its task's levels as they were: by its instructions, at
-/// a command that is refused, or after what its command has done.
+/// An abend's exit is the nearest that is on, and it is off then: the next abend goes to one above it. The levels below
+/// the exit's have ended, and their areas are freed. The program goes on at the exit's label with the registers that
+/// the level kept, R15 the label, and EIBCALEN is the level's; every other byte stays. Where an exit is on an abend
+/// goes to one, unless it is asked for with CANCEL. A half-turn comes to an abend that an exit takes with its task's
+/// levels as they were: by its instructions, at a command that is refused, or after what its command has done.
 pub fn the_nearest_exit_takes_an_abend()
     ensures nearest { ExitsAreNearest }
     ensures half_turn { HalfTurnsTakeExits }
@@ -73,9 +74,10 @@ pub fn the_nearest_exit_takes_an_abend()
     ensures cancel { CancelTakesNoExit }
 {}
 
-/// A half-turn leaves each level above the current one as it is: registers, code, handles and exit. A level that begins has
-/// asked for nothing, and its program is at its entry, with the registers of one. At a command the current level keeps the
-/// program's registers and code, and it keeps them as long as that is due.
+/// A half-turn leaves each level above the current one as it is: registers, code, handles and exit. A level that begins
+/// has asked for nothing, and its program is at its entry, with the registers that an entry has. Where a half-turn
+/// comes to a command the current level keeps the program's registers and code, and it keeps them as long as the
+/// command is due.
 #[tactic(auto, using(crate::proofs::CallerLemmas::half_turns_leave_callers))]
 pub fn half_turns_leave_callers()
     ensures callers { HalfTurnsLeaveCallers }
@@ -83,32 +85,32 @@ pub fn half_turns_leave_callers()
     ensures due { DueIsKept }
 {}
 
-/// A LINK and the RETURN from it, whatever is done between them, leave the linking level's registers, code, handles and exit,
-/// and all levels above it. So they do where an operator alters the task between them.
+/// A LINK and the RETURN from it, whatever is done between them, leave the linking level's registers, code, handles and
+/// exit, and all levels above it. So they do where an operator alters the task between them.
 pub fn a_link_is_returned_from()
     ensures { LinksAreReturned }
 {}
 
-/// PUSH HANDLE and the POP HANDLE that takes it back leave the handles, whatever is asked for between them, other PUSHes with
-/// their POPs among it.
+/// PUSH HANDLE and the POP HANDLE that takes it back leave the handles as they were, whatever is asked for between
+/// them, also by other PUSHes with their POPs.
 #[tactic(auto, using(crate::proofs::RunLemmas::pops_restore))]
 pub fn pop_restores_what_push_kept()
     ensures { PopsRestore }
 {}
 
-/// A half-turn that may take memory is one of a command that is due: GETMAIN, READQ TS with SET, WRITEQ TS, ENQ, LINK, XCTL, or
-/// RETURN with bytes in its COMMAREA. So none that runs instructions takes any, and none of another command.
+/// A half-turn that may take memory is one of a command that is due: GETMAIN, READQ TS with SET, WRITEQ TS, ENQ, LINK,
+/// XCTL, or RETURN with bytes in its COMMAREA. So none that runs instructions takes any, and none of another command.
 #[tactic(auto, using(crate::proofs::TaskMemoryLemmas::only_these_take_memory))]
 pub fn only_these_take_memory()
     ensures { OnlyTheseTakeMemory }
 {}
 
-/// A half-turn is answered Returned only where a level has linked to the current one, which is the current one then.
+/// A half-turn is answered Returned only where the current level has one above it, which linked to it.
 pub fn a_return_has_a_caller()
     ensures { ReturnsHaveCallers }
 {}
 
-/// A region and an event decide the reply and the region after it.
+/// An event of a region has one outcome: the region and the event determine the reply, and the region afterwards.
 pub fn events_decide()
     ensures { EventsDecide }
 {
@@ -116,7 +118,8 @@ pub fn events_decide()
     cx_region_task::laws::half_turns_decide();
 }
 
-/// A region and what a call is given decide the call's answer and the region after it.
+/// Each call of a region has one outcome: the region and what the call is given determine its answer, and the region
+/// afterwards.
 pub fn calls_decide()
     ensures programs { ProgramsDecide }
     ensures transactions { TransactionsDecide }
@@ -129,7 +132,7 @@ pub fn calls_decide()
     cx_region_task::laws::half_turns_decide();
 }
 
-/// A region and a list of events decide their replies and the region after them.
+/// A list of events has one outcome: the region and the list determine the replies, and the region afterwards.
 pub fn runs_decide()
     ensures { RegionRunsDecide }
 {
@@ -137,8 +140,8 @@ pub fn runs_decide()
 }
 
 /// A turn changes no terminal except its own, so no other task's registers, levels or due command; and no definition,
-/// nor the clock, nor the counter of tasks. Of a sound region it changes no area and no resource that another task or
-/// the region owns, both ways.
+/// nor the clock, nor the counter of tasks. In a sound region the areas of other tasks and of the region, and the
+/// resources of other tasks, are the same afterwards: none is gone, and none is new.
 pub fn a_turn_keeps_to_its_task()
     ensures task { TurnsKeepToTheirTask }
     ensures others { TurnsKeepOthers }
@@ -148,9 +151,10 @@ pub fn a_turn_keeps_to_its_task()
 }
 
 /// An alteration changes no terminal but its own, and no definition or queue, nor the clock, nor the counter of tasks.
-/// Where the task goes on it changes no area and no resource, and one byte at most. Where it ends the task it leaves the
-/// areas of all others, with their bytes, and their resources. It leaves the task's levels above the current one, and where a
-/// command is due the current level still keeps the registers and the code that its program has.
+/// Where the task goes on it changes no area and no resource, and one byte at most. Where it ends the task it leaves
+/// the areas of all others, with their bytes, and their resources. It leaves the task's levels above the current one.
+/// Where a command is due and the current level keeps the registers and the code of its program, it still keeps them
+/// afterwards.
 #[tactic(auto, using(crate::proofs::AlterLemmas::alterations_keep, crate::proofs::AlterLemmas::alterations_keep_storage, crate::proofs::AlterLemmas::abends_keep_others, crate::proofs::AlterLemmas::alterations_keep_levels))]
 pub fn an_alteration_keeps_to_its_task()
     ensures task { AlterationsKeepToTheirTask }
@@ -165,8 +169,8 @@ pub fn refused_alterations_leave_the_region()
     ensures { RefusedAlterationsLeaveTheRegion }
 {}
 
-/// The abend of a task that is there is always done, and is the one that ABEND with CANCEL has, with the code XEDF: no exit
-/// is looked at.
+/// The abend of a task that is there is always done, and is the one that ABEND with CANCEL has, with the code XEDF: no
+/// exit is looked at.
 #[tactic(auto, using(crate::specs::Facts::Alterations::abends_are_done))]
 pub fn an_operators_abend_is_taken_by_no_exit()
     ensures done { AbendsOfTasksAreDone }
@@ -211,8 +215,9 @@ pub fn runs_join()
     ensures count { AreAsMany }
 {}
 
-/// An event that was refused memory is none: the next one is done as if it had never come, with the answer that it would
-/// have had. A list that ran out of memory, and goes on with the events that weren't done, is the run of the whole.
+/// An event that was refused memory is none: the next one is done as if it had never come, with the answer that it
+/// would have had. A list that ran out of memory, and goes on with the events that weren't done, is the run of the
+/// whole.
 #[tactic(auto, using(crate::proofs::MemoryLemmas::stopped_runs_go_on))]
 pub fn a_refused_event_is_none()
     ensures event { RefusedEventsAreNone }
@@ -221,8 +226,9 @@ pub fn a_refused_event_is_none()
     events_decide();
 }
 
-/// From each machine there is a step, and a run of at most 65,536 of them; each half-turn has an end, each event an outcome, and
-/// each list of events, images checked, is a run: over the definitions alone, in every state, whatever memory there is.
+/// Over the definitions alone, in every state and whatever memory there is: from each machine there is a step, and a
+/// run of at most 65,536 of them; each half-turn has an end, each event an outcome, and each list of events, images
+/// checked, is a run.
 #[tactic(auto, using(crate::proofs::StepOutcomeLemmas::steps_have_outcomes, crate::proofs::StepOutcomeLemmas::advances_have_outcomes))]
 pub fn each_event_has_an_outcome()
     ensures steps { StepsHaveOutcomes }
@@ -235,8 +241,9 @@ pub fn each_event_has_an_outcome()
     cx_service::laws::every_text_has_lines();
 }
 
-/// An event of a sound region leads to a sound one, over the definitions of events alone: areas of live tasks, owners, names,
-/// limits, the clock and the counter. Taken as given is what a store, queues and resources keep by themselves.
+/// An event of a sound region leads to a sound one, over the definitions of events alone: areas of live tasks, owners,
+/// names, limits, the clock and the counter. It is a premise that storage, queues and resources are sound afterwards by
+/// themselves, as the calls of these keep them.
 pub fn sound_is_kept()
     ensures { SoundIsKept }
 {

@@ -1,5 +1,5 @@
-//! `RegionSnapshot`: all that a region keeps, kept apart from it, to be compared and put back; and a turn that is done apart from a
-//! region.
+//! `RegionSnapshot`: all that a region keeps, kept apart from it, to be compared and put back; and a turn that is done
+//! apart from a region.
 #![tactic(auto)]
 
 mod snapshot;

@@ -28,7 +28,8 @@ pub struct Defined {
     pub(crate) transactions: IndexMap<Name4, Name8>,
 }
 
-/// All that a region keeps, as it was when the snapshot was taken. What is the same in two snapshots can be shared by them.
+/// All that a region keeps, as it was when the snapshot was taken. What is the same in two snapshots can be shared by
+/// them.
 #[derive(Drop)]
 pub struct RegionSnapshot {
     storage: StorageSnapshot,
@@ -164,8 +165,8 @@ fn put_terminal(
 }
 
 impl RegionSnapshot {
-    /// The state of a region. What is the same as in an earlier snapshot, `before`, is shared with it, so that a snapshot of
-    /// what is like one before takes little memory; `before` changes nothing else.
+    /// The state of a region. What is the same as in an earlier snapshot, `before`, is shared with that, so that a
+    /// snapshot of what is like one before takes little memory; `before` has no other effect.
     ///
     /// An error comes only where an allocation failed.
     pub fn take<S: Store + Drop>(
@@ -217,8 +218,8 @@ impl RegionSnapshot {
         })
     }
 
-    /// Gives a region this state in place of its own. The old state is dropped once all of the new one is made, so that memory
-    /// holds both until then.
+    /// Gives a region this state in place of the one that it has. The old state is dropped once all of the new one is
+    /// made, so that memory holds both until then.
     ///
     /// An error comes only where an allocation failed; then the region is as before.
     pub fn restore<S: Store + Drop>(&self, region: &mut Region<S>) -> Result<(), AllocError>
@@ -256,7 +257,7 @@ impl RegionSnapshot {
         Ok(region)
     }
 
-    /// Whether two are the same state.
+    /// Whether two snapshots are of equal states.
     pub fn is_same(&self, other: &RegionSnapshot) -> bool
         ensures { IsTrue result ↔ (self.now ≡ other.now) }
     {
@@ -271,8 +272,8 @@ impl RegionSnapshot {
             && are_same_tables(&self.defined.transactions, &other.defined.transactions)
     }
 
-    /// Its hash: that of storage, of tasks' registers and next addresses, and of how many items queues have. Equal states have
-    /// equal hashes.
+    /// Its hash: that of storage, of tasks' registers and next addresses, and of how many items queues have. Equal
+    /// states have equal hashes.
     #[tactic(auto, unfolding(crate::specs::Hash::region_hash))]
     pub fn hash(&self) -> u64
         ensures { result ≡ region_hash self.now }

@@ -74,8 +74,8 @@ fn hash_with_task(before: u64, task: &Option<TaskSnapshot>) -> u64
 }
 
 impl TerminalSnapshot {
-    /// A terminal, kept apart: what is the same as in an earlier snapshot is shared with it. The task is copied first and then
-    /// compared, so that its copy takes memory for the time of the call even where the earlier one is shared.
+    /// A terminal, kept apart: what is the same as in an earlier snapshot is shared with it. The task is copied first
+    /// and then compared, so that its copy takes memory for the time of the call even where the earlier one is shared.
     pub(crate) fn take(
         alloc: Global,
         name: Name4,

@@ -8,7 +8,8 @@ use cx_region::{Region, TurnReply};
 use cx_storage::Store;
 use std::alloc::{AllocError, Global};
 
-/// A turn of a terminal, done in a region like this one, which stays as it is: the turn's reply, and the region after it.
+/// A turn of a terminal, done in a region like this one, which stays as it is: the turn's reply, and that region after
+/// it.
 ///
 /// An error comes only where an allocation failed.
 pub fn turn_apart<S: Store + Drop>(

@@ -15,14 +15,14 @@ use Rattle.cx_base.specs.Arguments.{argument_index, arguments_in}
 use Rattle.cx_base.specs.Commands.{command_with}
 use Rattle.cx_storage.specs.Address.{address_in}
 use Rattle.cx_base.specs.Legal.{is_legal, is_legal_list, lists_conditions}
-use Rattle.cx_storage.specs.Storage.{Storage, span, IsSound}
+use Rattle.cx_storage.specs.Storage.{Storage, span, IsSoundStorage}
 use Rattle.cx_storage.specs.Address.{address_after}
 use Rattle.cx_storage.specs.Facts.Sound.{span_small}
 use Rattle.cx_storage.specs.Facts.Spans.{span_length}
 use Rattle.cx_storage.specs.Word.{word_at}
 use Rattle.cx_region_state.specs.declared.call.CallFault.{CallFault}
 use Rattle.cx_region_state.specs.declared.call.CallFault.TheVariants.{Xarg, Xfun}
-use Rattle.cx_region_state.specs.Call.{Call, ArgumentBlock, argument_count, block_from, block_of, call_of, command_of, conditions_of, has_high_bit, has_resp, listed_in, marks_last_alone, only_if, place_of, places_of, resp_place, has_label, then_result, words_at}
+use Rattle.cx_region_state.specs.Call.{Call, ArgumentBlock, argument_count, block_from, block_of, call_of, command_of, conditions_of, has_high_bit, has_resp, listed_in, marks_last_alone, only_if, place_of, places_of, resp_place, has_label, then_result, words_from}
 use Rattle.cx_region_state.specs.Laws.Calls.{IsCallAt, arguments_of, bytes_of_block, list_word}
 
 -- ---- results
@@ -51,11 +51,11 @@ along_more : (a k : ℕ) → address_after (address_after a 4) (4 * k) ≡ addre
 along_more a k = omega arith
 
 -- the words read are those at their places
-words_in : (s : Storage) (a n : ℕ) (words : List ℕ) → a < 2 ^ 24 → words_at s a n ≡ Some words
+words_in : (s : Storage) (a n : ℕ) (words : List ℕ) → a < 2 ^ 24 → words_from s a n ≡ Some words
     → (length words ≡ n) × ((k : ℕ) → k < n → list_word s a k ≡ slice_get words k)
-unfolding words_at
+unfolding words_from
 words_in s a zero words h e = let nil : [] ≡ words = cc in rw (← nil) (refl, λ k l. absurd (omega arith))
-words_in s a (suc n) words h e = go (word_at s a) (words_at s (address_after a 4) n) refl (λ rest f. words_in s (address_after a 4) n rest (omega arith) f) e
+words_in s a (suc n) words h e = go (word_at s a) (words_from s (address_after a 4) n) refl (λ rest f. words_in s (address_after a 4) n rest (omega arith) f) e
   where
     go : (o : Option ℕ) (r : Option (List ℕ)) → word_at s a ≡ o
         → ((rest : List ℕ) → r ≡ Some rest → (length rest ≡ n) × ((k : ℕ) → k < n → list_word s (address_after a 4) k ≡ slice_get rest k))
@@ -72,12 +72,12 @@ words_in s a (suc n) words h e = go (word_at s a) (words_at s (address_after a 4
         at more (suc k) l = ap (word_at s) (sym (along_more a k)) ∙ more k (omega arith)
 
 -- where each word is in storage, they are read
-words_there : (s : Storage) (a n : ℕ) → a < 2 ^ 24 → ((k : ℕ) → k < n → is_some (list_word s a k) ≡ true) → (words : List ℕ) × (words_at s a n ≡ Some words)
-unfolding words_at
+words_there : (s : Storage) (a n : ℕ) → a < 2 ^ 24 → ((k : ℕ) → k < n → is_some (list_word s a k) ≡ true) → (words : List ℕ) × (words_from s a n ≡ Some words)
+unfolding words_from
 words_there s a zero h there = ([], refl)
 words_there s a (suc n) h there =
     let tail = words_there s (address_after a 4) n (omega arith) (λ k l. ap (λ x. is_some (word_at s x)) (along_more a k) ∙ there (suc k) (omega arith)) in
-    go (word_at s a) (words_at s (address_after a 4) n) (ap (λ x. is_some (word_at s x)) (sym (along_none a h)) ∙ there zero (omega arith)) tail.0 tail.1
+    go (word_at s a) (words_from s (address_after a 4) n) (ap (λ x. is_some (word_at s x)) (sym (along_none a h)) ∙ there zero (omega arith)) tail.0 tail.1
   where
     go : (o : Option ℕ) (r : Option (List ℕ)) → is_some o ≡ true → (rest : List ℕ) → r ≡ Some rest
         → (words : List ℕ) × (option_and_then (λ word. option_map (λ rest. word ∷ rest) r) o ≡ Some words)
@@ -125,7 +125,7 @@ four place (b0 ∷ b1 ∷ b2 ∷ b3 ∷ []) block l all e =
 four place (b0 ∷ b1 ∷ b2 ∷ b3 ∷ b4 ∷ rest) block l all e = absurd (omega arith)
 
 -- the word that addresses a block, and the block's bytes
-block_read : (s : Storage) (list : ℕ) (block : ArgumentBlock) → IsSound s → block_of s list ≡ Ok block
+block_read : (s : Storage) (list : ℕ) (block : ArgumentBlock) → IsSoundStorage s → block_of s list ≡ Ok block
     → (word : ℕ) × (word_at s list ≡ Some word) × (block.place ≡ address_in word)
     × (span s (address_in word) 4 ≡ Some (block.function / 256 ∷ block.function % 256 ∷ block.first ∷ block.second ∷ []))
 unfolding block_of
@@ -186,7 +186,7 @@ places_read : (s : Storage) (list n : ℕ) (places : List ℕ) → list < 2 ^ 24
     × ((k : ℕ) → k < n → option_map address_in (list_word s list (k + 1)) ≡ slice_get places k)
 unfolding places_of
 places_read s list n places h e =
-    let read = then_ok (ok_or (words_at s list (1 + n)) Xarg) (λ words. only_if (marks_last_alone words) (map address_in (drop 1 words)) Xarg) places e in
+    let read = then_ok (ok_or (words_from s list (1 + n)) Xarg) (λ words. only_if (marks_last_alone words) (map address_in (drop 1 words)) Xarg) places e in
     let words : List ℕ = read.0 in
     let each = words_in s list (1 + n) words h (some_ok _ _ _ read.1) in
     let marks = only_ok _ _ _ _ read.2 in
@@ -226,7 +226,7 @@ call_with command block conditions places =
     record { command = command; first = block.first; second = block.second; conditions = conditions; places = places }
 
 has_all : AreFound → (s : Storage) (list : ℕ) (block : ArgumentBlock) (command : Command) (conditions : List ListedCondition) (places : List ℕ)
-    → IsSound s → list < 2 ^ 24 → block_of s list ≡ Ok block → command_of block ≡ Ok command → conditions_of s command block ≡ Ok conditions
+    → IsSoundStorage s → list < 2 ^ 24 → block_of s list ≡ Ok block → command_of block ≡ Ok command → conditions_of s command block ≡ Ok conditions
     → places_of s list (argument_count command block conditions) ≡ Ok places → IsCallAt s list (call_with command block conditions places)
 unfolding argument_count call_with
 has_all are_found s list block command conditions places ok h b c l p =
@@ -244,7 +244,7 @@ has_all are_found s list block command conditions places ok h b c l p =
       places = λ k lt. each.2 k (omega arith);
     }
 
-forward : AreFound → (s : Storage) (list : ℕ) (call : Call) → IsSound s → list < 2 ^ 24 → call_of s list ≡ Ok call → IsCallAt s list call
+forward : AreFound → (s : Storage) (list : ℕ) (call : Call) → IsSoundStorage s → list < 2 ^ 24 → call_of s list ≡ Ok call → IsCallAt s list call
 unfolding call_of call_with
 forward are_found s list call ok h e =
     let b = then_ok _ _ call e in
@@ -340,7 +340,7 @@ backward are_found s list call h is =
         let p : places_of s list (argument_count call.command block call.conditions) ≡ Ok call.places = places_there s list _ call.places h is.count (λ k le. rw (← is.count) (is.words k (rw is.count le))) (λ k lt. is.places k (rw is.count lt)) in
         rw (b, c, l, p) refl
 
-pub call_is_read : AreFound → (s : Storage) (list : ℕ) (call : Call) → IsSound s → list < 2 ^ 24 → (call_of s list ≡ Ok call) ↔ IsCallAt s list call
+pub call_is_read : AreFound → (s : Storage) (list : ℕ) (call : Call) → IsSoundStorage s → list < 2 ^ 24 → (call_of s list ≡ Ok call) ↔ IsCallAt s list call
 call_is_read are_found s list call ok h = (forward are_found s list call ok h, backward are_found s list call h)
 
 -- ---- the addresses of options and of RESP

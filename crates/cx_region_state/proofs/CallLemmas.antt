@@ -6,7 +6,7 @@ use Rattle.std.proofs.lemmas.Bool.{cases_Bool, ltb-false, eqb-true}
 use Rattle.cx_storage.specs.Storage.{Storage}
 use Rattle.cx_storage.specs.Word.{word_at}
 use Rattle.cx_base.specs.declared.legal.ListedCondition.{ListedCondition}
-use Rattle.cx_region_state.specs.Call.{has_high_bit, listed_in, marks_last_alone, words_at}
+use Rattle.cx_region_state.specs.Call.{has_high_bit, listed_in, marks_last_alone, words_from}
 
 abbrev pub listed : ℕ → ℕ → ListedCondition
 listed number label = record { number = number; label = label }
@@ -82,21 +82,21 @@ followed_none (Some rest) = refl
 
 -- one more word read
 pub words_step : (s : Storage) (at m n : ℕ) (done : List ℕ) (word : ℕ) → word_at s at ≡ Some word → n ≡ m + 1
-    → followed (done ++ word ∷ []) (words_at s ((at + 4) % 2 ^ 24) m) ≡ followed done (words_at s at n)
-unfolding words_at followed
-words_step s at m n done word e same = rw (same, add-one, e) (joined (words_at s ((at + 4) % 2 ^ 24) m))
+    → followed (done ++ word ∷ []) (words_from s ((at + 4) % 2 ^ 24) m) ≡ followed done (words_from s at n)
+unfolding words_from followed
+words_step s at m n done word e same = rw (same, add-one, e) (joined (words_from s ((at + 4) % 2 ^ 24) m))
   where
     joined : (o : Option (List ℕ)) → option_map (λ rest. (done ++ word ∷ []) ++ rest) o ≡ option_map (λ rest. done ++ rest) (option_map (λ rest. word ∷ rest) o)
     joined None = refl
     joined (Some rest) = rw append_assoc refl
 
 -- a word that isn't there
-pub words_absent : (s : Storage) (at n : ℕ) (done : List ℕ) → word_at s at ≡ None → 0 < n → followed done (words_at s at n) ≡ None
-unfolding words_at followed
+pub words_absent : (s : Storage) (at n : ℕ) (done : List ℕ) → word_at s at ≡ None → 0 < n → followed done (words_from s at n) ≡ None
+unfolding words_from followed
 words_absent s at zero done e h = absurd (omega arith)
 words_absent s at (suc n) done e h = rw e refl
 
 -- all words read
-pub words_all : (s : Storage) (at n : ℕ) (done : List ℕ) → n ≡ 0 → followed done (words_at s at n) ≡ Some done
-unfolding words_at followed
+pub words_all : (s : Storage) (at n : ℕ) (done : List ℕ) → n ≡ 0 → followed done (words_from s at n) ≡ Some done
+unfolding words_from followed
 words_all s at n done e = rw e (ap Some (append-nil done))

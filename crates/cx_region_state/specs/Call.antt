@@ -106,10 +106,10 @@ argument_count command block conditions =
     + (if has_resp block.second then 1 else 0)
 
 -- the n words from a on, where all of them are in storage
-unfoldable pub words_at : Storage → ℕ → ℕ → Option (List ℕ)
-words_at s a zero = Some []
-words_at s a (suc n) =
-    option_and_then (λ word. option_map (λ words. word ∷ words) (words_at s (address_after a 4) n)) (word_at s a)
+unfoldable pub words_from : Storage → ℕ → ℕ → Option (List ℕ)
+words_from s a zero = Some []
+words_from s a (suc n) =
+    option_and_then (λ word. option_map (λ words. word ∷ words) (words_from s (address_after a 4) n)) (word_at s a)
 
 -- the first word that has its high bit set is the last one
 unfoldable pub marks_last_alone : List ℕ → Bool
@@ -117,7 +117,7 @@ marks_last_alone words = position_or_len has_high_bit words + 1 == length words
 
 -- the addresses of n arguments: in the words after word 0, the last of which alone has its high bit set
 unfoldable pub places_of : Storage → ℕ → ℕ → Result (List ℕ) CallFault
-places_of s list n = then_result (ok_or (words_at s list (1 + n)) Xarg) (λ words.
+places_of s list n = then_result (ok_or (words_from s list (1 + n)) Xarg) (λ words.
     only_if (marks_last_alone words) (map address_in (drop 1 words)) Xarg)
 
 -- The call whose argument list is at an address. The tests come in this order: word 0 and the block are in storage,

@@ -10,14 +10,15 @@ use Rattle.cx_base.specs.Eib.{eib_field}
 use Rattle.cx_region_state.specs.declared.eib.InitialEib.{InitialEib}
 
 -- the decimal digit of a number at a power of ten
-abbrev pub digit : ℕ → ℕ → ℕ
-digit n power = n / power % 10
+abbrev pub digit_at_power : ℕ → ℕ → ℕ
+digit_at_power n power = n / power % 10
 
 -- a number of at most seven digits, packed with the sign C (GA22-7000, "Decimal Number Representation")
 unfoldable pub packed_decimal : ℕ → List ℕ
 packed_decimal n =
-    (digit n 1000000 * 16 + digit n 100000) ∷ (digit n 10000 * 16 + digit n 1000) ∷ (digit n 100 * 16 + digit n 10)
-    ∷ (digit n 1 * 16 + 0xC) ∷ []
+    (digit_at_power n 1000000 * 16 + digit_at_power n 100000) ∷ (digit_at_power n 10000 * 16 + digit_at_power n 1000)
+    ∷ (digit_at_power n 100 * 16 + digit_at_power n 10)
+    ∷ (digit_at_power n 1 * 16 + 0xC) ∷ []
 
 -- a field with its content
 pub record Content : Type 0 where

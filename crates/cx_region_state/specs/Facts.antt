@@ -1,3 +1,4 @@
 -- Lemmas that other crates cite.
 pub mod Inputs
+pub mod Room
 pub mod Areas

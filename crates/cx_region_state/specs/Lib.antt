@@ -4,7 +4,7 @@ pub mod Listed
 pub mod Inputs
 pub mod Outputs
 pub mod Eib
-pub mod Answer
+pub mod Report
 pub mod Laws
 pub mod Facts
 pub use Rattle.cx_base.specs.Commands

@@ -1,2 +1,3 @@
 -- The vocabulary of private functions: no public contract reaches it.
 pub mod Fits
+pub mod Room

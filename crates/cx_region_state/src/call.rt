@@ -5,7 +5,7 @@ ghost use Rattle.std.specs.Result.{result_map_both};
 ghost use Rattle.cx_base.specs.Legal.{has_bit, is_legal, lists_conditions};
 ghost use Rattle.cx_storage.specs.Word.{word_at};
 ghost use Rattle.cx_storage.specs.Address.{address_in};
-ghost use Rattle.cx_region_state.specs.Call.{argument_count, block_of, call_of, command_of, conditions_of, has_high_bit, has_label, listed_in, marks_last_alone, places_of, words_at};
+ghost use Rattle.cx_region_state.specs.Call.{argument_count, block_of, call_of, command_of, conditions_of, has_high_bit, has_label, listed_in, marks_last_alone, places_of, words_from};
 
 use arrayvec::ArrayVec;
 use byteorder::{BigEndian, ByteOrder};
@@ -113,7 +113,7 @@ impl Call {
         }
     }
 
-    /// Whether NOHANDLE is there.
+    /// Whether NOHANDLE is there, in option byte 2.
     pub fn has_nohandle(&self) -> bool
         ensures { result ≡ has_nohandle self.now.second }
     {
@@ -128,7 +128,7 @@ impl Call {
         self.conditions.as_slice()
     }
 
-    /// That every address of the call is below 2^24.
+    /// Says that every address of the call is below 2^24, and does nothing.
     pub fn addresses_are_below(&self)
         ensures { AllByRecursion (λ place. place < 2 ^ 24) self.now.places }
     {
@@ -275,7 +275,7 @@ fn listed_in(bytes: &[u8]) -> ArrayVec<ListedCondition, CONDITIONS>
 /// How many arguments a call has.
 #[tactic(auto, unfolding(crate::specs::Call::argument_count))]
 fn argument_count(command: Command, block: &ArgumentBlock, conditions: &[ListedCondition]) -> usize
-    requires few { length conditions.now ≤ 16 }
+    requires at_most_16 { length conditions.now ≤ 16 }
     requires others { IsFalse (lists_conditions command) → length conditions.now ≡ 0 }
     ensures value { result ≡ argument_count command block.now conditions.now }
     ensures most { result ≤ 17 }
@@ -318,7 +318,7 @@ fn read_places<S: Store>(
 fn read_words<S: Store>(store: &S, list: u32, count: usize) -> Option<ArrayVec<u32, WORDS>>
     requires list { list < 2 ^ 24 }
     requires most { count ≤ 18 }
-    ensures { option_map (λ words. words.items) result ≡ words_at (S.storage store.now) list count }
+    ensures { option_map (λ words. words.items) result ≡ words_from (S.storage store.now) list count }
 {
     let mut words = ArrayVec::new();
     let mut at = list;

@@ -1,6 +1,6 @@
 //! The fields of a task's EXEC interface block (SC33-0077, "EXEC Interface Block"), and what attach writes into them.
 ghost use Rattle.std.specs.Prelude.{◌≡◌, ◌<◌, ◌≤◌, ◌+◌, ◌%◌, ◌^◌, None, Some, length};
-ghost use Rattle.cx_region_state.specs.Eib.{content, digit, fields_at_attach, packed_decimal, with_calen, with_field, with_fields};
+ghost use Rattle.cx_region_state.specs.Eib.{content, digit_at_power, fields_at_attach, packed_decimal, with_calen, with_field, with_fields};
 
 use cx_base::EibField;
 use cx_storage::{Store, address_after};
@@ -8,25 +8,26 @@ use cx_storage::{Store, address_after};
 /// What is in a task's EIB at attach.
 #[derive(Clone, Copy, Debug, PartialEq, Eq)]
 pub struct InitialEib {
-    /// The time as hhmmss, and the date as yyddd.
+    /// The time of attach as hhmmss.
     pub time: u32,
+    /// The date of attach as yyddd.
     pub date: u32,
-    /// The transaction.
+    /// The transaction's name.
     pub tran: [u8; 4],
     /// The task's number.
     pub number: u32,
-    /// The terminal.
+    /// The terminal's name.
     pub terminal: [u8; 4],
-    /// The length of the COMMAREA.
+    /// The length of the COMMAREA in bytes; 0 without one.
     pub calen: u16,
-    /// The code of the key.
+    /// The code of the key that attached the task.
     pub aid: u8,
 }
 
 /// The digit of a number at a power of ten.
-fn digit(n: u32, power: u32) -> u8
+fn digit_at_power(n: u32, power: u32) -> u8
     requires { 0 < power }
-    ensures value { result ≡ digit n power }
+    ensures value { result ≡ digit_at_power n power }
     ensures bound { result < 10 }
 {
     (n / power % 10) as u8
@@ -38,10 +39,10 @@ fn packed_decimal(n: u32) -> [u8; 4]
     ensures { result ≡ packed_decimal n }
 {
     [
-        digit(n, 1_000_000) * 16 + digit(n, 100_000),
-        digit(n, 10_000) * 16 + digit(n, 1_000),
-        digit(n, 100) * 16 + digit(n, 10),
-        digit(n, 1) * 16 + 0xC,
+        digit_at_power(n, 1_000_000) * 16 + digit_at_power(n, 100_000),
+        digit_at_power(n, 10_000) * 16 + digit_at_power(n, 1_000),
+        digit_at_power(n, 100) * 16 + digit_at_power(n, 10),
+        digit_at_power(n, 1) * 16 + 0xC,
     ]
 }
 
@@ -49,14 +50,14 @@ fn packed_decimal(n: u32) -> [u8; 4]
 #[tactic(auto, unfolding(crate::specs::Eib::with_field))]
 pub(crate) fn put<S: Store>(store: &mut S, eib: u32, field: EibField, bytes: &[u8])
     requires eib { eib < 2 ^ 24 }
-    requires few { length bytes.now ≤ 8 }
+    requires at_most_8 { length bytes.now ≤ 8 }
     ensures { S.storage store.new ≡ with_field (S.storage store.old) eib (content field bytes.now) }
 {
     store.write(address_after(eib, field.offset()), bytes);
 }
 
-/// Fills the EIB at an address (below 2^24) for a task that begins: EIBTIME, EIBDATE, EIBTRNID, EIBTASKN, EIBTRMID, EIBCALEN and
-/// EIBAID, each where all its bytes are in storage. No other byte changes.
+/// Fills the EIB at an address (below 2^24) for a task that begins: EIBTIME, EIBDATE, EIBTRNID, EIBTASKN, EIBTRMID,
+/// EIBCALEN and EIBAID, each where all its bytes are in storage. No other byte changes.
 pub fn begin<S: Store>(store: &mut S, eib: u32, begun: &InitialEib)
     requires { eib < 2 ^ 24 }
     ensures { S.storage store.new ≡ with_fields (S.storage store.old) eib (fields_at_attach begun.now) }
@@ -70,7 +71,8 @@ pub fn begin<S: Store>(store: &mut S, eib: u32, begun: &InitialEib)
     put(store, eib, EibField::Aid, &[begun.aid]);
 }
 
-/// Writes EIBCALEN into the EIB at an address (below 2^24), where one is given. No other byte changes.
+/// Writes EIBCALEN into the EIB at an address (below 2^24), where a length is given and both bytes are in storage. No
+/// other byte changes.
 #[tactic(auto, unfolding(crate::specs::Eib::with_calen))]
 pub fn put_calen<S: Store>(store: &mut S, eib: u32, calen: Option<u16>)
     requires { eib < 2 ^ 24 }

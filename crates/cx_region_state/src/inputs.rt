@@ -1,13 +1,13 @@
 //! What a command reads at its arguments.
-ghost use Rattle.std.specs.Prelude.{◌≡◌, ◌<◌, ◌≤◌, ◌^◌, IfSome, is_some, length, option_map, unwrap_or, true};
+ghost use Rattle.std.specs.Prelude.{◌≡◌, ◌<◌, ◌≤◌, ◌^◌, IfSome, false, is_some, length, nat_le, option_map, unwrap_or, true};
 ghost use Rattle.std.specs.List.{list_all};
 ghost use Rattle.std.specs.Int.{cast_signed, w16};
 ghost use Rattle.std.specs.Option.{option_map_or};
-ghost use Rattle.cx_base.specs.Arguments.{arguments_in, has_option};
+ghost use Rattle.cx_base.specs.Arguments.{arguments_in, bytes_of_length, has_option};
 ghost use Rattle.cx_base.specs.Commands.{row_of};
-ghost use Rattle.cx_region_state.specs.Inputs.{are_inputs_there, bytes_of, halfword_of, input_of, is_length_negative, length_option, piece_of};
+ghost use Rattle.cx_region_state.specs.Inputs.{are_inputs_there, bytes_of, halfword_of, input_of, piece_of};
 ghost use Rattle.cx_region_state.specs.Call.{resp_place};
-ghost use Rattle.cx_storage.specs.Storage.{span};
+ghost use Rattle.cx_storage.specs.Storage.{Storage, span};
 
 use crate::call::Call;
 use cx_base::{CommandOption, OptionName};
@@ -18,7 +18,9 @@ use cx_storage::{Store, halfword_at};
 /// after X'FFFFFF'.
 #[derive(Clone, Copy, Debug, PartialEq, Eq)]
 pub struct StorageSpan {
+    /// The address of the first byte, below 2^24.
     pub place: u32,
+    /// How many bytes there are.
     pub len: u16,
 }
 
@@ -41,39 +43,38 @@ pub fn signed_halfword<S: Store>(store: &S, call: &Call, name: OptionName) -> Op
     Some(halfword.cast_signed())
 }
 
-/// Whether LENGTH is there and its halfword is negative.
-#[tactic(auto, unfolding(crate::specs::Inputs::is_length_negative))]
-pub fn is_length_negative<S: Store>(store: &S, call: &Call) -> bool
-    ensures { result ≡ is_length_negative (S.storage store.now) call.now }
+/// Whether LENGTH is there, and its halfword `length` is negative.
+pub fn is_length_negative(length: Option<u16>) -> bool
+    ensures { result ≡ option_map_or (nat_le (2 ^ 15)) length false }
 {
-    match halfword(store, call, OptionName::Length) {
+    match length {
         Some(halfword) => halfword >= 0x8000,
         None => false,
     }
 }
 
-/// How many bytes LENGTH says, at most 32,767: none where its halfword is negative, or where it isn't there.
-#[tactic(auto, unfolding(crate::specs::Inputs::length_option))]
-pub fn length_option<S: Store>(store: &S, call: &Call) -> u16
-    ensures value { result ≡ length_option (S.storage store.now) call.now }
+/// How many bytes LENGTH says, at most 32,767: none where its halfword `length` is negative, or where it isn't there.
+pub fn length_option(length: Option<u16>) -> u16
+    ensures value { result ≡ bytes_of_length length }
     ensures bound { result < 2 ^ 15 }
 {
-    match halfword(store, call, OptionName::Length) {
+    match length {
         Some(halfword) if halfword < 0x8000 => halfword,
         _ => 0,
     }
 }
 
-/// The bytes that LENGTH measures at an option's argument: no byte where LENGTH is negative. None where the
-/// option isn't there. They need not be in storage.
-#[tactic(auto, unfolding(crate::specs::Inputs::piece_of))]
-pub fn piece_of<S: Store>(store: &S, call: &Call, name: OptionName) -> Option<StorageSpan>
-    ensures value { result ≡ piece_of (S.storage store.now) call.now name }
+/// The bytes that LENGTH, with the halfword `length`, measures at an option's argument: no byte where LENGTH is
+/// negative. None where the option isn't there. They need not be in storage.
+#[tactic(auto, unfolding(crate::specs::Inputs::piece_of, crate::specs::Inputs::length_option))]
+pub fn piece_of(call: &Call, length: Option<u16>, name: OptionName) -> Option<StorageSpan>
+    ensures value { (storage : Storage) → length ≡ halfword_of storage call.now OptionName.Length
+        → result ≡ piece_of storage call.now name }
     ensures address { IfSome result (λ piece. piece.place < 2 ^ 24) }
     ensures bound { IfSome result (λ piece. piece.len < 2 ^ 15) }
 {
     let place = call.place(name)?;
-    let len = length_option(store, call);
+    let len = length_option(length);
     Some(StorageSpan { place, len })
 }
 
@@ -116,41 +117,42 @@ pub fn name8<S: Store>(store: &S, call: &Call, name: OptionName) -> Option<Name8
     Some(Name8::from_bytes(bytes))
 }
 
-/// Whether what the command reads at an option's argument is in storage.
-#[tactic(auto, unfolding(crate::specs::Inputs::input_of, crate::specs::Inputs::bytes_of))]
-fn is_input_there<S: Store>(store: &S, call: &Call, option: &CommandOption) -> bool
-    ensures { result ≡ is_some (input_of (S.storage store.now) call.now option.now) }
-{
-    let length = halfword(store, call, OptionName::Length);
-    let len = call.command().input_len(call.first(), option.kind, length);
-    match call.place(option.name) {
-        Some(place) => store.has_span(place, usize::from(len)),
-        None => false,
-    }
-}
-
 /// Whether what the command reads at the arguments of some options is in storage.
-#[tactic(auto, unfolding(cx_base::specs::Arguments::arguments_in))]
-fn are_all_there<S: Store>(store: &S, call: &Call, options: &[CommandOption]) -> bool
+#[tactic(auto, unfolding(cx_base::specs::Arguments::arguments_in, crate::specs::Inputs::input_of, crate::specs::Inputs::bytes_of))]
+fn are_all_there<S: Store>(
+    store: &S,
+    call: &Call,
+    length: Option<u16>,
+    options: &[CommandOption],
+) -> bool
+    requires length { length ≡ halfword_of (S.storage store.now) call.now OptionName.Length }
     ensures { let arguments = arguments_in options.now call.now.first in
         result ≡ list_all (λ option. is_some (input_of (S.storage store.now) call.now option)) arguments }
 {
     options
         .iter()
         .filter(|option| option.is_argument(call.first()))
-        .all(|option| is_input_there(store, call, option))
+        .all(|option| {
+            let len = call.command().input_len(call.first(), option.kind, length);
+            match call.place(option.name) {
+                Some(place) => store.has_span(place, usize::from(len)),
+                None => false,
+            }
+        })
 }
 
-/// Whether each byte that the command reads is in storage, and RESP's word too, where RESP is there.
+/// Whether each byte that the command reads is in storage, and RESP's word too, where RESP is there. `length` is the
+/// halfword at LENGTH's argument, or None where it or one of its bytes isn't there.
 ///
 /// How many bytes an option's argument has is known from its kind. Of bytes that LENGTH measures none is tested
 /// where LENGTH is at fault: where it is negative, or for the name of a resource above 255. Nothing is read at the
 /// COMMAREA of LINK.
 #[tactic(auto, unfolding(crate::specs::Inputs::are_inputs_there))]
-pub fn are_inputs_there<S: Store>(store: &S, call: &Call) -> bool
+pub fn are_inputs_there<S: Store>(store: &S, call: &Call, length: Option<u16>) -> bool
+    requires length { length ≡ halfword_of (S.storage store.now) call.now OptionName.Length }
     ensures { result ≡ are_inputs_there (S.storage store.now) call.now }
 {
-    if !are_all_there(store, call, call.command().options()) {
+    if !are_all_there(store, call, length, call.command().options()) {
         return false;
     }
     match call.resp() {

@@ -1,14 +1,16 @@
 //! What holds of every argument list.
 ghost use Rattle.cx_region_state.specs.Laws.Calls.{ArgumentsHavePlaces, CallIsRead, LabelsHavePlaces, RespHasItsPlace};
 
-/// A call is read exactly where the list in storage has all that a call's list has.
+/// In sound storage a call is read exactly where the argument list there is that of the call: its block, the conditions
+/// that it lists, and a word for each of its addresses, of which the last alone has its high bit set.
 pub fn call_is_read()
     ensures { CallIsRead }
 {
     cx_base::laws::commands_are_found();
 }
 
-/// Each present option that has an argument, each condition's label, and RESP, has the address in its own word of the list.
+/// The address of each present option that has an argument, of each condition's label, and of RESP, is the one in its
+/// word of the list.
 pub fn arguments_have_places()
     ensures options { ArgumentsHavePlaces }
     ensures labels { LabelsHavePlaces }

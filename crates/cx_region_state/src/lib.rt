@@ -3,7 +3,6 @@
 //! What a half-turn of a task can reach, and how a command is judged, as data.
 #![tactic(auto)]
 
-mod answer;
 mod call;
 pub mod eib;
 mod inputs;
@@ -12,20 +11,21 @@ mod listed;
 mod outputs;
 mod replicas;
 mod replies;
+mod report;
 mod state;
 mod verdict;
 
-pub use answer::{Answer, put_answer, resource};
 pub use call::{Call, CallFault, read_call};
 pub use inputs::{
     StorageSpan, are_inputs_there, halfword, is_length_negative, length_option, name4, name8,
     piece_of, read_argument, signed_halfword,
 };
 pub use listed::{Listed, ListedConditions};
-pub use outputs::{Output, OutputValue, Outputs, can_put, put_outputs};
+pub use outputs::{Output, OutputValue, Outputs, have_room, put_outputs};
 pub use replies::TurnReply;
+pub use report::{CommandReport, put_report, resource};
 pub use state::{Input, NextTransaction, Shared, Task, TerminalEntry};
 pub use verdict::{
-    Copying, Ended, FIRST_OF_TASKS, Fill, Got, LAST_OF_TASKS, Made, NewLevel, Next, Request,
-    TaskChange, Verdict,
+    AfterOutputs, BeforeOutputs, Copying, FIRST_OF_TASKS, Fill, Got, LAST_OF_TASKS, NewLevel,
+    Request, RequestedTransaction, TaskChange, Verdict,
 };

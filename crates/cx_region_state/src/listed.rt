@@ -16,6 +16,7 @@ const CONDITIONS: usize = 16;
 /// A condition that HANDLE or IGNORE CONDITION lists.
 #[derive(Clone, Copy, Debug, PartialEq, Eq, Default)]
 pub struct Listed {
+    /// The condition.
     pub condition: Condition,
     /// The address of its label (below 2^24), where it has one.
     pub label: Option<u32>,
@@ -90,7 +91,7 @@ fn push_entry(
     places: &[u32],
     labels: usize,
 ) -> usize
-    requires few { length listed.old < 16 }
+    requires below_16 { length listed.old < 16 }
     requires labels { labels < 16 }
     ensures value { (later : List ListedCondition)
         → listed.new ++ conditions_with_labels later (drop result places.now)

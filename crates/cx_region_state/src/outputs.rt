@@ -1,8 +1,9 @@
 //! What a command writes at its arguments.
-ghost use Rattle.std.specs.Prelude.{◌≡◌, ◌≤◌, ◌<◌, [], ◌∷◌, ◌++◌, ◌^◌, length, IfSome, zero, take};
+ghost use Rattle.std.specs.Prelude.{◌≡◌, ℕ, List, ◌≤◌, ◌<◌, [], ◌∷◌, ◌++◌, ◌^◌, length, IfSome, zero, take};
 ghost use Rattle.std.specs.List.{list_all};
 ghost use Rattle.cx_region_state.specs.Call.{place_of};
-ghost use Rattle.cx_region_state.specs.Outputs.{bytes_from, can_put, is_room, put_out, with_output};
+ghost use Rattle.cx_region_state.specs.Outputs.{bytes_from, can_put, put_out, with_output};
+ghost use Rattle.cx_region_state.specs.Parts.Room.{have_room, is_room_for, output_length};
 
 use crate::call::Call;
 use cx_base::OptionName;
@@ -18,21 +19,23 @@ pub enum OutputValue {
     /// The first bytes of the text that the command hands over, this many: the input that RECEIVE gives, or the
     /// item that READQ TS gives.
     Text(u16),
-    /// A halfword.
+    /// This halfword, its high byte first.
     Half(u16),
-    /// A word.
+    /// This word, its highest byte first.
     Word(u32),
 }
 
 /// Bytes that a command writes at an option's argument, where the option is there.
 #[derive(Clone, Copy, Debug, PartialEq, Eq)]
 pub struct Output {
+    /// The option at whose argument the bytes are written.
     pub option: OptionName,
+    /// The bytes.
     pub source: OutputValue,
 }
 
-/// What a command writes at its arguments, at most four outputs, in the order of its options. Contracts see it as
-/// the list of them.
+/// What a command writes at its arguments, at most four outputs, in the order of its options. Contracts see it as the
+/// list of them.
 #[derive(Debug, Drop)]
 pub struct Outputs {
     entries: [Output; OUTPUTS],
@@ -64,7 +67,7 @@ impl Outputs {
         }
     }
 
-    /// The outputs, and one more after them.
+    /// The outputs, fewer than four, and one more after them.
     pub fn with(self, option: OptionName, source: OutputValue) -> Outputs
         requires { length self < 4 }
         ensures { result ≡ self ++ record { option = option; source = source } ∷ [] }
@@ -75,7 +78,7 @@ impl Outputs {
         outputs
     }
 
-    /// The outputs, in their order.
+    /// The outputs, at most four, in their order.
     pub fn as_slice(&self) -> &[Output]
         ensures value { result.now ≡ self.now }
         ensures fits { length result.now ≤ 4 }
@@ -84,18 +87,18 @@ impl Outputs {
     }
 }
 
-/// Whether each byte of an output is in storage.
-fn is_room<S: Store>(store: &S, place: Option<u32>, text: &[u8], source: OutputValue) -> bool
+/// Whether each byte of an output is in storage, of a text of `len` bytes.
+fn is_room<S: Store>(store: &S, place: Option<u32>, len: usize, source: OutputValue) -> bool
     requires { IfSome place (λ place. place < 2 ^ 24) }
-    ensures { result ≡ is_room (S.storage store.now) place (bytes_from text.now source) }
+    ensures { result ≡ is_room_for (S.storage store.now) place (output_length len source) }
 {
-    let len = match source {
-        OutputValue::Text(n) => text.len().min(usize::from(n)),
+    let bytes = match source {
+        OutputValue::Text(n) => usize::from(n).min(len),
         OutputValue::Half(_) => 2,
         OutputValue::Word(_) => 4,
     };
     match place {
-        Some(place) => store.has_span(place, len),
+        Some(place) => store.has_span(place, bytes),
         None => true,
     }
 }
@@ -122,18 +125,25 @@ fn put_one<S: Store>(store: &mut S, place: Option<u32>, text: &[u8], source: Out
     }
 }
 
-/// Whether each byte of the outputs is in storage. An output whose option isn't there has none. The text is the one
-/// that the command hands over.
-#[tactic(auto, unfolding(crate::specs::Outputs::can_put))]
-pub fn can_put<S: Store>(store: &S, call: &Call, text: &[u8], outputs: &Outputs) -> bool
-    ensures { result ≡ can_put (S.storage store.now) call.now text.now outputs.now }
+/// Whether the place of each output has all its bytes, of a text of `len` bytes.
+#[tactic(auto, unfolding(crate::specs::Parts::Room::have_room))]
+fn is_room_for_all<S: Store>(store: &S, call: &Call, len: usize, outputs: &Outputs) -> bool
+    ensures { result ≡ have_room (S.storage store.now) call.now len outputs.now }
 {
     outputs.as_slice().iter().all(|output| is_room(
         store,
         call.place(output.option),
-        text,
+        len,
         output.source,
     ))
+}
+
+/// Whether each byte of the outputs is in storage. An output whose option isn't there has none. The text that the command
+/// hands over has `len` bytes; which they are doesn't matter.
+pub fn have_room<S: Store>(store: &S, call: &Call, len: usize, outputs: &Outputs) -> bool
+    ensures { (text : List ℕ) → length text ≡ len → result ≡ can_put (S.storage store.now) call.now text outputs.now }
+{
+    is_room_for_all(store, call, len, outputs)
 }
 
 /// Writes the outputs in turn, each where all its bytes are in storage. An output whose option isn't there writes

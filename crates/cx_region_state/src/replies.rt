@@ -5,7 +5,7 @@ ghost use Rattle.cx_region_state.specs.Replies.{is_over, turn_reply_name};
 use cx_base::Condition;
 use cx_ebcdic::Name4;
 
-/// What a turn is answered.
+/// What a turn of a terminal, or a half-turn of its task, is answered.
 #[derive(Clone, Copy, Debug, PartialEq, Eq)]
 pub enum TurnReply {
     /// The terminal has no task.
@@ -28,12 +28,12 @@ pub enum TurnReply {
     TookExit(Name4),
     /// The task ended by an abend of that code.
     Abended(Name4),
-    /// The task ended.
+    /// The task ended by a RETURN of its highest level.
     Ended,
 }
 
 impl TurnReply {
-    /// Whether the task has ended.
+    /// Whether the reply is that of a task's end: Ended or Abended.
     pub fn is_over(self) -> bool
         ensures { result ≡ is_over self }
     {

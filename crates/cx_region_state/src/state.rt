@@ -17,7 +17,7 @@ use std::marker::Model;
 pub struct Shared<S: Store + Drop> {
     /// The allocator that all of it uses.
     pub alloc: Global,
-    /// Storage.
+    /// The store that has all storage.
     pub store: S,
     /// Where each program is, by its name.
     pub programs: IndexMap<Name8, Loaded>,
@@ -44,9 +44,9 @@ impl<S: Store + Drop> Model for Shared<S> {
 /// What a terminal's operator sent, with the key that sent it: at most 1,920 bytes.
 #[derive(Drop)]
 pub struct Input {
-    /// The key.
+    /// The key that sent it.
     pub aid: Aid,
-    /// The bytes.
+    /// The bytes that it sent, at most 1,920.
     pub bytes: List<u8>,
 }
 
@@ -91,7 +91,7 @@ pub struct TerminalEntry {
     pub screen: Screen,
     /// The input that is held for its task.
     pub input: Option<Input>,
-    /// What its next key attaches.
+    /// The transaction that its next key attaches, where a RETURN named one.
     pub following: Option<NextTransaction>,
 }
 
@@ -134,11 +134,11 @@ pub struct Task {
     pub number: u32,
     /// The address of its EIB (below 2^24).
     pub eib: u32,
-    /// Its program levels.
+    /// Its program levels, 1 to 16.
     pub levels: Box<LevelStack>,
-    /// Its registers, condition code and next address.
+    /// Its registers, condition code and next address, as its program has them now.
     pub cpu: Cpu,
-    /// Whether a command is due.
+    /// Whether a command is due: the next half-turn performs it; else it runs instructions.
     pub due: bool,
 }
 

@@ -18,7 +18,7 @@ use Rattle.cx_program.specs.declared.choice.Choice.TheVariants as choice
 use Rattle.cx_program.specs.declared.entries.Entries.{Entries}
 use Rattle.cx_program.specs.declared.entries.Handler.{Handler}
 use Rattle.cx_program.specs.declared.entries.Handler.TheVariants as entry
-use Rattle.cx_program.specs.Handles.{abend_code as condition_code, choice as choice_by, choice_by_entry, waits}
+use Rattle.cx_program.specs.Handles.{condition_abend_code as condition_code, choice as choice_by, choice_by_entry, condition_waits}
 use Rattle.cx_base.specs.Arguments.{has_option}
 use Rattle.cx_base.specs.declared.options.OptionName.TheVariants.{Nosuspend}
 use Rattle.cx_region_state.specs.Call.{Call, has_nohandle, resp_place}
@@ -34,7 +34,7 @@ use Rattle.cx_region_task.specs.declared.continuation.Continuation.TheVariants a
 use Rattle.cx_region_task.specs.Abends.{Abends, AbendsAt}
 use Rattle.cx_region_task.specs.declared.decision.Decision.{Decision}
 use Rattle.cx_region_task.specs.declared.decision.Decision.TheVariants as decision
-use Rattle.cx_region_task.specs.Decisions.{command_of}
+use Rattle.cx_region_task.specs.Decisions.{decided_command}
 use Rattle.cx_region_task.specs.Facts.Met.{to_be_done}
 use Rattle.cx_region_task.specs.Laws.AbendRecords.{Explains, IsCodeOf, AbendRecordsDecide, AbendRecordsExplain}
 use Rattle.cx_region_task.specs.Performing.{CarriesOut, Decides, continuation_cause, decision_cause}
@@ -76,14 +76,14 @@ by_codes : (entries : Entries) (condition : Condition) → Codes (choice_by entr
 unfolding choice_by
 by_codes entries condition =
     entry_codes (entry_for entries condition)
-    (if waits condition then choice.Wait else choice_by_entry (entry_for entries Error) (choice.Abend (condition_code condition))) condition (go (waits condition))
+    (if condition_waits condition then choice.Wait else choice_by_entry (entry_for entries Error) (choice.Abend (condition_code condition))) condition (go (condition_waits condition))
   where
     go : (b : Bool) → Codes (if b then choice.Wait else choice_by_entry (entry_for entries Error) (choice.Abend (condition_code condition))) condition
     go true = tt
     go false = entry_codes (entry_for entries Error) (choice.Abend (condition_code condition)) condition refl
 
 unhandled_codes : (condition : Condition) → Codes (choice_unhandled condition) condition
-unhandled_codes condition = go (waits condition)
+unhandled_codes condition = go (condition_waits condition)
   where
     go : (b : Bool) → Codes (if b then choice.Wait else choice.GoOn) condition
     go true = tt
@@ -181,7 +181,7 @@ unfolding HalfTurnWith
 explains_turn before after reply abend_record turns = by_due before.task.due turns
   where
     by_due : (b : Bool) → MatchBool b (PerformsCommand before reply abend_record after) (RunsOn before reply abend_record after) → Explains abend_record reply
-    by_due true it = rw it.recorded (explains_carried (command_of it.decided) (machine_of before) it.decided before after reply it.decides it.carries)
+    by_due true it = rw it.recorded (explains_carried (decided_command it.decided) (machine_of before) it.decided before after reply it.decides it.carries)
     by_due false runs = rw runs.recorded (explains_halt (machine_of runs.between) runs.how runs.between after reply runs.ends)
 
 pub abend_records_explain : ((limit : ℕ) → RunsDecide (Advances limit)) → JudgedOnce → AbendRecordsExplain

@@ -1,7 +1,7 @@
 -- A copy's area, given back.
 use Rattle.std.proofs.Common.{◌≡◌, ◌<◌, ◌≤◌, ◌^◌, ℕ, List, length, Option, Some, None, is_some, refl}
 use Rattle.std.specs.Prelude.{MatchOption, IsTrue, ⊤}
-use Rattle.cx_storage.specs.Storage.{Storage, IsSound}
+use Rattle.cx_storage.specs.Storage.{Storage, IsSoundStorage}
 use Rattle.cx_storage.specs.Facts.Spans.{span_length}
 use Rattle.cx_region_state.specs.declared.inputs.StorageSpan.{StorageSpan}
 use Rattle.cx_region_state.specs.Inputs.{piece_bytes}
@@ -15,7 +15,7 @@ pub copy_below : (s : Storage) (copying : Option Copying) → FitsCopy copying s
 copy_below s None fits = tt
 copy_below s (Some copying) fits = place_below s copying.from.len copying.to fits.some fits.place
 
-pub copy_given_back : (s : Storage) (slot : ℕ) (copying : Option Copying) → IsSound s → FitsCopy copying s
+pub copy_given_back : (s : Storage) (slot : ℕ) (copying : Option Copying) → IsSoundStorage s → FitsCopy copying s
     → without_copy copying (with_copy_area s slot copying) ≡ s
 unfolding with_copy_area
 copy_given_back s slot None ok fits = refl

@@ -22,13 +22,13 @@ use Rattle.cx_region_task.specs.Continuations.{Goes, is_wait}
 use Rattle.cx_region_task.specs.Decisions.{continuation_at, waits}
 use Rattle.cx_region_task.specs.Facts.Met.{acts_met}
 use Rattle.cx_region_task.specs.Laws.Decisions.{DecisionsDecide, WaitsAreDecided, is_wait_reply}
-use Rattle.cx_region_task.specs.Performing.{CarriesOut, Decides, DecidesCall, fault_abend, list_of}
+use Rattle.cx_region_task.specs.Performing.{CarriesOut, Decides, DecidesCall, fault_abend, argument_list}
 use Rattle.cx_region_task.specs.Turn.{EndsRun, HalfTurn, HalfTurnWith, PerformsCommand, RunsOn}
 
 -- ---- what is decided is determined
 pub decisions_decide : JudgedOnce → DecisionsDecide
 unfolding Decides
-decisions_decide once r one other h k = by_call (call_of r.shared.storage (list_of r.task)) h k
+decisions_decide once r one other h k = by_call (call_of r.shared.storage (argument_list r.task)) h k
   where
     by_inputs : (call : Call) (b : Bool) → MatchBool b (DecidesCall call r one) (one ≡ decision.Refuse (Some call) abend.Xarg)
         → MatchBool b (DecidesCall call r other) (other ≡ decision.Refuse (Some call) abend.Xarg) → one ≡ other

@@ -10,7 +10,7 @@ use Rattle.cx_storage.specs.Storage.{Storage}
 use Rattle.cx_service.specs.Queues.{AreSoundQueues}
 use Rattle.cx_region_state.specs.declared.call.CallFault.{CallFault}
 use Rattle.cx_region_state.specs.declared.call.CallFault.TheVariants.{Xarg}
-use Rattle.cx_region_state.specs.Call.{ArgumentBlock, Call, argument_count, block_of, call_of, command_of, conditions_of, marks_last_alone, only_if, places_of, then_result, words_at}
+use Rattle.cx_region_state.specs.Call.{ArgumentBlock, Call, argument_count, block_of, call_of, command_of, conditions_of, marks_last_alone, only_if, places_of, then_result, words_from}
 use Rattle.cx_region_commands.specs.Common.{AreSoundPrograms}
 use Rattle.cx_region_commands.specs.Facts.Fits.{judged_fits}
 use Rattle.cx_region_state.specs.declared.verdict.Verdict.TheVariants.{Meets}
@@ -22,8 +22,8 @@ use Rattle.cx_region_task.specs.declared.decision.Decision.{Decision}
 use Rattle.cx_region_task.specs.declared.decision.Decision.TheVariants as decision
 use Rattle.cx_region_task.specs.Facts.Met.{to_be_done}
 use Rattle.cx_region_task.specs.Parts.Making.{MatchWay}
-use Rattle.cx_region_task.specs.Parts.Performing.{FitsDecision, takes_memory}
-use Rattle.cx_region_task.specs.Performing.{Decides, list_of}
+use Rattle.cx_region_task.specs.Parts.Performing.{FitsDecision, decision_takes_memory}
+use Rattle.cx_region_task.specs.Performing.{Decides, argument_list}
 use Rattle.cx_region_task.specs.Turn.{TakesMemory}
 use Rattle.cx_region_task.proofs.WayLemmas.{way_fits}
 
@@ -40,7 +40,7 @@ same_Ok a b r one two = cc
 
 places_low : (s : Storage) (list n : ℕ) (places : List ℕ) → places_of s list n ≡ Ok places → AreLow places
 unfolding places_of
-places_low s list n places is = go (words_at s list (1 + n)) is
+places_low s list n places is = go (words_from s list (1 + n)) is
   where
     marked : (b : Bool) (words : List ℕ) → only_if b (map address_in (drop 1 words)) Xarg ≡ Ok places → AreLow places
     marked true words e = subst AreLow (same_Ok (map address_in (drop 1 words)) places (Ok (map address_in (drop 1 words))) refl e) (addresses_low (drop 1 words))
@@ -84,7 +84,7 @@ call_low s list call is = by_block (block_of s list) is
 pub act_fits : (act : Act) (r : TaskContext) → AreSoundPrograms r.shared.programs → AreSoundQueues r.shared.queues → Decides r (decision.Act act) → FitsChange act.change r
 act_fits act r programs queues decides =
     let known = to_be_done act r decides in
-    (judged_fits act.call r (Meets act.condition act.outputs act.change) queues (call_low r.shared.storage (list_of r.task) act.call known.reads) programs known.inputs known.judged).1
+    (judged_fits act.call r (Meets act.condition act.outputs act.change) queues (call_low r.shared.storage (argument_list r.task) act.call known.reads) programs known.inputs known.judged).1
 
 pub decided_fits : (decided : Decision) (r : TaskContext) → AreSoundPrograms r.shared.programs → AreSoundQueues r.shared.queues → Decides r decided → FitsDecision decided r
 unfolding FitsDecision
@@ -96,7 +96,7 @@ decided_fits (decision.Act act) r programs queues decides =
     let way = way_fits act.call r.task.levels.current.handles.active.entries act.condition act.change r fits in
     (fits, subst (λ (gone : Continuation). MatchWay gone r.task.levels) (sym known.way) way)
 
-pub decided_takes : (decided : Decision) (r : TaskContext) → r.task.due ≡ true → Decides r decided → takes_memory decided ≡ true → TakesMemory r
+pub decided_takes : (decided : Decision) (r : TaskContext) → r.task.due ≡ true → Decides r decided → decision_takes_memory decided ≡ true → TakesMemory r
 decided_takes (decision.Refuse call refusal) r due decides takes = absurd (let no : false ≡ true = takes in cc)
 decided_takes (decision.Wait call wait) r due decides takes = absurd (let no : false ≡ true = takes in cc)
 decided_takes (decision.Act act) r due decides takes = record { due = due; act = act; decides = decides; takes = takes }

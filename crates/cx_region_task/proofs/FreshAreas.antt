@@ -6,7 +6,7 @@ use Rattle.std.proofs.lemmas.Bool.{cases_eq, cases_lt, false≢true}
 use Rattle.std.proofs.lemmas.List.{length-replicate}
 use Rattle.cx_storage.specs.Address.{address_after, distance}
 use Rattle.cx_storage.specs.Place.{CanPlace, IsLeastPlace, Misses}
-use Rattle.cx_storage.specs.Storage.{Storage, IsSound, area_from, byte_at, span, with_area, with_byte, with_bytes}
+use Rattle.cx_storage.specs.Storage.{Storage, IsSoundStorage, area_from, byte_at, span, with_area, with_byte, with_bytes}
 use Rattle.cx_storage.specs.declared.areas.Owner.{Owner}
 use Rattle.cx_storage.specs.Facts.Areas.{byte_after_get, same_storage}
 use Rattle.cx_storage.specs.Facts.Sound.{covers_cases, covers_from, sound_with_area, sound_with_byte}
@@ -48,7 +48,7 @@ fresh_there s len a owner least =
     span_inside (with_area s (Some a) len owner) a len (fresh_ends s len a least) (λ x low high. rw (fresh_byte s len a owner x least low high) refl)
 
 -- a zero written where there is one changes nothing
-same_byte : (s : Storage) (a : ℕ) → IsSound s → byte_at s a ≡ Some 0 → with_byte s a 0 ≡ s
+same_byte : (s : Storage) (a : ℕ) → IsSoundStorage s → byte_at s a ≡ Some 0 → with_byte s a 0 ≡ s
 same_byte s a ok there =
     same_storage (with_byte s a 0) s (sound_with_byte s a 0 ok (omega arith)) ok (areas_after_set s a 0)
     (λ x. elim (cases_eq x a) [
@@ -56,7 +56,7 @@ same_byte s a ok there =
       | inr ne ↦ byte_after_set_elsewhere s a 0 x ne
     ])
 
-same_bytes : (s : Storage) (a n : ℕ) → IsSound s → a + n ≤ 2 ^ 24 → ((x : ℕ) → a ≤ x → x < a + n → byte_at s x ≡ Some 0) → with_bytes s a (replicate n 0) ≡ s
+same_bytes : (s : Storage) (a n : ℕ) → IsSoundStorage s → a + n ≤ 2 ^ 24 → ((x : ℕ) → a ≤ x → x < a + n → byte_at s x ≡ Some 0) → with_bytes s a (replicate n 0) ≡ s
 unfolding with_bytes
 same_bytes s a zero ok ends each = refl
 same_bytes s a (suc zero) ok ends each = same_byte s a ok (each a (omega arith) (omega arith))
@@ -67,13 +67,13 @@ same_bytes s a (suc (suc n)) ok ends each =
     ap (λ (t : Storage). with_bytes t (address_after a 1) (replicate (suc n) 0)) here ∙ ap (λ (b : ℕ). with_bytes s b (replicate (suc n) 0)) next ∙ rest
 
 -- so its bytes are zero
-pub fresh_zeros : (s : Storage) (len a : ℕ) (owner : Owner) → IsSound s → 0 < len → IsTaskPlace s len (Some a)
+pub fresh_zeros : (s : Storage) (len a : ℕ) (owner : Owner) → IsSoundStorage s → 0 < len → IsTaskPlace s len (Some a)
     → with_area s (Some a) len owner ≡ with_filled s a len owner (replicate len 0)
 unfolding with_filled
 fresh_zeros s len a owner ok some least =
     let t : Storage = with_area s (Some a) len owner in
     let there : is_some (span t a (length {A = ℕ} (replicate len 0))) ≡ true = rw (length-replicate {A = ℕ} len 0) (fresh_there s len a owner least) in
-    let sound : IsSound t = sound_with_area s first_of_tasks last_of_tasks len (Some a) owner ok (omega arith) some least in
+    let sound : IsSoundStorage t = sound_with_area s first_of_tasks last_of_tasks len (Some a) owner ok (omega arith) some least in
     sym (written_whole t a (replicate len 0) there ∙ same_bytes t a len sound (fresh_ends s len a least) (λ x low high. fresh_byte s len a owner x least low high))
 
 -- ---- bytes beside a fresh area

@@ -6,24 +6,24 @@ use Rattle.std.specs.Int.{to_be_bytes, w16, w32}
 use Rattle.std.specs.Prelude.{⊤}
 use Rattle.cx_base.specs.Eib.{eib_field}
 use Rattle.cx_base.specs.declared.eib.EibField.{EibField}
-use Rattle.cx_storage.specs.Storage.{Storage, areas_of, with_area, IsSound as IsSoundStorage}
+use Rattle.cx_storage.specs.Storage.{Storage, areas_of, with_area, IsSoundStorage}
 use Rattle.cx_storage.specs.Address.{address_after}
 use Rattle.cx_storage.specs.Place.{IsLeastPlace}
 use Rattle.cx_storage.specs.Facts.Sound.{sound_with_area}
 use Rattle.cx_storage.specs.Facts.Writes.{areas_after_write}
 use Rattle.cx_program.specs.Handles.{Handles, after_pop}
-use Rattle.cx_region_state.specs.declared.answer.Answer.{Answer}
+use Rattle.cx_region_state.specs.declared.report.CommandReport.{CommandReport}
 use Rattle.cx_region_state.specs.declared.listed.Listed.{Listed}
 use Rattle.cx_region_state.specs.declared.outputs.Output.{Output}
-use Rattle.cx_region_state.specs.Answer.{with_answer, with_eib, with_set}
+use Rattle.cx_region_state.specs.Report.{with_report, with_eib, with_set}
 use Rattle.cx_region_state.specs.Call.{Call, place_of, resp_place}
 use Rattle.cx_region_state.specs.Eib.{Content, with_calen, with_field, with_fields, content}
 use Rattle.cx_region_state.specs.Outputs.{bytes_from, put_out, with_output}
 use Rattle.cx_region_state.specs.declared.verdict.TaskChange.{TaskChange}
-use Rattle.cx_region_state.specs.declared.verdict.TaskChange.TheVariants.{Nothing, Makes, Ends, Gets, Enters, Replaces, LevelEnds, TaskEnds, AbendsWith}
+use Rattle.cx_region_state.specs.declared.verdict.TaskChange.TheVariants.{Nothing, Before, After, Gets, Enters, Replaces, LevelEnds, TaskEnds, AbendsWith}
 use Rattle.cx_region_state.specs.declared.verdict.Copying.{Copying}
-use Rattle.cx_region_state.specs.declared.verdict.Made.{Made}
-use Rattle.cx_region_state.specs.declared.verdict.Made.TheVariants as made
+use Rattle.cx_region_state.specs.declared.verdict.BeforeOutputs.{BeforeOutputs}
+use Rattle.cx_region_state.specs.declared.verdict.BeforeOutputs.TheVariants as made
 use Rattle.cx_region_state.specs.declared.verdict.NewLevel.{NewLevel}
 use Rattle.cx_region_state.specs.declared.verdict.Request.{Request}
 use Rattle.cx_region_state.specs.declared.verdict.Request.TheVariants as request
@@ -66,8 +66,8 @@ unfolding with_calen with_field
 calen_areas s eib None = refl
 calen_areas s eib (Some calen) = areas_after_write s (address_after eib 24) _
 
-pub answered_areas : (s : Storage) (eib : ℕ) (call : Call) (answer : Answer) → areas_of (with_answer s eib call answer) ≡ areas_of s
-unfolding with_answer with_eib
+pub answered_areas : (s : Storage) (eib : ℕ) (call : Call) (answer : CommandReport) → areas_of (with_report s eib call answer) ≡ areas_of s
+unfolding with_report with_eib
 answered_areas s eib call answer =
     output_areas (with_eib s eib answer) (resp_place call) (to_be_bytes w32 answer.condition)
     ∙ calen_areas _ eib answer.calen
@@ -114,7 +114,7 @@ pub record Grew (change : TaskChange) (start mid : TaskContext) : Type 0 where
   pub held : Mid start mid
   pub stands : Standing change start.terminal_entry.slot held.storage mid.task
 
-made_keeps : (it : Made) (start after : TaskContext) → FitsMade it start → Mid start start → AppliesBefore (Makes it) start after → Mid start after
+made_keeps : (it : BeforeOutputs) (start after : TaskContext) → FitsMade it start → Mid start start → AppliesBefore (Before it) start after → Mid start after
 unfolding AppliesBefore
 made_keeps (made.ItemLast name piece) start after fits held applied =
     rw applied (record { slot = refl; programs = refl; resources = refl; storage = held.storage; sound = held.sound; same = held.same; others = held.others; task = held.task })
@@ -208,8 +208,8 @@ pub applied_keeps : (change : TaskChange) (start mid : TaskContext) → IsSoundS
     → AppliesBefore change start mid → Grew change start mid
 unfolding AppliesBefore with_got with_filled with_stg with_replacement
 applied_keeps Nothing start mid ok own fits applied = rw applied (record { held = begins start ok own; stands = tt })
-applied_keeps (Makes it) start mid ok own fits applied = record { held = made_keeps it start mid fits (begins start ok own) applied; stands = tt }
-applied_keeps (Ends it) start mid ok own fits applied = rw applied (record { held = begins start ok own; stands = tt })
+applied_keeps (Before it) start mid ok own fits applied = record { held = made_keeps it start mid fits (begins start ok own) applied; stands = tt }
+applied_keeps (After it) start mid ok own fits applied = rw applied (record { held = begins start ok own; stands = tt })
 applied_keeps LevelEnds start mid ok own fits applied = rw applied (record { held = begins start ok own; stands = tt })
 applied_keeps (AbendsWith code cancel) start mid ok own fits applied = rw applied (record { held = begins start ok own; stands = tt })
 applied_keeps (TaskEnds next) start mid ok own fits applied =

@@ -6,7 +6,7 @@ use Rattle.cx_base.specs.declared.abends.Abend.TheVariants as abend
 use Rattle.cx_exec.specs.declared.machine.Halt.{Halt}
 use Rattle.cx_exec.specs.declared.machine.Halt.TheVariants as halt
 use Rattle.cx_exec_laws.specs.Facts.Keeps.{runs_keep_areas}
-use Rattle.cx_storage.specs.Storage.{areas_of, IsSound as IsSoundStorage}
+use Rattle.cx_storage.specs.Storage.{areas_of, IsSoundStorage}
 use Rattle.cx_service.specs.Queues.{AreSoundQueues}
 use Rattle.cx_region_commands.specs.Common.{AreSoundPrograms}
 use Rattle.cx_region_state.specs.declared.replies.TurnReply.{TurnReply}

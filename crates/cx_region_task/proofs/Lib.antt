@@ -19,3 +19,4 @@ mod DecideLemmas
 mod TurnDecide
 mod AbendRecordLemmas
 mod StayLemmas
+pub mod RoomLemmas

@@ -1,6 +1,6 @@
 -- What the steps of a half-turn keep, one after another.
 use Rattle.std.proofs.Common.{◌≡◌, ℕ, Bool, true, false, Option, Some, None, List, refl, sym, ◌∙◌, ap, subst, ◌-◌, length}
-use Rattle.cx_storage.specs.Storage.{Storage, areas_of, is_of_other_slot, with_areas_kept, IsSound as IsSoundStorage}
+use Rattle.cx_storage.specs.Storage.{Storage, areas_of, is_of_other_slot, with_areas_kept, IsSoundStorage}
 use Rattle.cx_storage.specs.Address.{address_after}
 use Rattle.cx_storage.specs.Facts.Writes.{areas_after_write}
 use Rattle.cx_program.specs.Levels.{Levels}

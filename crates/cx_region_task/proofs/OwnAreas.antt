@@ -5,7 +5,7 @@ use Rattle.std.proofs.lemmas.Bool.{cases_Bool, cases_eq, eq-eqb, ne_eqb, true≢
 use Rattle.std.proofs.lemmas.Option.{same_Some}
 use Rattle.cx_storage.specs.declared.areas.Area.{Area}
 use Rattle.cx_storage.specs.declared.areas.Owner.{Owner}
-use Rattle.cx_storage.specs.Storage.{Storage, area_at, areas_of, end_of, is_of_other_slot, starts_elsewhere, with_area, with_areas_kept, AreOrdered, IsWhole, IsSound}
+use Rattle.cx_storage.specs.Storage.{Storage, area_at, areas_of, end_of, is_of_other_slot, starts_elsewhere, with_area, with_areas_kept, AreOrdered, IsWhole, IsSoundStorage}
 use Rattle.cx_region_state.specs.Facts.Areas.{freed_put}
 use Rattle.cx_region_task.specs.Laws.HalfTurns.{others_areas}
 
@@ -65,9 +65,9 @@ elsewhere (h ∷ hs) slot stg mine whole ordered found own = elim (cases_eq h.ar
   )
 ]
 
-pub freed_own : (s : Storage) (slot stg : ℕ) (mine : Area) → IsSound s → area_at s stg ≡ Some mine → mine.owner.slot ≡ slot
+pub freed_own : (s : Storage) (slot stg : ℕ) (mine : Area) → IsSoundStorage s → area_at s stg ≡ Some mine → mine.owner.slot ≡ slot
     → others_areas slot (with_areas_kept (starts_elsewhere stg) s) ≡ others_areas slot s
-unfolding IsSound
+unfolding IsSoundStorage
 freed_own s slot stg mine ok found own = ap areas_of (kept_others (starts_elsewhere stg) (is_of_other_slot slot) s (elsewhere s slot stg mine ok.0 ok.1 found own))
 
 every : (other : Area → Bool) (s : Storage) → AllByRecursion (λ h. other h.area ≡ true → other h.area ≡ true) s

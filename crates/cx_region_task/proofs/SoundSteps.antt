@@ -7,7 +7,7 @@ use Rattle.std.proofs.lemmas.Option.{none-some, same_Some}
 use Rattle.cx_base.specs.Eib.{eib_len}
 use Rattle.cx_storage.specs.declared.areas.Area.{Area}
 use Rattle.cx_storage.specs.declared.areas.Owner.{Owner}
-use Rattle.cx_storage.specs.Storage.{Storage, area_at, area_from, areas_of, starts_elsewhere, with_area, with_areas_kept, IsWhole, IsSound as IsSoundStorage}
+use Rattle.cx_storage.specs.Storage.{Storage, area_at, area_from, areas_of, starts_elsewhere, with_area, with_areas_kept, IsWhole, IsSoundStorage}
 use Rattle.cx_storage.specs.Place.{IsLeastPlace}
 use Rattle.cx_storage.specs.Address.{address_in}
 use Rattle.cx_storage.specs.Facts.Areas.{area_of_areas}

@@ -12,13 +12,13 @@ use Rattle.cx_region_state.specs.Call.{Call}
 use Rattle.cx_region_state.specs.declared.replies.TurnReply.{TurnReply}
 use Rattle.cx_region_state.specs.declared.replies.TurnReply.TheVariants as turn
 use Rattle.cx_region_state.specs.declared.verdict.TaskChange.{TaskChange}
-use Rattle.cx_region_state.specs.declared.verdict.TaskChange.TheVariants.{Nothing, Makes, Ends, Gets, Enters, Replaces, LevelEnds, TaskEnds, AbendsWith}
-use Rattle.cx_region_state.specs.declared.verdict.Ended.{Ended}
-use Rattle.cx_region_state.specs.declared.verdict.Ended.TheVariants.{TakesInput, ReadOf, QueueGone, Dequeues, Frees}
+use Rattle.cx_region_state.specs.declared.verdict.TaskChange.TheVariants.{Nothing, Before, After, Gets, Enters, Replaces, LevelEnds, TaskEnds, AbendsWith}
+use Rattle.cx_region_state.specs.declared.verdict.AfterOutputs.{AfterOutputs}
+use Rattle.cx_region_state.specs.declared.verdict.AfterOutputs.TheVariants.{TakesInput, MarksRead, QueueGone, Dequeues, Frees}
 use Rattle.cx_region_state.specs.declared.verdict.Fill.{Fill}
 use Rattle.cx_region_state.specs.declared.verdict.Fill.TheVariants.{Byte, Item}
-use Rattle.cx_region_state.specs.declared.verdict.Made.{Made}
-use Rattle.cx_region_state.specs.declared.verdict.Made.TheVariants as made
+use Rattle.cx_region_state.specs.declared.verdict.BeforeOutputs.{BeforeOutputs}
+use Rattle.cx_region_state.specs.declared.verdict.BeforeOutputs.TheVariants as made
 use Rattle.cx_region_state.specs.State.{TaskContext}
 use Rattle.cx_region_task.specs.declared.continuation.Continuation.{Continuation}
 use Rattle.cx_region_task.specs.declared.continuation.Continuation.TheVariants as continuation
@@ -81,7 +81,7 @@ goes_stay continuation.TaskEnds condition before committed after reply same goes
     stays_at before after reply turn.Ended (same_at before _ after goes.1 (record { slot = same.slot; programs = same.programs })) goes.0 refl
 
 -- ---- what the command does
-made_same : (it : Made) (before after : TaskContext) → AppliesBefore (Makes it) before after → Same before after
+made_same : (it : BeforeOutputs) (before after : TaskContext) → AppliesBefore (Before it) before after → Same before after
 unfolding AppliesBefore
 made_same (made.ItemLast name piece) before after applied = same_at before _ after applied (record { slot = refl; programs = refl })
 made_same (made.ItemAt name n piece) before after applied = same_at before _ after applied (record { slot = refl; programs = refl })
@@ -92,8 +92,8 @@ made_same (made.Handles request) before after applied = same_at before _ after a
 applied_same : (change : TaskChange) (before after : TaskContext) → AppliesBefore change before after → Same before after
 unfolding AppliesBefore
 applied_same Nothing before after applied = same_at before _ after applied (record { slot = refl; programs = refl })
-applied_same (Makes it) before after applied = made_same it before after applied
-applied_same (Ends it) before after applied = same_at before _ after applied (record { slot = refl; programs = refl })
+applied_same (Before it) before after applied = made_same it before after applied
+applied_same (After it) before after applied = same_at before _ after applied (record { slot = refl; programs = refl })
 applied_same (Gets got) before after applied = same_at before _ after applied (record { slot = refl; programs = refl })
 applied_same (Enters level) before after applied = same_at before _ after applied (record { slot = refl; programs = refl })
 applied_same (Replaces copying level) before after applied = same_at before _ after applied (record { slot = refl; programs = refl })
@@ -101,10 +101,10 @@ applied_same LevelEnds before after applied = same_at before _ after applied (re
 applied_same (TaskEnds next) before after applied = same_at before _ after applied (record { slot = refl; programs = refl })
 applied_same (AbendsWith code cancel) before after applied = same_at before _ after applied (record { slot = refl; programs = refl })
 
-ended_same : (it : Ended) (r : TaskContext) → Same r (apply_after (Ends it) r)
+ended_same : (it : AfterOutputs) (r : TaskContext) → Same r (apply_after (After it) r)
 unfolding apply_after
 ended_same TakesInput r = record { slot = refl; programs = refl }
-ended_same (ReadOf name n) r = record { slot = refl; programs = refl }
+ended_same (MarksRead name n) r = record { slot = refl; programs = refl }
 ended_same (QueueGone name) r = record { slot = refl; programs = refl }
 ended_same (Dequeues resource) r = record { slot = refl; programs = refl }
 ended_same (Frees place) r = record { slot = refl; programs = refl }
@@ -116,8 +116,8 @@ read_same (Item name n) r = record { slot = refl; programs = refl }
 finished_same : (change : TaskChange) (r : TaskContext) → Same r (apply_after change r)
 unfolding apply_after
 finished_same Nothing r = record { slot = refl; programs = refl }
-finished_same (Makes it) r = record { slot = refl; programs = refl }
-finished_same (Ends it) r = ended_same it r
+finished_same (Before it) r = record { slot = refl; programs = refl }
+finished_same (After it) r = ended_same it r
 finished_same (Gets got) r = read_same got.fill r
 finished_same (Enters level) r = record { slot = refl; programs = refl }
 finished_same (Replaces copying level) r = record { slot = refl; programs = refl }

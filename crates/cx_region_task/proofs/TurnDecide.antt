@@ -13,9 +13,9 @@ use Rattle.cx_service.specs.Screen.{ShowsText}
 use Rattle.cx_region_commands.specs.Laws.Rows.{JudgedOnce}
 use Rattle.cx_region_state.specs.declared.replies.TurnReply.{TurnReply}
 use Rattle.cx_region_state.specs.declared.verdict.TaskChange.{TaskChange}
-use Rattle.cx_region_state.specs.declared.verdict.TaskChange.TheVariants.{Nothing, Makes, Ends, Gets, Enters, Replaces, LevelEnds, TaskEnds, AbendsWith}
-use Rattle.cx_region_state.specs.declared.verdict.Made.{Made}
-use Rattle.cx_region_state.specs.declared.verdict.Made.TheVariants as made
+use Rattle.cx_region_state.specs.declared.verdict.TaskChange.TheVariants.{Nothing, Before, After, Gets, Enters, Replaces, LevelEnds, TaskEnds, AbendsWith}
+use Rattle.cx_region_state.specs.declared.verdict.BeforeOutputs.{BeforeOutputs}
+use Rattle.cx_region_state.specs.declared.verdict.BeforeOutputs.TheVariants as made
 use Rattle.cx_region_state.specs.Areas.{bytes_in}
 use Rattle.cx_region_state.specs.State.{TaskContext}
 use Rattle.cx_region_task.specs.declared.continuation.Continuation.{Continuation}
@@ -54,7 +54,7 @@ abends_decide code cancel before p q a b h k =
     by_exit None one two = same_answers p q _ a b _ one two
     by_exit (Some index) one two = same_answers p q _ a b _ one two
 
-made_decides : ShownOnce → (it : Made) (before a b : TaskContext) → AppliesBefore (Makes it) before a → AppliesBefore (Makes it) before b → a ≡ b
+made_decides : ShownOnce → (it : BeforeOutputs) (before a b : TaskContext) → AppliesBefore (Before it) before a → AppliesBefore (Before it) before b → a ≡ b
 unfolding AppliesBefore
 made_decides shown (made.ItemLast name piece) before a b h k = h ∙ sym k
 made_decides shown (made.ItemAt name n piece) before a b h k = h ∙ sym k
@@ -66,8 +66,8 @@ made_decides shown (made.Shows piece erase) before a b h k =
 applied_decides : ShownOnce → (change : TaskChange) (before a b : TaskContext) → AppliesBefore change before a → AppliesBefore change before b → a ≡ b
 unfolding AppliesBefore
 applied_decides shown Nothing before a b h k = h ∙ sym k
-applied_decides shown (Makes it) before a b h k = made_decides shown it before a b h k
-applied_decides shown (Ends it) before a b h k = h ∙ sym k
+applied_decides shown (Before it) before a b h k = made_decides shown it before a b h k
+applied_decides shown (After it) before a b h k = h ∙ sym k
 applied_decides shown (Gets got) before a b h k = h ∙ sym k
 applied_decides shown (Enters level) before a b h k = h ∙ sym k
 applied_decides shown (Replaces copying level) before a b h k = h ∙ sym k

@@ -5,22 +5,22 @@ use Rattle.std.proofs.lemmas.Option.{same_Some}
 use Rattle.cx_base.specs.declared.conditions.Condition.{Condition}
 use Rattle.cx_storage.specs.declared.areas.Area.{Area}
 use Rattle.cx_storage.specs.declared.areas.Kind.TheVariants.{Got as GotKind, System}
-use Rattle.cx_storage.specs.Storage.{Storage, area_at, area_from, areas_of, starts_elsewhere, with_areas_kept, IsSound as IsSoundStorage}
+use Rattle.cx_storage.specs.Storage.{Storage, area_at, area_from, areas_of, starts_elsewhere, with_areas_kept, IsSoundStorage}
 use Rattle.cx_storage.specs.Facts.Areas.{area_of_areas}
 use Rattle.cx_storage.specs.Facts.Sound.{sound_with_areas_kept}
 use Rattle.cx_program.specs.declared.entries.Entries.{Entries}
 use Rattle.cx_program.specs.declared.choice.Choice.{Choice}
 use Rattle.cx_program.specs.declared.choice.Choice.TheVariants as choice
 use Rattle.cx_service.specs.Resources.{dequeue, without_owner}
-use Rattle.cx_region_state.specs.declared.answer.Answer.{Answer}
+use Rattle.cx_region_state.specs.declared.report.CommandReport.{CommandReport}
 use Rattle.cx_region_state.specs.declared.outputs.Output.{Output}
 use Rattle.cx_region_state.specs.Call.{Call}
 use Rattle.cx_region_state.specs.declared.replies.TurnReply.{TurnReply}
 use Rattle.cx_region_state.specs.declared.replies.TurnReply.TheVariants as turn
 use Rattle.cx_region_state.specs.declared.verdict.TaskChange.{TaskChange}
-use Rattle.cx_region_state.specs.declared.verdict.TaskChange.TheVariants.{Nothing, Makes, Ends, Gets, Enters, Replaces, LevelEnds, TaskEnds, AbendsWith}
-use Rattle.cx_region_state.specs.declared.verdict.Ended.{Ended}
-use Rattle.cx_region_state.specs.declared.verdict.Ended.TheVariants.{TakesInput, ReadOf, QueueGone, Dequeues, Frees}
+use Rattle.cx_region_state.specs.declared.verdict.TaskChange.TheVariants.{Nothing, Before, After, Gets, Enters, Replaces, LevelEnds, TaskEnds, AbendsWith}
+use Rattle.cx_region_state.specs.declared.verdict.AfterOutputs.{AfterOutputs}
+use Rattle.cx_region_state.specs.declared.verdict.AfterOutputs.TheVariants.{TakesInput, MarksRead, QueueGone, Dequeues, Frees}
 use Rattle.cx_region_state.specs.declared.verdict.Fill.{Fill}
 use Rattle.cx_region_state.specs.declared.verdict.Fill.TheVariants.{Byte, Item}
 use Rattle.cx_region_state.specs.Areas.{IsAreaOf, got_owner, system_owner}
@@ -67,7 +67,7 @@ unfolding write_outputs
 given_grew call outputs change start mid grew =
     stored_grew change start mid _ (put_out_areas mid.shared.storage call (handed_over change mid) outputs) grew
 
-reported_grew : (call : Call) (answer : Answer) (change : TaskChange) (start mid : TaskContext) → Grew change start mid → Grew change start (write_report call answer mid)
+reported_grew : (call : Call) (answer : CommandReport) (change : TaskChange) (start mid : TaskContext) → Grew change start mid → Grew change start (write_report call answer mid)
 unfolding write_report
 reported_grew call answer change start mid grew =
     stored_grew change start mid _ (answered_areas mid.shared.storage mid.task.eib call answer) grew
@@ -82,12 +82,12 @@ got_apart s slot start len place size there got is =
 got_freed : (s : Storage) (slot place size : ℕ) → IsSoundStorage s → area_at s place ≡ Some (area_from place size (got_owner slot)) → OwnStay slot s (with_areas_kept (starts_elsewhere place) s)
 got_freed s slot place size ok got start len there = free_keeps s place start _ ok there (got_apart s slot start len place size there got)
 
-ended_grew : (it : Ended) (start mid : TaskContext) → FitsEnded it start → areas_of mid.shared.storage ≡ areas_of start.shared.storage → Grew (Ends it) start mid → Grew (Ends it) start (apply_after (Ends it) mid)
+ended_grew : (it : AfterOutputs) (start mid : TaskContext) → FitsEnded it start → areas_of mid.shared.storage ≡ areas_of start.shared.storage → Grew (After it) start mid → Grew (After it) start (apply_after (After it) mid)
 unfolding apply_after
 ended_grew TakesInput start mid fits areas grew =
     let held = grew.held in
     record { held = record { slot = held.slot; programs = held.programs; resources = held.resources; storage = held.storage; sound = held.sound; same = held.same; others = held.others; task = held.task }; stands = tt }
-ended_grew (ReadOf name n) start mid fits areas grew =
+ended_grew (MarksRead name n) start mid fits areas grew =
     let held = grew.held in
     record { held = record { slot = held.slot; programs = held.programs; resources = held.resources; storage = held.storage; sound = held.sound; same = held.same; others = held.others; task = held.task }; stands = tt }
 ended_grew (QueueGone name) start mid fits areas grew =
@@ -124,11 +124,11 @@ read_grew got (Item name n) start mid grew =
     let held = grew.held in
     record { held = record { slot = held.slot; programs = held.programs; resources = held.resources; storage = held.storage; sound = held.sound; same = held.same; others = held.others; task = held.task }; stands = tt }
 
-finished_grew : (change : TaskChange) (start mid : TaskContext) → FitsChange change start → ((it : Ended) → change ≡ Ends it → areas_of mid.shared.storage ≡ areas_of start.shared.storage) → Grew change start mid → Grew change start (apply_after change mid)
+finished_grew : (change : TaskChange) (start mid : TaskContext) → FitsChange change start → ((it : AfterOutputs) → change ≡ After it → areas_of mid.shared.storage ≡ areas_of start.shared.storage) → Grew change start mid → Grew change start (apply_after change mid)
 unfolding apply_after
 finished_grew Nothing start mid fits areas grew = grew
-finished_grew (Makes it) start mid fits areas grew = grew
-finished_grew (Ends it) start mid fits areas grew = ended_grew it start mid fits (areas it refl) grew
+finished_grew (Before it) start mid fits areas grew = grew
+finished_grew (After it) start mid fits areas grew = ended_grew it start mid fits (areas it refl) grew
 finished_grew (Gets got) start mid fits areas grew = read_grew got got.fill start mid grew
 finished_grew (Enters level) start mid fits areas grew = grew
 finished_grew (Replaces copying level) start mid fits areas grew = grew
@@ -137,11 +137,11 @@ finished_grew (TaskEnds next) start mid fits areas grew = grew
 finished_grew (AbendsWith code cancel) start mid fits areas grew = grew
 
 -- where something ends, nothing is made
-ends_alone : (it : Ended) (start made : TaskContext) → AppliesBefore (Ends it) start made → made ≡ start
+ends_alone : (it : AfterOutputs) (start made : TaskContext) → AppliesBefore (After it) start made → made ≡ start
 unfolding AppliesBefore
 ends_alone it start made applied = applied
 
-ends_areas : (call : Call) (outputs : List Output) (answer : Answer) (change : TaskChange) (start made : TaskContext) → AppliesBefore change start made → (it : Ended) → change ≡ Ends it
+ends_areas : (call : Call) (outputs : List Output) (answer : CommandReport) (change : TaskChange) (start made : TaskContext) → AppliesBefore change start made → (it : AfterOutputs) → change ≡ After it
     → areas_of (write_report call answer (write_outputs call outputs change made)).shared.storage ≡ areas_of start.shared.storage
 unfolding write_report write_outputs
 ends_areas call outputs answer change start made applied it is =
@@ -160,8 +160,8 @@ settled_grew call condition outputs change start after ok own fits commits =
 -- ---- the way
 by_change : (change : TaskChange) (slot : ℕ) (s : Storage) (task : TaskState) → Standing change slot s task → Stands (continuation_by change) slot s task
 by_change Nothing slot s task stands = tt
-by_change (Makes it) slot s task stands = tt
-by_change (Ends it) slot s task stands = tt
+by_change (Before it) slot s task stands = tt
+by_change (After it) slot s task stands = tt
 by_change (Gets got) slot s task stands = tt
 by_change (Enters level) slot s task stands = stands
 by_change (Replaces copying level) slot s task stands = stands

@@ -9,13 +9,13 @@ use Rattle.cx_program.specs.Levels.{Levels}
 use Rattle.cx_region_state.specs.declared.outputs.Output.{Output}
 use Rattle.cx_region_state.specs.Call.{Call}
 use Rattle.cx_region_state.specs.declared.verdict.TaskChange.{TaskChange}
-use Rattle.cx_region_state.specs.declared.verdict.TaskChange.TheVariants.{Nothing, Makes, Ends, Gets, Enters, Replaces, LevelEnds, TaskEnds, AbendsWith}
-use Rattle.cx_region_state.specs.declared.verdict.Ended.{Ended}
-use Rattle.cx_region_state.specs.declared.verdict.Ended.TheVariants.{TakesInput, ReadOf, QueueGone, Dequeues, Frees}
+use Rattle.cx_region_state.specs.declared.verdict.TaskChange.TheVariants.{Nothing, Before, After, Gets, Enters, Replaces, LevelEnds, TaskEnds, AbendsWith}
+use Rattle.cx_region_state.specs.declared.verdict.AfterOutputs.{AfterOutputs}
+use Rattle.cx_region_state.specs.declared.verdict.AfterOutputs.TheVariants.{TakesInput, MarksRead, QueueGone, Dequeues, Frees}
 use Rattle.cx_region_state.specs.declared.verdict.Fill.{Fill}
 use Rattle.cx_region_state.specs.declared.verdict.Fill.TheVariants.{Byte, Item}
-use Rattle.cx_region_state.specs.declared.verdict.Made.{Made}
-use Rattle.cx_region_state.specs.declared.verdict.Made.TheVariants as made
+use Rattle.cx_region_state.specs.declared.verdict.BeforeOutputs.{BeforeOutputs}
+use Rattle.cx_region_state.specs.declared.verdict.BeforeOutputs.TheVariants as made
 use Rattle.cx_region_state.specs.State.{TaskContext}
 use Rattle.cx_region_state.specs.Parts.Fits.{FitsChange}
 use Rattle.cx_region_task.specs.declared.continuation.Continuation.{Continuation}
@@ -25,7 +25,7 @@ use Rattle.cx_region_task.specs.Parts.Making.{MatchWay}
 use Rattle.cx_region_task.specs.Continuations.{is_normal, continuation_by, continuation_chosen, continuation_of, choice_for}
 
 -- no command changes the callers before the task goes its way
-made_callers : (it : Made) (before after : TaskContext) → AppliesBefore (Makes it) before after → after.task.levels.callers ≡ before.task.levels.callers
+made_callers : (it : BeforeOutputs) (before after : TaskContext) → AppliesBefore (Before it) before after → after.task.levels.callers ≡ before.task.levels.callers
 unfolding AppliesBefore
 made_callers (made.ItemLast name piece) before after applied = rw applied refl
 made_callers (made.ItemAt name n piece) before after applied = rw applied refl
@@ -36,8 +36,8 @@ made_callers (made.Handles request) before after applied = rw applied refl
 applied_callers : (change : TaskChange) (before after : TaskContext) → AppliesBefore change before after → after.task.levels.callers ≡ before.task.levels.callers
 unfolding AppliesBefore
 applied_callers Nothing before after applied = rw applied refl
-applied_callers (Makes it) before after applied = made_callers it before after applied
-applied_callers (Ends it) before after applied = rw applied refl
+applied_callers (Before it) before after applied = made_callers it before after applied
+applied_callers (After it) before after applied = rw applied refl
 applied_callers (Gets got) before after applied = rw applied refl
 applied_callers (Enters level) before after applied = rw applied refl
 applied_callers (Replaces copying level) before after applied = rw applied refl
@@ -45,10 +45,10 @@ applied_callers LevelEnds before after applied = rw applied refl
 applied_callers (TaskEnds next) before after applied = rw applied refl
 applied_callers (AbendsWith code cancel) before after applied = rw applied refl
 
-ended_task : (it : Ended) (r : TaskContext) → (apply_after (Ends it) r).task ≡ r.task
+ended_task : (it : AfterOutputs) (r : TaskContext) → (apply_after (After it) r).task ≡ r.task
 unfolding apply_after
 ended_task TakesInput r = refl
-ended_task (ReadOf name n) r = refl
+ended_task (MarksRead name n) r = refl
 ended_task (QueueGone name) r = refl
 ended_task (Dequeues resource) r = refl
 ended_task (Frees place) r = refl
@@ -60,8 +60,8 @@ read_task (Item name n) r = refl
 pub finished_task : (change : TaskChange) (r : TaskContext) → (apply_after change r).task ≡ r.task
 unfolding apply_after
 finished_task Nothing r = refl
-finished_task (Makes it) r = refl
-finished_task (Ends it) r = ended_task it r
+finished_task (Before it) r = refl
+finished_task (After it) r = ended_task it r
 finished_task (Gets got) r = read_task got.fill r
 finished_task (Enters level) r = refl
 finished_task (Replaces copying level) r = refl
@@ -77,8 +77,8 @@ settled_callers call condition outputs change before after commits =
 
 by_change : (change : TaskChange) (before : TaskContext) → FitsChange change before → MatchWay (continuation_by change) before.task.levels
 by_change Nothing before fits = tt
-by_change (Makes it) before fits = tt
-by_change (Ends it) before fits = tt
+by_change (Before it) before fits = tt
+by_change (After it) before fits = tt
 by_change (Gets got) before fits = tt
 by_change (Enters level) before fits = (fits.begins.program.entry, fits.few)
 by_change (Replaces copying level) before fits = fits.begins.program.entry

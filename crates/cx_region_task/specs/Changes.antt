@@ -17,23 +17,23 @@ use Rattle.cx_program.specs.Levels.{with_current}
 use Rattle.cx_service.specs.Queues.{Queues, item_of, with_item, with_item_at, with_last_read, without_queue}
 use Rattle.cx_service.specs.Resources.{Resources, dequeue, enqueue}
 use Rattle.cx_service.specs.Screen.{ShowsText}
-use Rattle.cx_region_state.specs.declared.answer.Answer.{Answer}
+use Rattle.cx_region_state.specs.declared.report.CommandReport.{CommandReport}
 use Rattle.cx_region_state.specs.declared.inputs.StorageSpan.{StorageSpan}
 use Rattle.cx_region_state.specs.declared.listed.Listed.{Listed}
 use Rattle.cx_region_state.specs.declared.outputs.Output.{Output}
-use Rattle.cx_region_state.specs.Answer.{with_answer, resource_of}
+use Rattle.cx_region_state.specs.Report.{with_report, resource_of}
 use Rattle.cx_region_state.specs.Call.{Call}
 use Rattle.cx_region_state.specs.Outputs.{put_out}
 use Rattle.cx_region_state.specs.declared.verdict.TaskChange.{TaskChange}
-use Rattle.cx_region_state.specs.declared.verdict.TaskChange.TheVariants.{Makes, Ends, Gets, Enters, Replaces, LevelEnds, TaskEnds}
+use Rattle.cx_region_state.specs.declared.verdict.TaskChange.TheVariants.{Before, After, Gets, Enters, Replaces, LevelEnds, TaskEnds}
 use Rattle.cx_region_state.specs.declared.verdict.Copying.{Copying}
-use Rattle.cx_region_state.specs.declared.verdict.Ended.TheVariants.{TakesInput, ReadOf, QueueGone, Dequeues, Frees}
+use Rattle.cx_region_state.specs.declared.verdict.AfterOutputs.TheVariants.{TakesInput, MarksRead, QueueGone, Dequeues, Frees}
 use Rattle.cx_region_state.specs.declared.verdict.Fill.{Fill}
 use Rattle.cx_region_state.specs.declared.verdict.Fill.TheVariants.{Byte, Item}
 use Rattle.cx_region_state.specs.declared.verdict.Got.{Got}
-use Rattle.cx_region_state.specs.declared.verdict.Made.TheVariants as made
+use Rattle.cx_region_state.specs.declared.verdict.BeforeOutputs.TheVariants as made
 use Rattle.cx_region_state.specs.declared.verdict.NewLevel.{NewLevel}
-use Rattle.cx_region_state.specs.declared.verdict.Next.{Next}
+use Rattle.cx_region_state.specs.declared.verdict.RequestedTransaction.{RequestedTransaction}
 use Rattle.cx_region_state.specs.declared.verdict.Request.{Request}
 use Rattle.cx_region_state.specs.declared.verdict.Request.TheVariants as request
 use Rattle.cx_region_state.specs.State.{NextTransaction, TaskContext, TaskState, with_storage}
@@ -91,7 +91,7 @@ with_got storage queues slot got =
     with_filled storage got.place got.len (got_owner slot) (fill_bytes got.fill got.len queues)
 
 -- the next transaction, with the COMMAREA's bytes; none without one
-unfoldable pub kept_next : Storage → Option Next → Option NextTransaction
+unfoldable pub kept_next : Storage → Option RequestedTransaction → Option NextTransaction
 kept_next storage next =
     option_map (λ next. record { tran = next.tran; commarea = option_map_or (bytes_in storage) next.commarea [] }) next
 
@@ -107,14 +107,14 @@ with_replacement storage slot copying level =
 
 -- what is made
 unfoldable pub AppliesBefore : TaskChange → TaskContext → TaskContext → Type 0
-AppliesBefore (Makes (made.ItemLast name piece)) before after =
+AppliesBefore (Before (made.ItemLast name piece)) before after =
     after ≡ with_queues before (with_item before.shared.queues name (bytes_in before.shared.storage piece))
-AppliesBefore (Makes (made.ItemAt name n piece)) before after =
+AppliesBefore (Before (made.ItemAt name n piece)) before after =
     after ≡ with_queues before (with_item_at before.shared.queues name n (bytes_in before.shared.storage piece))
-AppliesBefore (Makes (made.Enqueues resource)) before after =
+AppliesBefore (Before (made.Enqueues resource)) before after =
     after ≡ with_resources before (enqueue before.shared.resources before.terminal_entry.slot resource)
-AppliesBefore (Makes (made.Shows piece erase)) before after = ShowsPiece piece erase before after
-AppliesBefore (Makes (made.Handles request)) before after =
+AppliesBefore (Before (made.Shows piece erase)) before after = ShowsPiece piece erase before after
+AppliesBefore (Before (made.Handles request)) before after =
     after ≡ record before { task = with_handles before.task (after_request request before.task.levels.current.handles) }
 AppliesBefore (Gets got) before after =
     after ≡ with_storage before (with_got before.shared.storage before.shared.queues before.terminal_entry.slot got)
@@ -135,8 +135,8 @@ write_outputs call outputs change r = with_storage r (put_out r.shared.storage c
 -- ---- the report in the EIB, and RESP's word
 -- What a change adds to it: RECEIVE the key of its input; a level that begins the length of its COMMAREA; RETURN to a
 -- level, which goes on after its LINK, that command and the EIBCALEN of the level.
-abbrev pub with_change : TaskChange → TaskContext → Answer → Answer
-with_change (Ends TakesInput) r answer =
+abbrev pub with_change : TaskChange → TaskContext → CommandReport → CommandReport
+with_change (After TakesInput) r answer =
     record answer { aid = option_map (λ held. (key_of held.aid).code) r.terminal_entry.input }
 with_change (Enters level) r answer = record answer { calen = Some (length_or_zero level.commarea) }
 with_change (Replaces copying level) r answer = record answer { calen = Some (length_or_zero level.commarea) }
@@ -147,7 +147,7 @@ with_change LevelEnds r answer =
     }
 with_change _ r answer = answer
 
-unfoldable pub report_of : Call → Condition → TaskChange → TaskContext → Answer
+unfoldable pub report_of : Call → Condition → TaskChange → TaskContext → CommandReport
 report_of call condition change r =
     with_change change r (record {
       function = (row_of call.command).function;
@@ -157,8 +157,8 @@ report_of call condition change r =
       calen = None;
     })
 
-unfoldable pub write_report : Call → Answer → TaskContext → TaskContext
-write_report call answer r = with_storage r (with_answer r.shared.storage r.task.eib call answer)
+unfoldable pub write_report : Call → CommandReport → TaskContext → TaskContext
+write_report call answer r = with_storage r (with_report r.shared.storage r.task.eib call answer)
 
 -- ---- ended: after RESP's word
 -- an item that fills an area is the one last read
@@ -167,11 +167,11 @@ read_for (Byte b) r = r
 read_for (Item name n) r = with_queues r (with_last_read r.shared.queues name n)
 
 unfoldable pub apply_after : TaskChange → TaskContext → TaskContext
-apply_after (Ends TakesInput) r = record r { terminal_entry = record r.terminal_entry { input = None } }
-apply_after (Ends (ReadOf name n)) r = with_queues r (with_last_read r.shared.queues name n)
-apply_after (Ends (QueueGone name)) r = with_queues r (without_queue r.shared.queues name)
-apply_after (Ends (Dequeues resource)) r = with_resources r (dequeue r.shared.resources r.terminal_entry.slot resource)
-apply_after (Ends (Frees place)) r = with_storage r (with_areas_kept (starts_elsewhere place) r.shared.storage)
+apply_after (After TakesInput) r = record r { terminal_entry = record r.terminal_entry { input = None } }
+apply_after (After (MarksRead name reading)) r = with_queues r (with_last_read r.shared.queues name reading.number)
+apply_after (After (QueueGone name)) r = with_queues r (without_queue r.shared.queues name)
+apply_after (After (Dequeues resource)) r = with_resources r (dequeue r.shared.resources r.terminal_entry.slot resource)
+apply_after (After (Frees place)) r = with_storage r (with_areas_kept (starts_elsewhere place) r.shared.storage)
 apply_after (Gets got) r = read_for got.fill r
 apply_after _ r = r
 
@@ -186,9 +186,9 @@ pub record Commits (call : Call) (condition : Condition) (outputs : List Output)
 
 -- ---- memory: the changes that take some
 abbrev pub change_takes_memory : TaskChange → Bool
-change_takes_memory (Makes (made.ItemLast name piece)) = true
-change_takes_memory (Makes (made.ItemAt name n piece)) = true
-change_takes_memory (Makes (made.Enqueues resource)) = true
+change_takes_memory (Before (made.ItemLast name piece)) = true
+change_takes_memory (Before (made.ItemAt name n piece)) = true
+change_takes_memory (Before (made.Enqueues resource)) = true
 change_takes_memory (Gets got) = true
 change_takes_memory (Enters level) = true
 change_takes_memory (Replaces copying level) = true

@@ -10,7 +10,7 @@ use Rattle.cx_program.specs.declared.choice.Choice.{Choice}
 use Rattle.cx_program.specs.declared.choice.Choice.TheVariants as choice
 use Rattle.cx_program.specs.declared.entries.Entries.{Entries}
 use Rattle.cx_program.specs.declared.level.Level.{Level}
-use Rattle.cx_program.specs.Handles.{choice as choice_by, waits}
+use Rattle.cx_program.specs.Handles.{choice as choice_by, condition_waits}
 use Rattle.cx_program.specs.Levels.{Levels, with_called_level, with_current}
 use Rattle.cx_region_state.specs.Call.{Call, has_nohandle, resp_place}
 use Rattle.cx_region_state.specs.declared.replies.TurnReply.{TurnReply}
@@ -27,7 +27,7 @@ use Rattle.cx_region_task.specs.Abends.{Abends as AbendsWith, task_ended, withou
 -- ---- the choice for a condition
 -- with NOHANDLE or RESP the entries aren't looked at
 abbrev pub choice_unhandled : Condition → Choice
-choice_unhandled condition = if waits condition then choice.Wait else choice.GoOn
+choice_unhandled condition = if condition_waits condition then choice.Wait else choice.GoOn
 
 -- with NOSUSPEND the command goes on where it would wait
 abbrev pub without_wait : Bool → Choice → Choice

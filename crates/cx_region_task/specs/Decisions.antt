@@ -57,10 +57,10 @@ decision_by call (Meets condition outputs change) r =
     (record { call = call; condition = condition; outputs = outputs; change = change; continuation = continuation })
 
 -- the command, where its argument list can be read
-abbrev pub command_of : Decision → Option Command
-command_of (decision.Refuse call abend) = option_map (λ call. call.command) call
-command_of (decision.Wait call wait) = Some call.command
-command_of (decision.Act act) = Some act.call.command
+abbrev pub decided_command : Decision → Option Command
+decided_command (decision.Refuse call abend) = option_map (λ call. call.command) call
+decided_command (decision.Wait call wait) = Some call.command
+decided_command (decision.Act act) = Some act.call.command
 
 abbrev pub waits : Decision → Bool
 waits (decision.Wait call wait) = true

@@ -13,7 +13,7 @@ pub use Rattle.cx_region_state.specs.Call
 pub use Rattle.cx_region_state.specs.Eib
 pub use Rattle.cx_region_state.specs.Inputs
 pub use Rattle.cx_region_state.specs.Outputs
-pub use Rattle.cx_region_state.specs.Answer
+pub use Rattle.cx_region_state.specs.Report
 pub use Rattle.cx_region_state.specs.State
 pub use Rattle.cx_region_state.specs.Areas
 pub use Rattle.cx_region_state.specs.Verdicts

@@ -30,8 +30,8 @@ use Rattle.cx_region_task.specs.Decisions.{decision_by}
 
 -- ---- decided
 -- the address of the argument list: bits 8 to 31 of R1
-abbrev pub list_of : TaskState → ℕ
-list_of task = address_in (slice_index task.regs 1)
+abbrev pub argument_list : TaskState → ℕ
+argument_list task = address_in (slice_index task.regs 1)
 
 abbrev pub fault_abend : CallFault → Abend
 fault_abend Xarg = abend.Xarg
@@ -47,7 +47,7 @@ pub record DecidesCall (call : Call) (r : TaskContext) (decided : Decision) : Ty
 -- word, isn't in storage.
 unfoldable pub Decides : TaskContext → Decision → Type 0
 Decides r decided =
-    MatchResult (call_of r.shared.storage (list_of r.task))
+    MatchResult (call_of r.shared.storage (argument_list r.task))
     (λ call. MatchBool (are_inputs_there r.shared.storage call) (DecidesCall call r decided)
     (decided ≡ decision.Refuse (Some call) abend.Xarg))
     (λ fault. decided ≡ decision.Refuse None (fault_abend fault))

@@ -22,7 +22,7 @@ use Rattle.cx_region_task.specs.declared.decision.Decision.{Decision}
 use Rattle.cx_region_task.specs.declared.decision.Decision.TheVariants as decision
 use Rattle.cx_region_task.specs.Abends.{Abends}
 use Rattle.cx_region_task.specs.Changes.{change_takes_memory}
-use Rattle.cx_region_task.specs.Decisions.{command_of}
+use Rattle.cx_region_task.specs.Decisions.{decided_command}
 use Rattle.cx_region_task.specs.Performing.{CarriesOut, Decides, decision_cause}
 
 -- the most instructions of a half-turn
@@ -84,7 +84,7 @@ pub record PerformsCommand (before : TaskContext) (reply : TurnReply) (abend_rec
   pub decides : Decides before decided
   pub carries : CarriesOut decided before reply after
   pub recorded : abend_record
-      ≡ option_map (abend_record_with (command_of decided) (machine_of before)) (decision_cause decided)
+      ≡ option_map (abend_record_with (decided_command decided) (machine_of before)) (decision_cause decided)
 
 -- one half-turn of a live task, with the record of an abend to which it leads
 unfoldable pub HalfTurnWith : TaskContext → TurnReply → Option AbendRecord → TaskContext → Type 0

@@ -73,7 +73,8 @@ pub(crate) fn end_task<S: Store + Drop>(
     terminal_entry.input = None;
 }
 
-/// The end of a task by an abend, at which no exit is looked at: no transaction is next.
+/// Ends a task by an abend that no exit takes: its areas are freed, its resources released, its held input dropped, and
+/// the terminal has no next transaction.
 pub fn end_by_abend<S: Store + Drop>(
     shared: &mut Shared<S>,
     terminal_entry: &mut TerminalEntry,

@@ -13,7 +13,8 @@ use cx_storage::laws::store_is_sound;
 use cx_storage::{Kind, Owner, Store, address_after};
 use std::alloc::AllocError;
 
-/// The owner of the areas that a terminal's task is given unasked.
+/// The owner of a task's areas but those that a command got for its program: its terminal's slot, counted from 1, and
+/// `Kind::System`.
 pub fn system_owner(slot: u8) -> Owner
     ensures { result ≡ system_owner slot }
 {
@@ -23,12 +24,13 @@ pub fn system_owner(slot: u8) -> Owner
     }
 }
 
-/// Makes an area of zeros at its place, the least one for `len` bytes in the range of task storage.
+/// Makes an area of `len` zeros (at least 1) at `place`, which is the least place for them in the range of task
+/// storage.
 ///
 /// An error comes only where an allocation failed; then all is as before.
 #[tactic(auto, using(cx_storage::specs::Facts::Places::place_decides))]
 pub fn get_at<S: Store>(store: &mut S, place: u32, len: u32, owner: Owner) -> Result<(), AllocError>
-    requires some { 0 < len }
+    requires nonempty { 0 < len }
     requires least { IsTaskPlace (S.storage store.old) len (Some place) }
     ensures ok { OnOk result (S.storage store.new ≡ with_area (S.storage store.old) (Some place) len owner) }
     ensures err { OnErr result (S.storage store.new ≡ S.storage store.old) }
@@ -37,8 +39,9 @@ pub fn get_at<S: Store>(store: &mut S, place: u32, len: u32, owner: Owner) -> Re
     Ok(())
 }
 
-/// Makes an area at its place, the least one for `len` bytes in the range of task storage, and fills it with these
-/// bytes.
+/// Makes an area of `len` zeros (at least 1) at `place`, which is the least place for them in the range of task
+/// storage, and writes these bytes (at most 65,536) from its start on; none of them where one has no address in an
+/// area.
 ///
 /// An error comes only where an allocation failed; then all is as before.
 #[tactic(auto, using(cx_region_state::specs::Facts::Areas::place_below), unfolding(cx_region_state::specs::Areas::with_filled))]
@@ -49,9 +52,9 @@ pub fn get_filled<S: Store>(
     owner: Owner,
     bytes: &[u8],
 ) -> Result<(), AllocError>
-    requires some { 0 < len }
+    requires nonempty { 0 < len }
     requires least { IsTaskPlace (S.storage store.old) len (Some place) }
-    requires few { length bytes.now ≤ 65536 }
+    requires at_most_65536 { length bytes.now ≤ 65536 }
     ensures ok { OnOk result (S.storage store.new ≡ with_filled (S.storage store.old) place len owner bytes.now) }
     ensures err { OnErr result (S.storage store.new ≡ S.storage store.old) }
 {
@@ -80,7 +83,8 @@ pub(crate) fn length_or_zero(commarea: Option<StorageSpan>) -> u16
     }
 }
 
-/// Puts the COMMAREA's address into the DFHEICAP of a level that begins.
+/// Writes the COMMAREA's address into DFHEICAP of a level that begins, 0 where it has none. Where a byte of that word
+/// is in no area nothing is written.
 #[tactic(auto, unfolding(cx_region_state::specs::Areas::with_cap))]
 pub fn put_cap<S: Store>(store: &mut S, level: &NewLevel)
     ensures { S.storage store.new ≡ with_cap (S.storage store.old) level.now }
@@ -92,7 +96,8 @@ pub fn put_cap<S: Store>(store: &mut S, level: &NewLevel)
     );
 }
 
-/// Makes the area of the DFHEISTG of a level that begins.
+/// Makes the area of zeros of the DFHEISTG of a level that begins, at the place that the level says: the least for as
+/// many bytes as its program asks for, 80 to 65,520.
 ///
 /// An error comes only where an allocation failed; then all is as before.
 pub fn get_stg<S: Store>(store: &mut S, slot: u8, level: &NewLevel) -> Result<(), AllocError>
@@ -141,8 +146,8 @@ fn give_back<S: Store>(store: &mut S, copying: Option<Copying>)
     store.free_area(copying.to);
 }
 
-/// Makes the areas of a level that begins in place of another: for the copy of its COMMAREA, where one is asked for, and
-/// for its DFHEISTG.
+/// Makes the areas of a level that begins in place of another: for the copy of its COMMAREA, where one is asked for,
+/// and for its DFHEISTG.
 ///
 /// An error comes only where an allocation failed; then all is as before.
 #[tactic(auto, using(crate::proofs::CopyLemmas::copy_given_back, crate::proofs::CopyLemmas::copy_below))]

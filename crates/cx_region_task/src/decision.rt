@@ -1,6 +1,6 @@
 //! What the command that is due will do, before anything changes.
 ghost use Rattle.std.specs.Prelude.{◌≡◌};
-ghost use Rattle.cx_region_task.specs.Decisions.{command_of};
+ghost use Rattle.cx_region_task.specs.Decisions.{decided_command};
 ghost use Rattle.cx_region_task.specs.Performing.{continuation_cause, decision_cause};
 
 use crate::cause::Cause;
@@ -13,35 +13,36 @@ use cx_service::ResourceName;
 /// What a command waits for.
 #[derive(Clone, Copy, Debug)]
 pub enum Wait {
-    /// Input of its terminal.
+    /// Input of its terminal: RECEIVE.
     Input,
-    /// A resource of that name, which another task owns.
+    /// The resource of that name, which another task owns, or which would be the 257th that is owned: ENQ.
     Resource(Option<ResourceName>),
-    /// Room in the queue of that name.
+    /// Room for an item of the queue of that name, among the bytes of all queues or among the 256 queues: WRITEQ TS.
     Room(Option<Name8>),
-    /// Storage.
+    /// A place in task storage: GETMAIN, or READQ TS with SET.
     Storage,
 }
 
 /// What a command does that is neither refused nor waits.
 #[derive(Drop)]
 pub struct Act {
+    /// The command and its argument list, as it was read.
     pub call: Call,
     /// The condition that it meets; NORMAL where it meets none.
     pub condition: Condition,
-    /// What it hands over to the program.
+    /// What it writes at its arguments.
     pub outputs: Outputs,
     /// What it changes, beside its outputs, the EIB and RESP's word.
     pub change: TaskChange,
-    /// How its task goes on: in one of the ways but to wait.
+    /// How its task goes on; never `Continuation::Waits`.
     pub continuation: Continuation,
 }
 
 /// What the command that is due will do, before anything changes.
 #[derive(Drop)]
 pub enum Decision {
-    /// Its task abends, and nothing is done: the argument list can't be read, and then there is no call; a byte that the
-    /// command reads, of RESP's word or of its outputs isn't in storage; or its own tests refuse it.
+    /// Its task abends, and nothing is done: the argument list can't be read, and then there is no call; a byte that
+    /// the command reads, of RESP's word or of its outputs isn't in storage; or the command's row refuses it.
     Refuse(Option<Call>, Abend),
     /// It waits, and all stays as it is.
     Wait(Call, Wait),
@@ -65,7 +66,7 @@ fn continuation_cause(continuation: &Continuation, condition: Condition) -> Opti
 impl Decision {
     /// The command; None where its argument list can't be read.
     pub fn command(&self) -> Option<Command>
-        ensures { result ≡ command_of self.now }
+        ensures { result ≡ decided_command self.now }
     {
         match self {
             Decision::Refuse(call, _abend) => call.as_ref().map(|call| call.command()),

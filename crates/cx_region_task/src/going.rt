@@ -3,7 +3,7 @@ ghost use Rattle.std.specs.Prelude.{◌≡◌, ◌≢◌, ◌<◌, ◌^◌, ◌|
 ghost use Rattle.cx_base.specs.declared.conditions.Condition.TheVariants.{Error};
 ghost use Rattle.cx_base.specs.Arguments.{has_option};
 ghost use Rattle.cx_storage.specs.Address.{address_in};
-ghost use Rattle.cx_program.specs.Handles.{choice as choice_by, waits};
+ghost use Rattle.cx_program.specs.Handles.{choice as choice_by, condition_waits};
 ghost use Rattle.cx_program.specs.Levels.{with_called_level};
 ghost use Rattle.cx_region_state.specs.Areas.{IsSoundProgram};
 ghost use Rattle.cx_region_state.specs.State.{context};
@@ -125,7 +125,7 @@ fn enter<S: Store + Drop>(
     level: &NewLevel,
 )
     requires entry { level.now.loaded.entry < 2 ^ 24 }
-    requires few { length task.old.levels.callers < 15 }
+    requires below_15 { length task.old.levels.callers < 15 }
     ensures { context shared.now terminal_entry.now task.new
         ≡ enter_level level.now (context shared.now terminal_entry.now task.old) }
 {

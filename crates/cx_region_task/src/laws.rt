@@ -3,7 +3,8 @@ ghost use Rattle.cx_region_task.specs.Laws.HalfTurns.{HalfTurnsDecide, HalfTurns
 ghost use Rattle.cx_region_task.specs.Laws.Decisions.{DecisionsDecide, WaitsAreDecided};
 ghost use Rattle.cx_region_task.specs.Laws.AbendRecords.{AbendRecordsDecide, AbendRecordsExplain};
 
-/// What was reached before a half-turn decides its reply and all that is reached after it.
+/// A half-turn has one outcome: a task and what it reaches (what all tasks share, and its terminal) determine the
+/// reply, and the task and all that it reaches afterwards.
 pub fn half_turns_decide()
     ensures { HalfTurnsDecide }
 {
@@ -12,13 +13,14 @@ pub fn half_turns_decide()
     cx_region_commands::laws::a_call_is_judged_once();
 }
 
-/// A half-turn keeps its slot, the programs, and the areas and resources of all other slots. Its task stays sound while it
-/// goes on, and where it has ended nothing of the slot's is left.
+/// Where storage, programs, queues and the task are sound, a half-turn keeps its slot, the programs, and the areas and
+/// resources of all other slots. Its task stays sound while it goes on, and where it has ended no area and no resource
+/// of the slot is left.
 pub fn half_turns_keep()
     ensures { HalfTurnsKeep }
 {}
 
-/// Whatever is reached before it, a half-turn leaves its slot and the programs, and is answered neither Idle nor
+/// In every state, sound or not, a half-turn keeps its slot and the programs, and is answered neither Idle nor
 /// NoSuchTerminal.
 pub fn half_turns_stay()
     ensures { HalfTurnsStay }
@@ -29,8 +31,8 @@ pub fn waits_leave()
     ensures { WaitsLeave }
 {}
 
-/// What was reached before a half-turn decides what is decided of the command that is due; and the half-turn is answered
-/// Waiting exactly where that is to wait.
+/// A task and what it reaches determine what is decided of the command that is due. A half-turn is answered Waiting
+/// exactly where a command is due of which it is decided that it waits.
 pub fn decisions_decide()
     ensures decide { DecisionsDecide }
     ensures wait { WaitsAreDecided }
@@ -38,9 +40,9 @@ pub fn decisions_decide()
     cx_region_commands::laws::a_call_is_judged_once();
 }
 
-/// What was reached before a half-turn decides why it leads to an abend, and what the task had then. That is reported
-/// exactly where the reply is an abend, whether an exit took it or the task ended; and the abend's code is that which
-/// the cause leads to.
+/// A task and what it reaches before a half-turn determine the record of the abend to which the half-turn leads. There
+/// is one exactly where the reply is an abend, whether an exit took it or the task ended; and the abend has the code
+/// that the record's cause leads to.
 pub fn abend_records_explain()
     ensures decide { AbendRecordsDecide }
     ensures explain { AbendRecordsExplain }

@@ -8,10 +8,10 @@ mod cause;
 mod continuation;
 mod deciding;
 mod decision;
-mod finishing;
 mod going;
 pub mod laws;
 mod making;
+mod outputs;
 mod performing;
 mod turning;
 

@@ -9,7 +9,7 @@ ghost use Rattle.cx_service.specs.Resources.{enq_fault, enqueue};
 ghost use Rattle.cx_service.specs.Screen.{ShowsText};
 ghost use Rattle.cx_region_state.specs.Areas.{IsTaskPlace, bytes_in, with_cap, with_copied, with_copy_area, with_filled, with_stg_area};
 ghost use Rattle.cx_region_state.specs.State.{context, with_storage};
-ghost use Rattle.cx_region_state.specs.Parts.Fits.{FitsChange, FitsCopy, FitsLevel, FitsMade, FitsPiece, IsThere, FitsGot, FitsNext};
+ghost use Rattle.cx_region_state.specs.Parts.Fits.{FitsChange, FitsCopy, FitsLevel, FitsMade, FitsPiece, IsThere, FitsGot, FitsTransaction};
 ghost use Rattle.cx_region_task.specs.Changes.{AppliesBefore, change_takes_memory, after_request, kept_next, with_got, with_stg, with_handles, with_ignored, with_labels, with_replacement};
 ghost use Rattle.cx_region_task.specs.Parts.Making.{MatchCopy, MatchItem, MatchPush};
 ghost use Rattle.cx_program.specs.declared.entries.Handler.TheVariants as Entry;
@@ -20,8 +20,8 @@ use cx_base::List;
 use cx_ebcdic::Name8;
 use cx_program::HandleTable;
 use cx_region_state::{
-    Copying, Fill, Got, Listed, Made, NewLevel, Next, NextTransaction, Request, Shared,
-    StorageSpan, Task, TaskChange, TerminalEntry,
+    BeforeOutputs, Copying, Fill, Got, Listed, NewLevel, NextTransaction, Request,
+    RequestedTransaction, Shared, StorageSpan, Task, TaskChange, TerminalEntry,
 };
 use cx_service::{Enqueues, Queues, ResourceName, Screen};
 use cx_storage::laws::store_is_sound;
@@ -196,7 +196,7 @@ fn handle_current(task: &mut Task, request: &Request)
 /// An error comes only where an allocation failed; then all is as before.
 #[tactic(auto, unfolding(crate::specs::Changes::AppliesBefore))]
 fn make<S: Store + Drop>(
-    made: &Made,
+    made: &BeforeOutputs,
     shared: &mut Shared<S>,
     terminal_entry: &mut TerminalEntry,
     task: &mut Task,
@@ -204,26 +204,30 @@ fn make<S: Store + Drop>(
     requires { FitsMade made.now (context shared.old terminal_entry.old task.old) }
     ensures ok { let before = context shared.old terminal_entry.old task.old in
         let after = context shared.new terminal_entry.new task.new in
-        OnOk result (AppliesBefore (TaskChange.Makes made.now) before after) }
+        OnOk result (AppliesBefore (TaskChange.Before made.now) before after) }
     ensures err { OnErr result
         (context shared.new terminal_entry.new task.new ≡ context shared.old terminal_entry.old task.old) }
-    ensures memory { OnErr result (change_takes_memory (TaskChange.Makes made.now) ≡ true) }
+    ensures memory { OnErr result (change_takes_memory (TaskChange.Before made.now) ≡ true) }
 {
     match made {
-        Made::ItemLast(name, piece) => {
+        BeforeOutputs::ItemLast(name, piece) => {
             put_item(&shared.store, &mut shared.queues, *name, *piece)?;
         }
-        Made::ItemAt(name, n, piece) => {
+        BeforeOutputs::ItemAt(name, n, piece) => {
             put_item_at(&shared.store, &mut shared.queues, *name, *n, *piece)?;
         }
-        Made::Enqueues(resource) => own(&mut shared.enqueues, terminal_entry.slot, resource)?,
-        Made::Shows(piece, erase) => show(
+        BeforeOutputs::Enqueues(resource) => own(
+            &mut shared.enqueues,
+            terminal_entry.slot,
+            resource,
+        )?,
+        BeforeOutputs::Shows(piece, erase) => show(
             &shared.store,
             &mut terminal_entry.screen,
             *piece,
             *erase,
         ),
-        Made::Handles(request) => handle_current(task, request),
+        BeforeOutputs::Handles(request) => handle_current(task, request),
     }
     Ok(())
 }
@@ -244,7 +248,7 @@ fn get_of_byte<S: Store>(
     owner: Owner,
     byte: u8,
 ) -> Result<(), AllocError>
-    requires some { 0 < len }
+    requires nonempty { 0 < len }
     requires place { IsTaskPlace (S.storage store.old) len (Some place) }
     ensures ok { let bytes = replicate len byte in
         OnOk result (S.storage store.new ≡ with_filled (S.storage store.old) place len owner bytes) }
@@ -261,8 +265,8 @@ fn get_of_byte<S: Store>(
 /// An area that the program gets, filled.
 #[tactic(auto, unfolding(crate::specs::Changes::with_got))]
 fn get_got<S: Store>(store: &mut S, queues: &Queues, slot: u8, got: &Got) -> Result<(), AllocError>
-    requires some { 0 < got.now.len }
-    requires few { got.now.len ≤ 65520 }
+    requires nonempty { 0 < got.now.len }
+    requires at_most_65520 { got.now.len ≤ 65520 }
     requires place { IsTaskPlace (S.storage store.old) got.now.len (Some got.now.place) }
     requires fill { MatchItem got.now.fill queues.now got.now.len }
     ensures ok { OnOk result (S.storage store.new ≡ with_got (S.storage store.old) queues.now slot got.now) }
@@ -334,7 +338,7 @@ fn kept_bytes<S: Store>(
 ) -> Result<List<u8>, AllocError>
     requires { FitsPiece commarea (S.storage store.now) }
     ensures bytes { IfOk result (λ bytes. bytes ≡ option_map_or (bytes_in (S.storage store.now)) commarea []) }
-    ensures few { IfOk result (λ bytes. length bytes ≤ 32767) }
+    ensures at_most_32767 { IfOk result (λ bytes. length bytes ≤ 32767) }
     ensures memory { OnErr result (is_some commarea ≡ true) }
 {
     let Some(piece) = commarea else {
@@ -349,7 +353,7 @@ fn kept_bytes<S: Store>(
 fn keep_next<S: Store>(
     alloc: Global,
     store: &S,
-    next: Option<Next>,
+    next: Option<RequestedTransaction>,
 ) -> Result<Option<NextTransaction>, AllocError>
     requires { MatchOption next ⊤ (λ it. FitsPiece it.commarea (S.storage store.now)) }
     ensures kept { IfOk result (λ following. following ≡ kept_next (S.storage store.now) next) }
@@ -369,7 +373,7 @@ fn keep_next<S: Store>(
 fn leave_next<S: Store + Drop>(
     shared: &Shared<S>,
     terminal_entry: &mut TerminalEntry,
-    next: Option<Next>,
+    next: Option<RequestedTransaction>,
 ) -> Result<(), AllocError>
     requires { MatchOption next ⊤ (λ it. FitsPiece it.commarea shared.now.storage) }
     ensures ok { OnOk result
@@ -401,7 +405,7 @@ pub(crate) fn apply_before<S: Store + Drop>(
     ensures memory { OnErr result (change_takes_memory change.now ≡ true) }
 {
     match change {
-        TaskChange::Makes(made) => make(made, shared, terminal_entry, task)?,
+        TaskChange::Before(made) => make(made, shared, terminal_entry, task)?,
         TaskChange::Gets(got) => get_got(
             &mut shared.store,
             &shared.queues,

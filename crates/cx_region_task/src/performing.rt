@@ -4,14 +4,14 @@ ghost use Rattle.cx_region_state.specs.State.{context};
 ghost use Rattle.cx_region_state.specs.Parts.Fits.{FitsChange};
 ghost use Rattle.cx_region_task.specs.Changes.{Commits, change_takes_memory};
 ghost use Rattle.cx_region_task.specs.Parts.Making.{MatchWay};
-ghost use Rattle.cx_region_task.specs.Parts.Performing.{FitsDecision, takes_memory};
+ghost use Rattle.cx_region_task.specs.Parts.Performing.{FitsDecision, decision_takes_memory};
 ghost use Rattle.cx_region_task.specs.Performing.{CarriesOut, Does};
 
 use crate::abending::abend;
 use crate::decision::{Act, Decision};
-use crate::finishing::{apply_after, report_of, write_outputs, write_report};
 use crate::going::go;
 use crate::making::apply_before;
+use crate::outputs::{apply_after, report_of, write_outputs, write_report};
 use cx_region_state::{Shared, Task, TerminalEntry, TurnReply};
 use cx_storage::Store;
 use std::alloc::AllocError;
@@ -86,7 +86,7 @@ pub(crate) fn carry_out<S: Store + Drop>(
         IfOk result (λ reply. CarriesOut decision.now before reply after) }
     ensures err { OnErr result
         (context shared.new terminal_entry.new task.new ≡ context shared.old terminal_entry.old task.old) }
-    ensures memory { OnErr result (takes_memory decision.now ≡ true) }
+    ensures memory { OnErr result (decision_takes_memory decision.now ≡ true) }
 {
     match decision {
         Decision::Refuse(_call, refusal) => {

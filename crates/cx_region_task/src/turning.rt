@@ -121,10 +121,12 @@ fn run_on<S: Store + Drop>(
 }
 
 /// One half-turn of a live task: its instructions run up to the next command, an interruption or the limit of 65,536;
-/// or the command that is due is performed. After a reply that is over the task has ended: its areas are freed, its
-/// resources released, its held input dropped, and the terminal has the next transaction that it left.
+/// or the command that is due is performed. Where the reply is Ended or Abended, the task has ended: its areas are
+/// freed, its resources released, its held input dropped, and the terminal has the next transaction that it left. Each
+/// program must be sound: 80 to 65,520 bytes of working storage, and an entry below 2^24.
 ///
-/// With the reply it reports why it leads to an abend, where it does, whether an exit takes it or the task ends.
+/// With the reply comes a record of the abend to which the half-turn leads, where it leads to one, whether an exit
+/// takes it or the task ends.
 ///
 /// An error comes only where an allocation failed, and only where a command is due that is done and whose change takes
 /// memory; then all is as before.

@@ -1,7 +1,7 @@
 -- An action has one outcome, and a run of a script is one of its events.
 use Rattle.std.proofs.Common.{◌≡◌, ℕ, List, [], ◌∷◌, ◌++◌, None, Some, Option, refl, sym, ap, ◌∙◌, subst}
 use Rattle.cx_code.specs.declared.image.Image.{Image}
-use Rattle.cx_load.specs.Fault.{fault_of}
+use Rattle.cx_load.specs.Fault.{image_fault}
 use Rattle.cx_load.specs.declared.fault.ImageFault.{ImageFault}
 use Rattle.cx_edf.specs.declared.answers.Answer.{Answer}
 use Rattle.cx_edf.specs.declared.answers.EdfEvent.{EdfEvent}
@@ -32,9 +32,9 @@ image_decides events (Some fault) old name image text other new another p q = (p
 pub actions_decide : EdfEventsDecide → (old : EdfState) (a : Action) (text other : List ℕ) (new another : EdfState)
     → Performs old a text new → Performs old a other another → (text ≡ other) × (new ≡ another)
 unfolding Performs
-actions_decide events old (action.Image name image) text other new another p q = image_decides events (fault_of image) old name image text other new another p q
+actions_decide events old (action.Image name image) text other new another p q = image_decides events (image_fault image) old name image text other new another p q
 actions_decide events old (action.Source name before image) text other new another p q =
-    let same = image_decides events (fault_of image) old name image p.0 q.0 new another p.1 q.1 in
+    let same = image_decides events (image_fault image) old name image p.0 q.0 new another p.1 q.1 in
     (p.2 ∙ ap (λ own. before ++ own) same.0 ∙ sym q.2, same.1)
 actions_decide events old (action.Event event) text other new another p q = replies_decide events old event text other new another p q
 actions_decide events old (action.Screen name) text other new another p q = (p.0 ∙ sym q.0, p.1 ∙ sym q.1)
@@ -55,8 +55,8 @@ image_gives (Some fault) old name before image own text new p w = p.1
 
 gives : (old : EdfState) (a : Action) (text : List ℕ) (new : EdfState) → Performs old a text new → Gives (event_of a) (written_before a) old text new
 unfolding Performs Replies
-gives old (action.Image name image) text new p = image_gives (fault_of image) old name [] image text text new p refl
-gives old (action.Source name before image) text new p = image_gives (fault_of image) old name before image p.0 text new p.1 p.2
+gives old (action.Image name image) text new p = image_gives (image_fault image) old name [] image text text new p refl
+gives old (action.Source name before image) text new p = image_gives (image_fault image) old name before image p.0 text new p.1 p.2
 gives old (action.Event event) text new p = p
 gives old (action.Screen name) text new p = p.1
 gives old (action.Display name) text new p = p.1

@@ -14,10 +14,10 @@ use Rattle.cx_script_blocks.specs.declared.blocks.Body.{Body}
 use Rattle.cx_script_blocks.specs.declared.blocks.Body.TheVariants as kind
 use Rattle.cx_script_blocks.specs.Blocks.{body_with, block_step, action_step, block_end, fault_of_line, step_at, step_in, step_of, with_line}
 use Rattle.cx_script_io.specs.Lines.{is_too_long, lines_met}
-use Rattle.cx_script.specs.Script.{Script, Step, actions_of, end_fault, first_place, script_in, script_from, step_from, stepped, fault_at, with_actions_first, led_to}
+use Rattle.cx_script.specs.Script.{Script, Step, actions_of, end_fault, first_place, script_in, script_from, step_from, stepped, fault_at_ending, with_actions_first, led_to}
 use Rattle.cx_script.specs.declared.run.Place.{Place}
 use Rattle.cx_script_actions.specs.declared.actions.Action.TheVariants as action
-use Rattle.cx_script.specs.Laws.BadLines.{place_after, place_after_lines, IsBadIn, IsBadLine, BadLinesAreBad}
+use Rattle.cx_script.specs.Laws.BadLines.{place_after_line, place_after_lines, IsBadIn, IsBadLine, BadLinesAreBad}
 use Rattle.cx_script_actions.specs.Language.{Language}
 use Rattle.cx_script_actions.specs.declared.actions.Line.{Line}
 use Rattle.cx_script_actions.specs.declared.actions.Line.TheVariants as line
@@ -162,13 +162,13 @@ record Open {A : Type 0} (language : Language A) (ending : Ending) (number : ℕ
 
 at_end : {A : Type 0} (language : Language A) (number : ℕ) (block : Option Block) (bad_look : Option ℕ) (n : ℕ) → end_fault block bad_look ≡ Some (BadLine n)
     → (let place : Place = record { block = block; bad_look = bad_look } in Open language AtEnd number place [] n)
-unfolding fault_at script_from place_after_lines
+unfolding fault_at_ending script_from place_after_lines
 at_end language number None None n e = cc
 at_end language number None (Some line) n e = cc
 at_end language number (Some block) bad_look n e = record { ended = refl; left = block; is = refl; at = cc; done = refl }
 
-left_over : {A : Type 0} (language : Language A) (ending : Ending) (number : ℕ) (place : Place) (n : ℕ) → fault_at ending place ≡ Some (BadLine n) → Met language ending number place [] n ⊎ Open language ending number place [] n
-unfolding fault_at
+left_over : {A : Type 0} (language : Language A) (ending : Ending) (number : ℕ) (place : Place) (n : ℕ) → fault_at_ending ending place ≡ Some (BadLine n) → Met language ending number place [] n ⊎ Open language ending number place [] n
+unfolding fault_at_ending
 left_over language AtEnd number place n e = inr (at_end language number place.block place.bad_look n e)
 left_over language Failed number place n e = cc
 left_over language PastBound number place n e = cc
@@ -198,7 +198,7 @@ led_by {A} language number place text step e = go (step_at language number place
 
 met_here : {A : Type 0} (language : Language A) (ending : Ending) (number : ℕ) (place : Place) (text : List ℕ) (lines : List (List ℕ)) (n : ℕ) → (due : RunFault) → step_from language number place text ≡ Err due
     → (script_from language ending number place (text ∷ lines)).fault ≡ Some (BadLine n) → Met language ending number place (text ∷ lines) n
-unfolding script_from place_after_lines fault_at
+unfolding script_from place_after_lines fault_at_ending
 met_here {A} language ending number place text lines n due e f =
     let bad = ap (λ d. led_to d (λ next. script_from language ending (number + 1) next lines)) e in
     let fault : (script_from language ending number place (text ∷ lines)).fault ≡ Some due = ap (λ (s : Script A). s.fault) bad in
@@ -225,7 +225,7 @@ met_later language ending number place text lines n step e m =
       text = m.text;
       is = m.is;
       within = omega (arith, m.within);
-      bad = subst (λ d. IsBadIn language n (place_after_lines language (number + 1) (place_after d) (take m.k lines)).block m.text) (sym e) m.bad;
+      bad = subst (λ d. IsBadIn language n (place_after_lines language (number + 1) (place_after_line d) (take m.k lines)).block m.text) (sym e) m.bad;
       done = led language Failed number place text (take m.k lines) step e ∙ ap (with_actions_first step.actions) m.done
           ∙ before_unended step.actions (script_from language ending (number + 1) step.place lines) ∙ ap unended (sym (led language ending number place text lines step e));
     }
@@ -238,7 +238,7 @@ open_later language ending number place text lines n step e o =
       ended = o.ended;
       left = o.left;
       at = o.at;
-      is = ap (λ d. (place_after_lines language (number + 1) (place_after d) lines).block) e ∙ o.is;
+      is = ap (λ d. (place_after_lines language (number + 1) (place_after_line d) lines).block) e ∙ o.is;
       done = led language Failed number place text lines step e ∙ ap (with_actions_first step.actions) o.done
           ∙ before_unended step.actions (script_from language ending (number + 1) step.place lines) ∙ ap unended (sym (led language ending number place text lines step e));
     }
@@ -304,7 +304,7 @@ stays_on : {A : Type 0} (language : Language A) (number : ℕ) (place : Place) (
     → step_from language number place text ≡ Ok step
     → (script_from language Failed number place (text ∷ lines)).fault ≡ Some Read → Stays language (number + 1) step.place lines left
     → BeganAt language number place (text ∷ lines) left ⊎ Stays language number place (text ∷ lines) left
-unfolding script_from fault_at
+unfolding script_from fault_at_ending
 stays_on {A} language number place text lines left step e f s =
     let l = led_by language number place text step e in
     let same_place : l.by.block ≡ step.place.block = ap (λ (x : Step A). x.place.block) l.is in
@@ -329,7 +329,7 @@ began_later language number place text lines left step e b =
     }
 
 opened_line : {A : Type 0} (language : Language A) (number : ℕ) (place : Place) (text : List ℕ) (lines : List (List ℕ)) (left : Block) (due : Result (Step A) RunFault) → step_from language number place text ≡ due
-    → (script_from language Failed number place (text ∷ lines)).fault ≡ Some Read → (place_after_lines language (number + 1) (place_after due) lines).block ≡ Some left
+    → (script_from language Failed number place (text ∷ lines)).fault ≡ Some Read → (place_after_lines language (number + 1) (place_after_line due) lines).block ≡ Some left
     → ((next : Place) → (script_from language Failed (number + 1) next lines).fault ≡ Some Read → (place_after_lines language (number + 1) next lines).block ≡ Some left
     → BeganAt language (number + 1) next lines left ⊎ Stays language (number + 1) next lines left)
     → BeganAt language number place (text ∷ lines) left ⊎ Stays language number place (text ∷ lines) left

@@ -13,7 +13,7 @@ use Rattle.cx_asm_build.specs.declared.faults.PrepareFault.{PrepareFault}
 use Rattle.cx_asm_build.specs.declared.faults.PrepareFault.TheVariants as prepare
 use Rattle.cx_asm_build.specs.declared.program.Prepared.{Prepared}
 use Rattle.cx_script_io.specs.Lines.{is_too_long, lines_met}
-use Rattle.cx_script.specs.Script.{Script, Step, end_fault, first_place, script_in, script_from, step_from, stepped, fault_at, with_actions_first, led_to}
+use Rattle.cx_script.specs.Script.{Script, Step, end_fault, first_place, script_in, script_from, step_from, stepped, fault_at_ending, with_actions_first, led_to}
 use Rattle.cx_script.specs.declared.run.Place.{Place}
 use Rattle.cx_script_actions.specs.Language.{Language}
 use Rattle.cx_script_blocks.specs.declared.blocks.LineStep.{LineStep}
@@ -99,8 +99,8 @@ end_has (Some block) bad_look = refl
 end_has None (Some line) = refl
 end_has None None = refl
 
-left_has : (ending : Ending) (place : Place) → may_have ending (fault_at ending place) ≡ true
-unfolding fault_at
+left_has : (ending : Ending) (place : Place) → may_have ending (fault_at_ending ending place) ≡ true
+unfolding fault_at_ending
 left_has AtEnd place = end_has place.block place.bad_look
 left_has Failed place = refl
 left_has PastBound place = refl

@@ -1,11 +1,11 @@
 -- What a front of a script asks stays, however the script goes on.
-use Rattle.std.proofs.Common.{◌≡◌, ℕ, ◌+◌, inl, inr, Bool, true, false, cond, List, [], ◌∷◌, ◌++◌, None, Some, Option, Result, Ok, Err, refl, sym, ap, ◌∙◌, subst, length, arith}
+use Rattle.std.proofs.Common.{◌≡◌, ℕ, ◌+◌, inl, inr, Bool, true, false, cond, List, [], ◌∷◌, ◌++◌, Some, Result, Ok, Err, refl, sym, ap, ◌∙◌, subst, length, arith}
 use Rattle.std.proofs.lemmas.List.{take_all}
 use Rattle.std.specs.Str.Lines.{strip_carriage_return}
 use Rattle.cx_script.specs.declared.run.Place.{Place}
 use Rattle.cx_script_io.specs.Lines.{is_too_long, last_met, lines_met}
 use Rattle.cx_script_io.specs.Facts.Lines.{BeginsLong, continues}
-use Rattle.cx_script.specs.Script.{Script, Step, first_place, script_from, script_in, step_from, fault_at, with_actions_first, led_to}
+use Rattle.cx_script.specs.Script.{Script, Step, first_place, script_from, script_in, step_from, fault_at_ending, with_actions_first, led_to}
 use Rattle.cx_script.specs.Facts.Fronts.{acted_first}
 use Rattle.cx_script.specs.Laws.Fronts.{FrontsAreScripts, IsFrontOf}
 use Rattle.cx_script_actions.specs.Language.{Language}
@@ -37,7 +37,7 @@ long_first language ending number block [] h = absurd h
 long_first language ending number block (line ∷ lines) h = ap (λ d. led_to d (λ next. script_from language ending (number + 1) next lines)) (no_step language number block line h)
 
 unread : {A : Type 0} (language : Language A) (number : ℕ) (block : Place) (whole : Script A) → IsFrontOf (script_from language Failed number block []) whole
-unfolding script_from fault_at
+unfolding script_from fault_at_ending
 unread language number block whole = record { actions = refl; fault = inl refl }
 
 -- where the complete lines end

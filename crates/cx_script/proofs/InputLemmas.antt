@@ -2,7 +2,7 @@
 use Rattle.std.proofs.Common.{◌≡◌, ℕ, true, false, List, inl, inr, take, Some, Result, Ok, Err, refl, sym, ap, ◌∙◌}
 use Rattle.std.specs.Result.{result_err}
 use Rattle.cx_edf.specs.State.{EdfState}
-use Rattle.cx_script_io.specs.Calls.{Call, given, taken}
+use Rattle.cx_script_io.specs.Calls.{DeviceCall, given, taken}
 use Rattle.cx_script_io.specs.Input.{IsEnding, most_bytes}
 use Rattle.cx_script.specs.Script.{script_in}
 use Rattle.cx_script.specs.Transcript.{EndsScript, Wrote}
@@ -69,11 +69,11 @@ module _ (decides : (old : EdfState) (action : Action) (text other : List ℕ) (
       )
 
 -- by why no more was read
-fault_in : (ending : Ending) (calls : List Call) (fault : RunFault) → was_stopped (Err fault) ≡ false
+fault_in : (ending : Ending) (calls : List DeviceCall) (fault : RunFault) → was_stopped (Err fault) ≡ false
     → EndsScript edf_language Performs fresh_state ending (take most_bytes (given calls)) (Err fault) (taken calls) → (script_in edf_language ending (take most_bytes (given calls))).fault ≡ Some fault
 fault_in ending calls fault e h = (own edf_language Performs fresh_state ending (take most_bytes (given calls)) fault (taken calls) e h).0
 
-bound_by : (calls : List Call) (s : IsScriptSession calls (Err ReadBound)) (why : Ending) → IsEnding calls why → IsPastBound calls
+bound_by : (calls : List DeviceCall) (s : IsScriptSession calls (Err ReadBound)) (why : Ending) → IsEnding calls why → IsPastBound calls
 bound_by calls s PastBound h =
     record { longer = h; faultless = fault_in PastBound calls ReadBound refl (s.ends PastBound (take most_bytes (given calls)) (read_ended edf_language Performs fresh_state calls s.in_time PastBound h)) }
 bound_by calls s AtEnd h =
@@ -83,7 +83,7 @@ bound_by calls s Failed h =
     let due = fault_in Failed calls ReadBound refl (s.ends Failed (take most_bytes (given calls)) (read_ended edf_language Performs fresh_state calls s.in_time Failed h)) in
     let may = has_this edf_language Failed (take most_bytes (given calls)) (Some ReadBound) due in cc
 
-bound_in : (calls : List Call) (s : IsScriptSession calls (Err ReadBound)) → Endings calls → IsPastBound calls
+bound_in : (calls : List DeviceCall) (s : IsScriptSession calls (Err ReadBound)) → Endings calls → IsPastBound calls
 bound_in calls s (inl w) = bound_by calls s w.0 w.1
 bound_in calls s (inr none) =
     let due = fault_in Failed calls ReadBound refl (s.ends Failed (take most_bytes (given calls)) (read_open calls none Failed)) in
@@ -102,7 +102,7 @@ is_read_bound calls answer s h e =
     let ends = s.ends PastBound bytes (read_ended edf_language Performs fresh_state calls s.in_time PastBound h.longer) in
     err_is answer ReadBound ((reported PastBound bytes answer (taken calls) e ends).0 ∙ h.faultless)
 
-failed_by : (calls : List Call) (s : IsScriptSession calls (Err Read)) (why : Ending) → IsEnding calls why → IsEnding calls Failed
+failed_by : (calls : List DeviceCall) (s : IsScriptSession calls (Err Read)) (why : Ending) → IsEnding calls why → IsEnding calls Failed
 failed_by calls s Failed h = h
 failed_by calls s AtEnd h =
     let due = fault_in AtEnd calls Read refl (s.ends AtEnd (take most_bytes (given calls)) (read_ended edf_language Performs fresh_state calls s.in_time AtEnd h)) in
@@ -111,7 +111,7 @@ failed_by calls s PastBound h =
     let due = fault_in PastBound calls Read refl (s.ends PastBound (take most_bytes (given calls)) (read_ended edf_language Performs fresh_state calls s.in_time PastBound h)) in
     let may = has_this edf_language PastBound (take most_bytes (given calls)) (Some Read) due in cc
 
-failed_in : (calls : List Call) (s : IsScriptSession calls (Err Read)) → Endings calls → IsEnding calls Failed
+failed_in : (calls : List DeviceCall) (s : IsScriptSession calls (Err Read)) → Endings calls → IsEnding calls Failed
 failed_in calls s (inl w) = failed_by calls s w.0 w.1
 failed_in calls s (inr none) =
     let due = fault_in AtEnd calls Read refl (s.ends AtEnd (take most_bytes (given calls)) (read_open calls none AtEnd)) in
@@ -126,11 +126,11 @@ failures_reported calls answer s h e =
     (reported Failed (given calls) answer (taken calls) e ends).0
 
 -- a read failed, so the answer is Read
-read_failed : (calls : List Call) (answer : Result Summary RunFault) → IsScriptSession calls answer → IsEnding calls Failed → was_stopped answer ≡ false → answer ≡ Err Read
+read_failed : (calls : List DeviceCall) (answer : Result Summary RunFault) → IsScriptSession calls answer → IsEnding calls Failed → was_stopped answer ≡ false → answer ≡ Err Read
 read_failed calls answer s h e =
     let front = failed_front edf_language Performs fresh_state calls s.in_time h in
     let due = (own edf_language Performs fresh_state Failed (given front.0) Read (taken front.0) refl front.2).0 in
     err_is answer Read (failures_reported calls answer s h e ∙ ap (λ bytes. (script_in edf_language Failed bytes).fault) front.1 ∙ due)
 
-pub unfailed : (calls : List Call) (answer : Result Summary RunFault) → IsScriptSession calls answer → was_stopped answer ≡ false → is_read answer ≡ false → IsEnding calls Failed → ⊥
+pub unfailed : (calls : List DeviceCall) (answer : Result Summary RunFault) → IsScriptSession calls answer → was_stopped answer ≡ false → is_read answer ≡ false → IsEnding calls Failed → ⊥
 unfailed calls answer s e r h = let same : answer ≡ Err Read = read_failed calls answer s h e in let never : true ≡ false = rw same at r in cc

@@ -6,7 +6,7 @@ use Rattle.std.proofs.lemmas.Bool.{le-ltb}
 use Rattle.std.proofs.lemmas.List.{take_all, take-append-le}
 use Rattle.std.proofs.Math.Seq.{take-append-add, take-nil}
 use Rattle.cx_script_actions.specs.Language.{Language}
-use Rattle.cx_script_io.specs.Calls.{Call, given, last_read}
+use Rattle.cx_script_io.specs.Calls.{DeviceCall, given, last_read}
 use Rattle.cx_script_io.specs.Input.{IsEnding, IsReadOf, most_bytes}
 use Rattle.cx_script_io.specs.Laws.Known.{CallsMoveKnown}
 use Rattle.cx_script_io.specs.declared.input.Ending.{Ending}
@@ -36,7 +36,7 @@ nothing : (k : ℕ) (rest : List ℕ) → rest ≡ [] → take k rest ≡ []
 nothing k rest none = ap (take k) none ∙ take-nil k
 
 -- ---- the script of these bytes
-module _ {A S : Type 0} (language : Language A) (performs : S → A → List ℕ → S → Type 0) (start : S) (calls : List Call) (answer : Result Summary RunFault)
+module _ {A S : Type 0} (language : Language A) (performs : S → A → List ℕ → S → Type 0) (start : S) (calls : List DeviceCall) (answer : Result Summary RunFault)
     (s : IsSession language performs start calls answer) (bytes rest : List ℕ) (split : bytes ≡ given calls ++ rest)
     (ended : last_read calls ≡ Some (Some []) → rest ≡ []) (whole : IsEnding calls Failed → ⊥) where
   sum : length bytes ≡ length (given calls) + length rest
@@ -86,9 +86,9 @@ module _ {D : Type 0} (reads writes : D → Option (List ℕ) → D → Type 0) 
       read_by language performs start calls answer s bytes l.0 l.2 (λ e. none_left (left over.after) l.0 l.1 (m.ended e)) whole
       (nat_lt most_bytes (length (given calls))) refl
 
-pub known_bytes_decide : (AreOver AreOverToo : List ℕ → List Call → Type 0) → InputsDecide
-    → ((calls : List Call) (answer : Result Summary RunFault) (bytes : List ℕ) → IsScriptSession calls answer → AreOver bytes calls → (IsEnding calls Failed → ⊥) → IsReadOf calls (ending_of bytes) (take most_bytes bytes))
-    → ((calls : List Call) (answer : Result Summary RunFault) (bytes : List ℕ) → IsScriptSession calls answer → AreOverToo bytes calls → (IsEnding calls Failed → ⊥) → IsReadOf calls (ending_of bytes) (take most_bytes bytes))
+pub known_bytes_decide : (AreOver AreOverToo : List ℕ → List DeviceCall → Type 0) → InputsDecide
+    → ((calls : List DeviceCall) (answer : Result Summary RunFault) (bytes : List ℕ) → IsScriptSession calls answer → AreOver bytes calls → (IsEnding calls Failed → ⊥) → IsReadOf calls (ending_of bytes) (take most_bytes bytes))
+    → ((calls : List DeviceCall) (answer : Result Summary RunFault) (bytes : List ℕ) → IsScriptSession calls answer → AreOverToo bytes calls → (IsEnding calls Failed → ⊥) → IsReadOf calls (ending_of bytes) (take most_bytes bytes))
     → KnownBytesDecide AreOver AreOverToo
 known_bytes_decide AreOver AreOverToo decide first second calls others answer other bytes s t over over_too e f r q =
     decide (ending_of bytes) (take most_bytes bytes) calls others answer other s t

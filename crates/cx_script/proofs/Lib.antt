@@ -1,3 +1,4 @@
+pub mod ResultLemmas
 pub mod RunLemmas
 pub mod TakeLemmas
 pub mod CallingLemmas

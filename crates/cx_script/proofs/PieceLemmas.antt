@@ -1,5 +1,5 @@
 -- A run of a script, piece by piece.
-use Rattle.std.proofs.Common.{◌≡◌, ℕ, ◌+◌, ◌<◌, true, List, [], ◌∷◌, ◌++◌, length, take, None, Some, Option, Result, Ok, Err, MatchOption, IsOkAnd, cond, refl, sym, ap, ◌∙◌, subst, append-nil, append_assoc, arith}
+use Rattle.std.proofs.Common.{◌≡◌, ℕ, ◌+◌, ◌<◌, true, List, [], ◌∷◌, ◌++◌, length, take, Some, Option, Result, Ok, Err, MatchOption, IsOkAnd, cond, refl, sym, ap, ◌∙◌, subst, append-nil, append_assoc, arith}
 use Rattle.cx_script_io.specs.Devices.{DeviceOutput, Takes, TakesFront, device_output}
 use Rattle.cx_script_io.specs.Facts.Devices.{front_flushed, sends_flushed, sends_written}
 use Rattle.std.specs.Str.Lines.{strip_carriage_return}
@@ -9,7 +9,7 @@ use Rattle.cx_script_blocks.specs.Blocks.{step_at, step_in}
 use Rattle.cx_script_blocks.specs.declared.blocks.LineStep.{LineStep}
 use Rattle.std.specs.Result.{result_map_both}
 use Rattle.cx_script_io.specs.Lines.{is_too_long, last_met, lines_met}
-use Rattle.cx_script.specs.Script.{first_place, script_from, script_in, step_from, stepped, fault_at}
+use Rattle.cx_script.specs.Script.{first_place, script_from, script_in, step_from, stepped, fault_at_ending}
 use Rattle.cx_script.specs.Transcript.{PerformsAll, Wrote, EndsScript, front_of}
 use Rattle.cx_script.specs.Facts.Fronts.{part_first}
 use Rattle.cx_script.specs.Parts.Progress.{TakesLine, Took, Came, Closes, Halts, SentAll, SentSome, Stopped, logs}
@@ -107,14 +107,14 @@ module _ {A S : Type 0} (language : Language A) (performs : S → A → List ℕ
 
   -- ---- the end
   pub finished : (old : S) (n : ℕ) (block : Place) (part : List ℕ) (ending : Ending) (before : DeviceOutput (List ℕ)) (r : Result Summary RunFault)
-      → IsUnbroken part → last_met ending part ≡ [] → MatchOption (fault_at ending block) (IsOkAnd r (λ s. s.lines ≡ n)) (λ f. r ≡ Err f)
+      → IsUnbroken part → last_met ending part ≡ [] → MatchOption (fault_at_ending ending block) (IsOkAnd r (λ s. s.lines ≡ n)) (λ f. r ≡ Err f)
       → Closes language performs old ending n block (lines_met ending part) r before before
   finished old n block part ending before r u e h =
       subst (λ (l : List (List ℕ)). Closes language performs old ending n block l r before before) (sym (none_met ending part u ∙ e)) (ended language performs old ending n block r before h)
 
   pub finished_line : (old new : S) (n m : ℕ) (block next : Place) (part line : List ℕ) (ending : Ending) (before after : DeviceOutput (List ℕ)) (r : Result Summary RunFault)
       → IsUnbroken part → last_met ending part ≡ line ∷ [] → TakesLine performs (n + 1) (step_from language (n + 1) block line) old before (Ok tt) new after next → m ≡ n + 1
-      → MatchOption (fault_at ending next) (IsOkAnd r (λ s. s.lines ≡ m)) (λ f. r ≡ Err f)
+      → MatchOption (fault_at_ending ending next) (IsOkAnd r (λ s. s.lines ≡ m)) (λ f. r ≡ Err f)
       → Closes language performs old ending n block (lines_met ending part) r before after
   finished_line old new n m block next part line ending before after r u e t k h =
       let last : Closes language performs new ending (n + 1) next [] r after after =

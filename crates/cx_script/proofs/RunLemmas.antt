@@ -6,7 +6,7 @@ use Rattle.cx_script_io.specs.Facts.Devices.{sends_front, sends_nil, sends_trans
 use Rattle.cx_script.specs.declared.run.Place.{Place}
 use Rattle.cx_script.specs.Facts.Fronts.{seam}
 use Rattle.cx_script_blocks.specs.declared.blocks.Block.{Block}
-use Rattle.cx_script.specs.Script.{Script, Step, end_fault, script_from, step_from, fault_at, led_to, with_actions_first}
+use Rattle.cx_script.specs.Script.{Script, Step, end_fault, script_from, step_from, fault_at_ending, led_to, with_actions_first}
 use Rattle.cx_script_blocks.specs.declared.faults.Summary.{Summary}
 use Rattle.cx_script.specs.Transcript.{PerformsAll}
 use Rattle.cx_script.specs.Parts.Progress.{Closes, DoneOf, HaltedAt, Halts, SentAll, SentSome, TakesLine, Took, actions_due, logs}
@@ -190,7 +190,7 @@ module _ {A S : Type 0} (language : Language A) (performs : S → A → List ℕ
   without_memory : (old : S) (n : ℕ) (block : Place) (line : List ℕ) (lines : List (List ℕ)) (before after : DeviceOutput (List ℕ))
       → (step_from language (n + 1) block line ≡ Err (BadLine (n + 1)) → ⊥) × DoneOf (λ own. SentAll performs old own before after) (actions_due (step_from language (n + 1) block line))
       → HaltedAt language performs old n block (line ∷ lines) before after
-  unfolding script_from fault_at
+  unfolding script_from fault_at_ending
   without_memory old n block line lines before after t =
       let number : n + 0 + 1 ≡ n + 1 = omega arith in
       let next : Place → Script A = λ b. script_from language Failed (n + 1 + 1) b [] in
@@ -230,7 +230,7 @@ module _ {A S : Type 0} (language : Language A) (performs : S → A → List ℕ
   ended_by : (old : S) (n : ℕ) (block : Option Block) (bad_look : Option ℕ) (answer : Result Summary RunFault) (w : DeviceOutput (List ℕ))
       → MatchOption (end_fault block bad_look) (IsOkAnd answer (λ s. s.lines ≡ n)) (λ fault. answer ≡ Err fault)
       → (let place : Place = record { block = block; bad_look = bad_look } in Closes language performs old AtEnd n place [] answer w w)
-  unfolding script_from fault_at Halts
+  unfolding script_from fault_at_ending Halts
   ended_by old n None None (Ok s) w h = (refl, omega (arith, h), sent_none old [] w w refl refl)
   ended_by old n None None (Err fault) w h = absurd h
   ended_by old n None (Some line) (Ok s) w h = cc
@@ -245,8 +245,8 @@ module _ {A S : Type 0} (language : Language A) (performs : S → A → List ℕ
       subst (λ f. Halts language performs old AtEnd n place [] f w w) same (refl, sent_none old [] w w refl refl)
 
   pub ended : (old : S) (ending : Ending) (n : ℕ) (block : Place) (answer : Result Summary RunFault) (w : DeviceOutput (List ℕ))
-      → MatchOption (fault_at ending block) (IsOkAnd answer (λ s. s.lines ≡ n)) (λ fault. answer ≡ Err fault) → Closes language performs old ending n block [] answer w w
-  unfolding script_from fault_at Halts
+      → MatchOption (fault_at_ending ending block) (IsOkAnd answer (λ s. s.lines ≡ n)) (λ fault. answer ≡ Err fault) → Closes language performs old ending n block [] answer w w
+  unfolding script_from fault_at_ending Halts
   ended old AtEnd n block answer w h = ended_by old n block.block block.bad_look answer w h
   ended old Failed n block (Ok s) w h = cc
   ended old Failed n block (Err fault) w h =

@@ -12,7 +12,7 @@ use Rattle.cx_script_io.specs.Lines.{is_too_long, last_met, lines_met}
 use Rattle.cx_script_io.specs.Unbroken.{IsUnbroken}
 use Rattle.cx_script_io.specs.declared.input.Ending.{Ending}
 use Rattle.cx_script.specs.Parts.Progress.{Calling, Came, Closes, Stopped, TakesLine, logs}
-use Rattle.cx_script.specs.Script.{fault_at, step_from}
+use Rattle.cx_script.specs.Script.{fault_at_ending, step_from}
 use Rattle.cx_script.proofs.CallingLemmas.{calling_front, calling_none, calling_so, calling_takes, calling_then}
 use Rattle.cx_script.proofs.PieceLemmas.{came_flushed, came_front, came_start, came_stopped, finished, finished_badly, finished_line, long_stopped, piece_line, piece_line_stopped, stopped_flushed, stopped_front, stopped_write}
 use Rattle.cx_script_io.specs.Facts.Lines.{unbroken_append}
@@ -117,14 +117,14 @@ module _ {A S : Type 0} (language : Language A) (performs : S → A → List ℕ
   ClosesIs old n block part ending r x y = Closes language performs old ending n block (lines_met ending part) r (device_output x []) (device_output y [])
 
   pub finish_none : (a : W) (old : S) (n : ℕ) (block : Place) (part : List ℕ) (ending : Ending) (r : Result Summary RunFault) → IsUnbroken part → last_met ending part ≡ []
-      → MatchOption (fault_at ending block) (IsOkAnd r (λ s. s.lines ≡ n)) (λ f. r ≡ Err f)
+      → MatchOption (fault_at_ending ending block) (IsOkAnd r (λ s. s.lines ≡ n)) (λ f. r ≡ Err f)
       → Calling writes a a (λ x y. Closes language performs old ending n block (lines_met ending part) r (device_output x []) (device_output y []))
   finish_none a old n block part ending r u e h =
       calling_none writes a (ClosesIs old n block part ending r) (λ x. finished language performs old n block part ending (device_output x []) r u e h)
 
   pub finish_line : (a b : W) (old new : S) (n m : ℕ) (block next : Place) (part line : List ℕ) (ending : Ending) (r : Result Summary RunFault) → IsUnbroken part → last_met ending part ≡ line ∷ []
       → Calling writes a b (λ x y. TakesLine performs (n + 1) (step_from language (n + 1) block line) old (device_output x []) (Ok tt) new (device_output y []) next) → m ≡ n + 1
-      → MatchOption (fault_at ending next) (IsOkAnd r (λ s. s.lines ≡ m)) (λ f. r ≡ Err f)
+      → MatchOption (fault_at_ending ending next) (IsOkAnd r (λ s. s.lines ≡ m)) (λ f. r ≡ Err f)
       → Calling writes a b (λ x y. Closes language performs old ending n block (lines_met ending part) r (device_output x []) (device_output y []))
   finish_line a b old new n m block next part line ending r u e t k h =
       calling_so writes a b (LineIs n block line old [] (Ok tt) new [] next) (ClosesIs old n block part ending r) t

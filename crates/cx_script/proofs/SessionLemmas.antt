@@ -12,7 +12,7 @@ use Rattle.cx_script.specs.declared.run.Place.{Place}
 use Rattle.cx_script_blocks.specs.declared.faults.RunFault.{RunFault}
 use Rattle.cx_script_blocks.specs.declared.faults.RunFault.TheVariants.{Read}
 use Rattle.cx_script_blocks.specs.declared.faults.Summary.{Summary}
-use Rattle.cx_script_io.specs.Calls.{Call, Reading, Writing, did, given, last_read, taken}
+use Rattle.cx_script_io.specs.Calls.{DeviceCall, Reading, Writing, did, given, last_read, taken}
 use Rattle.cx_script_io.specs.Devices.{device_output}
 use Rattle.cx_script_io.specs.Input.{IsEnding, most_bytes}
 use Rattle.cx_script_io.specs.Lines.{is_too_long, last_met, lines_met}
@@ -21,7 +21,7 @@ use Rattle.cx_script_io.specs.declared.input.Ending.{Ending}
 use Rattle.cx_script_io.specs.declared.input.Ending.TheVariants.{AtEnd, Failed, PastBound}
 use Rattle.cx_script_io.specs.Facts.Calls.{did_writes, folds_append, given_append, given_writes, last_append, last_writes, taken_append}
 use Rattle.cx_script.specs.Parts.Progress.{Calling, Came, Closes, Halts, InTime, SeenSoFar, Stopped}
-use Rattle.cx_script.specs.Script.{fault_at, first_place}
+use Rattle.cx_script.specs.Script.{fault_at_ending, first_place}
 use Rattle.cx_script.specs.Session.{RanIn}
 use Rattle.cx_script.specs.Transcript.{EndsScript}
 use Rattle.cx_script.proofs.PieceLemmas.{came_more, came_start, came_stopped, came_trans, ends_from, finished, stopped_written}
@@ -45,31 +45,31 @@ split_append (y ∷ xs) ys (z ∷ before) after x e =
     ]
 
 -- writes are no reads
-no_reads : (ms : List (Option (List ℕ))) (before after : List Call) (bytes : Option (List ℕ)) → map Writing ms ≡ before ++ Reading bytes ∷ after → ⊥
+no_reads : (ms : List (Option (List ℕ))) (before after : List DeviceCall) (bytes : Option (List ℕ)) → map Writing ms ≡ before ++ Reading bytes ∷ after → ⊥
 no_reads [] [] after bytes e = cc
 no_reads [] (z ∷ before) after bytes e = cc
 no_reads (m ∷ ms) [] after bytes e = cc
 no_reads (m ∷ ms) (z ∷ before) after bytes e = no_reads ms before after bytes (heads (Writing m) z (map Writing ms) (before ++ Reading bytes ∷ after) e).1
 
 -- one read and some writes, and the only read is the first of them
-only_read : (first : Option (List ℕ)) (ms : List (Option (List ℕ))) (more after : List Call) (bytes : Option (List ℕ)) → Reading first ∷ map Writing ms ≡ more ++ Reading bytes ∷ after → more ≡ []
+only_read : (first : Option (List ℕ)) (ms : List (Option (List ℕ))) (more after : List DeviceCall) (bytes : Option (List ℕ)) → Reading first ∷ map Writing ms ≡ more ++ Reading bytes ∷ after → more ≡ []
 only_read first ms [] after bytes e = refl
 only_read first ms (z ∷ more) after bytes e = absurd (no_reads ms more after bytes (heads (Reading first) z (map Writing ms) (more ++ Reading bytes ∷ after) e).1)
 
 -- ---- calls, and one read and some writes after them
-abbrev then_read : List Call → Option (List ℕ) → List (Option (List ℕ)) → List Call
+abbrev then_read : List DeviceCall → Option (List ℕ) → List (Option (List ℕ)) → List DeviceCall
 then_read calls bytes ms = calls ++ Reading bytes ∷ map Writing ms
 
-then_given : (calls : List Call) (bytes : List ℕ) (ms : List (Option (List ℕ))) → given (then_read calls (Some bytes) ms) ≡ given calls ++ bytes
+then_given : (calls : List DeviceCall) (bytes : List ℕ) (ms : List (Option (List ℕ))) → given (then_read calls (Some bytes) ms) ≡ given calls ++ bytes
 then_given calls bytes ms = given_append calls (Reading (Some bytes) ∷ map Writing ms) ∙ ap (λ l. given calls ++ (bytes ++ l)) (given_writes ms) ∙ ap (λ l. given calls ++ l) (append-nil bytes)
 
-then_failed : (calls : List Call) (ms : List (Option (List ℕ))) → given (then_read calls None ms) ≡ given calls
+then_failed : (calls : List DeviceCall) (ms : List (Option (List ℕ))) → given (then_read calls None ms) ≡ given calls
 then_failed calls ms = given_append calls (Reading None ∷ map Writing ms) ∙ ap (λ l. given calls ++ l) (given_writes ms) ∙ append-nil (given calls)
 
-then_taken : (calls : List Call) (bytes : Option (List ℕ)) (ms : List (Option (List ℕ))) → taken (then_read calls bytes ms) ≡ taken calls ++ taken (map Writing ms)
+then_taken : (calls : List DeviceCall) (bytes : Option (List ℕ)) (ms : List (Option (List ℕ))) → taken (then_read calls bytes ms) ≡ taken calls ++ taken (map Writing ms)
 then_taken calls bytes ms = taken_append calls (Reading bytes ∷ map Writing ms)
 
-then_last : (calls : List Call) (bytes : Option (List ℕ)) (ms : List (Option (List ℕ))) → last_read (then_read calls bytes ms) ≡ Some bytes
+then_last : (calls : List DeviceCall) (bytes : Option (List ℕ)) (ms : List (Option (List ℕ))) → last_read (then_read calls bytes ms) ≡ Some bytes
 then_last calls bytes ms =
     last_append calls (Reading bytes ∷ map Writing ms) ∙ ap (λ o. option_or (option_or o (Some bytes)) (last_read calls)) (last_writes ms)
 
@@ -107,7 +107,7 @@ nothing AtEnd h = cc
 nothing Failed h = cc
 nothing PastBound h = omega (arith, h)
 
-no_ending : (calls : List Call) (bytes : List ℕ) → last_read calls ≡ Some (Some bytes) → (bytes ≡ [] → ⊥) → length (given calls) ≤ 16777216 → (why : Ending) → IsEnding calls why → ⊥
+no_ending : (calls : List DeviceCall) (bytes : List ℕ) → last_read calls ≡ Some (Some bytes) → (bytes ≡ [] → ⊥) → length (given calls) ≤ 16777216 → (why : Ending) → IsEnding calls why → ⊥
 unfolding most_bytes
 no_ending calls bytes l some few AtEnd h = let same = sym l ∙ h in some cc
 no_ending calls bytes l some few Failed h = let same = sym l ∙ h in cc
@@ -115,18 +115,18 @@ no_ending calls bytes l some few PastBound h = omega (arith, h, few)
 
 module _ {A S : Type 0} (language : Language A) (performs : S → A → List ℕ → S → Type 0) where
   -- what is due before a read, at each of these calls and after them
-  due_first : (start : S) (calls : List Call) (first : Option (List ℕ)) (ms : List (Option (List ℕ))) → ((why : Ending) → IsEnding calls why → ⊥)
+  due_first : (start : S) (calls : List DeviceCall) (first : Option (List ℕ)) (ms : List (Option (List ℕ))) → ((why : Ending) → IsEnding calls why → ⊥)
       → EndsScript language performs start Failed (given calls) (Err Read) (taken calls) → InTime language performs start calls → InTime language performs start (then_read calls first ms)
   due_first start calls first ms unended ends t = λ before after bytes e. elim (split_append calls (Reading first ∷ map Writing ms) before after (Reading bytes) e) [
     | inl p ↦ t before p.0 bytes p.1
     | inr q ↦
         let none = only_read first ms q.0 after bytes q.2 in
         let same : calls ≡ before = sym (q.1 ∙ ap (λ l. calls ++ l) none ∙ append-nil calls) in
-        subst (λ (l : List Call). ((why : Ending) → IsEnding l why → ⊥) × EndsScript language performs start Failed (given l) (Err Read) (taken l)) same (unended, ends)
+        subst (λ (l : List DeviceCall). ((why : Ending) → IsEnding l why → ⊥) × EndsScript language performs start Failed (given l) (Err Read) (taken l)) same (unended, ends)
   ]
 
   -- ---- a session that ended where no more was read, and one that was stopped
-  ran_ended : {D : Type 0} (start : S) (reads writes : D → Option (List ℕ) → D → Type 0) (before after : D) (calls : List Call) (why : Ending) (bytes : List ℕ) (answer : Result Summary RunFault)
+  ran_ended : {D : Type 0} (start : S) (reads writes : D → Option (List ℕ) → D → Type 0) (before after : D) (calls : List DeviceCall) (why : Ending) (bytes : List ℕ) (answer : Result Summary RunFault)
       → FoldsTo (did reads writes) before calls after → InTime language performs start calls → IsEnding calls why → take most_bytes (given calls) ≡ bytes
       → EndsScript language performs start why bytes answer (taken calls) → RanIn language performs start reads writes before answer after
   ran_ended start reads writes before after calls why bytes answer made t is cut e =
@@ -143,7 +143,7 @@ module _ {A S : Type 0} (language : Language A) (performs : S → A → List ℕ
         };
       }
 
-  ran_stopped : {D : Type 0} (start : S) (reads writes : D → Option (List ℕ) → D → Type 0) (before after : D) (calls : List Call) (bytes : List ℕ) (fault : RunFault)
+  ran_stopped : {D : Type 0} (start : S) (reads writes : D → Option (List ℕ) → D → Type 0) (before after : D) (calls : List DeviceCall) (bytes : List ℕ) (fault : RunFault)
       → FoldsTo (did reads writes) before calls after → InTime language performs start calls → take most_bytes (given calls) ≡ bytes
       → Stopped language performs start 0 first_place bytes fault (device_output [] []) (device_output (taken calls) []) → RanIn language performs start reads writes before (Err fault) after
   ran_stopped start reads writes before after calls bytes fault made t cut s =
@@ -163,13 +163,13 @@ module _ {A S : Type 0} (language : Language A) (performs : S → A → List ℕ
     -- the complete lines of what was read are done and written
     pub due_now : (start mid : S) (before now : D) (read m : ℕ) (next : Place) (part : List ℕ) (s : SeenSoFar language performs start reads writes before now read mid m next part)
         → IsUnbroken part → is_too_long (strip_carriage_return part) ≡ false → EndsScript language performs start Failed (given s.calls) (Err Read) (taken s.calls)
-    unfolding fault_at
+    unfolding fault_at_ending
     due_now start mid before now read m next part s u short =
         let none : last_met Failed part ≡ [] = ap (λ (b : Bool). cond b (strip_carriage_return part ∷ []) []) short in
         ends_from language performs start mid (given s.calls) part Failed m next (Err Read) (taken s.calls) (taken s.calls) s.came
         (finished language performs mid m next part Failed (device_output (taken s.calls) []) (Err Read) u none refl)
 
-    made_on : (before now mid then : D) (calls : List Call) (bytes : Option (List ℕ)) (ms : List (Option (List ℕ))) → FoldsTo (did reads writes) before calls now → reads now bytes mid → FoldsTo writes mid ms then
+    made_on : (before now mid then : D) (calls : List DeviceCall) (bytes : Option (List ℕ)) (ms : List (Option (List ℕ))) → FoldsTo (did reads writes) before calls now → reads now bytes mid → FoldsTo writes mid ms then
         → FoldsTo (did reads writes) before (then_read calls bytes ms) then
     made_on before now mid then calls bytes ms f r w =
         folds_append (did reads writes) before now then calls (Reading bytes ∷ map Writing ms) f (mid, r, did_writes reads writes mid then ms w)

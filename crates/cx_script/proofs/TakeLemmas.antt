@@ -1,5 +1,5 @@
 -- What becomes of one line.
-use Rattle.std.proofs.Common.{◌≡◌, ℕ, true, false, List, ◌∷◌, ◌++◌, None, Some, Option, Result, Ok, Err, MatchResult, refl, sym, ap, ◌∙◌, subst, append-nil, append_assoc, []}
+use Rattle.std.proofs.Common.{◌≡◌, ℕ, true, false, List, ◌∷◌, ◌++◌, None, Some, Option, Result, Ok, Err, refl, sym, ap, ◌∙◌, subst, append-nil, append_assoc, []}
 use Rattle.std.specs.Prelude.{IsErrAnd}
 use Rattle.std.specs.Result.{result_map_both}
 use Rattle.cx_script_io.specs.Devices.{DeviceOutput, Sends, Takes, TakesFront, device_output}

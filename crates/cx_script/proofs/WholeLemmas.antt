@@ -5,7 +5,7 @@ use Rattle.std.specs.Str.Lines.{lines, lines_of_parts as std_lines_of_parts, str
 use Rattle.cx_script_io.specs.Lines.{lines_met, lines_of_parts}
 use Rattle.cx_script.specs.Session.{IsScriptSession}
 use Rattle.cx_script.specs.Transcript.{PerformsAll, EndsScript}
-use Rattle.cx_script_io.specs.Calls.{Call, given, taken}
+use Rattle.cx_script_io.specs.Calls.{DeviceCall, given, taken}
 use Rattle.cx_script_io.specs.Input.{IsEnding, most_bytes}
 use Rattle.cx_script.proofs.EndingLemmas.{Endings, ended_within, ending_of, read_ended, read_open, read_whole}
 use Rattle.cx_script_actions.specs.Language.{edf_language}
@@ -26,7 +26,7 @@ unfolding lines_met
 same_lines_met bytes = same_parts (slice_split (λ b. b == 10) bytes)
 
 -- an Ok is the whole script
-whole_by : (calls : List Call) (summary : Summary) (s : IsScriptSession calls (Ok summary)) (why : Ending) → IsEnding calls why → IsEnding calls AtEnd × IsTranscribed (given calls) summary.lines (taken calls)
+whole_by : (calls : List DeviceCall) (summary : Summary) (s : IsScriptSession calls (Ok summary)) (why : Ending) → IsEnding calls why → IsEnding calls AtEnd × IsTranscribed (given calls) summary.lines (taken calls)
 unfolding EndsScript
 whole_by calls summary s AtEnd h =
     let e = s.ends AtEnd (given calls) (read_whole edf_language Performs fresh_state calls s.in_time AtEnd h refl) in
@@ -38,7 +38,7 @@ whole_by calls summary s PastBound h =
     let e = s.ends PastBound (take most_bytes (given calls)) (read_ended edf_language Performs fresh_state calls s.in_time PastBound h) in
     absurd (never_faultless edf_language PastBound (take most_bytes (given calls)) refl e.0)
 
-whole_in : (calls : List Call) (summary : Summary) (s : IsScriptSession calls (Ok summary)) → Endings calls → IsEnding calls AtEnd × IsTranscribed (given calls) summary.lines (taken calls)
+whole_in : (calls : List DeviceCall) (summary : Summary) (s : IsScriptSession calls (Ok summary)) → Endings calls → IsEnding calls AtEnd × IsTranscribed (given calls) summary.lines (taken calls)
 unfolding EndsScript
 whole_in calls summary s (inl w) = whole_by calls summary s w.0 w.1
 whole_in calls summary s (inr none) =

@@ -26,10 +26,10 @@ end_fault (Some block) bad_look = Some (fault.BadLine block.line)
 end_fault None (Some line) = Some (fault.BadLook line)
 end_fault None None = None
 
-unfoldable pub fault_at : Ending → Place → Option RunFault
-fault_at AtEnd place = end_fault place.block place.bad_look
-fault_at Failed place = Some fault.Read
-fault_at PastBound place = Some fault.ReadBound
+unfoldable pub fault_at_ending : Ending → Place → Option RunFault
+fault_at_ending AtEnd place = end_fault place.block place.bad_look
+fault_at_ending Failed place = Some fault.Read
+fault_at_ending PastBound place = Some fault.ReadBound
 
 -- what a line leads to in a script: what is done, one action after another, and what is left to the next line
 pub record Step (A : Type 0) : Type 0 where
@@ -66,7 +66,7 @@ led_to (Ok step) next = with_actions_first step.actions (next step.place)
 
 -- the lines from the one with this number on, at this place
 unfoldable pub script_from : {A : Type 0} → Language A → Ending → ℕ → Place → List (List ℕ) → Script A
-script_from language ending number place [] = record { actions = []; fault = fault_at ending place }
+script_from language ending number place [] = record { actions = []; fault = fault_at_ending ending place }
 script_from language ending number place (line ∷ lines) =
     led_to (step_from language number place line) (λ next. script_from language ending (number + 1) next lines)
 

@@ -28,15 +28,15 @@ pub fn lines_are_lines()
     ensures { (bytes : List ℕ) → lines_met AtEnd bytes ≡ lines bytes }
 {}
 
-/// Where a run answers Ok, the last read gave no byte: what the reads gave is a script without a fault, its lines are counted,
-/// and the writes took its transcript, and nothing else.
+/// Where a run answers Ok, the last read gave no byte: what the reads gave is a script without a fault, its lines are
+/// counted, and the writes took its transcript, and nothing else.
 pub fn ok_is_the_whole_script()
     ensures { OkIsTheWholeScript }
 {}
 
 /// What the reads give decides the answer and the transcript, in whatever pieces they give it, unless lack of memory or
-/// the writer stops the run. ReadBound comes exactly where they give more than 16,777,216 bytes and there is no fault in
-/// these; Read only where a read failed; and where one failed, the answer reports it, or the fault that is in front
+/// the writer stops the run. ReadBound comes exactly where they give more than 16,777,216 bytes and there is no fault
+/// in these; Read only where a read failed; and where one failed, the answer reports it, or the fault that is in front
 /// of it.
 pub fn the_input_decides()
     ensures decide { InputsDecide }
@@ -48,8 +48,8 @@ pub fn the_input_decides()
     an_action_has_one_outcome();
 }
 
-/// Where the bytes that a reader has are known and no read fails, what the reads give are the pieces of a script: of these
-/// bytes, or of the first 16,777,216 where they are more.
+/// Where the bytes that a reader has are known and no read fails, what the reads give are the pieces of a script: of
+/// these bytes, or of the first 16,777,216 where they are more.
 pub fn known_bytes_are_read<P: Performer, D: ScriptDevices>()
     ensures { KnownBytesAreRead P.Action.language P.performs (AreCallsOver D.reads D.writes D.left) }
 {
@@ -66,8 +66,9 @@ pub fn known_bytes_decide<D: ScriptDevices, E: ScriptDevices>()
     known_bytes_are_read::<EdfPerformer, E>();
 }
 
-/// A front of a script is a script: the actions that the lines complete in it give, and a fault met there, are those of
-/// the whole, however it goes on and however no more of it is read. So the pieces in which a script is read don't matter.
+/// A front of a script is a script: the actions that its complete lines give, and a fault met there, are those of the
+/// whole, however the script goes on, and for whatever reason no more of it is read. So the pieces in which a script is
+/// read don't matter.
 pub fn fronts_are_scripts<A: ScriptAction>()
     ensures { FrontsAreScripts A.language }
 {}
@@ -78,7 +79,8 @@ pub fn bad_lines_are_bad<A: ScriptAction>()
     ensures { BadLinesAreBad A.language }
 {}
 
-/// An action on a region under EDF has one outcome: what is written for it, and the state after it.
+/// An action on a region under EDF has one outcome: the state and the action determine what is written, and the state
+/// afterwards.
 pub fn an_action_has_one_outcome()
     ensures { (old : EdfState) (action : Action) (text other : List ℕ) (new another : EdfState) →
         Performs old action text new → Performs old action other another → (text ≡ other) × (new ≡ another) }
@@ -86,7 +88,8 @@ pub fn an_action_has_one_outcome()
     cx_edf::laws::edf_events_decide();
 }
 
-/// The transcript of actions on a region under EDF is one, and so is the state after them.
+/// A list of actions on a region under EDF has one outcome: the state and the list determine the transcript, and the
+/// state afterwards.
 pub fn a_transcript_is_one()
     ensures { (old : EdfState) (actions : List Action) (text other : List ℕ) (new another : EdfState)
         → PerformsAll Performs old actions text new → PerformsAll Performs old actions other another
@@ -110,9 +113,9 @@ pub fn reaches_entry()
     cx_asm_execution::laws::reaches_entry();
 }
 
-/// Each EXEC statement of a source that is translated, assembled and loaded arrives as its command: these instructions are
-/// those made of it, each argument's address is that of its own expression, and a machine that is about to perform
-/// them reaches the entry.
+/// Each EXEC statement of a source that is translated, assembled and loaded arrives as its command: these instructions
+/// are those made of it, each argument's address is that of its expression, and a machine that is about to perform them
+/// reaches the entry.
 pub fn commands_arrive()
     ensures { CommandsArrive }
 {

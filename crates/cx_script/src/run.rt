@@ -5,7 +5,7 @@ ghost use Rattle.std.specs.Str.Lines.{strip_carriage_return};
 ghost use Rattle.cx_script_io.specs.Input.{is_failure};
 ghost use Rattle.cx_script_io.specs.Lines.{is_too_long, lines_met};
 ghost use Rattle.cx_script.specs.Session.{RanIn};
-ghost use Rattle.cx_script.specs.Script.{actions_of, bad_look_after, fault_at, first_place, step_from};
+ghost use Rattle.cx_script.specs.Script.{actions_of, bad_look_after, fault_at_ending, first_place, step_from};
 ghost use Rattle.cx_script_blocks.specs.Faults.{is_read, is_write};
 ghost use Rattle.cx_script.specs.Parts.Progress.{Acted, ActsOnce, Calling, Came, Closes, Stopped, TakesLine};
 ghost use Rattle.cx_script_io.specs.Devices.{device_output};
@@ -30,12 +30,12 @@ const MOST_KEPT: usize = 4_097;
 /// The most bytes that a script may have.
 const MOST_BYTES: usize = 16_777_216;
 
-/// What the lines of a script leave to the next one.
+/// What the lines of a script that were taken leave to the next one.
 #[derive(Drop)]
 pub struct Place {
-    /// The block that it is in.
+    /// The block that the next line is in, where it is in one.
     pub block: Option<Block>,
-    /// The number of the first bad look.
+    /// The number of the line with the first bad look, counted from 1, where there was one.
     pub bad_look: Option<usize>,
 }
 
@@ -74,8 +74,8 @@ fn act_once<P: Performer, W: ScriptOut>(
     }
 }
 
-/// Performs the actions that a line asks, one after another: the text of each is put after what waits to be written before the
-/// next is performed.
+/// Performs the actions that a line asks, one after another: the text of each is put after what waits to be written
+/// before the next is performed.
 fn act<P: Performer, W: ScriptOut>(
     performer: &mut P,
     alloc: Global,
@@ -115,8 +115,8 @@ fn bad_look_after<A: ScriptAction>(
     }
 }
 
-/// Lines that were taken: what they were performed on, the texts that wait to be written, how many they are, and what they leave
-/// to the next one.
+/// Lines that were taken: what they were performed on, the texts that wait to be written, how many they are, and what
+/// they leave to the next one.
 #[derive(Drop)]
 pub struct Progress<P> {
     performer: P,
@@ -192,9 +192,9 @@ impl<P: Performer + Drop> Progress<P> {
     }
 
     /// The answer where no line is left.
-    #[tactic(auto, unfolding(crate::specs::Script::fault_at))]
+    #[tactic(auto, unfolding(crate::specs::Script::fault_at_ending))]
     fn end(&self, ending: Ending) -> Result<Summary, RunFault>
-        ensures value { MatchOption (fault_at ending self.now.place)
+        ensures value { MatchOption (fault_at_ending ending self.now.place)
             (IsOkAnd result (λ summary. summary.lines ≡ self.now.lines)) (λ fault. result ≡ Err fault) }
         ensures unwritten { is_write result ≡ false }
         ensures read { is_read result ≡ is_failure ending }
@@ -275,7 +275,7 @@ impl<P: Performer + Drop> ScriptRun<P> {
     fn keep(&mut self, bytes: &[u8]) -> Result<(), RunFault>
         requires { self.old.progress.lines < 2 ^ 32 }
         ensures part { OnOk result (self.new.part.items ≡ self.old.part.items ++ bytes.now) }
-        ensures short { OnOk result (is_too_long (strip_carriage_return self.new.part.items) ≡ false) }
+        ensures not_too_long { OnOk result (is_too_long (strip_carriage_return self.new.part.items) ≡ false) }
         ensures fault { IfErr result (λ fault. fault ≡ BadLine (self.old.progress.lines + 1)) }
         ensures long { OnErr result (is_too_long (strip_carriage_return (self.old.part.items ++ bytes.now)) ≡ true) }
         ensures progress { self.new.progress ≡ self.old.progress }
@@ -306,7 +306,7 @@ impl<P: Performer + Drop> ScriptRun<P> {
             Came P.Action.language P.performs old.performer old.lines old.place ahead (device_output log old.waiting)
             new.performer new.lines new.place self.new.part.items (device_output later new.waiting))) }
         ensures unbroken { OnOk result (IsUnbroken self.new.part.items) }
-        ensures short { OnOk result (is_too_long (strip_carriage_return self.new.part.items) ≡ false) }
+        ensures not_too_long { OnOk result (is_too_long (strip_carriage_return self.new.part.items) ≡ false) }
         ensures lines { OnOk result (self.new.progress.lines ≤ self.old.progress.lines + length piece.now) }
         ensures err { let old = self.old.progress in let ahead = self.old.part.items ++ piece.now in
             IfErr result (λ fault. Calling W.writes writer.old writer.new (λ log later.
@@ -342,7 +342,7 @@ impl<P: Performer + Drop> ScriptRun<P> {
             Came P.Action.language P.performs old.performer old.lines old.place ahead (device_output log [])
             new.performer new.lines new.place self.new.part.items (device_output later []))) }
         ensures unbroken { OnOk result (IsUnbroken self.new.part.items) }
-        ensures short { OnOk result (is_too_long (strip_carriage_return self.new.part.items) ≡ false) }
+        ensures not_too_long { OnOk result (is_too_long (strip_carriage_return self.new.part.items) ≡ false) }
         ensures lines { OnOk result (self.new.progress.lines ≤ self.old.progress.lines + length piece.now) }
         ensures waits { OnOk result (self.new.progress.waiting ≡ []) }
         ensures err { let old = self.old.progress in let ahead = self.old.part.items ++ piece.now in
@@ -371,7 +371,7 @@ impl<P: Performer + Drop> ScriptRun<P> {
     ) -> Result<Summary, RunFault>
         requires lines { self.progress.lines < 2 ^ 32 }
         requires unbroken { IsUnbroken self.part.items }
-        requires short { is_too_long (strip_carriage_return self.part.items) ≡ false }
+        requires not_too_long { is_too_long (strip_carriage_return self.part.items) ≡ false }
         requires waits { self.progress.waiting ≡ [] }
         requires failure { W.has_failed writer.old ≡ false }
         ensures ends { let old = self.progress in let lines = lines_met ending self.part.items in
@@ -390,7 +390,8 @@ impl<P: Performer + Drop> ScriptRun<P> {
         self.progress.end(ending)
     }
 
-    /// Runs the script that the devices have, line by line as it is read.
+    /// Runs the script that the devices have, line by line as it is read, from a run that has taken no line. Its faults
+    /// are those of `run_script_on`. Neither device may have failed.
     pub fn run<D: ScriptDevices>(
         mut self,
         alloc: Global,

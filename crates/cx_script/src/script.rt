@@ -20,6 +20,8 @@ use std::alloc::{AllocError, Global};
 pub type EdfPerformer = Debugged<KeepingStore<PagedStore>>;
 
 /// The performer of a script of `cicsedf` at its beginning: a fresh region, with EDF Off at each terminal.
+///
+/// An error comes only where an allocation failed.
 pub fn edf_performer(alloc: Global) -> Result<EdfPerformer, AllocError>
     ensures { IfOk result (λ performer. performer ≡ fresh_state) }
 {
@@ -27,19 +29,18 @@ pub fn edf_performer(alloc: Global) -> Result<EdfPerformer, AllocError>
     Ok(Debugged::new(alloc, region))
 }
 
-/// Runs a script: does what its lines ask, in order, on a performer that was to be made, and writes the transcript. It is read in pieces of at
-/// most 4,096 bytes. The lines that are complete in a piece are done, and their texts written, before more is read and before
-/// a fault is answered; at most 16,384 bytes of texts wait to be written in one. Of the script the unfinished line or block
-/// alone is held.
+/// Runs a script: does what its lines ask, in order, on a performer that was to be made, and writes the transcript. It
+/// is read in pieces of at most 4,096 bytes. The lines that are complete in a piece are done, and their texts written,
+/// before more is read and before a fault is answered; at most 16,384 bytes of texts wait to be written in one. Of the
+/// script the unfinished line or block alone is held.
 ///
-/// Neither device may have failed. The fault that comes first in the script is answered, and everything
-/// in front of it is done and written: BadLine with the line's number; Read where a read failed, and
-/// ReadBound where the script has more than 16,777,216 bytes, after the complete lines; BadLook with the
-/// number of the first bad look, at the end of a script without another fault. Write comes where
-/// a write failed or took no byte: what was written is then a front of a transcript. Memory comes only
-/// where an allocation failed, before anything was read or at a line that isn't a bad one: the lines in
-/// front of it have no fault, are done, and their transcript is written. A line may ask several actions:
-/// then those in front of the one without memory are done, and their texts are written.
+/// Neither device may have failed. The fault that comes first in the script is answered, and everything in front of it
+/// is done and written: BadLine with the line's number; Read where a read failed, and ReadBound where the script has
+/// more than 16,777,216 bytes, after the complete lines; BadLook with the number of the first bad look, at the end of a
+/// script without another fault. Write comes where a write failed or took no byte: what was written is then a front of
+/// a transcript. Memory comes only where an allocation failed, before anything was read or at a line that isn't a bad
+/// one: the lines in front of it have no fault, are done, and their transcript is written. A line may ask several
+/// actions: then those in front of the one without memory are done, and their texts are written.
 pub fn run_script_on<P: Performer + Drop, D: ScriptDevices>(
     performer: Result<P, AllocError>,
     alloc: Global,
@@ -59,8 +60,8 @@ pub fn run_script_on<P: Performer + Drop, D: ScriptDevices>(
     ScriptRun::new(performer).run(alloc, devices)
 }
 
-/// Runs a script of `cicsedf` on a fresh region, as `run_script_on` does. Where there was no memory for that, Memory is answered
-/// and nothing is done.
+/// Runs a script of `cicsedf` on a fresh region, as `run_script_on` does. Where there is no memory for that region,
+/// Memory is answered and nothing is read or written. Neither device may have failed.
 pub fn run_script<D: ScriptDevices>(alloc: Global, devices: &mut D) -> Result<Summary, RunFault>
     requires reader { D.ScriptIn.has_failed devices.old ≡ false }
     requires writer { D.ScriptOut.has_failed devices.old ≡ false }

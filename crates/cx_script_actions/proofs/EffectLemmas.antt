@@ -1,7 +1,7 @@
 -- An action performed, by what the region answered.
 use Rattle.std.proofs.Common.{◌≡◌, ℕ, ◌++◌, List, Option, Some, codes, subst, sym}
 use Rattle.cx_code.specs.declared.image.Image.{Image}
-use Rattle.cx_load.specs.Fault.{IsFit, fault_name, fault_of}
+use Rattle.cx_load.specs.Fault.{IsFit, fault_name, image_fault}
 use Rattle.cx_load.specs.declared.fault.ImageFault.{ImageFault}
 use Rattle.cx_region.specs.declared.replies.Event.TheVariants as event
 use Rattle.cx_edf.specs.declared.answers.Answer.{Answer}
@@ -18,7 +18,7 @@ unfolding Replies
 event_replied old new event given text h t = (given, h, t)
 
 pub image_refused : (old new : EdfState) (name : List ℕ) (image : Image) (fault : ImageFault) (text : List ℕ)
-    → fault_of image ≡ Some fault → text ≡ refused_text (codes "PROGRAM") name (fault_name fault) → new ≡ old → Performs old (action.Image name image) text new
+    → image_fault image ≡ Some fault → text ≡ refused_text (codes "PROGRAM") name (fault_name fault) → new ≡ old → Performs old (action.Image name image) text new
 unfolding Performs
 image_refused old new name image fault text is t n =
     subst (λ (due : Option ImageFault). ByFault due old name image text new) (sym is) (t, n)

@@ -10,7 +10,7 @@ use Rattle.cx_ebcdic.specs.declared.aids.Aid.TheVariants.{Enter, Clear, Pa1, Pa2
 use Rattle.cx_region.specs.declared.replies.Event.{Event}
 use Rattle.cx_region.specs.declared.replies.Event.TheVariants as event
 use Rattle.cx_edf.specs.declared.answers.EdfEvent.TheVariants as edf
-use Rattle.cx_script_actions.specs.Words.{word, after_first_blank, two_words, number_of, codes_of_key}
+use Rattle.cx_script_actions.specs.Words.{word, after_first_blank, two_words, number_with_digits, codes_of_key}
 use Rattle.cx_script_actions.specs.Alterations.{change_of}
 use Rattle.cx_script_actions.specs.declared.actions.Action.{Action}
 use Rattle.cx_script_actions.specs.declared.actions.Action.TheVariants as action
@@ -46,7 +46,7 @@ edf_switch name on = line.Action (action.Event (if on then edf.On name else edf.
 -- the display that is shown, or the one a given number before the newest
 abbrev pub display_line : List ℕ → Option (List ℕ) → Option (Line Action)
 display_line name None = Some (line.Action (action.Display name))
-display_line name (Some back) = option_map (λ k. line.Action (action.Previous name k)) (number_of 1 1 back)
+display_line name (Some back) = option_map (λ k. line.Action (action.Previous name k)) (number_with_digits 1 1 back)
 
 -- what is written of a source: the listing, the disassembly, or both, in this order; nothing where there is no word
 abbrev pub wanted_of : Option (List ℕ) → Option Wanted
@@ -64,13 +64,14 @@ source_line name rest = option_map (λ wanted. line.Source name wanted) (wanted_
 unfoldable pub line_asked_for : List ℕ → List ℕ → Option (Line Action)
 line_asked_for verb text =
     let is = bytes_eq verb in
-    if is (codes "IMAGE") then two_words line.Image (padded_name 8) (number_of 1 9) text
+    if is (codes "IMAGE") then two_words line.Image (padded_name 8) (number_with_digits 1 9) text
     else if is (codes "SOURCE")
     then option_and_then (λ name. source_line name (after_first_blank text)) (padded_name 8 (word text))
     else if is (codes "TRANSACTION")
     then two_words (λ t p. event_line (event.Transaction t p)) (padded_name 4) (padded_name 8) text
     else if is (codes "TERMINAL") then option_map (λ name. event_line (event.Terminal name)) (padded_name 4 text)
-    else if is (codes "CLOCK") then two_words (λ t d. event_line (event.Clock t d)) (number_of 6 6) (number_of 5 5) text
+    else if is (codes "CLOCK")
+    then two_words (λ t d. event_line (event.Clock t d)) (number_with_digits 6 6) (number_with_digits 5 5) text
     else if is (codes "KEY")
     then two_words (λ n key. event_line (event.Key n key.0 key.1)) (padded_name 4) key_with_text text
     else if is (codes "TURN") then option_map (λ name. event_line (event.Turn name)) (padded_name 4 text)

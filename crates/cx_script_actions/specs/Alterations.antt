@@ -4,7 +4,7 @@ use Rattle.std.specs.Option.{option_and_then, option_map}
 use Rattle.std.specs.Str.{bytes_eq}
 use Rattle.cx_region.specs.declared.changes.Change.{Change}
 use Rattle.cx_region.specs.declared.changes.Change.TheVariants.{Register, Byte, Nop, Abend}
-use Rattle.cx_script_actions.specs.Words.{word, after_first_blank, two_words, number_of, hex_bytes}
+use Rattle.cx_script_actions.specs.Words.{word, after_first_blank, two_words, number_with_digits, hex_bytes}
 
 -- the number that bytes are, the first one highest
 abbrev pub number_in : List ℕ → ℕ
@@ -16,7 +16,7 @@ hex_number bytes text = if length text == 2 * bytes then option_map number_in (h
 
 -- a register: one or two decimal digits, at most 15
 abbrev pub register_of : List ℕ → Option ℕ
-register_of text = option_and_then (λ r. if nat_le r 15 then Some r else None) (number_of 1 2 text)
+register_of text = option_and_then (λ r. if nat_le r 15 then Some r else None) (number_with_digits 1 2 text)
 
 -- NOP; ABEND; REG with a register and a word of eight digits; BYTE with an address of six and a byte of two
 unfoldable pub change_of : List ℕ → Option Change

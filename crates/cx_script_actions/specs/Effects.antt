@@ -3,7 +3,7 @@ use Rattle.std.specs.Prelude.{◌≡◌, ℕ, ◌++◌, List, [], map, codes, Op
 use Rattle.std.specs.Option.{option_and_then, option_map}
 use Rattle.cx_base.specs.Texts.{shown_text}
 use Rattle.cx_code.specs.declared.image.Image.{Image}
-use Rattle.cx_load.specs.Fault.{fault_name, fault_of}
+use Rattle.cx_load.specs.Fault.{fault_name, image_fault}
 use Rattle.cx_load.specs.declared.fault.ImageFault.{ImageFault}
 use Rattle.cx_region.specs.Defining.{fresh_region}
 use Rattle.cx_region.specs.State.{RegionState}
@@ -59,9 +59,9 @@ main_page_back state name k =
 -- One action: the region under EDF before, the action, what is written for it, and the region after. What is written of
 -- a source comes before what its image gives.
 unfoldable pub Performs : EdfState → Action → List ℕ → EdfState → Type 0
-Performs old (action.Image name image) text new = ByFault (fault_of image) old name image text new
+Performs old (action.Image name image) text new = ByFault (image_fault image) old name image text new
 Performs old (action.Source name before image) text new =
-    (own : List ℕ) × ByFault (fault_of image) old name image own new × (text ≡ before ++ own)
+    (own : List ℕ) × ByFault (image_fault image) old name image own new × (text ≡ before ++ own)
 Performs old (action.Event event) text new = Replies old event text new
 Performs old (action.Screen name) text new = (text ≡ screen_text old.region name) × (new ≡ old)
 Performs old (action.Display name) text new =

@@ -28,8 +28,8 @@ abbrev pub decimal : List ℕ → ℕ
 decimal digits = fold (λ number digit. number * 10 + (digit - 48)) 0 digits
 
 -- a number of a given range of decimal digits
-unfoldable pub number_of : ℕ → ℕ → List ℕ → Option ℕ
-number_of least most text =
+unfoldable pub number_with_digits : ℕ → ℕ → List ℕ → Option ℕ
+number_with_digits least most text =
     let fits = nat_le least (length text) && nat_le (length text) most && list_all is_ascii_digit text in
     if fits then Some (decimal text) else None
 

@@ -30,7 +30,8 @@ pub struct Wanted {
 pub enum Action {
     /// Checks an image, and defines a program from it where it has no fault.
     Image(Name8, Image),
-    /// Writes what is to be written of a source, then does so with its image.
+    /// Writes these bytes, the listing and the disassembly that a source asks for, and then does as `Image` with its
+    /// image.
     Source(Name8, Bytes, Image),
     /// An event of the region, or of EDF.
     Event(EdfEvent),
@@ -38,16 +39,16 @@ pub enum Action {
     Screen(Name4),
     /// Shows the page that EDF shows at a terminal.
     Display(Name4),
-    /// Shows the main page of the display that many before a terminal's newest.
+    /// Shows the main page of the display that many before a terminal's newest, which is 0.
     Previous(Name4, usize),
 }
 
 /// What begins a block of lines that are handed over.
 #[derive(Clone, Copy, Debug)]
 pub enum Heading {
-    /// FAULTS: the name.
+    /// FAULTS, with a program's name.
     Faults(Name8),
-    /// ORDERS: the most states.
+    /// ORDERS, with the most states that are looked for.
     Orders(u32),
 }
 
@@ -56,7 +57,7 @@ pub enum Heading {
 pub enum Line<A> {
     /// Nothing: it is empty, or a comment.
     Blank,
-    /// It begins the block of an image: its name, and the length of its working storage.
+    /// It begins the block of an image: its program's name, and the length of its working storage in bytes.
     Image(Name8, u32),
     /// It begins the block of a source: its program's name, and what is to be written of it.
     Source(Name8, Wanted),
@@ -295,7 +296,9 @@ fn is_blank_or_comment(text: &[u8]) -> bool
     text.is_empty() || text[0] == b'*'
 }
 
-/// What a line asks where it is not in a block; None, and never Memory, where it is a bad line.
+/// What a line asks where it is not in a block; None, and never an error, where it is a bad line.
+///
+/// An error comes only where an allocation failed.
 #[tactic(auto, unfolding(crate::specs::Actions::line_of))]
 pub fn line_of(alloc: Global, text: &[u8]) -> Result<Option<Line<Action>>, AllocError>
     ensures value { IfOk result (λ line. line ≡ line_of text.now) }

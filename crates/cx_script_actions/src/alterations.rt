@@ -47,7 +47,7 @@ fn hex_word(word: &[u8]) -> Option<u32>
     }
 }
 
-/// The number that six hexadecimal digits spell.
+/// The number that a word of six hexadecimal digits spells; None of any other word.
 pub fn hex_address(word: &[u8]) -> Option<u32>
     ensures { result ≡ hex_number 3 word.now }
 {

@@ -69,7 +69,8 @@ fn define_source<S: Store + Drop>(
     Ok(text)
 }
 
-/// What SCREEN writes of a terminal.
+/// What SCREEN writes of a terminal: a line with its name, and the lines of its screen that are not blank, each with
+/// its number; or one line with NONE where there is no such terminal.
 ///
 /// An error comes only where memory for it was refused.
 #[tactic(auto, using(crate::proofs::ScreenLemmas::screen_is_page))]

@@ -26,7 +26,10 @@ fn refused_text(
     written_line(alloc, verb, &[name, b"REFUSED", fault])
 }
 
-/// The line of an image that was refused before its definition.
+/// The line PROGRAM of an image that was refused before its definition: the program's name, REFUSED, and the fault's
+/// name.
+///
+/// An error comes only where memory for it was refused.
 #[tactic(auto, unfolding(crate::specs::Texts::refused_text))]
 pub fn refused_image(alloc: Global, name: Name8, fault: ImageFault) -> Result<Vec<u8>, AllocError>
     ensures { IfOk result (λ text. text.items ≡ refused_text (codes "PROGRAM") name (fault_name fault)) }
@@ -172,6 +175,8 @@ fn plain_text(alloc: Global, event: &Event, answer: Answer) -> Result<Vec<u8>, A
 }
 
 /// What is written for the answer to an event under EDF.
+///
+/// An error comes only where memory for it was refused.
 #[tactic(auto, unfolding(crate::specs::Texts::answer_text))]
 pub fn answer_text(alloc: Global, event: &EdfEvent, answer: Answer) -> Result<Vec<u8>, AllocError>
     ensures { IfOk result (λ text. text.items ≡ answer_text event.now answer) }
@@ -188,7 +193,10 @@ pub fn answer_text(alloc: Global, event: &EdfEvent, answer: Answer) -> Result<Ve
     }
 }
 
-/// The lines of a page, where it is there.
+/// A line of the verb and a terminal's name, and the lines of a page that are not blank, each with its number; or one
+/// line with NONE where there is no page.
+///
+/// An error comes only where memory for it was refused.
 #[tactic(auto, unfolding(crate::specs::Texts::page_lines))]
 pub fn page_lines(
     alloc: Global,

@@ -6,7 +6,7 @@ ghost use Rattle.std.specs.List.{filter_map, list_all};
 ghost use Rattle.std.specs.Char.{is_ascii_digit};
 ghost use Rattle.cx_ebcdic.specs.Characters.{code_of};
 ghost use Rattle.cx_ebcdic.specs.Names.{padded_name};
-ghost use Rattle.cx_script_actions.specs.Words.{after_first_blank, codes_of_key, decimal, is_blank, number_of, word};
+ghost use Rattle.cx_script_actions.specs.Words.{after_first_blank, codes_of_key, decimal, is_blank, number_with_digits, word};
 
 use cx_code::Bytes;
 use cx_ebcdic::{Name4, Name8, to_ebcdic};
@@ -22,7 +22,7 @@ fn first_blank(text: &[u8]) -> Option<usize>
     text.iter().position(|c| *c == b' ')
 }
 
-/// The first word, and what follows the blank that ends it.
+/// The first word of a text, up to its first blank (X'20'), and what follows that blank; None where there is no blank.
 pub fn split_word(text: &[u8]) -> (&[u8], Option<&[u8]>)
     ensures word { result.0.now ≡ word text.now }
     ensures after { option_map (λ rest. rest.now) result.1 ≡ after_first_blank text.now }
@@ -33,7 +33,7 @@ pub fn split_word(text: &[u8]) -> (&[u8], Option<&[u8]>)
     }
 }
 
-/// The name of four characters that a word spells.
+/// The name that a word spells: one to four of A to Z, 0 to 9, `@`, `#` and `$`; None of any other word.
 #[tactic(auto, using(crate::proofs::WordLemmas::no_name))]
 pub fn name4(word: &[u8]) -> Option<Name4>
     ensures { result ≡ padded_name 4 word.now }
@@ -44,7 +44,7 @@ pub fn name4(word: &[u8]) -> Option<Name4>
     }
 }
 
-/// The name of eight characters that a word spells.
+/// The name that a word spells: one to eight of A to Z, 0 to 9, `@`, `#` and `$`; None of any other word.
 #[tactic(auto, using(crate::proofs::WordLemmas::no_name))]
 pub fn name8(word: &[u8]) -> Option<Name8>
     ensures { result ≡ padded_name 8 word.now }
@@ -65,7 +65,7 @@ fn are_digits(text: &[u8]) -> bool
 /// The number that at most nine decimal digits spell.
 #[tactic(auto, using(crate::proofs::WordLemmas::digit_fits, crate::proofs::WordLemmas::digit_at))]
 fn decimal(digits: &[u8]) -> u32
-    requires few { length digits.now ≤ 9 }
+    requires at_most_9 { length digits.now ≤ 9 }
     requires digits { list_all is_ascii_digit digits.now ≡ true }
     ensures value { result ≡ decimal digits.now }
     ensures bound { result < 10 ^ length digits.now }
@@ -77,11 +77,11 @@ fn decimal(digits: &[u8]) -> u32
     number
 }
 
-/// The number that a word of `least` to `most` decimal digits, at most nine, spells.
-#[tactic(auto, unfolding(crate::specs::Words::number_of))]
+/// The number that a word of `least` to `most` decimal digits, at most nine, spells; None of any other word.
+#[tactic(auto, unfolding(crate::specs::Words::number_with_digits))]
 pub fn number(word: &[u8], least: usize, most: usize) -> Option<u32>
     requires { most ≤ 9 }
-    ensures value { result ≡ number_of least most word.now }
+    ensures value { result ≡ number_with_digits least most word.now }
     ensures bound { IfSome result (λ number. number < 10 ^ most) }
 {
     if word.len() < least || word.len() > most || !are_digits(word) {
@@ -106,7 +106,10 @@ fn codes_of(alloc: Global, text: &[u8]) -> Result<Vec<u8>, AllocError>
         .collect(alloc)
 }
 
-/// The codes of a key's text; None where it is too long, or a character has no code.
+/// The EBCDIC codes of a key's text; None, and never an error, where it has more than 1,920 characters, or one without
+/// a code.
+///
+/// An error comes only where an allocation failed.
 #[tactic(auto, unfolding(crate::specs::Words::codes_of_key), using(crate::proofs::WordLemmas::few_codes))]
 pub fn codes_of_key(alloc: Global, text: &[u8]) -> Result<Option<Bytes>, AllocError>
     ensures codes { IfOk result (λ codes. codes ≡ codes_of_key text.now) }

@@ -28,10 +28,10 @@ const MOST_KEPT: usize = 65_537;
 /// The most lines of a block that are kept: one line more than a source may have.
 const MOST_LINES: usize = 10_001;
 
-/// A block, up to some line of it.
+/// A block of a script, up to some line of it.
 #[derive(Drop)]
 pub struct Block {
-    /// The number of the line that begins it.
+    /// The number of the line that begins it, counted from 1.
     pub line: usize,
     /// What that line says, and what it has so far, as far as that is kept.
     pub body: Body,
@@ -40,16 +40,16 @@ pub struct Block {
 /// What the line that begins a block says, and what the block has so far, as far as that is kept.
 #[derive(Drop)]
 pub enum Body {
-    /// An image: its program's name, the length of its working storage, and its bytes.
+    /// An image: its program's name, the length of its working storage in bytes, and its bytes so far, at most 65,537.
     Image(Name8, u32, Bytes),
-    /// A source: its program's name, what is to be written of it, and its lines.
+    /// A source: its program's name, what is to be written of it, and its lines so far, at most 10,001.
     Source(Name8, Wanted, List<Text>),
     /// Lines that are handed over: what begins them, and those that are kept.
     Lines(Heading, List<Text>),
 }
 
-/// The fault of a source that begins after this line. It is Memory only where the source's is, since no source has too many lines
-/// for the sum to fit.
+/// The fault of a source that begins after this line. It is Memory only where the source's is, since no source has too
+/// many lines for the sum to fit.
 fn refused<A: ScriptAction>(first: usize, fault: PrepareFault) -> Result<LineStep<A>, RunFault>
     ensures value { is_memory result ≡ false → result ≡ Err (fault_of_line first fault) }
     ensures memory { (line : ℕ) (kind : _) → fault ≡ At line kind → first + line < 2 ^ 64
@@ -176,7 +176,9 @@ impl Block {
 /// What a line leads to: what is done, and the block that the next line is in.
 #[derive(Drop)]
 pub struct LineStep<A> {
+    /// What is done; None where the line asks nothing, begins a block, or is inside one.
     pub action: Option<A>,
+    /// The block that the next line is in; None outside of blocks.
     pub block: Option<Block>,
 }
 
@@ -253,7 +255,7 @@ fn with_bytes(text: Bytes, line: &[u8]) -> Result<Option<Bytes>, AllocError>
     Ok(Some(Bytes::from_vec(text)))
 }
 
-/// The lines of a block with one more, as far as they are kept.
+/// The lines of a block with one more, as far as they are kept: the first 10,001.
 ///
 /// An error comes only where an allocation failed.
 #[tactic(auto, unfolding(crate::specs::Blocks::kept_lines))]
@@ -314,9 +316,10 @@ fn step_outside<A: ScriptAction>(
     }
 }
 
-/// What the line with this number leads to in a script of these actions, in this block.
+/// What a line leads to in a script of these actions: `number` is the line's number, counted from 1, and `block` the
+/// block that it is in.
 ///
-/// An error is the line's own fault, or Memory where an allocation failed. A bad line is BadLine with its number, never
+/// An error is the line's fault, or Memory where an allocation failed. A bad line is BadLine with its number, never
 /// Memory.
 #[tactic(auto, unfolding(crate::specs::Blocks::step_at))]
 pub fn step_at<A: ScriptAction>(

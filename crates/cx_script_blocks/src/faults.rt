@@ -10,16 +10,17 @@ use std::alloc::{AllocError, AllocFailed};
 use std::fmt::{Display, Formatter};
 use thiserror::Error;
 
-/// Why a run of a script ends early, or isn't one without a fault. The lines before the fault are done, and their transcript is written.
-/// It is shown as the program's line on standard error.
+/// Why a run of a script ends early, or isn't one without a fault. The lines before the fault are done, and their
+/// transcript is written. It is shown as the program's line on standard error.
 #[derive(Clone, Copy, Debug, PartialEq, Eq, Error)]
 pub enum RunFault {
     /// The line with this number, counted from 1, is no line of a script; or it begins a block that is not ended.
     BadLine(usize),
-    /// The line with this number, counted from 1, is the first of the bad looks. It comes where a script has no other fault: each of its
-    /// lines was done, and the bad looks were reported in its transcript.
+    /// The line with this number, counted from 1, is the first of the bad looks. It comes where a script has no other
+    /// fault: each of its lines was done, and the bad looks were reported in its transcript.
     BadLook(usize),
-    /// The line with this number, counted from 1, is a faulty one of a source; of NoEnd it is the line that ends the block.
+    /// The line with this number, counted from 1, is a faulty one of a source; of NoEnd it is the line that ends the
+    /// block.
     Source(usize, SourceKind),
     /// A read failed.
     Read,
@@ -70,8 +71,8 @@ pub struct Summary {
     pub lines: usize,
 }
 
-/// The program's status: 0; 1 for a fault in the script; 3 for reading, writing or too much input; 4 for memory.
-/// It takes no memory.
+/// The program's status: 0 without a fault; 1 for a bad line, a bad look or a faulty source; 3 for a read or a write
+/// that failed and for a script of more than 16,777,216 bytes; 4 for memory. It takes no memory.
 pub fn status(answer: &Result<Summary, RunFault>) -> u8
     ensures { result ≡ status_of answer.now }
 {

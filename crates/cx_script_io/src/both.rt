@@ -5,7 +5,7 @@ ghost use Rattle.std.proofs.Common.{ap};
 
 use crate::devices::{DeviceFault, ScriptDevices, ScriptIn, ScriptOut};
 
-/// A reader and a writer that know nothing of each other.
+/// A reader and a writer that know nothing of each other, as one.
 #[derive(Drop)]
 pub struct Devices<R, W> {
     /// What the script is read from.

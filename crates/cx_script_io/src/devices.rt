@@ -7,7 +7,7 @@ ghost use Rattle.cx_script_io.specs.Devices.{ReadsKnown, WritesKnown, is_refused
 
 use thiserror::Error;
 
-/// A device did not do what it was asked.
+/// A device did not do what it was asked: a read or a write failed, a write took no byte, or a file couldn't be opened.
 #[derive(Clone, Copy, Debug, PartialEq, Eq, Error)]
 #[error("the device failed")]
 pub struct DeviceFault;
@@ -20,8 +20,8 @@ pub trait ScriptIn {
     /// Whether a read has failed.
     ghost has_failed: { Self → Bool };
 
-    /// What a read into a buffer with room did: the state before it, the bytes that it gave (`None` where it failed), and
-    /// the state after it. Where a type parameter stands for the device, nothing but a read gives this.
+    /// What a read into a buffer with room did: the state before it, the bytes that it gave (`None` where it failed),
+    /// and the state after it. Where a type parameter stands for the device, nothing but a read gives this.
     ghost reads: { Self → Option (List ℕ) → Self → Type 0 };
 
     /// Reads the next bytes into the front of the buffer, and answers how many they are: none at
@@ -49,8 +49,8 @@ pub trait ScriptOut {
     /// Whether a write has failed, or took no byte of some.
     ghost has_failed: { Self → Bool };
 
-    /// What a write did: the state before it, the bytes that it took (`None` where it failed), and the state after it. Where
-    /// a type parameter stands for the device, nothing but a write gives this.
+    /// What a write did: the state before it, the bytes that it took (`None` where it failed), and the state after it.
+    /// Where a type parameter stands for the device, nothing but a write gives this.
     ghost writes: { Self → Option (List ℕ) → Self → Type 0 };
 
     /// Writes bytes from the front, and answers how many were written. After a fault none was.

@@ -8,8 +8,8 @@ pub mod laws;
 mod lines;
 mod memory;
 mod output;
+mod output_buffer;
 mod streams;
-mod waiting;
 
 pub use both::Devices;
 pub use devices::{DeviceFault, ScriptDevices, ScriptIn, ScriptOut};
@@ -17,5 +17,5 @@ pub use input::Ending;
 pub use lines::{in_front, is_too_long, last_line, split_line, strip_carriage_return};
 pub use memory::{MemoryIn, MemoryOut};
 pub use output::write_all;
+pub use output_buffer::OutputBuffer;
 pub use streams::Std;
-pub use waiting::OutputBuffer;

@@ -35,7 +35,7 @@ fn end_of_line(bytes: &[u8]) -> Option<usize>
     bytes.iter().position(|byte| *byte == LINE_FEED)
 }
 
-/// The bytes in front of the first line feed, and those after it.
+/// The bytes in front of the first line feed, and those after it; None where there is no line feed.
 #[tactic(auto, using(crate::specs::Facts::Lines::split_found, crate::specs::Facts::Lines::split_unbroken, crate::specs::Facts::Lines::split_none))]
 pub fn split_line(bytes: &[u8]) -> Option<(&[u8], &[u8])>
     ensures found { IfSome result (λ found. bytes.now ≡ found.0.now ++ 10 ∷ found.1.now) }
@@ -48,7 +48,7 @@ pub fn split_line(bytes: &[u8]) -> Option<(&[u8], &[u8])>
     }
 }
 
-/// The first `end` bytes.
+/// The first `end` bytes, of which there are at least as many.
 pub fn in_front(bytes: &[u8], end: usize) -> &[u8]
     requires { end ≤ length bytes.now }
     ensures { result.now ≡ take end bytes.now }
@@ -64,7 +64,8 @@ fn after(bytes: &[u8], end: usize) -> &[u8]
     bytes.split_at(end + 1).1
 }
 
-/// The line that the bytes after the last line feed are, if they are one.
+/// The bytes after the last line feed, where they are a line: at the end of a script where there are any; where no more
+/// can be read, only where they are too long already, a carriage return at their end not counted and dropped.
 pub fn last_line(bytes: &[u8], ending: Ending) -> Option<&[u8]>
     ensures { option_to_list (option_map (λ line. line.now) result) ≡ last_met ending bytes.now }
 {
@@ -75,7 +76,7 @@ pub fn last_line(bytes: &[u8], ending: Ending) -> Option<&[u8]>
     if is_too_long(line) { Some(line) } else { None }
 }
 
-/// Whether a line has more bytes than it may have.
+/// Whether a line has more than 4,096 bytes.
 pub fn is_too_long(line: &[u8]) -> bool
     ensures { result ≡ is_too_long line.now }
 {

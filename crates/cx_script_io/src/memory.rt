@@ -7,7 +7,7 @@ ghost use Rattle.cx_script_io.specs.Devices.{ReadsKnown, WritesKnown, is_refused
 
 use crate::devices::{DeviceFault, ScriptIn, ScriptOut};
 
-/// A script in memory.
+/// A script in memory: a slice that is read from its front. No read of it fails.
 #[derive(Drop)]
 pub struct MemoryIn<'a> {
     rest: &'a [u8],
@@ -70,14 +70,14 @@ impl<'a> MemoryOut<'a> {
         }
     }
 
-    /// How many bytes it has room for yet. A write takes as many of its bytes.
+    /// How many bytes it has room for yet. A write takes at most as many.
     pub fn room(&self) -> usize
         ensures { result ≡ length self.now.buffer.now - self.now.len }
     {
         self.buffer.len() - self.len
     }
 
-    /// What was written.
+    /// The bytes that were written, from the slice's front.
     pub fn text(&self) -> &[u8]
         ensures { ⟦<MemoryOut<'a> as ScriptOut>⟧.written self.now ≡ Some result.now }
     {
@@ -95,7 +95,7 @@ impl<'a> ScriptOut for MemoryOut<'a> {
 
     ghost known = { λ _ _ _ h. h };
 
-    /// Takes all bytes that it has room for.
+    /// Takes as many bytes as it has room for, and never answers a fault.
     fn write(&mut self, bytes: &[u8]) -> Result<usize, DeviceFault>
         ensures bound { IfOk result (λ n. n ≤ length bytes.now) }
         ensures bytes { let before = take self.old.len self.old.buffer.now in

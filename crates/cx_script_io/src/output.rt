@@ -5,8 +5,8 @@ ghost use Rattle.cx_script_io.specs.Devices.{Takes, TakesFront};
 
 use crate::devices::{DeviceFault, ScriptOut};
 
-/// Writes all of these bytes. A fault comes exactly where a write fails or takes no byte; a front of
-/// the bytes is then written.
+/// Writes all of these bytes. A fault comes exactly where a write fails or takes no byte; a front of the bytes is then
+/// written. The writer may not have failed before.
 #[tactic(auto, using(crate::specs::Facts::Devices::wrote_more, crate::specs::Facts::Devices::wrote_all))]
 pub fn write_all<W: ScriptOut>(writer: &mut W, bytes: &[u8]) -> Result<(), DeviceFault>
     requires { W.has_failed writer.old ≡ false }

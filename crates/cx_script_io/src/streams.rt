@@ -7,7 +7,7 @@ use crate::devices::{DeviceFault, ScriptIn, ScriptOut};
 use std::io;
 use std::io::{Read, Write};
 
-/// A reader or writer of the standard library, with whether it has failed.
+/// A device over a reader or writer of the standard library, with whether it has failed.
 #[derive(Drop)]
 pub struct Std<T> {
     inner: T,

@@ -6,7 +6,7 @@ use Rattle.std.specs.List.{FoldsTo}
 use Rattle.std.specs.Option.{option_map}
 use Rattle.cx_script.specs.Language.{Language}
 use Rattle.cx_script.specs.Session.{RanIn}
-use Rattle.cx_script_io.specs.Calls.{Call, Reading, Writing, did, given}
+use Rattle.cx_script_io.specs.Calls.{DeviceCall, Reading, Writing, did, given}
 use Rattle.cx_script_blocks.specs.declared.faults.RunFault.{RunFault}
 use Rattle.cx_script_blocks.specs.declared.faults.RunFault.TheVariants as fault
 use Rattle.cx_script_blocks.specs.declared.faults.Summary.{Summary}
@@ -33,16 +33,16 @@ kept_same : (before mid after : Option (List ℕ)) (bytes : List ℕ) → mid �
 kept_same before mid after bytes e h = subst (λ o. Kept o bytes after) e h
 
 module _ {D : Type 0} (reads writes : D → Option (List ℕ) → D → Type 0) where
-  abbrev Folds : Keeping D → List Call → Keeping D → Type 0
+  abbrev Folds : Keeping D → List DeviceCall → Keeping D → Type 0
   Folds before calls after = FoldsTo (did (KeepsRead reads) (LeavesKept writes)) before calls after
 
-  inner : (before : Keeping D) (calls : List Call) (after : Keeping D) → Folds before calls after
+  inner : (before : Keeping D) (calls : List DeviceCall) (after : Keeping D) → Folds before calls after
       → FoldsTo (did reads writes) before.devices calls after.devices
   inner before [] after f = ap (λ (it : Keeping D). it.devices) f
   inner before (Reading bytes ∷ calls) after f = (f.0.devices, f.1.0, inner f.0 calls after f.2)
   inner before (Writing bytes ∷ calls) after f = (f.0.devices, f.1.0, inner f.0 calls after f.2)
 
-  kept_all : (before : Keeping D) (calls : List Call) (after : Keeping D) → Folds before calls after → Kept before.kept (given calls) after.kept
+  kept_all : (before : Keeping D) (calls : List DeviceCall) (after : Keeping D) → Folds before calls after → Kept before.kept (given calls) after.kept
   kept_all before [] after f = subst (λ (it : Keeping D). Kept before.kept [] it.kept) f (kept_nil before.kept)
   kept_all before (Reading None ∷ calls) after f =
       kept_step before.kept f.0.kept after.kept [] (given calls) f.1.1 (kept_all f.0 calls after f.2)

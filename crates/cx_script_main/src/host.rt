@@ -12,9 +12,10 @@ use std::io::Printer;
 use std::rt::{Env, Files};
 use std::{env, fs, io};
 
-/// What a program is started on: its words, the file that they may name, its standard input and output, and its standard error. Each
-/// relation has the state before a call, what the call gave or took, and the state after it. Where a type parameter stands for the
-/// host, nothing but that call gives it; so a contract over every host says which calls a program makes, in which order.
+/// What a program is started on: its words, the file that they may name, its standard input and output, and its
+/// standard error. Each relation has the state before a call, what the call gave or took, and the state after it. Where
+/// a type parameter stands for the host, nothing but that call gives it; so a contract over every host says which calls
+/// a program makes, in which order.
 pub trait Host {
     /// What a file's script is read from, and its transcript written to.
     type File: ScriptDevices + Drop;
@@ -34,19 +35,20 @@ pub trait Host {
     /// A line that was written on standard error.
     ghost reports: { Self → List ℕ → Self → Type 0 };
 
-    /// The words that the program was started with, its own name the first. Usage where one of them is no text, Memory where an
-    /// allocation failed.
+    /// The words that the program was started with, its name the first. Usage where one of them is no text, Memory
+    /// where an allocation failed.
     fn words(&mut self) -> Result<Vec<String>, Refusal>
         ensures { let words = result_map_both (λ it. map string_bytes it.items) (λ why. why) result in
             gives_words self.old words self.new };
 
-    /// Opens a file. The devices have not failed.
+    /// Opens a file: its script is to be read, and its transcript to be written. The devices have not failed. An error
+    /// says that it couldn't be opened.
     fn open(&mut self, path: &str) -> Result<Self::File, DeviceFault>
         ensures opened { opens self.old path.now result self.new }
         ensures input { IfOk result (λ devices. Self.File.ScriptIn.has_failed devices ≡ false) }
         ensures output { IfOk result (λ devices. Self.File.ScriptOut.has_failed devices ≡ false) };
 
-    /// The standard input. The devices have not failed.
+    /// The standard input as a script, and where its transcript is written. The devices have not failed.
     fn input(&mut self) -> Self::Input
         ensures taken { takes_input self.old result self.new }
         ensures input { Self.Input.ScriptIn.has_failed result ≡ false }
@@ -64,7 +66,7 @@ pub struct Machine<'a, R> {
 }
 
 impl<'a, R> Machine<'a, R> {
-    /// The machine that a program's own handle is of.
+    /// The machine over the handle that a program's `main` is given.
     pub fn new(rt: &'a R) -> Machine<'a, R>
         ensures { result.rt ≡ rt.entry }
     {

@@ -1,12 +1,12 @@
 //! What a program of scripts does when it is started: what it runs, what it writes on standard error, and its status.
 #![tactic(auto)]
 
+mod arguments;
 mod host;
 mod keeping;
 mod program;
 mod shown;
 mod starting;
-mod words;
 
 pub use host::{Host, Machine};
 pub use program::{Refusal, Run, program_status, run_opened, run_reader};

@@ -17,14 +17,17 @@ const USAGE_STATUS: u8 = 2;
 /// Why a program's words are refused.
 #[derive(Clone, Copy, Debug, PartialEq, Eq)]
 pub enum Refusal {
-    /// They are anything other than at most one file.
+    /// There is more than one word after the program's name, or the one word is an option, a hyphen with more after it;
+    /// or a word is no text.
     Usage,
     /// An allocation failed.
     Memory,
 }
 
-/// Runs the script that the devices have, on a performer that was to be made. A read has failed exactly where the answer is
-/// Read, and a write was refused exactly where it is Write.
+/// Runs the script that the devices have, on a performer that was to be made, with the faults of `run_script_on`. Where
+/// there was no memory for the performer, Memory is answered, and the devices stay as they are. A read has failed
+/// exactly where the answer is Read, and a write was refused exactly where it is Write. Neither device may have failed
+/// before.
 pub fn run_reader<P: Performer + Drop, D: ScriptDevices>(
     performer: Result<P, AllocError>,
     alloc: Global,
@@ -70,8 +73,9 @@ fn run_keeping<P: Performer + Drop, D: ScriptDevices + Drop>(
     Run { answer, read }
 }
 
-/// Runs the script of devices, by what opening a file for them answered, and keeps what is read of it where that is asked. Where it
-/// can't be opened there is nothing to read and nothing to write to: it is as one that can't be read.
+/// Runs the script of the devices that opening a file gave, as `run_reader` does; what is read of it is kept where
+/// `keeps` says so. Where the file couldn't be opened, the answer is Read, and nothing is read or written. Neither
+/// device may have failed before.
 pub fn run_opened<P: Performer + Drop, D: ScriptDevices + Drop, E: Drop>(
     performer: Result<P, AllocError>,
     alloc: Global,
@@ -95,7 +99,7 @@ pub fn run_opened<P: Performer + Drop, D: ScriptDevices + Drop, E: Drop>(
     }
 }
 
-/// A program's status: that of the run, or where its words are refused 2, or 4 where memory ran out.
+/// A program's status: that of the run; 2 where its words are refused; 4 where memory ran out before a run.
 pub fn program_status(outcome: &Result<Run, Refusal>) -> u8
     ensures { result ≡ program_status outcome.now }
 {

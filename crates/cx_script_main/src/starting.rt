@@ -6,10 +6,10 @@ ghost use Rattle.std.specs.Process.{exit_status};
 ghost use Rattle.cx_script_blocks.specs.Faults.{fault_line};
 ghost use Rattle.cx_script_main.specs.Start.{ObeysWords, ReportsLine, RunsFile, RunsInput, RunsOnDevices, RunsScript, ProgramStarts, line_report_of, outcome_line};
 
+use crate::arguments::file_in;
 use crate::host::Host;
 use crate::program::{Refusal, Run, program_status, run_opened};
 use crate::shown::ShownLine;
-use crate::words::file_in;
 use cx_script::{DeviceFault, Performer, RunFault, Summary};
 use std::alloc::{AllocError, Global};
 use std::process::ExitCode;
@@ -113,10 +113,11 @@ fn report_line<H: Host>(host: &mut H, outcome: &Result<Run, Refusal>)
     }
 }
 
-/// Does what the words of a host ask, on a performer that was to be made: runs the script of the file that they name, or that of
-/// standard input. Gives the status: 0, or that of the run's fault; 2 where the words are refused, 4 where memory ran out. The
-/// fault's line is reported, or `usage` where the words are refused. With `shows_lines` what is read is kept, and the line of the
-/// script that a fault is of is reported after the fault's; only where memory for what is kept was refused it isn't.
+/// Does what the words of a host ask, on a performer that was to be made: runs the script of the file that they name,
+/// or that of standard input. Gives the status: 0, or that of the run's fault; 2 where the words are refused, 4 where
+/// memory ran out. The fault's line is reported on standard error, or `usage` where the words are refused. With
+/// `shows_lines` what is read is kept, and the line of the script that a fault is of is reported after the fault's; it
+/// isn't only where memory for what is kept was refused.
 pub fn start<P: Performer + Drop, H: Host>(
     host: &mut H,
     alloc: Global,

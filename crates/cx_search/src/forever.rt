@@ -18,7 +18,7 @@ use std::alloc::AllocError;
 
 /// The first place that isn't marked, below a limit.
 fn first_unmarked(marks: &[bool], most: usize) -> Option<usize>
-    ensures some { IfSome result (λ place. (place < most) × (is_marked marks.now place ≡ false)) }
+    ensures unmarked { IfSome result (λ place. (place < most) × (is_marked marks.now place ≡ false)) }
     ensures first { IfSome result (λ place. (other : ℕ) → other < place → is_marked marks.now other ≡ true) }
     ensures none { IfNone result ((place : ℕ) → place < most → is_marked marks.now place ≡ true) }
 {
@@ -130,8 +130,8 @@ impl<T: Space> Found<T> {
         Ok(known)
     }
 
-    /// The place of a state that is come to again from itself by moves, the first that was found; `None` where there is
-    /// none, and no list of moves is longer than some number. After a whole search.
+    /// After a search that missed no state: the place, counted from 0, of the first state that one move or more lead
+    /// back to; `None` where there is none, and then some number bounds the length of every list of moves.
     ///
     /// An error comes only where an allocation failed.
     pub fn looping(&self) -> Result<Option<usize>, AllocError>
@@ -149,8 +149,8 @@ impl<T: Space> Found<T> {
         Ok(Some(place))
     }
 
-    /// The place of a state from which no list of moves leads to one at rest, the first that was found; `None` where one
-    /// does from each. After a whole search.
+    /// After a search that missed no state: the place, counted from 0, of the first state from which no list of moves
+    /// leads to one at rest; `None` where from each state one does.
     ///
     /// An error comes only where an allocation failed.
     pub fn restless(&self) -> Result<Option<usize>, AllocError>

@@ -14,21 +14,33 @@ use std::alloc::{AllocError, Global};
 /// How a state was first come to.
 #[derive(Clone, Copy, Debug)]
 pub struct Origin {
-    /// The place of the state that the last move was made from.
+    /// One list of moves led to it first; the place, counted from 0, of the state from which the last of these was
+    /// made.
     pub from: usize,
-    /// The number of that move.
+    /// The number of that last move.
     pub number: usize,
-    /// How many moves lead there.
+    /// How many moves the list has; 0 for the state where the search began.
     pub moves: usize,
+}
+
+/// A move that is to be tried.
+#[derive(Clone, Copy)]
+struct Attempt {
+    /// The place of the state that it is made from.
+    from: usize,
+    /// Its number.
+    number: usize,
+    /// How many states may be kept.
+    most: usize,
 }
 
 /// The states that a search has found so far, and what moves lead to from each.
 #[derive(Drop)]
 pub struct Found<T: Space> {
     pub alloc: Global,
-    /// The states that were found, in the order in which they were.
+    /// The states that were found, each once, in the order of the lists that led to them first.
     pub states: IndexMap<T::State, Origin>,
-    /// Of each state from which all moves were tried the places of those that they lead to.
+    /// For each state from which all moves were tried, by its place, the places of the states that they lead to.
     pub links: Vec<List<usize>>,
 }
 
@@ -37,7 +49,7 @@ impl<T: Space> Found<T> {
     ///
     /// An error comes only where an allocation failed.
     fn begin(alloc: Global, start: T::State) -> Result<Found<T>, AllocError>
-        ensures few { IfOk result (λ found. length found.states.entries ≡ 1) }
+        ensures one { IfOk result (λ found. length found.states.entries ≡ 1) }
         ensures unlinked { IfOk result (λ found. found.links.items ≡ []) }
         ensures begun { IfOk result (λ found. IsAt found.states.entries 0 start) }
         ensures searched { (space : T) → IfOk result (λ found. Searched (T.goes space) found.states.entries 0 0) }
@@ -100,39 +112,37 @@ impl<T: Space> Found<T> {
         }
     }
 
-    /// Tries a move from the state at a place, and adds the place that it leads to; false where it leads to a new
-    /// state, and no more may be kept.
+    /// Tries a move, and adds the place that it leads to; false where it leads to a new state, and no more may be kept.
     ///
     /// An error comes only where an allocation failed.
     fn try_move(
         &mut self,
         space: &T,
         work: &mut T::Work,
-        at: usize,
-        number: usize,
-        most: usize,
+        attempt: Attempt,
         nexts: &mut Vec<usize>,
     ) -> Result<bool, AllocError>
-        requires within { at < length self.old.states.entries }
-        requires searched { Searched (T.goes space.now) self.old.states.entries at number }
-        requires so_far { (state : T.State) → IsAt self.old.states.entries at state
-            → AreFirstNexts (T.goes space.now) self.old.states.entries state number nexts.old.items }
+        requires within { attempt.from < length self.old.states.entries }
+        requires searched { Searched (T.goes space.now) self.old.states.entries attempt.from attempt.number }
+        requires so_far { (state : T.State) → IsAt self.old.states.entries attempt.from state
+            → AreFirstNexts (T.goes space.now) self.old.states.entries state attempt.number nexts.old.items }
         ensures searched { IfOk result (λ within. MatchBool within
-            (Searched (T.goes space.now) self.new.states.entries at (number + 1))
-            (IsCut (T.goes space.now) self.new.states.entries at most)) }
+            (Searched (T.goes space.now) self.new.states.entries attempt.from (attempt.number + 1))
+            (IsCut (T.goes space.now) self.new.states.entries attempt.from attempt.most)) }
         ensures nexts { IfOk result (λ within. MatchBool within
-            ((state : T.State) → IsAt self.new.states.entries at state
-            → AreFirstNexts (T.goes space.now) self.new.states.entries state (number + 1) nexts.new.items) ⊤) }
+            ((state : T.State) → IsAt self.new.states.entries attempt.from state
+            → AreFirstNexts (T.goes space.now) self.new.states.entries state (attempt.number + 1) nexts.new.items) ⊤) }
         ensures kept { OnOk result ((place : ℕ) (s : T.State)
             → IsAt self.old.states.entries place s → IsAt self.new.states.entries place s) }
-        ensures few { OnOk result (length self.old.states.entries ≤ most → length self.new.states.entries ≤ most) }
+        ensures at_most_most { OnOk result
+            (length self.old.states.entries ≤ attempt.most → length self.new.states.entries ≤ attempt.most) }
         ensures links { self.new.links ≡ self.old.links }
     {
-        let Some((from, origin)) = self.states.get_index(at) else {
+        let Some((from, origin)) = self.states.get_index(attempt.from) else {
             return Ok(true);
         };
         let moves = origin.moves;
-        let Some(to) = space.go(work, from, number)? else {
+        let Some(to) = space.go(work, from, attempt.number)? else {
             return Ok(true);
         };
         if let Some(place) = self.place_of(&to) {
@@ -140,14 +150,14 @@ impl<T: Space> Found<T> {
             return Ok(true);
         }
         let place = self.states.len();
-        if place >= most {
+        if place >= attempt.most {
             return Ok(false);
         }
         self.push(
             to,
             Origin {
-                from: at,
-                number,
+                from: attempt.from,
+                number: attempt.number,
                 moves: moves + 1,
             },
         )?;
@@ -175,11 +185,16 @@ impl<T: Space> Found<T> {
             (AreLinked (T.goes space.now) self.new.states.entries self.new.links.items (at + 1)) ⊤) }
         ensures kept { OnOk result ((place : ℕ) (s : T.State)
             → IsAt self.old.states.entries place s → IsAt self.new.states.entries place s) }
-        ensures few { OnOk result (length self.old.states.entries ≤ most → length self.new.states.entries ≤ most) }
+        ensures at_most_most { OnOk result (length self.old.states.entries ≤ most → length self.new.states.entries ≤ most) }
     {
         let mut nexts = Vec::new(self.alloc);
         for number in 0..self.count(space, at) {
-            if !self.try_move(space, work, at, number, most, &mut nexts)? {
+            let attempt = Attempt {
+                from: at,
+                number,
+                most,
+            };
+            if !self.try_move(space, work, attempt, &mut nexts)? {
                 return Ok(false);
             }
         }
@@ -187,7 +202,8 @@ impl<T: Space> Found<T> {
         Ok(true)
     }
 
-    /// The list of moves that leads first to the state at a place.
+    /// The list of moves that leads first to the state at a place, counted from 0: none has fewer moves, and none of as
+    /// many is sooner.
     ///
     /// An error comes only where an allocation failed.
     pub fn path(&self, place: usize, alloc: Global) -> Result<Vec<usize>, AllocError>
@@ -217,13 +233,13 @@ impl<T: Space> Found<T> {
 pub struct Outcome<T: Space> {
     /// The states that were found.
     pub found: Found<T>,
-    /// `None` where all states were found that moves lead to; else all were that lists of at most so many moves lead
-    /// to, and one move more leads to more states than could be kept.
+    /// `None` where all states were found that moves lead to. Else all were found that lists of at most so many moves
+    /// lead to, and a list of one move more leads to a state that was not found, since `most` are kept.
     pub cut: Option<usize>,
 }
 
-/// Finds the states that moves lead to from a state, at most so many of them: those of fewer moves first, and of as
-/// many moves those first that the sooner list leads to.
+/// Finds the states that moves lead to from a state, at most `most` (at least 1) of them: those of fewer moves first,
+/// and of as many moves those first that the sooner list leads to.
 ///
 /// An error comes only where an allocation failed.
 pub fn search<T: Space>(
@@ -238,7 +254,7 @@ pub fn search<T: Space>(
     ensures reaches { IfOk result (λ outcome. MatchOption outcome.cut
         (IsWhole (T.goes space.now) start outcome.found.states.entries outcome.found.links.items)
         (λ moves. FindsNearest (T.goes space.now) start outcome.found.states.entries most moves)) }
-    ensures few { IfOk result (λ outcome. length outcome.found.states.entries ≤ most) }
+    ensures at_most_most { IfOk result (λ outcome. length outcome.found.states.entries ≤ most) }
 {
     let mut found = Found::begin(alloc, start)?;
     for at in 0..most {

@@ -3,8 +3,9 @@ ghost use Rattle.cx_search.specs.Laws.{BoundedNeverLoop, FirstIsOne, FirstPlaces
 
 use crate::space::Space;
 
-/// Of two lists of moves one is sooner than the other, or they are equal; none is sooner than itself, and what is sooner
-/// than a sooner one is sooner.
+/// A list of moves is sooner than another where it has fewer, or as many and the lower number at the first place where
+/// they differ. Of two lists one is sooner than the other, or they are equal; none is sooner than itself, and what is
+/// sooner than a sooner one is sooner.
 pub fn one_list_is_sooner()
     ensures { SoonerOrders }
 {}
@@ -15,14 +16,15 @@ pub fn one_list_leads_first<T: Space>()
     ensures { (space : T) → FirstIsOne (T.goes space) }
 {}
 
-/// Where a list leads to a state that is come to again from itself, lists have any length, and no number bounds them.
+/// Where a list leads to a state that one move or more lead back to, there are lists of any length, and no number
+/// bounds them.
 pub fn a_loop_leads_on<T: Space>()
     ensures on { (space : T) → LoopsLeadOn (T.goes space) }
     ensures bounded { (space : T) → BoundedNeverLoop (T.goes space) }
 {}
 
-/// Of the states that were found one is the first that is come to again from itself, and one the first from which no rest
-/// can be come to.
+/// Of the states that were found, one is the first that moves lead back to, and one the first from which none at rest
+/// can be reached.
 pub fn first_places_decide<T: Space>()
     ensures { (space : T) → FirstPlacesDecide (T.goes space) }
 {}

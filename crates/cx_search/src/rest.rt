@@ -69,8 +69,8 @@ impl<T: Space> Found<T> {
         Ok(rests)
     }
 
-    /// The places of the states at rest that were found, in their order; where moves are limited, of those that at most
-    /// so many lead to.
+    /// The places, counted from 0, of the states at rest that were found, those from which no move can be made, in
+    /// their order; where `cut` is there, only of those that at most so many moves lead to.
     ///
     /// An error comes only where an allocation failed.
     pub fn resting(

@@ -11,13 +11,13 @@ pub trait Space {
     /// A state, as it is kept.
     type State: Hash + Eq + Drop;
 
-    /// What moves are tried in.
+    /// What moves are tried in. How a move leaves it is not promised.
     type Work;
 
     /// A move leads from a state to a state.
     ghost goes: { Self → Self.State → ℕ → Self.State → Type 0 };
 
-    /// Each move from the state has a number below this.
+    /// A bound of the moves from a state: each has a number below it.
     fn count(&self, from: &Self::State) -> usize
         ensures { (to : Self.State) (number : ℕ) → goes self.now from.now number to → number < result };
 

@@ -9,7 +9,7 @@ use Rattle.std.proofs.lemmas.Map.{lookup-remove_entry}
 use Rattle.cx_service.specs.Lines.{parts_of, AreLinesOf, new_line}
 use Rattle.cx_service.specs.Screen.{full_line, with_lines, screen_before_text, ShowsText}
 use Rattle.cx_ebcdic.specs.Names.{is_name}
-use Rattle.cx_service.specs.Queues.{Queue, Queues, AreSoundQueues, queue_of, queue_or_empty, last_read_of, write_fault, rewrite_fault, with_item, without_queue}
+use Rattle.cx_service.specs.Queues.{Queue, Queues, AreSoundQueues, queue_of, queue_or_empty, write_fault, rewrite_fault, with_item, without_queue}
 use Rattle.cx_service.specs.Resources.{Resources, hold_of, hold_fault, enq_fault}
 use Rattle.cx_service.specs.declared.resources.ResourceName.{ResourceName}
 use Rattle.cx_service.specs.declared.resources.Hold.{Hold}
@@ -37,7 +37,7 @@ in_place (top ∷ rest) (line ∷ lines) (suc row) within = in_place rest lines 
 last_of : Option Queue → Option ℕ
 last_of o = let queue : Queue = unwrap_or o (record { items = []; last_read = 0 }) in Some queue.last_read
 
-pub begins_anew : (queues : Queues) (name bytes : List ℕ) → AreSoundQueues queues → last_read_of (with_item (without_queue queues name) name bytes) name ≡ Some 0
+pub begins_anew : (queues : Queues) (name bytes : List ℕ) → AreSoundQueues queues → option_map (λ (q : Queue). q.last_read) (queue_of (with_item (without_queue queues name) name bytes) name) ≡ Some 0
 unfolding with_item without_queue last_of
 begins_anew queues name bytes sound =
     let gone : queue_of (remove_entry (is_name name) queues) name ≡ None =

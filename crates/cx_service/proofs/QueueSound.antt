@@ -1,6 +1,6 @@
 -- What always holds of the queues is kept, and what becomes of the bytes of all.
 use Rattle.std.proofs.Common.{◌≡◌, ℕ, zero, suc, ◌+◌, ◌-◌, ◌<◌, ◌≤◌, Bool, true, false, cond, Option, Some, None, List, [], ◌∷◌, ◌++◌, length, get_or, refl, sym, ◌∙◌, ap, subst, arith, nat_le}
-use Rattle.std.specs.Prelude.{◌&&◌, is_none, unwrap_or, sum_by, slice_get, slice_set, ◌==◌}
+use Rattle.std.specs.Prelude.{◌&&◌, is_none, is_some, unwrap_or, sum_by, slice_get, slice_set, ◌==◌}
 use Rattle.std.specs.Option.{option_map, option_and_then}
 use Rattle.std.specs.List.{AllByRecursion, IsDistinct}
 use Rattle.std.specs.Map.{set_value, keys_of, values_of, remove_entry}
@@ -13,7 +13,7 @@ use Rattle.std.proofs.lemmas.Map.Entries.{sum_by-set_value, sum_by-remove_entry}
 use Rattle.indexmap.specs.IndexMap.{insert_entry}
 use Rattle.cx_ebcdic.specs.Names.{is_name}
 use Rattle.cx_ebcdic.specs.Facts.Names.{is_name-laws}
-use Rattle.cx_service.specs.Queues.{Queue, Queues, most_queues, most_items, most_data, is_item_length, queue_of, queue_or_empty, count_of, last_read_of, item_numbered, item_len_of, size_of, data_of, write_fault, rewrite_fault, read_fault, with_item, with_item_at, with_last_read, IsSoundQueue, AreSoundQueues}
+use Rattle.cx_service.specs.Queues.{Queue, Queues, most_queues, most_items, most_data, is_item_length, queue_of, queue_or_empty, count_of, item_numbered, item_of, item_len_of, size_of, data_of, write_fault, rewrite_fault, with_item, with_item_at, with_last_read, IsSoundQueue, AreSoundQueues}
 use Rattle.cx_base.specs.Facts.Tables.{insert_entry_present, insert_entry_absent, found_meets, each-set_value, each-remove_entry, each-insert_entry, length-remove_entry, distinct-set_value, distinct-insert_entry}
 
 -- ---- what conditions say
@@ -196,12 +196,14 @@ or_empty : (queues : Queues) (name : List ℕ) (queue : Queue) → queue_of queu
 or_empty queues name queue there = ap (λ o. unwrap_or o (record { items = []; last_read = 0 })) there
 
 -- ---- READQ TS
-pub read_keeps : (queues : Queues) (name : List ℕ) (n : ℕ) → AreSoundQueues queues → read_fault queues name n ≡ None → Keeps (with_last_read queues name n) (data_of queues)
-unfolding read_fault with_last_read
-read_keeps queues name n sound none =
-    let a = no_fault _ _ _ none in
-    let b = no_fault _ _ _ a.1 in
-    let found = found_item queues name n b.0 in
+item_there : (o : Option (List ℕ)) → is_some o ≡ true → is_none (option_map length o) ≡ false
+item_there None e = absurd (true≢false (sym e))
+item_there (Some item) e = refl
+
+pub read_keeps : (queues : Queues) (name : List ℕ) (n : ℕ) → AreSoundQueues queues → is_some (item_of queues name n) ≡ true → Keeps (with_last_read queues name n) (data_of queues)
+unfolding with_last_read
+read_keeps queues name n sound there =
+    let found = found_item queues name n (item_there (item_of queues name n) there) in
     let was : IsSoundQueue found.queue = found_meets IsSoundQueue (is_name name) queues found.queue sound.each found.there in
     let one : IsSoundQueue (record found.queue { last_read = n }) = record { some = was.some; few = was.few; lengths = was.lengths; read = found.at.to } in
     let light : data_of queues ≤ most_data = sound.light in
@@ -282,15 +284,3 @@ deleted_keeps queues name queue sound there apart =
       };
       all = total;
     }
-
--- a number last read is small
-pub read_within : (queues : Queues) (name : List ℕ) → AreSoundQueues queues → unwrap_or (last_read_of queues name) 0 ≤ 32767
-read_within queues name sound = by_queue (queue_of queues name) refl
-  where
-    by_queue : (o : Option Queue) → queue_of queues name ≡ o → unwrap_or (option_map (λ (queue : Queue). queue.last_read) o) 0 ≤ 32767
-    by_queue None is = omega arith
-    by_queue (Some queue) is =
-        let was : IsSoundQueue queue = found_meets IsSoundQueue (is_name name) queues queue sound.each is in
-        let read : queue.last_read ≤ length queue.items = was.read in
-        let few : length queue.items ≤ most_items = was.few in
-        omega arith

@@ -1,2 +1,3 @@
--- Lemmas that declarations cite.
+-- Lemmas that declarations and other crates cite.
 pub mod NameBytes
+pub mod Readings

@@ -1,11 +1,12 @@
 -- Temporary storage queues (Application Programmer's Reference Manual (Command Level), SC33-0077, "Temporary
 -- Storage Control"). The limits and the order of the conditions are this product's own.
-use Rattle.std.specs.Prelude.{◌≡◌, ℕ, ◌+◌, ◌-◌, ◌≤◌, Bool, true, not, ◌&&◌, ◌==◌, nat_le, nat_lt, if◌then◌else◌, List, [], ◌∷◌, ◌++◌, length, slice_get, slice_set, sum_by, Option, Some, None, is_none, unwrap_or}
-use Rattle.std.specs.Option.{option_map, option_and_then}
+use Rattle.std.specs.Prelude.{◌≡◌, ℕ, ◌+◌, ◌-◌, ◌≤◌, Bool, true, not, ◌&&◌, ◌==◌, nat_le, nat_lt, if◌then◌else◌, List, [], ◌∷◌, ◌++◌, length, slice_get, slice_set, sum_by, Option, Some, None, is_none, ok_or, unwrap_or, Result, Err}
+use Rattle.std.specs.Option.{option_map, option_map_or, option_and_then}
 use Rattle.std.specs.List.{AllByRecursion, IsDistinct}
 use Rattle.std.specs.Map.{lookup, set_value, keys_of, values_of, remove_entry}
 use Rattle.indexmap.specs.IndexMap.{insert_entry}
 use Rattle.cx_ebcdic.specs.Names.{is_name}
+use Rattle.cx_service.specs.declared.queues.Reading.{Reading}
 use Rattle.cx_service.specs.declared.faults.ServiceFault.{ServiceFault}
 use Rattle.cx_service.specs.declared.faults.ServiceFault.TheVariants.{Lengerr, Itemerr, Nospace, Qiderr}
 
@@ -49,10 +50,6 @@ queue_or_empty queues name = unwrap_or (queue_of queues name) (record { items = 
 abbrev pub count_of : Queues → List ℕ → Option ℕ
 count_of queues name = option_map (λ queue. length queue.items) (queue_of queues name)
 
--- the number of the item last read
-abbrev pub last_read_of : Queues → List ℕ → Option ℕ
-last_read_of queues name = option_map (λ queue. queue.last_read) (queue_of queues name)
-
 -- a queue's item number n, counted from 1
 abbrev pub item_numbered : ℕ → Queue → Option (List ℕ)
 item_numbered n queue = if n == 0 then None else slice_get queue.items (n - 1)
@@ -92,20 +89,17 @@ rewrite_fault queues name n len =
     else if nat_lt most_data (data_of queues - unwrap_or (item_len_of queues name n) 0 + len) then Some Nospace
     else None
 
--- READQ TS of item n
-unfoldable pub read_fault : Queues → List ℕ → ℕ → Option ServiceFault
-read_fault queues name n =
-    if is_none (count_of queues name) then Some Qiderr
-    else if is_none (item_len_of queues name n) then Some Itemerr
-    else None
+-- ---- READQ TS
+-- what is read of a queue: the item with the number that is asked for, else the one after the item last read
+unfoldable pub reading_of_queue : Option ℕ → Queue → Option Reading
+reading_of_queue asked queue =
+    let number = unwrap_or asked (queue.last_read + 1) in
+    option_map (λ item. record { number = number; len = length item; count = length queue.items })
+    (item_numbered number queue)
 
--- the number of the item after the one last read
-abbrev pub next_number : Queues → List ℕ → ℕ
-next_number queues name = unwrap_or (last_read_of queues name) 0 + 1
-
--- DELETEQ TS
-unfoldable pub delete_fault : Queues → List ℕ → Option ServiceFault
-delete_fault queues name = if is_none (count_of queues name) then Some Qiderr else None
+unfoldable pub reading_of : Queues → List ℕ → Option ℕ → Result Reading ServiceFault
+reading_of queues name asked =
+    option_map_or (λ queue. ok_or (reading_of_queue asked queue) Itemerr) (queue_of queues name) (Err Qiderr)
 
 -- ---- effects
 -- a new item goes last in its queue; a queue that isn't there is made, and goes last

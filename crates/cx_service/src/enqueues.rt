@@ -17,6 +17,8 @@ use std::marker::Model;
 const MOST_RESOURCES: usize = 256;
 
 /// The resources that tasks have enqueued upon: at most 256. Each has one owner, with a count of 1 to 65,535.
+///
+/// Application Programmer's Reference Manual, SC33-0077, "Task Control"; the limits are this product's.
 #[derive(Drop)]
 pub struct Enqueues {
     pub(crate) resources: IndexMap<ResourceName, Hold>,
@@ -44,7 +46,7 @@ impl Enqueues {
         Ok(Enqueues { resources })
     }
 
-    /// All resources that are owned with their holds, the first enqueued upon first.
+    /// All resources that are owned, each with its owner and count, the first enqueued upon first.
     pub fn all(&self) -> &IndexMap<ResourceName, Hold>
         ensures resources { result.now.entries ≡ self.now }
         ensures sound { AreSoundResources self.now }
@@ -124,7 +126,7 @@ impl Enqueues {
         take_off(&mut self.resources, slot, name);
     }
 
-    /// Frees all resources of an owner, as at the end of its task.
+    /// Frees all resources of an owner, whatever their counts, as at the end of its task.
     pub fn release_all(&mut self, slot: u8)
         ensures released { self.new ≡ without_owner self.old slot }
         ensures sound { AreSoundResources self.new }

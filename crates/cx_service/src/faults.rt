@@ -8,22 +8,22 @@ use thiserror::Error;
 /// A condition that a call of this crate meets, by its name in the commands; or out of memory.
 #[derive(Clone, Copy, Debug, PartialEq, Eq, Error)]
 pub enum ServiceFault {
-    /// LENGERR: a length outside its limits.
+    /// LENGERR: an item's length outside 1 to 32,767 bytes, or a resource's name outside 1 to 255.
     #[error("length outside the limits")]
     Lengerr,
-    /// ITEMERR: no such item, or no number left for one more.
+    /// ITEMERR: there is no such item, or the queue has 32,767 already.
     #[error("no such item")]
     Itemerr,
-    /// NOSPACE: too many queues, or too much data in them.
+    /// NOSPACE: it would be a 257th queue, or all queues together would have more than 4,194,304 bytes.
     #[error("no space in temporary storage")]
     Nospace,
-    /// QIDERR: no such queue.
+    /// QIDERR: there is no such queue.
     #[error("no such queue")]
     Qiderr,
-    /// ENQBUSY: the resource belongs to another task, or there are too many.
+    /// ENQBUSY: another task owns the resource, or it would be the 257th that is owned.
     #[error("resource not available")]
     Enqbusy,
-    /// INVREQ: the task has enqueued upon the resource too often.
+    /// INVREQ: the task's count of the resource is 65,535.
     #[error("invalid request")]
     Invreq,
     /// An allocation failed.

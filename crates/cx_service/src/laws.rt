@@ -1,12 +1,13 @@
 //! What follows from the definitions.
 ghost use Rattle.std.specs.Prelude.{◌≡◌, ◌≢◌, ◌↔◌, ℕ, ◌<◌, ◌≤◌, List, [], ◌∷◌, Option, None, Some, Bool, true, false, length, position, slice_get, MatchOption, ◌==◌};
 ghost use Rattle.std.specs.List.{AllByRecursion};
+ghost use Rattle.std.specs.Option.{option_map};
 ghost use Rattle.cx_service.specs.declared.faults.ServiceFault.TheVariants.{Memory};
 ghost use Rattle.cx_service.specs.declared.resources.ResourceName.{ResourceName};
 ghost use Rattle.cx_service.specs.Laws.Lines.{LinesJoin};
 ghost use Rattle.cx_service.specs.Lines.{new_line, columns, AreLinesOf};
 ghost use Rattle.cx_service.specs.Screen.{full_line, with_lines, IsScreen, ShowsText};
-ghost use Rattle.cx_service.specs.Queues.{Queues, AreSoundQueues, last_read_of, write_fault, rewrite_fault, with_item, without_queue};
+ghost use Rattle.cx_service.specs.Queues.{Queues, AreSoundQueues, queue_of, write_fault, rewrite_fault, with_item, without_queue};
 ghost use Rattle.cx_service.specs.Resources.{Resources, is_resource, enq_fault, without_owner};
 
 /// Every text has lines.
@@ -14,14 +15,14 @@ pub fn every_text_has_lines()
     ensures { (text : List ℕ) → (lines : List (List ℕ)) × AreLinesOf text lines }
 {}
 
-/// A text has no two different lists of lines.
+/// Two lists of lines of one text are equal.
 pub fn lines_are_decided()
     ensures { (text : List ℕ) (one other : List (List ℕ)) → AreLinesOf text one → AreLinesOf text other
         → one ≡ other }
 {}
 
-/// The lines of a text, joined, are its parts in their order: a line that is broken off a part has 80 bytes, or 1 to 80 before
-/// a blank, which is dropped.
+/// The lines of a text, joined, are its parts in their order: a line that is broken off a part has 80 bytes, or 1 to 80
+/// before a blank, which is dropped.
 pub fn lines_join()
     ensures { LinesJoin }
 {}
@@ -51,18 +52,19 @@ pub fn lines_are_shown_in_place()
         (λ line. slice_get (with_lines screen lines) row ≡ Some (full_line line)) }
 {}
 
-/// Two names of resources are the same exactly where both are the same bytes or both the same address.
+/// `is_resource` is true exactly where both names are the same bytes, or both the same address.
 pub fn resource_names_are_themselves()
     ensures { (one other : ResourceName) → (is_resource one other ≡ true) ↔ (one ≡ other) }
 {}
 
-/// A queue that is made anew after it was deleted has no number last read.
+/// A queue that is deleted and made anew has 0 as the number of the item last read: none was.
 pub fn a_deleted_queue_begins_anew()
     ensures { (queues : Queues) (name bytes : List ℕ) → AreSoundQueues queues
-        → last_read_of (with_item (without_queue queues name) name bytes) name ≡ Some 0 }
+        → option_map (λ queue. queue.last_read) (queue_of (with_item (without_queue queues name) name bytes) name)
+        ≡ Some 0 }
 {}
 
-/// Memory is none of the conditions that are tested first.
+/// Memory is none of the conditions that are tested before a queue or a resource changes.
 pub fn memory_is_no_condition()
     ensures write { (queues : Queues) (name : List ℕ) (len : ℕ) → write_fault queues name len ≢ Some Memory }
     ensures rewrite { (queues : Queues) (name : List ℕ) (n len : ℕ)

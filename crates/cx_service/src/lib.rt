@@ -11,7 +11,7 @@ mod screen;
 
 pub use enqueues::Enqueues;
 pub use faults::ServiceFault;
-pub use queues::Queues;
+pub use queues::{Queues, Reading};
 // A crate can name the queues in a contract only if the type of their fields is exported.
 #[doc(hidden)]
 pub use queues::Queue;

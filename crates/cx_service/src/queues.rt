@@ -1,8 +1,8 @@
 //! Temporary storage queues.
-ghost use Rattle.std.specs.Prelude.{◌≡◌, ℕ, ◌+◌, ◌-◌, ◌<◌, ◌≤◌, ◌^◌, List, [], ◌∷◌, ◌++◌, length, slice_set, Option, None, Some, is_none, unwrap_or, IfOk, OnOk, OnErr, IsErrOf, IsOkUnless, IfSome, MatchOption};
+ghost use Rattle.std.specs.Prelude.{◌≡◌, ℕ, ◌+◌, ◌-◌, ◌<◌, ◌≤◌, ◌^◌, List, [], ◌∷◌, ◌++◌, length, slice_set, Option, None, Some, is_some, true, unwrap_or, IfOk, OnOk, OnErr, is_none, if◌then◌else◌, IsErrOf, IsOkUnless, IfSome, MatchOption};
 ghost use Rattle.std.specs.Option.{option_map, option_copied};
-ghost use Rattle.std.specs.Result.{result_err};
-ghost use Rattle.cx_service.specs.Queues.{is_item_length as is_length, queue_of, queue_or_empty, count_of, last_read_of, item_numbered, item_of, size_of, data_of, next_number, write_fault, rewrite_fault, read_fault, delete_fault, with_item, with_item_at, with_last_read, without_queue, AreSoundQueues};
+ghost use Rattle.std.specs.Result.{result_err, result_map_both};
+ghost use Rattle.cx_service.specs.Queues.{is_item_length as is_length, queue_of, queue_or_empty, count_of, item_numbered, item_of, reading_of_queue, reading_of, size_of, data_of, write_fault, rewrite_fault, with_item, with_item_at, with_last_read, without_queue, AreSoundQueues, IsSoundQueue};
 
 use crate::faults::ServiceFault;
 use cx_base::List;
@@ -25,6 +25,17 @@ const MOST_DATA: usize = 4_194_304;
 
 /// An item of a queue: its bytes.
 pub type Item = List<u8>;
+
+/// What READQ TS reads, without the item's bytes.
+#[derive(Clone, Copy, Debug, PartialEq, Eq)]
+pub struct Reading {
+    /// The item's number, counted from 1.
+    pub number: usize,
+    /// Its length in bytes, 1 to 32,767.
+    pub len: u16,
+    /// The number of the queue's items, at most 32,767.
+    pub count: u16,
+}
 
 /// A queue: its items, and the number of the item last read, counted from 1; 0 where none was.
 #[derive(Drop)]
@@ -77,12 +88,28 @@ impl Queue {
         self.items.get(n - 1)
     }
 
-    /// How many bytes its items have together.
+    /// How many bytes its items have together, below 2^64.
     pub fn size(&self) -> usize
         requires { size_of self.now < 2 ^ 64 }
         ensures { result ≡ size_of self.now }
     {
         self.items.iter().map(|item| item.as_slice().len()).sum()
+    }
+
+    /// The item with the number that is asked for, else the one after the item last read; None where there is no such
+    /// item.
+    #[tactic(auto, unfolding(crate::specs::Queues::reading_of_queue))]
+    fn reading(&self, asked: Option<usize>) -> Option<Reading>
+        requires { IsSoundQueue self.now }
+        ensures reading { result ≡ reading_of_queue asked self.now }
+    {
+        let number = asked.unwrap_or(self.last_read + 1);
+        let item = self.item(number)?;
+        Some(Reading {
+            number,
+            len: item.as_slice().len() as u16,
+            count: self.count() as u16,
+        })
     }
 
     /// Puts an item last, and answers its number.
@@ -115,6 +142,8 @@ impl Queue {
 
 /// The temporary storage queues of a region: at most 256, each with at most 32,767 items of 1 to 32,767 bytes, and at
 /// most 4,194,304 bytes in all. Items are numbered from 1. One number last read stands for all tasks.
+///
+/// Application Programmer's Reference Manual, SC33-0077, "Temporary Storage Control"; the limits are this product's.
 #[derive(Drop)]
 pub struct Queues {
     pub(crate) alloc: Global,
@@ -165,15 +194,6 @@ impl Queues {
         self.queues.get(&name).map(|queue| queue.count())
     }
 
-    /// The number of the item that was last read of a queue, by any task, counted from 1; 0 where none was, and None
-    /// where there is no such queue.
-    pub fn last_read(&self, name: Name8) -> Option<usize>
-        ensures number { result ≡ last_read_of self.now name }
-        ensures sound { AreSoundQueues self.now }
-    {
-        self.queues.get(&name).map(|queue| queue.last_read())
-    }
-
     /// The bytes of a queue's item n, counted from 1; None where there is no such item or queue.
     pub fn item(&self, name: Name8, n: usize) -> Option<&[u8]>
         ensures { option_map (λ bytes. bytes.now) result ≡ item_of self.now name n }
@@ -184,7 +204,7 @@ impl Queues {
     }
 
     /// The number of bytes of a queue's item n, counted from 1; None where there is no such item or queue.
-    pub fn item_len(&self, name: Name8, n: usize) -> Option<usize>
+    fn item_len(&self, name: Name8, n: usize) -> Option<usize>
         ensures { result ≡ option_map length (item_of self.now name n) }
     {
         self.item(name, n).map(|bytes| bytes.len())
@@ -233,15 +253,19 @@ impl Queues {
     /// The condition that `rewrite` of item n by `len` bytes would meet, apart from Memory:
     /// Lengerr where the length is below 1 or above 32,767; Qiderr where there is no such queue; Itemerr where there is
     /// no such item; Nospace where the data of all queues, without the old item, would be more than 4,194,304 bytes.
-    #[tactic(auto, using(std::proofs::lemmas::Bool::Decides::nat_tests), unfolding(crate::specs::Queues::rewrite_fault, crate::specs::Queues::read_fault))]
+    #[tactic(auto, using(std::proofs::lemmas::Bool::Decides::nat_tests), unfolding(crate::specs::Queues::rewrite_fault))]
     pub fn can_rewrite(&self, name: Name8, n: usize, len: usize) -> Result<(), ServiceFault>
         ensures { result_err result ≡ rewrite_fault self.now name n len }
     {
         if !is_item_length(len) {
             return Err(ServiceFault::Lengerr);
         }
-        self.can_read(name, n)?;
-        let old_len = self.item_len(name, n).unwrap_or(0);
+        if self.items(name).is_none() {
+            return Err(ServiceFault::Qiderr);
+        }
+        let Some(old_len) = self.item_len(name, n) else {
+            return Err(ServiceFault::Itemerr);
+        };
         if self.item_bytes - old_len + len > MOST_DATA {
             return Err(ServiceFault::Nospace);
         }
@@ -266,68 +290,87 @@ impl Queues {
         Ok(())
     }
 
-    /// The condition that `read` of item n would meet: Qiderr where there is no such queue, then Itemerr where there is
-    /// no such item (READQ TS).
-    #[tactic(auto, unfolding(crate::specs::Queues::read_fault))]
-    pub fn can_read(&self, name: Name8, n: usize) -> Result<(), ServiceFault>
-        ensures { result_err result ≡ read_fault self.now name n }
+    /// What READQ TS reads: the item with the number that is asked for, else the one after the item last read, by any
+    /// task.
+    ///
+    /// Qiderr comes where there is no such queue, then Itemerr where there is no such item.
+    #[tactic(auto, unfolding(crate::specs::Queues::reading_of))]
+    pub fn reading(&self, name: Name8, asked: Option<usize>) -> Result<Reading, ServiceFault>
+        ensures reading { result ≡ reading_of self.now name asked }
+        ensures some { IfOk result (λ reading. 1 ≤ reading.len) }
+        ensures at_most_32767 { IfOk result (λ reading. (reading.len ≤ 32767) × (reading.count ≤ 32767)) }
+        ensures sound { AreSoundQueues self.now }
     {
-        let Some(queue) = self.queues.get(&name) else {
-            return Err(ServiceFault::Qiderr);
-        };
-        if queue.item(n).is_none() {
-            return Err(ServiceFault::Itemerr);
-        }
-        Ok(())
+        let queue = self.queues.get(&name).ok_or(ServiceFault::Qiderr)?;
+        queue.reading(asked).ok_or(ServiceFault::Itemerr)
+    }
+
+    /// Makes a queue's item n, counted from 1, the one last read (READQ TS).
+    pub fn mark_read(&mut self, name: Name8, n: usize)
+        requires { is_some (item_of self.old name n) ≡ true }
+        ensures marked { self.new ≡ with_last_read self.old name n }
+        ensures sound { AreSoundQueues self.new }
+    {
+        mark_read(&mut self.queues, name, n);
     }
 
     /// Makes a queue's item n, counted from 1, the one last read; `item` gives its bytes (READQ TS with ITEM).
     ///
     /// Qiderr comes where there is no such queue, then Itemerr where there is no such item; then all is as before.
+    #[tactic(auto, using(crate::specs::Facts::Readings::reading_there, crate::specs::Facts::Readings::number_asked))]
     pub fn read(&mut self, name: Name8, n: usize) -> Result<(), ServiceFault>
         ensures read { OnOk result (self.new ≡ with_last_read self.old name n) }
-        ensures conditions { result_err result ≡ read_fault self.old name n }
+        ensures conditions { result_err result ≡ result_err (reading_of self.old name (Some n)) }
         ensures err { OnErr result (self.new ≡ self.old) }
         ensures sound { AreSoundQueues self.new }
     {
-        self.can_read(name, n)?;
-        mark_read(&mut self.queues, name, n);
+        self.reading(name, Some(n))?;
+        self.mark_read(name, n);
         Ok(())
     }
 
-    /// Makes the item after the one last read, by any task, the one last read, and answers its number (READQ TS with
-    /// NEXT).
+    /// Makes the item after the one last read, by any task, the one last read, and answers its number, counted from 1
+    /// (READQ TS with NEXT).
     ///
     /// Qiderr comes where there is no such queue, then Itemerr where no item is left; then all is as before.
+    #[tactic(auto, using(crate::specs::Facts::Readings::reading_there))]
     pub fn read_next(&mut self, name: Name8) -> Result<usize, ServiceFault>
-        ensures read { OnOk result (self.new ≡ with_last_read self.old name (next_number self.old name)) }
-        ensures number { IfOk result (λ n. n ≡ next_number self.old name) }
-        ensures conditions { result_err result ≡ read_fault self.old name (next_number self.old name) }
+        ensures number { result ≡ result_map_both (λ reading. reading.number) (λ fault. fault) (reading_of self.old name None) }
+        ensures read { IfOk result (λ n. self.new ≡ with_last_read self.old name n) }
         ensures err { OnErr result (self.new ≡ self.old) }
         ensures sound { AreSoundQueues self.new }
     {
-        let next = self.last_read(name).unwrap_or(0) + 1;
-        self.read(name, next)?;
-        Ok(next)
+        let reading = self.reading(name, None)?;
+        self.mark_read(name, reading.number);
+        Ok(reading.number)
+    }
+
+    /// Removes a queue, with its number last read; where there is none of that name, all is as before.
+    #[tactic(auto, unfolding(crate::specs::Queues::without_queue))]
+    pub fn remove(&mut self, name: Name8)
+        ensures removed { self.new ≡ without_queue self.old name }
+        ensures sound { AreSoundQueues self.new }
+    {
+        match self.queues.shift_remove(&name) {
+            Some(queue) => self.item_bytes -= queue.size(),
+            None => (),
+        }
     }
 
     /// Deletes a queue, with its number last read (DELETEQ TS).
     ///
     /// Qiderr comes where there is no such queue; then all is as before.
-    #[tactic(auto, unfolding(crate::specs::Queues::delete_fault, crate::specs::Queues::without_queue))]
     pub fn delete(&mut self, name: Name8) -> Result<(), ServiceFault>
         ensures deleted { OnOk result (self.new ≡ without_queue self.old name) }
-        ensures conditions { result_err result ≡ delete_fault self.old name }
+        ensures conditions { result_err result ≡ (if is_none (queue_of self.old name) then Some ServiceFault.Qiderr else None) }
         ensures err { OnErr result (self.new ≡ self.old) }
         ensures sound { AreSoundQueues self.new }
     {
-        match self.queues.shift_remove(&name) {
-            Some(queue) => {
-                self.item_bytes -= queue.size();
-                Ok(())
-            }
-            None => Err(ServiceFault::Qiderr),
+        if self.items(name).is_none() {
+            return Err(ServiceFault::Qiderr);
         }
+        self.remove(name);
+        Ok(())
     }
 }
 

@@ -36,8 +36,8 @@ impl Model for NameBytes {
 impl NameBytes {
     /// The name that these bytes are.
     fn new(bytes: &[u8]) -> NameBytes
-        requires some { 1 ≤ length bytes.now }
-        requires few { length bytes.now ≤ MOST_NAME }
+        requires nonempty { 1 ≤ length bytes.now }
+        requires at_most_longest { length bytes.now ≤ MOST_NAME }
         ensures { result ≡ bytes.now }
     {
         NameBytes {
@@ -46,7 +46,7 @@ impl NameBytes {
         }
     }
 
-    /// The bytes.
+    /// The name's bytes, 1 to 255 of them.
     pub fn as_slice(&self) -> &[u8]
         ensures { result.now ≡ self.now }
     {
@@ -59,7 +59,7 @@ impl NameBytes {
 pub enum ResourceName {
     /// The resource that these bytes name.
     Bytes(NameBytes),
-    /// The resource at this address.
+    /// The resource that is named by this address, whatever is there.
     Address(u32),
 }
 
@@ -82,7 +82,7 @@ impl ResourceName {
 pub struct Hold {
     /// The owner: the position of its terminal, counted from 1.
     pub owner: u8,
-    /// How many more DEQ than ENQ free the resource: 1 to 65,535.
+    /// How often the owner enqueued upon it and didn't dequeue from it, 1 to 65,535: after as many DEQs it is free.
     pub count: u16,
 }
 

@@ -19,7 +19,7 @@ const BLANK: u8 = 0x40;
 /// The code of new line, which ends a part of a text.
 const NEW_LINE: u8 = 0x15;
 
-/// The screen of a terminal: 24 lines of 80 bytes.
+/// The screen of a terminal: 24 lines of 80 bytes, EBCDIC codes.
 #[derive(Clone, Copy, Debug, PartialEq, Eq)]
 pub struct Screen {
     cells: [[u8; COLUMNS]; ROWS],
@@ -40,7 +40,7 @@ impl Model for Screen {
 }
 
 impl Screen {
-    /// A blank screen.
+    /// A blank screen: each byte is X'40'.
     pub fn new() -> Screen
         ensures { result ≡ blank_screen }
     {
@@ -49,7 +49,7 @@ impl Screen {
         }
     }
 
-    /// The lines, from the top.
+    /// The 24 lines, from the top, each of 80 bytes.
     pub fn cells(&self) -> &[[u8; COLUMNS]; ROWS]
         ensures lines { result.now ≡ self.now }
         ensures sound { IsScreen self.now }
@@ -103,7 +103,7 @@ fn full_line(line: &[u8]) -> [u8; COLUMNS]
 
 /// A text's first line, and the text after it; None where the line is the last.
 fn first_line(text: &[u8]) -> (&[u8], Option<&[u8]>)
-    ensures short { length result.0.now ≤ COLUMNS }
+    ensures at_most_columns { length result.0.now ≤ COLUMNS }
     ensures goes_on { (lines : List (List ℕ)) → AreLinesLeft (option_map (λ left. left.now) result.1) lines
         → AreLinesOf text.now (result.0.now ∷ lines) }
 {

@@ -9,9 +9,9 @@ use Rattle.std.proofs.lemmas.List.Folds.{fold_stays, list_any-append}
 use Rattle.std.proofs.lemmas.Grind.{fold-append}
 use Rattle.cx_source.specs.Lines.{text_of}
 use Rattle.cx_source.specs.Statements.{is_continued, is_last, up_to_end, items_from}
-use Rattle.cx_source.specs.Faults.{fault_of, source_from, source_in, source_of}
+use Rattle.cx_source.specs.Faults.{source_fault, source_from, source_in, source_of}
 use Rattle.cx_source.specs.Facts.AllFaults.{first_fault, source_is}
-use Rattle.cx_source.specs.Reader.{Reading, at_start, if_expected, with_line, take_byte, take_line, source_or_fault, finish, Refuses, ReadsAs}
+use Rattle.cx_source.specs.Reader.{Reading, reading_at_start, if_expected, reading_after, take_byte, take_line, source_or_fault, finish, Refuses, ReadsAs}
 use Rattle.cx_source.specs.declared.source.Item.{Item}
 use Rattle.cx_source.specs.declared.source.Source.{Source}
 use Rattle.cx_source.specs.declared.source.SourceFault.{SourceFault}
@@ -133,13 +133,13 @@ closed_is_finish None false continues texts text = refl
 
 -- where no more comes: an unfinished line is judged like any other
 finish_open : (empty continues : Bool) (texts : List (List ℕ)) (u : List ℕ)
-    → source_or_fault (cond empty (reading texts u (Expects continues)) (with_line continues u (reading texts u (Expects continues)))).progress (cond empty (reading texts u (Expects continues)) (with_line continues u (reading texts u (Expects continues))))
+    → source_or_fault (cond empty (reading texts u (Expects continues)) (reading_after continues u (reading texts u (Expects continues)))).progress (cond empty (reading texts u (Expects continues)) (reading_after continues u (reading texts u (Expects continues))))
     ≡ outcome texts continues (cond empty [] (u ∷ []))
 unfolding outcome after
 finish_open true continues texts u = refl
 finish_open false continues texts u =
     let text = text_of u in
-    let fault = fault_of continues (length texts + 1) u in
+    let fault = source_fault continues (length texts + 1) u in
     closed_is_finish fault (is_last continues text) (is_continued continues text) texts text
     ∙ last_step fault (is_last continues text) (is_continued continues text) texts text
 
@@ -153,15 +153,15 @@ whole [] texts u continues h =
 whole (b ∷ bs) texts u continues h =
     let line = strip_carriage_return u in
     let text = text_of line in
-    elim (ends_line b) as (λ e. ends_line b ≡ e → finish (fold take_byte (cond e (with_line continues line (reading texts u (Expects continues))) (reading texts (u ++ b ∷ []) (Expects continues))) bs) ≡ outcome texts continues (lines (u ++ b ∷ bs))) [
-      | true ↦ λ e. line_step (fault_of continues (length texts + 1) line) (is_last continues text) (is_continued continues text) texts text bs (whole bs (texts ++ text ∷ []) [] (is_continued continues text) refl)
+    elim (ends_line b) as (λ e. ends_line b ≡ e → finish (fold take_byte (cond e (reading_after continues line (reading texts u (Expects continues))) (reading texts (u ++ b ∷ []) (Expects continues))) bs) ≡ outcome texts continues (lines (u ++ b ∷ bs))) [
+      | true ↦ λ e. line_step (source_fault continues (length texts + 1) line) (is_last continues text) (is_continued continues text) texts text bs (whole bs (texts ++ text ∷ []) [] (is_continued continues text) refl)
           ∙ ap (outcome texts continues) (sym (ap (λ x. lines (u ++ x ∷ bs)) (eqb-true b 10 e) ∙ lines_front u bs h))
       | false ↦ λ e. whole bs texts (u ++ b ∷ []) continues (list_any-append ends_line u (b ∷ []) ∙ ap (λ x. x || (ends_line b || false)) h ∙ ap (λ x. x || false) e)
           ∙ ap (λ all. outcome texts continues (lines all)) (append_assoc u (b ∷ []) bs)
     ] refl
 
 -- THE THEOREM: fed with bytes, a reader answers what their lines make.
-pub whole_source : (bytes : List ℕ) → finish (fold take_byte at_start bytes) ≡ source_of bytes
+pub whole_source : (bytes : List ℕ) → finish (fold take_byte reading_at_start bytes) ≡ source_of bytes
 unfolding source_of outcome
 whole_source bytes = whole bytes [] [] false refl ∙ sym (source_is (lines bytes))
 
@@ -197,11 +197,11 @@ unfolding take_line outcome after
 lines_outcome [] texts continues = last_none continues texts
 lines_outcome (line ∷ all) texts continues =
     let text = text_of line in
-    whole_line_step (fault_of continues (length texts + 1) line) (is_last continues text) (is_continued continues text) texts text all
+    whole_line_step (source_fault continues (length texts + 1) line) (is_last continues text) (is_continued continues text) texts text all
     (lines_outcome all (texts ++ text ∷ []) (is_continued continues text))
 
 -- fed line by line, a reader answers what the lines make
-pub line_by_line : (all : List (List ℕ)) → finish (fold take_line at_start all) ≡ source_in all
+pub line_by_line : (all : List (List ℕ)) → finish (fold take_line reading_at_start all) ≡ source_in all
 unfolding outcome
 line_by_line all = lines_outcome all [] false ∙ sym (source_is all)
 
@@ -214,8 +214,8 @@ line_adds : (fault : Option SourceFault) (last continues : Bool) (texts : List (
 line_adds (Some fault) last continues texts text = ([], sym (append-nil texts))
 line_adds None last continues texts text = (text ∷ [], refl)
 
-either_adds : (e continues : Bool) (texts : List (List ℕ)) (u line more : List ℕ) → Adds texts (cond e (with_line continues line (reading texts u (Expects continues))) (reading texts more (Expects continues))).texts
-either_adds true continues texts u line more = line_adds (fault_of continues (length texts + 1) line) _ _ texts (text_of line)
+either_adds : (e continues : Bool) (texts : List (List ℕ)) (u line more : List ℕ) → Adds texts (cond e (reading_after continues line (reading texts u (Expects continues))) (reading texts more (Expects continues))).texts
+either_adds true continues texts u line more = line_adds (source_fault continues (length texts + 1) line) _ _ texts (text_of line)
 either_adds false continues texts u line more = ([], sym (append-nil texts))
 
 byte_adds : (progress : Progress) (texts : List (List ℕ)) (u : List ℕ) (b : ℕ) → Adds texts (take_byte (reading texts u progress) b).texts
@@ -234,8 +234,8 @@ piece_adds (b ∷ bs) r =
 pub texts_kept : (bs : List ℕ) (r : Reading) → take (length r.texts) (fold take_byte r bs).texts ≡ r.texts
 texts_kept bs r = let adds = piece_adds bs r in ap (take (length r.texts)) adds.1 ∙ take_at r.texts adds.0 (length r.texts) refl
 
-pub in_pieces : (pieces : List (List ℕ)) → finish (fold (fold take_byte) at_start pieces) ≡ source_of (concat pieces)
-in_pieces pieces = ap finish (many_pieces pieces at_start) ∙ whole_source (concat pieces)
+pub in_pieces : (pieces : List (List ℕ)) → finish (fold (fold take_byte) reading_at_start pieces) ≡ source_of (concat pieces)
+in_pieces pieces = ap finish (many_pieces pieces reading_at_start) ∙ whole_source (concat pieces)
 
 -- A reader keeps no failed allocation as its fault.
 
@@ -246,8 +246,8 @@ after_not g None true continues texts text h = λ e. cc
 after_not g None false continues texts text h = λ e. cc
 
 -- a fault that no line has, no piece brings
-module _ (g : SourceFault) (never : (continues : Bool) (n : ℕ) (line : List ℕ) → fault_of continues n line ≢ Some g) where
-  either_not : (e continues : Bool) (texts : List (List ℕ)) (u line more : List ℕ) → (cond e (with_line continues line (reading texts u (Expects continues))) (reading texts more (Expects continues))).progress ≢ Faulty g
+module _ (g : SourceFault) (never : (continues : Bool) (n : ℕ) (line : List ℕ) → source_fault continues n line ≢ Some g) where
+  either_not : (e continues : Bool) (texts : List (List ℕ)) (u line more : List ℕ) → (cond e (reading_after continues line (reading texts u (Expects continues))) (reading texts more (Expects continues))).progress ≢ Faulty g
   either_not true continues texts u line more = after_not g _ _ _ texts (text_of line) (never continues (length texts + 1) line)
   either_not false continues texts u line more = λ e. cc
 
@@ -268,8 +268,8 @@ no_memory false false true d n = λ e. cc
 no_memory false false false true n = λ e. cc
 no_memory false false false false n = λ e. cc
 
-fault_not_memory : (continues : Bool) (n : ℕ) (line : List ℕ) → fault_of continues n line ≢ Some Memory
-unfolding fault_of
+fault_not_memory : (continues : Bool) (n : ℕ) (line : List ℕ) → source_fault continues n line ≢ Some Memory
+unfolding source_fault
 fault_not_memory continues n line = no_memory _ _ _ _ n
 
 no_end : (a b c d : Bool) (n m : ℕ) → cond a (Some (TooLong n)) (cond b (Some (BadCharacter n)) (cond c (Some (BadContinuation n)) (cond d None (Some (BadName n))))) ≢ Some (NoEnd m)
@@ -279,14 +279,14 @@ no_end false false true d n m = λ e. cc
 no_end false false false true n m = λ e. cc
 no_end false false false false n m = λ e. cc
 
-fault_not_end : (m : ℕ) (continues : Bool) (n : ℕ) (line : List ℕ) → fault_of continues n line ≢ Some (NoEnd m)
-unfolding fault_of
+fault_not_end : (m : ℕ) (continues : Bool) (n : ℕ) (line : List ℕ) → source_fault continues n line ≢ Some (NoEnd m)
+unfolding source_fault
 fault_not_end m continues n line = no_end _ _ _ _ n m
 
 -- before its end a source is never refused for having none, nor for memory
-pub not_before_the_end : (bytes : List ℕ) (n : ℕ) → ((fold take_byte at_start bytes).progress ≢ Faulty (NoEnd n)) × ((fold take_byte at_start bytes).progress ≢ Faulty Memory)
+pub not_before_the_end : (bytes : List ℕ) (n : ℕ) → ((fold take_byte reading_at_start bytes).progress ≢ Faulty (NoEnd n)) × ((fold take_byte reading_at_start bytes).progress ≢ Faulty Memory)
 not_before_the_end bytes n =
-    (piece_not (NoEnd n) (fault_not_end n) bytes at_start (λ e. cc), piece_not Memory fault_not_memory bytes at_start (λ e. cc))
+    (piece_not (NoEnd n) (fault_not_end n) bytes reading_at_start (λ e. cc), piece_not Memory fault_not_memory bytes reading_at_start (λ e. cc))
 
 -- what a fault that a piece brought leaves
 refuses_due : (fault : SourceFault) (old due new : Reading) → due.progress ≢ Faulty Memory → new ≡ due → new.progress ≡ Faulty fault → Refuses fault old due new
@@ -337,11 +337,11 @@ refuses_kept fault r piece faulty = kept_due fault r (fold take_byte r piece) (f
 -- and a whole line changes nothing there either
 pub ended_keeps_line : (r : Reading) (line : List ℕ) → r.progress ≡ Ended → r ≡ take_line r line
 unfolding take_line
-ended_keeps_line r line e = sym (ap (λ p. if_expected p r (λ continues. with_line continues (r.unfinished ++ line) r)) e)
+ended_keeps_line r line e = sym (ap (λ p. if_expected p r (λ continues. reading_after continues (r.unfinished ++ line) r)) e)
 
 faulty_keeps_line : (r : Reading) (line : List ℕ) (fault : SourceFault) → r.progress ≡ Faulty fault → r ≡ take_line r line
 unfolding take_line
-faulty_keeps_line r line fault e = sym (ap (λ p. if_expected p r (λ continues. with_line continues (r.unfinished ++ line) r)) e)
+faulty_keeps_line r line fault e = sym (ap (λ p. if_expected p r (λ continues. reading_after continues (r.unfinished ++ line) r)) e)
 
 pub refuses_kept_line : (fault : SourceFault) (r : Reading) (line : List ℕ) → r.progress ≡ Faulty fault → Refuses fault r (take_line r line) r
 refuses_kept_line fault r line faulty = kept_due fault r (take_line r line) (faulty_keeps_line r line fault faulty) faulty
@@ -350,13 +350,13 @@ refuses_kept_line fault r line faulty = kept_due fault r (take_line r line) (fau
 finish_at : (r : Reading) (fault : SourceFault) → r.progress ≡ Faulty fault → finish r ≡ Err fault
 unfolding finish
 finish_at r fault e =
-    let last = λ (p : Progress). if_expected p r (λ continues. cond (eqb (length r.unfinished) 0) r (with_line continues r.unfinished r)) in
+    let last = λ (p : Progress). if_expected p r (λ continues. cond (eqb (length r.unfinished) 0) r (reading_after continues r.unfinished r)) in
     ap (λ p. source_or_fault (last p).progress (last p)) e ∙ ap (λ p. source_or_fault p r) e
 
-faulty_source : (fault : SourceFault) (bytes : List ℕ) (new : Reading) → (new ≡ fold take_byte at_start bytes) × (new.progress ≡ Faulty fault) → source_of bytes ≡ Err fault
+faulty_source : (fault : SourceFault) (bytes : List ℕ) (new : Reading) → (new ≡ fold take_byte reading_at_start bytes) × (new.progress ≡ Faulty fault) → source_of bytes ≡ Err fault
 faulty_source fault bytes new h = sym (whole_source bytes) ∙ ap finish (sym h.0) ∙ finish_at new fault h.1
 
-pub reads_refused : (fault : SourceFault) (bytes : List ℕ) (new : Reading) → Refuses fault at_start (fold take_byte at_start bytes) new → ReadsAs (source_of bytes) (Err fault)
+pub reads_refused : (fault : SourceFault) (bytes : List ℕ) (new : Reading) → Refuses fault reading_at_start (fold take_byte reading_at_start bytes) new → ReadsAs (source_of bytes) (Err fault)
 reads_refused Memory bytes new h = tt
 reads_refused (TooLong n) bytes new h = faulty_source (TooLong n) bytes new h
 reads_refused (BadCharacter n) bytes new h = faulty_source (BadCharacter n) bytes new h
@@ -365,11 +365,11 @@ reads_refused (BadName n) bytes new h = faulty_source (BadName n) bytes new h
 reads_refused (NoEnd n) bytes new h = faulty_source (NoEnd n) bytes new h
 
 -- what is refused early is refused for the whole's fault
-pub early_fault : (front rest : List ℕ) (fault : SourceFault) → (fold take_byte at_start front).progress ≡ Faulty fault → source_of (front ++ rest) ≡ Err fault
+pub early_fault : (front rest : List ℕ) (fault : SourceFault) → (fold take_byte reading_at_start front).progress ≡ Faulty fault → source_of (front ++ rest) ≡ Err fault
 early_fault front rest fault e =
     sym (whole_source (front ++ rest))
-    ∙ ap finish (sym (two_pieces at_start front rest) ∙ sym (faulty_keeps (fold take_byte at_start front) rest fault e))
-    ∙ finish_at (fold take_byte at_start front) fault e
+    ∙ ap finish (sym (two_pieces reading_at_start front rest) ∙ sym (faulty_keeps (fold take_byte reading_at_start front) rest fault e))
+    ∙ finish_at (fold take_byte reading_at_start front) fault e
 
 -- A line that ends is judged at once.
 
@@ -387,13 +387,13 @@ unfolding finish take_byte
 after_feed Ended texts u fault e h = cc
 after_feed (Faulty kept) texts u fault e h = (let same : kept ≡ fault = cc in ap Faulty same)
 after_feed (Expects continues) texts u fault e h =
-    after_line (fault_of continues (length texts + 1) (strip_carriage_return u)) _ _ texts (text_of (strip_carriage_return u)) fault e h
+    after_line (source_fault continues (length texts + 1) (strip_carriage_return u)) _ _ texts (text_of (strip_carriage_return u)) fault e h
 
 pub complete_fault : (bytes : List ℕ) (fault : SourceFault) → source_of (bytes ++ 10 ∷ []) ≡ Err fault → ((n : ℕ) → fault ≢ NoEnd n)
-    → (fold take_byte at_start (bytes ++ 10 ∷ [])).progress ≡ Faulty fault
+    → (fold take_byte reading_at_start (bytes ++ 10 ∷ [])).progress ≡ Faulty fault
 complete_fault bytes fault e h =
-    let r = fold take_byte at_start bytes in
-    let two : take_byte r 10 ≡ fold take_byte at_start (bytes ++ 10 ∷ []) = two_pieces at_start bytes (10 ∷ []) in
+    let r = fold take_byte reading_at_start bytes in
+    let two : take_byte r 10 ≡ fold take_byte reading_at_start (bytes ++ 10 ∷ []) = two_pieces reading_at_start bytes (10 ∷ []) in
     ap (λ (x : Reading). x.progress) (sym two)
     ∙ after_feed r.progress r.texts r.unfinished fault (ap finish two ∙ whole_source (bytes ++ 10 ∷ []) ∙ e) h
 

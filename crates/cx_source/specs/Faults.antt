@@ -5,7 +5,7 @@ use Rattle.std.specs.List.{list_any}
 use Rattle.std.specs.Option.{option_map_or, option_to_list}
 use Rattle.std.specs.Str.Lines.{lines}
 use Rattle.cx_ebcdic.specs.Characters.{code_of}
-use Rattle.cx_source.specs.Lines.{columns, is_written, text_of, is_comment, is_name, entries_of}
+use Rattle.cx_source.specs.Lines.{columns, is_written, text_of, is_comment, is_symbol_name, entries_of}
 use Rattle.cx_source.specs.Statements.{is_continued, is_last, up_to_end, items_from}
 use Rattle.cx_source.specs.declared.source.Source.{Source}
 use Rattle.cx_source.specs.declared.source.SourceFault.{SourceFault}
@@ -23,13 +23,14 @@ fault_name Memory = codes "Memory"
 -- The fault of the line with this number, counted from 1, the first that applies: more than 80 columns, or past the
 -- 10,000th line; a character without a code in columns 1 to 72; a line that continues a statement and isn't blank in
 -- columns 1 to 15; a line that begins one with something other than a name in column 1.
-unfoldable pub fault_of : Bool → ℕ → List ℕ → Option SourceFault
-fault_of continues number line =
+unfoldable pub source_fault : Bool → ℕ → List ℕ → Option SourceFault
+source_fault continues number line =
     let text = text_of line in let name = (entries_of text).name in
     if nat_lt 80 (length line) || nat_lt 10000 number then Some (TooLong number)
     else (if list_any (λ c. is_none (code_of c)) (columns 1 72 line) then Some (BadCharacter number)
     else (if continues && list_any is_written (columns 1 15 line) then Some (BadContinuation number)
-    else (if continues || is_comment text || length name == 0 || is_name name then None else Some (BadName number))))
+    else (if continues || is_comment text || length name == 0 || is_symbol_name name then None
+    else Some (BadName number))))
 
 -- the source whose lines, up to END's, have these texts
 abbrev pub source_from : List (List ℕ) → Source
@@ -44,7 +45,7 @@ goes_on continues fault = continues
 abbrev pub line_faults : Bool → ℕ → List (List ℕ) → List SourceFault
 line_faults continues number [] = NoEnd number ∷ []
 line_faults continues number (line ∷ more) =
-    let fault = fault_of continues number line in let joined = goes_on continues fault in
+    let fault = source_fault continues number line in let joined = goes_on continues fault in
     option_to_list fault
     ++ (if is_last joined (text_of line) then []
     else line_faults (is_continued joined (text_of line)) (number + 1) more)

@@ -40,12 +40,12 @@ unfoldable pub is_letter : ℕ → Bool
 is_letter c = (nat_le (byte "A") c && nat_le c (byte "Z")) || (c == byte "@") || (c == byte "#") || (c == byte "$")
 
 -- One of A to Z, @ # $, 0 to 9.
-unfoldable pub is_name_character : ℕ → Bool
-is_name_character c = is_letter c || (nat_le (byte "0") c && nat_le c (byte "9"))
+unfoldable pub is_symbol_name_character : ℕ → Bool
+is_symbol_name_character c = is_letter c || (nat_le (byte "0") c && nat_le c (byte "9"))
 
 -- A name: 1 to 8 of these, the first a letter.
-unfoldable pub is_name : List ℕ → Bool
-is_name text = is_letter (slice_index text 0) && list_all is_name_character text && nat_le (length text) 8
+unfoldable pub is_symbol_name : List ℕ → Bool
+is_symbol_name text = is_letter (slice_index text 0) && list_all is_symbol_name_character text && nat_le (length text) 8
 
 -- The entries of a statement's first line: the name from column 1 to the first blank, the operation, and what follows
 -- it to column 71.

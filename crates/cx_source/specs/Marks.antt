@@ -2,7 +2,7 @@
 -- "Terms").
 use Rattle.std.specs.Prelude.{ℕ, ◌+◌, ◌-◌, Bool, false, ◌&&◌, ◌||◌, not, ◌==◌, if◌then◌else◌, List, [], ◌∷◌, ◌++◌, slice_index}
 use Rattle.std.specs.Str.{byte}
-use Rattle.cx_source.specs.Lines.{is_letter, is_name_character}
+use Rattle.cx_source.specs.Lines.{is_letter, is_symbol_name_character}
 use Rattle.cx_source.specs.declared.marks.Scan.{Scan}
 use Rattle.cx_source.specs.declared.marks.Delimiter.{Delimiter}
 use Rattle.cx_source.specs.declared.marks.Delimiter.TheVariants.{TopComma, Blank, Parenthesis, Closing}
@@ -11,7 +11,7 @@ use Rattle.cx_source.specs.declared.marks.Delimiter.TheVariants.{TopComma, Blank
 -- characters before the apostrophe.
 unfoldable pub is_length_attribute : ℕ → ℕ → List ℕ → Bool
 is_length_attribute before last after =
-    last == byte "L" && not (is_name_character before) && is_letter (slice_index after 0)
+    last == byte "L" && not (is_symbol_name_character before) && is_letter (slice_index after 0)
 
 -- Before an operand's first character: outside apostrophes and parentheses, as after a blank.
 abbrev pub at_start : Scan
@@ -28,15 +28,15 @@ abbrev pub lies_outside : Scan → ℕ → List ℕ → Bool
 lies_outside scan c after = not scan.within && not (within_after scan c after)
 
 -- how many parentheses outside apostrophes are open after the character
-unfoldable pub depth_after : Scan → ℕ → List ℕ → ℕ
-depth_after scan c after =
+unfoldable pub scan_depth_after : Scan → ℕ → List ℕ → ℕ
+scan_depth_after scan c after =
     if lies_outside scan c after && c == byte "(" then scan.depth + 1
     else (if lies_outside scan c after && c == byte ")" then scan.depth - 1 else scan.depth)
 
 -- after the character
 abbrev pub scan_after : Scan → ℕ → List ℕ → Scan
 scan_after scan c after =
-    record { within = within_after scan c after; depth = depth_after scan c after; before = scan.last; last = c }
+    record { within = within_after scan c after; depth = scan_depth_after scan c after; before = scan.last; last = c }
 
 -- for each character whether it lies outside apostrophes
 abbrev pub outside_from : Scan → List ℕ → List Bool

@@ -3,13 +3,13 @@ use Rattle.std.specs.Prelude.{ℕ, ◌+◌, Bool, false, ◌&&◌, not, if◌the
 use Rattle.std.specs.Option.{option_map_or}
 use Rattle.cx_source.specs.Lines.{columns, text_of, trim_blanks}
 use Rattle.cx_source.specs.Statements.{is_continued, is_last}
-use Rattle.cx_source.specs.Faults.{fault_of, goes_on, source_from}
+use Rattle.cx_source.specs.Faults.{source_fault, goes_on, source_from}
 use Rattle.cx_source.specs.declared.source.Source.{Source}
 
 -- the next line, if there is one, begins anew where it should continue
 abbrev pub is_cut_off : Bool → ℕ → Option (List ℕ) → Bool
 is_cut_off continues number next =
-    option_map_or (λ line. continues && not (goes_on continues (fault_of continues number line))) next false
+    option_map_or (λ line. continues && not (goes_on continues (source_fault continues number line))) next false
 
 -- a text, without the mark in column 72 where the next line begins anew
 abbrev pub text_kept : Bool → List ℕ → List ℕ
@@ -19,7 +19,7 @@ text_kept cut_off text = if cut_off then trim_blanks (columns 1 71 text) else te
 abbrev pub texts_read : Bool → ℕ → List (List ℕ) → List (List ℕ)
 texts_read continues number [] = codes "         END" ∷ []
 texts_read continues number (line ∷ more) =
-    let text = text_of line in let joined = goes_on continues (fault_of continues number line) in
+    let text = text_of line in let joined = goes_on continues (source_fault continues number line) in
     let next = is_continued joined text in
     if is_last joined text then text ∷ []
     else text_kept (is_cut_off next (number + 1) (slice_get more 0)) text ∷ texts_read next (number + 1) more

@@ -5,7 +5,7 @@ use Rattle.std.specs.Str.{byte}
 use Rattle.std.specs.Str.Lines.{strip_carriage_return}
 use Rattle.cx_source.specs.Lines.{text_of}
 use Rattle.cx_source.specs.Statements.{is_continued, is_last}
-use Rattle.cx_source.specs.Faults.{fault_of, source_from}
+use Rattle.cx_source.specs.Faults.{source_fault, source_from}
 use Rattle.cx_source.specs.declared.source.Source.{Source}
 use Rattle.cx_source.specs.declared.source.SourceFault.{SourceFault}
 use Rattle.cx_source.specs.declared.source.SourceFault.TheVariants.{NoEnd, Memory}
@@ -20,16 +20,16 @@ pub record Reading : Type 0 where
   -- whether a line is expected, and if the line before it is continued; or END was met, or a fault
   pub progress : Progress
 
-abbrev pub at_start : Reading
-at_start = record { texts = []; unfinished = []; progress = Expects false }
+abbrev pub reading_at_start : Reading
+reading_at_start = record { texts = []; unfinished = []; progress = Expects false }
 
 -- After a whole line: its text is kept. A faulty one isn't.
-abbrev pub with_line : Bool → List ℕ → Reading → Reading
-with_line continues line reading =
+abbrev pub reading_after : Bool → List ℕ → Reading → Reading
+reading_after continues line reading =
     let text = text_of line in
     let next = if is_last continues text then Ended else Expects (is_continued continues text) in
     option_map_or (λ fault. record { texts = reading.texts; unfinished = []; progress = Faulty fault })
-    (fault_of continues (length reading.texts + 1) line)
+    (source_fault continues (length reading.texts + 1) line)
     (record { texts = reading.texts ++ text ∷ []; unfinished = []; progress = next })
 
 -- what is next where a line is expected; after END and after a fault nothing changes anything
@@ -40,13 +40,13 @@ if_expected progress reading next = reading
 -- after a byte: LF ends a line
 unfoldable pub take_byte : Reading → ℕ → Reading
 take_byte reading b = if_expected reading.progress reading (λ continues.
-    if b == byte "\n" then with_line continues (strip_carriage_return reading.unfinished) reading
+    if b == byte "\n" then reading_after continues (strip_carriage_return reading.unfinished) reading
     else record { texts = reading.texts; unfinished = reading.unfinished ++ b ∷ []; progress = reading.progress })
 
 -- After a line that comes at once, without its end: it goes on with what is unfinished. No byte of it is dropped.
 unfoldable pub take_line : Reading → List ℕ → Reading
 take_line reading line =
-    if_expected reading.progress reading (λ continues. with_line continues (reading.unfinished ++ line) reading)
+    if_expected reading.progress reading (λ continues. reading_after continues (reading.unfinished ++ line) reading)
 
 -- the source, or the fault
 abbrev pub source_or_fault : Progress → Reading → Result Source SourceFault
@@ -58,7 +58,7 @@ source_or_fault (Expects continues) reading = Err (NoEnd (length reading.texts +
 unfoldable pub finish : Reading → Result Source SourceFault
 finish reading =
     let last = if_expected reading.progress reading (λ continues.
-    if length reading.unfinished == 0 then reading else with_line continues reading.unfinished reading) in
+    if length reading.unfinished == 0 then reading else reading_after continues reading.unfinished reading) in
     source_or_fault last.progress last
 
 -- The answer is the one due, unless memory runs out.

@@ -35,19 +35,19 @@ written_on true (text ∷ more) = columns 16 71 text ++ written_on (is_marked te
 
 -- The operand among what is written after the operation: of EXEC all of it, else up to the first blank outside
 -- apostrophes.
-unfoldable pub operand_in : List ℕ → List ℕ → List ℕ
-operand_in operation written =
+unfoldable pub operand_written : List ℕ → List ℕ → List ℕ
+operand_written operation written =
     let text = trim_blanks (skip_blanks written) in
     if bytes_eq operation (codes "EXEC") then text else take (first_mark Blank text) text
 
 -- The statement that begins on a line, with the lines after it. Name and operation are on its first line.
-unfoldable pub statement_of : List ℕ → List (List ℕ) → Stmt
-statement_of text more =
+unfoldable pub statement_beginning : List ℕ → List (List ℕ) → Stmt
+statement_beginning text more =
     let entries = entries_of text in
     record {
       name = entries.name;
       operation = entries.operation;
-      operand = operand_in entries.operation (entries.after ++ written_on (is_marked text) more);
+      operand = operand_written entries.operation (entries.after ++ written_on (is_marked text) more);
     }
 
 -- The lines with their numbers and statements. A statement begins on each line that neither is a comment nor continues
@@ -55,5 +55,5 @@ statement_of text more =
 abbrev pub items_from : Bool → ℕ → List (List ℕ) → List Item
 items_from continues number [] = []
 items_from continues number (text ∷ more) =
-    let stmt = if continues || is_comment text then None else Some (statement_of text more) in
+    let stmt = if continues || is_comment text then None else Some (statement_beginning text more) in
     record { line = number; text = text; stmt = stmt } ∷ items_from (is_continued continues text) (number + 1) more

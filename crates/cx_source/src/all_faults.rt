@@ -5,7 +5,7 @@ ghost use Rattle.std.specs.Option.{option_to_list};
 ghost use Rattle.cx_source.specs.Faults.{goes_on, line_faults, source_or_faults};
 ghost use Rattle.cx_source.specs.Mended.{is_cut_off, source_read, text_kept, texts_read};
 
-use crate::faults::fault_of;
+use crate::faults::source_fault;
 use crate::lines::{columns, text_of, trim_blanks};
 use crate::source::{Items, Source, SourceFault, Text};
 use crate::statements::{is_continued, is_last, items_of};
@@ -42,7 +42,7 @@ fn is_cut_off(continues: bool, number: usize, more: &[Text]) -> bool
 {
     match more.first() {
         Some(line) => {
-            continues && !goes_on(continues, fault_of(continues, number, line.as_slice()))
+            continues && !goes_on(continues, source_fault(continues, number, line.as_slice()))
         }
         None => false,
     }
@@ -72,7 +72,7 @@ fn texts_read(
     let mut continues = false;
     for (index, line) in lines.iter().enumerate() {
         let line = line.as_slice();
-        let fault = fault_of(continues, index + 1, line);
+        let fault = source_fault(continues, index + 1, line);
         push_fault(faults, fault)?;
         let text = text_of(line);
         let joined = goes_on(continues, fault);

@@ -3,10 +3,10 @@
 ghost use Rattle.std.specs.Prelude.{◌≡◌, ◌≤◌, ◌==◌, ◌&&◌, ◌||◌, IfNone, is_none, length, nat_lt};
 ghost use Rattle.std.specs.List.{list_any};
 ghost use Rattle.cx_ebcdic.specs.Characters.{code_of};
-ghost use Rattle.cx_source.specs.Lines.{columns, entries_of, is_comment, is_name, is_written};
-ghost use Rattle.cx_source.specs.Faults.{fault_of};
+ghost use Rattle.cx_source.specs.Lines.{columns, entries_of, is_comment, is_symbol_name, is_written};
+ghost use Rattle.cx_source.specs.Faults.{source_fault};
 
-use crate::lines::{columns, entries_of, has_written, is_comment, is_name, text_of};
+use crate::lines::{columns, entries_of, has_written, is_comment, is_symbol_name, text_of};
 use crate::source::SourceFault;
 use cx_ebcdic::to_ebcdic;
 
@@ -48,16 +48,16 @@ fn has_bad_continuation(continues: bool, line: &[u8]) -> bool
 /// Whether what begins in column 1 is a name, or nothing begins there.
 fn is_well_named(text: &[u8]) -> bool
     ensures { let name = (entries_of text.now).name in
-        result ≡ (is_comment text.now || length name == 0 || is_name name) }
+        result ≡ (is_comment text.now || length name == 0 || is_symbol_name name) }
 {
     let name = entries_of(text).name;
-    is_comment(text) || name.is_empty() || is_name(name)
+    is_comment(text) || name.is_empty() || is_symbol_name(name)
 }
 
 /// The fault of the line with this number, if it has one.
-#[tactic(auto, unfolding(crate::specs::Faults::fault_of))]
-pub(crate) fn fault_of(continues: bool, number: usize, line: &[u8]) -> Option<SourceFault>
-    ensures fault { result ≡ fault_of continues number line.now }
+#[tactic(auto, unfolding(crate::specs::Faults::source_fault))]
+pub(crate) fn source_fault(continues: bool, number: usize, line: &[u8]) -> Option<SourceFault>
+    ensures fault { result ≡ source_fault continues number line.now }
     ensures early { IfNone result (number ≤ 10000) }
 {
     if is_too_long(number, line) {

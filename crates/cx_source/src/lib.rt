@@ -12,7 +12,8 @@ mod statements;
 
 pub use all_faults::{source_or_faults, source_with_faults};
 pub use lines::{
-    begins_with_letter, is_letter, is_name, is_name_character, skip_blanks, text_of, trim_blanks,
+    begins_with_letter, is_letter, is_symbol_name, is_symbol_name_character, skip_blanks, text_of,
+    trim_blanks,
 };
 pub use marks::{Delimiter, cut, first_mark, outside};
 pub use reader::{SourceReader, read_source};

@@ -3,7 +3,7 @@
 ghost use Rattle.std.specs.Prelude.{◌≡◌, ◌≤◌, codes, length, position, slice_index};
 ghost use Rattle.std.specs.List.{after_first, before_first, list_all, list_any, position_or_len};
 ghost use Rattle.std.specs.Str.{bytes_eq};
-ghost use Rattle.cx_source.specs.Lines.{columns, entries_of, is_blank, is_comment, is_letter, is_marked, is_name, is_name_character, is_written, skip_blanks, text_of, trim_blanks};
+ghost use Rattle.cx_source.specs.Lines.{columns, entries_of, is_blank, is_comment, is_letter, is_marked, is_symbol_name, is_symbol_name_character, is_written, skip_blanks, text_of, trim_blanks};
 
 /// A blank.
 pub(crate) const BLANK: u8 = b' ';
@@ -14,7 +14,7 @@ const MARK: usize = 72;
 /// How many characters a name may have.
 const NAME_MAX: usize = 8;
 
-/// A text without the blanks at its end.
+/// A text without the blanks (space characters) at its end.
 pub fn trim_blanks(text: &[u8]) -> &[u8]
     ensures { result.now ≡ trim_blanks text.now }
 {
@@ -57,7 +57,7 @@ fn first_blank(text: &[u8]) -> Option<usize>
     text.iter().position(|c| *c == BLANK)
 }
 
-/// A text without the blanks at its beginning.
+/// A text without the blanks (space characters) at its beginning.
 pub fn skip_blanks(text: &[u8]) -> &[u8]
     ensures { result.now ≡ skip_blanks text.now }
 {
@@ -74,7 +74,7 @@ pub(crate) fn columns(text: &[u8], first: usize, last: usize) -> &[u8]
     columns
 }
 
-/// Columns 1 to 72 of a line, without the blanks at their end.
+/// Columns 1 to 72 of a line, counted from 1, without the blanks at their end; a shorter line has fewer.
 #[tactic(auto, unfolding(crate::specs::Lines::text_of))]
 pub fn text_of(line: &[u8]) -> &[u8]
     ensures { result.now ≡ text_of line.now }
@@ -108,7 +108,7 @@ pub(crate) fn is_comment(text: &[u8]) -> bool
     }
 }
 
-/// Whether a character is a letter: `@`, `#` and `$` count as such (GC33-4010, "Character Set").
+/// Whether a character (ASCII) is a letter: A to Z, `@`, `#` or `$` (GC33-4010, "Character Set").
 #[tactic(auto, unfolding(crate::specs::Lines::is_letter))]
 pub fn is_letter(c: u8) -> bool
     ensures { result ≡ is_letter c }
@@ -116,10 +116,10 @@ pub fn is_letter(c: u8) -> bool
     matches!(c, b'A'..=b'Z' | b'@' | b'#' | b'$')
 }
 
-/// Whether a character may be in a name: a letter or a digit (GC33-4010, "Symbols").
-#[tactic(auto, unfolding(crate::specs::Lines::is_name_character))]
-pub fn is_name_character(c: u8) -> bool
-    ensures { result ≡ is_name_character c }
+/// Whether a character (ASCII) may be in a name: a letter, as `is_letter` has it, or a digit (GC33-4010, "Symbols").
+#[tactic(auto, unfolding(crate::specs::Lines::is_symbol_name_character))]
+pub fn is_symbol_name_character(c: u8) -> bool
+    ensures { result ≡ is_symbol_name_character c }
 {
     is_letter(c) || matches!(c, b'0'..=b'9')
 }
@@ -136,18 +136,18 @@ pub fn begins_with_letter(text: &[u8]) -> bool
 }
 
 /// Whether a text is a name: 1 to 8 letters and digits, the first a letter (GC33-4010, "Symbols").
-#[tactic(auto, unfolding(crate::specs::Lines::is_name))]
-pub fn is_name(text: &[u8]) -> bool
-    ensures { result ≡ is_name text.now }
+#[tactic(auto, unfolding(crate::specs::Lines::is_symbol_name))]
+pub fn is_symbol_name(text: &[u8]) -> bool
+    ensures { result ≡ is_symbol_name text.now }
 {
     begins_with_letter(text) && has_name_characters(text) && text.len() <= NAME_MAX
 }
 
 /// Whether each character of a text may be in a name.
 fn has_name_characters(text: &[u8]) -> bool
-    ensures { result ≡ list_all is_name_character text.now }
+    ensures { result ≡ list_all is_symbol_name_character text.now }
 {
-    text.iter().all(|c| is_name_character(*c))
+    text.iter().all(|c| is_symbol_name_character(*c))
 }
 
 /// The entries of a statement's first line.

@@ -3,7 +3,7 @@
 ghost use Rattle.std.specs.Prelude.{◌≡◌, ◌≤◌, ◌<◌, ◌+◌, ◌^◌, IfOk, length, map};
 ghost use Rattle.cx_source.specs.Marks.{at_start, first_mark, is_length_attribute, is_mark, lies_outside, outside_apostrophes, parts, scan_after, within_after};
 
-use crate::lines::{BLANK, begins_with_letter, is_name_character};
+use crate::lines::{BLANK, begins_with_letter, is_symbol_name_character};
 use std::alloc::{AllocError, Global};
 
 /// An apostrophe.
@@ -27,7 +27,7 @@ pub struct Scan {
 pub enum Delimiter {
     /// At each comma that is in no parentheses.
     TopComma,
-    /// At each blank.
+    /// At each blank, also in parentheses.
     Blank,
     /// At each parenthesis.
     Parenthesis,
@@ -55,7 +55,7 @@ impl Delimiter {
 fn is_length_attribute(before: u8, last: u8, after: &[u8]) -> bool
     ensures { result ≡ is_length_attribute before last after.now }
 {
-    last == b'L' && !is_name_character(before) && begins_with_letter(after)
+    last == b'L' && !is_symbol_name_character(before) && begins_with_letter(after)
 }
 
 impl Scan {
@@ -84,7 +84,7 @@ impl Scan {
     }
 
     /// Passes over the next character, with what follows it: whether it lies outside apostrophes.
-    #[tactic(auto, unfolding(crate::specs::Marks::depth_after))]
+    #[tactic(auto, unfolding(crate::specs::Marks::scan_depth_after))]
     fn pass(&mut self, c: u8, after: &[u8]) -> bool
         requires { self.old.depth + 1 < 2 ^ 64 }
         ensures outside { result ≡ lies_outside self.old c after.now }
@@ -108,11 +108,11 @@ impl Scan {
     }
 }
 
-/// For each character of an operand whether it lies outside apostrophes: neither in a text nor one of
-/// the apostrophes round a text. The apostrophe of `L'` before a letter (`@ # $` are letters), where L
-/// begins a term, lies outside.
+/// For each character of an operand whether it lies outside apostrophes: neither in a text nor one of the apostrophes
+/// round a text. The apostrophe of `L'` before a letter (`@ # $` are letters), where L begins a term, lies outside
+/// (GC33-4010, "Terms").
 ///
-/// Memory comes only where an allocation failed.
+/// An error comes only where an allocation failed.
 pub fn outside(alloc: Global, text: &[u8]) -> Result<Vec<bool>, AllocError>
     ensures { IfOk result (λ found. found.items ≡ outside_apostrophes text.now) }
 {
@@ -144,7 +144,7 @@ pub fn first_mark(text: &[u8], mark: Delimiter) -> usize
 
 /// The parts between the marks outside apostrophes, one more than there are marks; some may be empty.
 ///
-/// Memory comes only where an allocation failed.
+/// An error comes only where an allocation failed.
 pub fn cut(alloc: Global, text: &[u8], mark: Delimiter) -> Result<Vec<&[u8]>, AllocError>
     ensures { IfOk result (λ found. map (λ part. part.now) found.items ≡ parts mark text.now) }
 {

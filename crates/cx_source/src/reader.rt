@@ -4,9 +4,9 @@ ghost use Rattle.std.specs.Prelude.{◌≡◌, ◌≢◌, [], Err, IfErr, IfOk, 
 ghost use Rattle.std.specs.Str.Lines.{strip_carriage_return};
 ghost use Rattle.cx_source.specs.Faults.{source_from, source_of};
 ghost use Rattle.cx_source.specs.Statements.{is_continued, is_last};
-ghost use Rattle.cx_source.specs.Reader.{Reading, ReadsAs, Refuses, at_start, finish, take_byte, take_line, with_line};
+ghost use Rattle.cx_source.specs.Reader.{Reading, ReadsAs, Refuses, reading_at_start, finish, take_byte, take_line, reading_after};
 
-use crate::faults::fault_of;
+use crate::faults::source_fault;
 use crate::lines::text_of;
 use crate::source::{Items, Source, SourceFault, Text};
 use crate::statements::{is_continued, is_last, items_of};
@@ -62,11 +62,11 @@ fn take_line(
 ) -> Result<Progress, AllocError>
     ensures taken { let expected = Progress.Expects continues in
         let old : Reading = record { texts = texts.old.items; unfinished = []; progress = expected } in
-        IfOk result (λ progress. with_line continues line.now old
+        IfOk result (λ progress. reading_after continues line.now old
         ≡ record { texts = texts.new.items; unfinished = []; progress = progress }) }
     ensures err { OnErr result (texts.new.items ≡ texts.old.items) }
 {
-    if let Some(fault) = fault_of(continues, texts.len() + 1, line) {
+    if let Some(fault) = source_fault(continues, texts.len() + 1, line) {
         return Ok(Progress::Faulty(fault));
     }
     let text = text_of(line);
@@ -101,7 +101,7 @@ fn finish_line(
     if line.is_empty() {
         return Err(SourceFault::NoEnd(number));
     }
-    if let Some(fault) = fault_of(continues, number, line) {
+    if let Some(fault) = source_fault(continues, number, line) {
         return Err(fault);
     }
     let text = text_of(line);
@@ -134,7 +134,7 @@ impl Model for SourceReader {
 impl SourceReader {
     /// A reader that was fed nothing. It takes no memory.
     pub fn new(alloc: Global) -> SourceReader
-        ensures { result ≡ at_start }
+        ensures { result ≡ reading_at_start }
     {
         SourceReader {
             alloc,
@@ -144,12 +144,12 @@ impl SourceReader {
         }
     }
 
-    /// Takes the next piece of the source, of any length.
+    /// Takes the next piece of the source, of any length. A line ends with a line feed; a carriage return before it is
+    /// dropped.
     ///
-    /// A fault is answered at the first call after which a line that is complete with its line feed
-    /// is faulty; the reader keeps it, and every later call answers it. Lines after END's are taken
-    /// and not judged. NoEnd never comes. Memory comes only where an allocation failed, and the reader
-    /// is then as it was.
+    /// A fault is answered at the first call after which a line that is complete with its line feed is faulty; the
+    /// reader keeps it, and every later call answers it. Lines after END's are taken and not judged. NoEnd never comes.
+    /// Memory comes only where an allocation failed, and the reader is then as it was.
     pub fn feed(&mut self, piece: &[u8]) -> Result<(), SourceFault>
         ensures taken { OnOk result (self.new ≡ fold take_byte self.old piece.now) }
         ensures sound { OnOk result ((fault : SourceFault) → self.new.progress ≢ Progress.Faulty fault) }
@@ -271,10 +271,11 @@ impl SourceReader {
         Ok(())
     }
 
-    /// The source that the pieces make. A last line without a line feed is a line too.
+    /// The source that the pieces make. A last line without a line feed is a line too; no carriage return is dropped
+    /// from it.
     ///
-    /// A fault is that of the first faulty line; without END it is NoEnd, with the number after the
-    /// last line's. Memory comes only where an allocation failed, and never for a faulty source.
+    /// A fault is that of the first faulty line; without END it is NoEnd, with the number after the last line's. Memory
+    /// comes only where an allocation failed, and never for a faulty source.
     #[tactic(auto, unfolding(crate::specs::Reader::finish))]
     pub fn finish(self) -> Result<Source, SourceFault>
         ensures reads { ReadsAs (finish self) result }
@@ -296,11 +297,12 @@ impl SourceReader {
     }
 }
 
-/// The source that bytes make: its lines up to END's, and the statements that begin on them.
+/// The source that bytes make: its lines up to END's, and the statements that begin on them. A line ends with a line
+/// feed; a carriage return before it is dropped; the last line needs none.
 ///
-/// The fault is that of the first faulty line, and of that line the first that applies: TooLong,
-/// BadCharacter, BadContinuation, BadName. Without END it is NoEnd, with the number after the last
-/// line's. Memory comes only where an allocation failed.
+/// The fault is that of the first faulty line, and of that line the first that applies: TooLong, BadCharacter,
+/// BadContinuation, BadName. Without END it is NoEnd, with the number after the last line's. Memory comes only where an
+/// allocation failed.
 ///
 /// OS/VS-DOS/VSE-VM/370 Assembler Language, GC33-4010, "Assembler Language Coding Conventions".
 #[tactic(auto, using(crate::proofs::ReaderLemmas::whole_source))]

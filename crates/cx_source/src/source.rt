@@ -7,25 +7,27 @@ use cx_base::List;
 use std::alloc::{AllocError, AllocFailed, Global};
 use thiserror::Error;
 
-/// A text, as its bytes.
+/// A text as its bytes; a line of a source without its end.
 pub type Text = List<u8>;
 
-/// A list of lines.
+/// The lines of a source in their order.
 pub type Items = List<Item>;
 
-/// A statement in its three fields; what continues it is joined, and remarks are left out.
+/// A statement in its three fields; what continues it is joined, and remarks are left out (GC33-4010, "Assembler
+/// Language Coding Conventions").
 #[derive(Debug, Drop)]
 pub struct Stmt {
     /// The name, empty where there is none.
     pub name: Text,
     /// The operation, empty where the statement's first line has none.
     pub operation: Text,
-    /// The operand without its remark, joined over the lines that continue it; empty where there is none.
+    /// The operand without its remark, joined over the lines that continue it; of EXEC all that is written after it,
+    /// since that has no remark. Empty where there is none.
     pub operand: Text,
 }
 
 impl Stmt {
-    /// The same statement, with texts of its own.
+    /// A copy of the statement, with its texts in new memory.
     ///
     /// An error comes only where an allocation failed.
     pub fn copied(&self, alloc: Global) -> Result<Stmt, AllocError>
@@ -51,7 +53,7 @@ pub struct Item {
 }
 
 impl Item {
-    /// The same line, with texts of its own.
+    /// A copy of the line, with its texts in new memory.
     ///
     /// An error comes only where an allocation failed.
     pub fn copied(&self, alloc: Global) -> Result<Item, AllocError>
@@ -69,10 +71,10 @@ impl Item {
     }
 }
 
-/// A source that was read without a fault.
+/// A source as its lines, with the statements that begin on them.
 #[derive(Debug, Drop)]
 pub struct Source {
-    /// The lines up to END's, in order.
+    /// Its lines, in order; of a source that was read, up to END's, which is the last.
     pub items: Items,
 }
 
@@ -91,7 +93,7 @@ pub enum SourceFault {
     /// More than 80 columns, or a line past the 10,000th.
     #[error("line {0}: {name}", name = self.name())]
     TooLong(usize),
-    /// No END; the line is the one after the last.
+    /// No END; the number is that after the last line's.
     #[error("line {0}: {name}", name = self.name())]
     NoEnd(usize),
     /// An allocation failed.

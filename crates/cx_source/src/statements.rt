@@ -2,7 +2,7 @@
 
 ghost use Rattle.std.specs.Prelude.{◌≡◌, ◌++◌, ◌||◌, if◌then◌else◌, IfOk, None, Some, false};
 ghost use Rattle.cx_source.specs.Lines.{is_comment, is_marked};
-ghost use Rattle.cx_source.specs.Statements.{is_continued, is_last, items_from, operand_in, statement_of, written_on};
+ghost use Rattle.cx_source.specs.Statements.{is_continued, is_last, items_from, operand_written, statement_beginning, written_on};
 
 use crate::lines::{columns, entries_of, is_comment, is_end, is_marked, skip_blanks, trim_blanks};
 use crate::marks::{Delimiter, first_mark};
@@ -55,9 +55,9 @@ fn written(
 }
 
 /// The operand among what is written after an operation.
-#[tactic(auto, unfolding(crate::specs::Statements::operand_in))]
-fn operand_in<'a>(operation: &[u8], written: &'a [u8]) -> &'a [u8]
-    ensures { result.now ≡ operand_in operation.now written.now }
+#[tactic(auto, unfolding(crate::specs::Statements::operand_written))]
+fn operand_written<'a>(operation: &[u8], written: &'a [u8]) -> &'a [u8]
+    ensures { result.now ≡ operand_written operation.now written.now }
 {
     let text = trim_blanks(skip_blanks(written));
     if operation == b"EXEC".as_slice() {
@@ -68,16 +68,23 @@ fn operand_in<'a>(operation: &[u8], written: &'a [u8]) -> &'a [u8]
 }
 
 /// The statement that begins on a line, with the lines after it.
-#[tactic(auto, unfolding(crate::specs::Statements::statement_of))]
-fn statement_of(alloc: Global, first: &[u8], more: &VecDeque<Text>) -> Result<Stmt, AllocError>
-    ensures { IfOk result (λ stmt. stmt ≡ statement_of first.now more.now.items) }
+#[tactic(auto, unfolding(crate::specs::Statements::statement_beginning))]
+fn statement_beginning(
+    alloc: Global,
+    first: &[u8],
+    more: &VecDeque<Text>,
+) -> Result<Stmt, AllocError>
+    ensures { IfOk result (λ stmt. stmt ≡ statement_beginning first.now more.now.items) }
 {
     let entries = entries_of(first);
     let written = written(alloc, entries.after, first, more)?;
     Ok(Stmt {
         name: List::from_slice(alloc, entries.name)?,
         operation: List::from_slice(alloc, entries.operation)?,
-        operand: List::from_slice(alloc, operand_in(entries.operation, written.as_slice()))?,
+        operand: List::from_slice(
+            alloc,
+            operand_written(entries.operation, written.as_slice()),
+        )?,
     })
 }
 
@@ -89,12 +96,12 @@ fn statement_at(
     more: &VecDeque<Text>,
 ) -> Result<Option<Stmt>, AllocError>
     ensures { IfOk result (λ stmt. stmt
-        ≡ (if continues || is_comment text.now then None else Some (statement_of text.now more.now.items))) }
+        ≡ (if continues || is_comment text.now then None else Some (statement_beginning text.now more.now.items))) }
 {
     if continues || is_comment(text) {
         return Ok(None);
     }
-    Ok(Some(statement_of(alloc, text, more)?))
+    Ok(Some(statement_beginning(alloc, text, more)?))
 }
 
 /// The lines of a source with their numbers and statements.

@@ -4,9 +4,9 @@ use Rattle.std.proofs.lemmas.Bool.{cases_lt}
 use Rattle.std.proofs.lemmas.Option.{slice_get-get_or, none-some}
 use Rattle.std.specs.List.{AllByRecursion}
 use Rattle.std.specs.Prelude.{◌≡◌, ℕ, ◌+◌, ◌-◌, ◌<◌, ◌≤◌, ◌⊎◌, true, ◌∷◌, max, Option, Some, None, []}
-use Rattle.cx_storage.specs.Facts.Sound.{covers_cases, covers_from, IsSound-head, IsSound-tail}
+use Rattle.cx_storage.specs.Facts.Sound.{covers_cases, covers_from, IsSoundStorage-head, IsSoundStorage-tail}
 use Rattle.cx_storage.specs.Place.{Misses, CanPlace, IsLeastPlace}
-use Rattle.cx_storage.specs.Storage.{Storage, end_of, covers, byte_at, areas_of, IsWhole, IsSound}
+use Rattle.cx_storage.specs.Storage.{Storage, end_of, covers, byte_at, areas_of, IsWhole, IsSoundStorage}
 use Rattle.cx_storage.specs.declared.areas.Area.{Area}
 
 misses_of_areas : (s t : Storage) (len b : ℕ) → areas_of s ≡ areas_of t → AllByRecursion (Misses len b) s → AllByRecursion (Misses len b) t
@@ -38,13 +38,13 @@ misses_absent (h ∷ hs) len b x all low high = elim (covers_cases h.area x) [
   | inr c ↦ rw c.0 (misses_absent hs len b x all.1 low high)
 ]
 
-pub absent_misses : (s : Storage) (len b : ℕ) → 0 < len → IsSound s → ((x : ℕ) → b ≤ x → x < b + len → byte_at s x ≡ None) → AllByRecursion (Misses len b) s
+pub absent_misses : (s : Storage) (len b : ℕ) → 0 < len → IsSoundStorage s → ((x : ℕ) → b ≤ x → x < b + len → byte_at s x ≡ None) → AllByRecursion (Misses len b) s
 unfolding byte_at
 absent_misses [] len b some ok absent = tt
-absent_misses (h ∷ hs) len b some ok absent = (here, absent_misses hs len b some (IsSound-tail h hs ok) rest)
+absent_misses (h ∷ hs) len b some ok absent = (here, absent_misses hs len b some (IsSoundStorage-tail h hs ok) rest)
   where
     head : IsWhole h
-    head = IsSound-head h hs ok
+    head = IsSoundStorage-head h hs ok
 
     full : (x : ℕ) → covers h.area x ≡ true → h.area.start ≤ x → x < end_of h.area → b ≤ x → x < b + len → ⊥
     full x c low high from below =

@@ -9,9 +9,9 @@ use Rattle.std.proofs.lemmas.List.{at_drop_more, drop_all, drop_more}
 use Rattle.std.proofs.lemmas.Option.{slice_get-get_or}
 use Rattle.std.specs.Option.{option_map}
 use Rattle.std.proofs.lemmas.Bool.{cases_Bool, le-leb, lt-leb, lt-ltb, le-ltb, false≢true, leb-true, leb-false, cases_lt, and_parts, and_right, or_cases}
-use Rattle.cx_storage.specs.Storage.{Held, Storage, end_of, covers, byte_at, span, put_byte, with_byte, area_at, next_area, put_held, with_area, zeros, in_one_area, IsWhole, IsSound}
+use Rattle.cx_storage.specs.Storage.{Held, Storage, end_of, covers, byte_at, span, put_byte, with_byte, area_at, next_area, put_held, with_area, zeros, in_one_area, IsWhole, IsSoundStorage}
 use Rattle.cx_storage.specs.Place.{Misses, CanPlace, IsLeastPlace}
-use Rattle.cx_storage.specs.Facts.Sound.{All-weaker, IsSound-tail, IsSound-head, IsSound-apart, covers_cases, covers_from}
+use Rattle.cx_storage.specs.Facts.Sound.{All-weaker, IsSoundStorage-tail, IsSoundStorage-head, IsSoundStorage-apart, covers_cases, covers_from}
 use Rattle.std.specs.Int.{next_multiple_of}
 use Rattle.cx_storage.specs.Parts.Flat.{walk, spot}
 
@@ -81,46 +81,46 @@ at_index P (g ∷ gs) zero h l e all = rw e all.0
 at_index P (g ∷ gs) (suc i) h l e all = at_index P gs i h (omega arith) e all.1
 
 -- a write in the area that covers the address is the whole write
-pub set_found : (s : Storage) (i a v : ℕ) (h : Held) → IsSound s → i < length s → h ≡ get_or s i h → covers h.area a ≡ true → set s i (put_byte a v h) ≡ with_byte s a v
+pub set_found : (s : Storage) (i a v : ℕ) (h : Held) → IsSoundStorage s → i < length s → h ≡ get_or s i h → covers h.area a ≡ true → set s i (put_byte a v h) ≡ with_byte s a v
 unfolding with_byte
 set_found [] i a v h ok l e c = absurd (omega arith)
 set_found (g ∷ gs) zero a v h ok l e c =
     let c' = rw e at c in
     let low : a < end_of g.area = elim (covers_cases g.area a) [ inl k ↦ k.2 | inr k ↦ absurd (false≢true (sym k.0 ∙ c')) ] in
-    rw (← e, covers-after g gs a v low (IsSound-apart g gs ok)) refl
+    rw (← e, covers-after g gs a v low (IsSoundStorage-apart g gs ok)) refl
 set_found (g ∷ gs) (suc i) a v h ok l e c =
-    let before : end_of g.area ≤ h.area.start = at_index (λ later. end_of g.area ≤ later.area.start) gs i h (omega arith) e (IsSound-apart g gs ok) in
+    let before : end_of g.area ≤ h.area.start = at_index (λ later. end_of g.area ≤ later.area.start) gs i h (omega arith) e (IsSoundStorage-apart g gs ok) in
     elim (covers_cases h.area a) [
       | inl k ↦ elim (covers_cases g.area a) [
         | inl m ↦ absurd (omega (arith, k.1, m.2))
-        | inr m ↦ rw (m.0, set_found gs i a v h (IsSound-tail g gs ok) (omega arith) e c) refl
+        | inr m ↦ rw (m.0, set_found gs i a v h (IsSoundStorage-tail g gs ok) (omega arith) e c) refl
       ]
       | inr k ↦ absurd (false≢true (sym k.0 ∙ c))
     ]
 
 -- what the area at a place of a sound storage says of storage
-pub full_found : (s : Storage) (i : ℕ) (h : Held) → IsSound s → i < length s → h ≡ get_or s i h → IsWhole h
+pub full_found : (s : Storage) (i : ℕ) (h : Held) → IsSoundStorage s → i < length s → h ≡ get_or s i h → IsWhole h
 full_found [] i h ok l e = absurd (omega arith)
-full_found (g ∷ gs) zero h ok l e = rw e (IsSound-head g gs ok)
-full_found (g ∷ gs) (suc i) h ok l e = full_found gs i h (IsSound-tail g gs ok) (omega arith) e
+full_found (g ∷ gs) zero h ok l e = rw e (IsSoundStorage-head g gs ok)
+full_found (g ∷ gs) (suc i) h ok l e = full_found gs i h (IsSoundStorage-tail g gs ok) (omega arith) e
 
-pub byte_at_held : (s : Storage) (i a : ℕ) (h : Held) → IsSound s → i < length s → h ≡ get_or s i h → covers h.area a ≡ true → byte_at s a ≡ slice_get h.bytes (a - h.area.start)
+pub byte_at_held : (s : Storage) (i a : ℕ) (h : Held) → IsSoundStorage s → i < length s → h ≡ get_or s i h → covers h.area a ≡ true → byte_at s a ≡ slice_get h.bytes (a - h.area.start)
 unfolding byte_at
 byte_at_held [] i a h ok l e c = absurd (omega arith)
 byte_at_held (g ∷ gs) zero a h ok l e c =
     let c' = rw e at c in
     rw (c', e) refl
 byte_at_held (g ∷ gs) (suc i) a h ok l e c =
-    let before : end_of g.area ≤ h.area.start = at_index (λ later. end_of g.area ≤ later.area.start) gs i h (omega arith) e (IsSound-apart g gs ok) in
+    let before : end_of g.area ≤ h.area.start = at_index (λ later. end_of g.area ≤ later.area.start) gs i h (omega arith) e (IsSoundStorage-apart g gs ok) in
     elim (covers_cases h.area a) [
       | inl k ↦ elim (covers_cases g.area a) [
         | inl m ↦ absurd (omega (arith, k.1, m.2))
-        | inr m ↦ rw m.0 (byte_at_held gs i a h (IsSound-tail g gs ok) (omega arith) e c)
+        | inr m ↦ rw m.0 (byte_at_held gs i a h (IsSoundStorage-tail g gs ok) (omega arith) e c)
       ]
       | inr k ↦ absurd (false≢true (sym k.0 ∙ c))
     ]
 
-byte_held : (s : Storage) (i : ℕ) (h : Held) → IsSound s → i < length s → h ≡ get_or s i h
+byte_held : (s : Storage) (i : ℕ) (h : Held) → IsSoundStorage s → i < length s → h ≡ get_or s i h
     → (k : ℕ) → k < length h.bytes → byte_at s (h.area.start + k) ≡ Some (get_or h.bytes k 0)
 byte_held s i h ok l e k within =
     let whole = full_found s i h ok l e in
@@ -128,7 +128,7 @@ byte_held s i h ok l e k within =
     let at : h.area.start + k - h.area.start ≡ k = omega arith in
     byte_at_held s i (h.area.start + k) h ok l e inside ∙ rw at (slice_get-get_or h.bytes k 0 within)
 
-span_held : (s : Storage) (i : ℕ) (h : Held) → IsSound s → i < length s → h ≡ get_or s i h
+span_held : (s : Storage) (i : ℕ) (h : Held) → IsSoundStorage s → i < length s → h ≡ get_or s i h
     → (n k : ℕ) → k + n ≤ length h.bytes → span s (h.area.start + k) n ≡ Some (take n (drop k h.bytes))
 unfolding span
 span_held s i h ok l e zero k fits = refl
@@ -142,7 +142,7 @@ span_held s i h ok l e (suc (suc n)) k fits =
     (ap (λ a. option_map (λ bs. get_or h.bytes k 0 ∷ bs) (span s a (suc n))) next ∙ ap (option_map (λ bs. get_or h.bytes k 0 ∷ bs)) rest)
 
 -- the part of an area's bytes that is a span
-pub span_found : (s : Storage) (i a n : ℕ) (h : Held) → IsSound s → i < length s → h ≡ get_or s i h → h.area.start ≤ a → a - h.area.start + n ≤ length h.bytes
+pub span_found : (s : Storage) (i a n : ℕ) (h : Held) → IsSoundStorage s → i < length s → h ≡ get_or s i h → h.area.start ≤ a → a - h.area.start + n ≤ length h.bytes
     → span s a n ≡ Some (take (a - h.area.start + n - (a - h.area.start)) (drop (a - h.area.start) h.bytes))
 span_found s i a n h ok l e low fits =
     let at : h.area.start + (a - h.area.start) ≡ a = omega arith in
@@ -170,7 +170,7 @@ together_skip s i a n h l e c some =
       ]
     ]
 
-pub together_found : (s : Storage) (i a n : ℕ) (h : Held) → IsSound s → i < length s → h ≡ get_or s i h → covers h.area a ≡ true → 0 < n → in_one_area s a n ≡ true → a + n ≤ end_of h.area
+pub together_found : (s : Storage) (i a n : ℕ) (h : Held) → IsSoundStorage s → i < length s → h ≡ get_or s i h → covers h.area a ≡ true → 0 < n → in_one_area s a n ≡ true → a + n ≤ end_of h.area
 unfolding in_one_area
 together_found [] i a n h ok l e c some one = absurd (omega arith)
 together_found (g ∷ gs) zero a n h ok l e c some one = elim (covers_cases h.area a) [
@@ -178,16 +178,16 @@ together_found (g ∷ gs) zero a n h ok l e c some one = elim (covers_cases h.ar
     | inl here ↦ let fits : a + n ≤ end_of g.area = leb-true _ _ (and_parts (nat_le g.area.start a) _ here).1 in rw e fits
     | inr there ↦
         let low = k.2 in
-        absurd (false≢true (sym (any_after g gs a n (rw e at low) (IsSound-apart g gs ok)) ∙ there))
+        absurd (false≢true (sym (any_after g gs a n (rw e at low) (IsSoundStorage-apart g gs ok)) ∙ there))
   ]
   | inr k ↦ absurd (false≢true (sym k.0 ∙ c))
 ]
 together_found (g ∷ gs) (suc i) a n h ok l e c some one =
-    let before : end_of g.area ≤ h.area.start = at_index (λ later. end_of g.area ≤ later.area.start) gs i h (omega arith) e (IsSound-apart g gs ok) in
+    let before : end_of g.area ≤ h.area.start = at_index (λ later. end_of g.area ≤ later.area.start) gs i h (omega arith) e (IsSoundStorage-apart g gs ok) in
     elim (covers_cases h.area a) [
       | inl k ↦ elim (or_cases (nat_le g.area.start a && nat_le (a + n) (end_of g.area)) (in_one_area gs a n) one) [
         | inl here ↦ let fits : a + n ≤ end_of g.area = leb-true _ _ (and_parts (nat_le g.area.start a) _ here).1 in absurd (omega (arith, k.1))
-        | inr there ↦ together_found gs i a n h (IsSound-tail g gs ok) (omega arith) e c some there
+        | inr there ↦ together_found gs i a n h (IsSoundStorage-tail g gs ok) (omega arith) e c some there
       ]
       | inr k ↦ absurd (false≢true (sym k.0 ∙ c))
     ]
@@ -274,7 +274,7 @@ walk_above (h ∷ hs) len at = elim (cases_Bool (nat_le (at + len) h.area.start)
 ]
 
 -- it meets no area
-walk_misses : (s : Storage) (len at : ℕ) → IsSound s → AllByRecursion (Misses len (walk len at s)) s
+walk_misses : (s : Storage) (len at : ℕ) → IsSoundStorage s → AllByRecursion (Misses len (walk len at s)) s
 unfolding walk
 walk_misses [] len at ok = tt
 walk_misses (h ∷ hs) len at ok = elim (cases_Bool (nat_le (at + len) h.area.start)) [
@@ -282,14 +282,14 @@ walk_misses (h ∷ hs) len at ok = elim (cases_Bool (nat_le (at + len) h.area.st
       let fits = leb-true (at + len) h.area.start e in
       let stops : walk len at (h ∷ hs) ≡ at = rw e refl in
       let misses : AllByRecursion (Misses len at) (h ∷ hs) =
-      (inr fits, All-weaker (λ later. end_of h.area ≤ later.area.start) (Misses len at) hs (λ later le. inr (omega arith)) (IsSound-apart h hs ok)) in
+      (inr fits, All-weaker (λ later. end_of h.area ≤ later.area.start) (Misses len at) hs (λ later le. inr (omega arith)) (IsSoundStorage-apart h hs ok)) in
       subst (λ r. AllByRecursion (Misses len r) (h ∷ hs)) (sym stops) misses
   | inr e ↦
       let at' = max at (next_multiple_of (end_of h.area) 16) in
       let above = walk_above hs len at' in
       let next = next_16_above (end_of h.area) in
       let goes : walk len at (h ∷ hs) ≡ walk len at' hs = rw e refl in
-      let misses : AllByRecursion (Misses len (walk len at' hs)) (h ∷ hs) = (inl (omega (arith, above, next)), walk_misses hs len at' (IsSound-tail h hs ok)) in
+      let misses : AllByRecursion (Misses len (walk len at' hs)) (h ∷ hs) = (inl (omega (arith, above, next)), walk_misses hs len at' (IsSoundStorage-tail h hs ok)) in
       subst (λ r. AllByRecursion (Misses len r) (h ∷ hs)) (sym goes) misses
 ]
 
@@ -310,7 +310,7 @@ walk_least (h ∷ hs) len at b m above misses = elim (cases_Bool (nat_le (at + l
 ]
 
 -- what the walk finds is the least place, where it lies in the range
-pub place_found : (s : Storage) (first last len at : ℕ) → IsSound s → at ≡ walk len (next_multiple_of first 16) s → at + len ≤ last + 1 → IsLeastPlace s first last len (Some at)
+pub place_found : (s : Storage) (first last len at : ℕ) → IsSoundStorage s → at ≡ walk len (next_multiple_of first 16) s → at + len ≤ last + 1 → IsLeastPlace s first last len (Some at)
 unfolding IsLeastPlace CanPlace
 place_found s first last len at ok e fits =
     let above = walk_above s len (next_multiple_of first 16) in
@@ -323,7 +323,7 @@ unfolding IsLeastPlace CanPlace
 place_none s first last len at e past =
     λ b h. let least = walk_least s len (next_multiple_of first 16) b h.0 (next_16_least first b h.0 h.1) h.3 in omega (arith, least, h.2)
 
-pub present_found : (s : Storage) (i a : ℕ) (h : Held) → IsSound s → i < length s → h ≡ get_or s i h → covers h.area a ≡ true → is_some (byte_at s a) ≡ true
+pub present_found : (s : Storage) (i a : ℕ) (h : Held) → IsSoundStorage s → i < length s → h ≡ get_or s i h → covers h.area a ≡ true → is_some (byte_at s a) ≡ true
 present_found s i a h ok l e c =
     let whole = full_found s i h ok l e in
     let within : a - h.area.start < length h.bytes = elim (covers_cases h.area a) [

@@ -7,7 +7,7 @@ use Rattle.std.specs.Prelude.{◌≡◌, ℕ, ◌<◌, true, List, ◌∷◌, le
 use Rattle.cx_storage.specs.Facts.Sound.{span_small}
 use Rattle.cx_storage.specs.Facts.Spans.{span_length}
 use Rattle.cx_storage.specs.Facts.Writes.{span_after_write}
-use Rattle.cx_storage.specs.Storage.{Storage, IsSound, span, after_write}
+use Rattle.cx_storage.specs.Storage.{Storage, IsSoundStorage, span, after_write}
 use Rattle.cx_storage.specs.Word.{word_at, halfword_at}
 use Rattle.byteorder.specs.Endian.{big_number}
 
@@ -47,7 +47,7 @@ halfword_fits [] e all = absurd (omega arith)
 halfword_fits (b0 ∷ []) e all = absurd (omega arith)
 halfword_fits (b0 ∷ b1 ∷ b2 ∷ bs) e all = absurd (omega arith)
 
-pub word_small : (s : Storage) (a v : ℕ) → IsSound s → word_at s a ≡ Some v → v < 2 ^ 32
+pub word_small : (s : Storage) (a v : ℕ) → IsSoundStorage s → word_at s a ≡ Some v → v < 2 ^ 32
 unfolding word_at
 word_small s a v ok e = go (span s a 4) (λ bytes f. word_fits bytes (span_length s a 4 bytes f) (span_small s a 4 bytes ok f)) e
   where
@@ -55,7 +55,7 @@ word_small s a v ok e = go (span s a 4) (λ bytes f. word_fits bytes (span_lengt
     go None fits e = cc
     go (Some bytes) fits e = let same : big_number 4 bytes ≡ v = cc in rw (← same) (fits bytes refl)
 
-pub halfword_small : (s : Storage) (a v : ℕ) → IsSound s → halfword_at s a ≡ Some v → v < 2 ^ 16
+pub halfword_small : (s : Storage) (a v : ℕ) → IsSoundStorage s → halfword_at s a ≡ Some v → v < 2 ^ 16
 unfolding halfword_at
 halfword_small s a v ok e = go (span s a 2) (λ bytes f. halfword_fits bytes (span_length s a 2 bytes f) (span_small s a 2 bytes ok f)) e
   where

@@ -5,22 +5,22 @@ use Rattle.std.proofs.lemmas.Option.{slice_get-get_or, none-some}
 use Rattle.std.specs.List.{AllByRecursion}
 use Rattle.std.specs.Option.{option_map_or}
 use Rattle.std.specs.Prelude.{◌≡◌, ℕ, zero, suc, ◌-◌, ◌<◌, ◌≤◌, Bool, true, false, List, ◌∷◌, length, Option, Some, None, is_some, ◌^◌, []}
-use Rattle.cx_storage.specs.Facts.Sound.{covers_cases, IsSound-head, IsSound-tail, sound_with_byte}
+use Rattle.cx_storage.specs.Facts.Sound.{covers_cases, IsSoundStorage-head, IsSoundStorage-tail, sound_with_byte}
 use Rattle.cx_storage.specs.Facts.Writes.{written_whole, written_none, byte_after_bytes, holder_after_set}
-use Rattle.cx_storage.specs.Storage.{Storage, byte_at, holder, IsSound, span, with_byte, with_bytes, after_write}
+use Rattle.cx_storage.specs.Storage.{Storage, byte_at, holder, IsSoundStorage, span, with_byte, with_bytes, after_write}
 use Rattle.cx_storage.specs.Address.{address_after, distance}
 use Rattle.cx_storage.specs.declared.areas.Area.{Area}
 
 -- a write where no area covers the address
-pub with_byte_absent : (s : Storage) (a v : ℕ) → IsSound s → byte_at s a ≡ None → with_byte s a v ≡ s
+pub with_byte_absent : (s : Storage) (a v : ℕ) → IsSoundStorage s → byte_at s a ≡ None → with_byte s a v ≡ s
 unfolding with_byte byte_at
 with_byte_absent [] a v ok e = refl
 with_byte_absent (h ∷ hs) a v ok e = elim (covers_cases h.area a) [
   | inl c ↦
       let gone = rw c.0 at e in
-      let some = slice_get-get_or h.bytes (a - h.area.start) 0 (omega (arith, (IsSound-head h hs ok).full, c.1, c.2)) in
+      let some = slice_get-get_or h.bytes (a - h.area.start) 0 (omega (arith, (IsSoundStorage-head h hs ok).full, c.1, c.2)) in
       absurd (none-some _ (sym gone ∙ some))
-  | inr c ↦ let gone = rw c.0 at e in rw (c.0, with_byte_absent hs a v (IsSound-tail h hs ok) gone) refl
+  | inr c ↦ let gone = rw c.0 at e in rw (c.0, with_byte_absent hs a v (IsSoundStorage-tail h hs ok) gone) refl
 ]
 
 -- a span of no bytes, and of one and the rest
@@ -37,12 +37,12 @@ unwrap_absent None d e = refl
 unwrap_absent (Some x) d e = cc
 
 -- bytes written
-pub sound_with_bytes : (s : Storage) (a : ℕ) (bytes : List ℕ) → IsSound s → AllByRecursion (λ b. b < 256) bytes → IsSound (with_bytes s a bytes)
+pub sound_with_bytes : (s : Storage) (a : ℕ) (bytes : List ℕ) → IsSoundStorage s → AllByRecursion (λ b. b < 256) bytes → IsSoundStorage (with_bytes s a bytes)
 unfolding with_bytes
 sound_with_bytes s a [] ok small = ok
 sound_with_bytes s a (b ∷ bs) ok small = sound_with_bytes (with_byte s a b) (address_after a 1) bs (sound_with_byte s a b ok small.0) small.1
 
-pub sound_written : (s : Storage) (a : ℕ) (bytes : List ℕ) → IsSound s → AllByRecursion (λ b. b < 256) bytes → IsSound (after_write s a bytes)
+pub sound_written : (s : Storage) (a : ℕ) (bytes : List ℕ) → IsSoundStorage s → AllByRecursion (λ b. b < 256) bytes → IsSoundStorage (after_write s a bytes)
 unfolding after_write
 sound_written s a bytes ok small = elim (cases_Bool (is_some (span s a (length bytes)))) [
   | inl e ↦ rw e (sound_with_bytes s a bytes ok small)

@@ -121,5 +121,5 @@ AreOrdered [] = ⊤
 AreOrdered (h ∷ hs) = AllByRecursion (λ later. end_of h.area ≤ later.area.start) hs × AreOrdered hs
 
 -- what every store keeps
-unfoldable pub IsSound : Storage → Type 0
-IsSound s = AllByRecursion IsWhole s × AreOrdered s
+unfoldable pub IsSoundStorage : Storage → Type 0
+IsSoundStorage s = AllByRecursion IsWhole s × AreOrdered s

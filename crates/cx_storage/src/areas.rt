@@ -5,16 +5,16 @@
 pub enum Kind {
     /// The common work area, or a program.
     Fixed,
-    /// Got by a task's own request.
+    /// An area of a task that a command got for its program: by GETMAIN, or by READQ TS with SET.
     Got,
-    /// All other areas of a task.
+    /// All other areas of a task: its EIB, the DFHEISTG of each level, and copies of a COMMAREA.
     System,
 }
 
 /// Who owns an area.
 #[derive(Clone, Copy, Debug, PartialEq, Eq)]
 pub struct Owner {
-    /// 0 for the region, else the position of the terminal, counted from 1.
+    /// 0 for the region, else the position of the terminal whose task owns it, counted from 1.
     pub slot: u8,
     /// What the area is for.
     pub kind: Kind,

@@ -1,11 +1,11 @@
 //! `FlatStore`: a list of areas, each with a list of its bytes.
 
 ghost use Rattle.std.specs.Prelude.{◌≡◌, ℕ, ◌+◌, ◌-◌, ◌^◌, ◌<◌, ◌≤◌, [], length, vec_len, slice_get, slice_range, MatchOption, IfSome, OnSome, IsSome, IfOk, OnOk, OnErr, is_some};
-ghost use Rattle.cx_storage.specs.Storage.{byte_at, area_at, next_area, span, with_byte, put_held, with_area, with_areas_kept, starts_elsewhere, is_of_other_slot, IsTogether, IsSound};
+ghost use Rattle.cx_storage.specs.Storage.{byte_at, area_at, next_area, span, with_byte, put_held, with_area, with_areas_kept, starts_elsewhere, is_of_other_slot, IsTogether, IsSoundStorage};
 ghost use Rattle.cx_storage.specs.Place.{IsLeastPlace};
 ghost use Rattle.cx_storage.specs.Aligned.{AreAligned};
 ghost use Rattle.cx_storage.specs.Facts.Aligned.{AreAligned-prop};
-ghost use Rattle.cx_storage.specs.Facts.Sound.{IsSound-prop};
+ghost use Rattle.cx_storage.specs.Facts.Sound.{IsSoundStorage-prop};
 ghost use Rattle.cx_storage.specs.Parts.Flat.{walk, spot};
 
 use crate::areas::{Area, Owner};
@@ -97,7 +97,7 @@ fn byte_in(blocks: &Vec<StorageBlock>, a: u32) -> Option<u8>
 
 /// The bytes of a span, where one area has all of them.
 fn slice_in(blocks: &Vec<StorageBlock>, a: u32, n: usize) -> Option<&[u8]>
-    requires sound { IsSound blocks.now.items }
+    requires sound { IsSoundStorage blocks.now.items }
     requires size { n ≤ 65536 }
     ensures bytes { IfSome result (λ part. span blocks.now.items a n ≡ Some part.now) }
     ensures no_wrap { OnSome result (a + n ≤ 2 ^ 24) }
@@ -142,10 +142,10 @@ fn next_in(blocks: &Vec<StorageBlock>, from: u32) -> Option<Area>
 /// Writes a byte where an area has the address.
 #[tactic(auto, using(crate::proofs::Walks::byte_skip, crate::proofs::Walks::byte_end))]
 fn set_in(blocks: &mut Vec<StorageBlock>, a: u32, value: u8) -> bool
-    requires { IsSound blocks.old.items }
+    requires { IsSoundStorage blocks.old.items }
     ensures present { result ≡ is_some (byte_at blocks.old.items a) }
     ensures after { blocks.new.items ≡ with_byte blocks.old.items a value }
-    ensures sound { IsSound blocks.new.items }
+    ensures sound { IsSoundStorage blocks.new.items }
 {
     for i in 0..blocks.len() {
         if blocks[i].covers(a) {
@@ -179,7 +179,7 @@ fn walk_from(blocks: &Vec<StorageBlock>, start: u64, len: u64) -> u64
 /// The least place in a range.
 #[tactic(auto, using(crate::proofs::Walks::place_found, crate::proofs::Walks::place_none))]
 fn place_in(blocks: &Vec<StorageBlock>, first: u32, last: u32, len: u32) -> Option<u32>
-    requires sound { IsSound blocks.now.items }
+    requires sound { IsSoundStorage blocks.now.items }
     requires len { 0 < len }
     ensures { IsLeastPlace blocks.now.items first last len result }
 {
@@ -225,14 +225,14 @@ fn get_in(
     len: u32,
     owner: Owner,
 ) -> Result<Option<u32>, AllocError>
-    requires sound { IsSound blocks.old.items }
+    requires sound { IsSoundStorage blocks.old.items }
     requires last { last < 2 ^ 24 }
     requires len { 0 < len }
     ensures placed { IfOk result (IsLeastPlace blocks.old.items first last len) }
     ensures after { IfOk result (λ start. blocks.new.items ≡ with_area blocks.old.items start len owner) }
     ensures no_place { IsLeastPlace blocks.old.items first last len None → result ≡ Ok None }
     ensures err { OnErr result (blocks.new.items ≡ blocks.old.items) }
-    ensures sound { IsSound blocks.new.items }
+    ensures sound { IsSoundStorage blocks.new.items }
 {
     let Some(start) = place_in(blocks, first, last, len) else {
         return Ok(None);
@@ -245,18 +245,18 @@ fn get_in(
 
 /// Drops the area that starts at an address.
 fn drop_at(blocks: &mut Vec<StorageBlock>, start: u32)
-    requires { IsSound blocks.old.items }
+    requires { IsSoundStorage blocks.old.items }
     ensures after { blocks.new.items ≡ with_areas_kept (starts_elsewhere start) blocks.old.items }
-    ensures sound { IsSound blocks.new.items }
+    ensures sound { IsSoundStorage blocks.new.items }
 {
     blocks.retain(|block| block.area().start != start);
 }
 
 /// Drops the areas of a slot.
 fn drop_slot(blocks: &mut Vec<StorageBlock>, slot: u8)
-    requires { IsSound blocks.old.items }
+    requires { IsSoundStorage blocks.old.items }
     ensures after { blocks.new.items ≡ with_areas_kept (is_of_other_slot slot) blocks.old.items }
-    ensures sound { IsSound blocks.new.items }
+    ensures sound { IsSoundStorage blocks.new.items }
 {
     blocks.retain(|block| block.area().owner.slot != slot);
 }
@@ -266,7 +266,7 @@ fn drop_slot(blocks: &mut Vec<StorageBlock>, slot: u8)
 pub struct FlatStore {
     blocks: Vec<StorageBlock>,
     alloc: Global,
-    ghost ordered: { IsSound blocks.items } by { IsSound-prop blocks.items },
+    ghost ordered: { IsSoundStorage blocks.items } by { IsSoundStorage-prop blocks.items },
     ghost at_multiples: { AreAligned blocks.items } by { AreAligned-prop blocks.items },
 }
 

@@ -6,14 +6,14 @@ ghost use Rattle.cx_storage.specs.Laws.Writes.{ByteAfterSet, ByteAfterWrite, Not
 ghost use Rattle.cx_storage.specs.Laws.Places.{PlaceIsFree, PlaceDecides};
 ghost use Rattle.cx_storage.specs.Laws.Sound.{SoundKept};
 ghost use Rattle.cx_storage.specs.Laws.Words.{WordAfterWrite};
-ghost use Rattle.cx_storage.specs.Storage.{IsSound};
+ghost use Rattle.cx_storage.specs.Storage.{IsSoundStorage};
 ghost use Rattle.cx_storage.specs.Aligned.{AreAligned};
 
 use crate::stores::Store;
 
 /// Every store is sound: its areas don't meet, are below 2^24 and have their bytes.
 pub fn store_is_sound<S: Store>(_store: &S)
-    ensures { IsSound (S.storage _store.now) }
+    ensures { IsSoundStorage (S.storage _store.now) }
 {}
 
 /// Every area of a store starts at a multiple of 16.
@@ -26,7 +26,7 @@ pub fn areas_apart()
     ensures { AreasApart }
 {}
 
-/// A byte is present exactly in an area, and is below 256.
+/// A byte is present exactly where an area has its address, and is below 256.
 pub fn present_in_areas()
     ensures { PresentInAreas }
 {}
@@ -114,7 +114,7 @@ pub fn sound_kept()
     ensures { SoundKept }
 {}
 
-/// A word written reads as it is, its first byte the highest.
+/// A word that was written is read back from its place: its first byte is the highest.
 pub fn word_after_write()
     ensures { WordAfterWrite }
 {}

@@ -12,7 +12,7 @@ use std::alloc::AllocError;
 /// list of areas is this product's own: a byte is present exactly where an area has its address, no two
 /// areas meet, and each has an owner. No call except `get_area` takes memory.
 pub trait Store {
-    ghost use Rattle.cx_storage.specs.Storage.{Storage, byte_at, span, with_byte, after_write, area_at, next_area, with_area, with_areas_kept, starts_elsewhere, is_of_other_slot, IsTogether, IsSound};
+    ghost use Rattle.cx_storage.specs.Storage.{Storage, byte_at, span, with_byte, after_write, area_at, next_area, with_area, with_areas_kept, starts_elsewhere, is_of_other_slot, IsTogether, IsSoundStorage};
     ghost use Rattle.cx_storage.specs.Place.{IsLeastPlace};
     ghost use Rattle.cx_storage.specs.Aligned.{AreAligned};
 
@@ -120,8 +120,8 @@ pub trait Store {
         true
     }
 
-    /// The `n` bytes (at most 65,536) from `a` (below 2^24) on, where they are at hand. It may be None with all bytes present:
-    /// then `slice` or `read` has them.
+    /// The `n` bytes (at most 65,536) from `a` (below 2^24) on, where the store can lend them at once. It may be None
+    /// with all bytes present: then `slice` or `read` has them.
     fn slice_fast(&self, a: u32, n: usize) -> Option<&[u8]>
         requires address { a < 2 ^ 24 }
         requires size { n ≤ 65536 }
@@ -130,8 +130,8 @@ pub trait Store {
         self.slice(a, n)
     }
 
-    /// Writes the bytes (at most 65,536) from `a` (below 2^24) on, where all of them are at hand. False, and no
-    /// change, elsewhere, even with all addresses in areas: then `write` writes them.
+    /// Writes the bytes (at most 65,536) from `a` (below 2^24) on, where the store can write all of them at once.
+    /// False, and no change, elsewhere, even with all addresses in areas: then `write` writes them.
     fn write_fast(&mut self, a: u32, bytes: &[u8]) -> bool
         requires address { a < 2 ^ 24 }
         requires size { length bytes.now ≤ 65536 }
@@ -143,8 +143,8 @@ pub trait Store {
         false
     }
 
-    /// Writes a byte `n` times (at most 65,536) from `a` (below 2^24) on, where all of the addresses are at hand. False,
-    /// and no change, elsewhere, even with all of them in areas: then `write` writes the bytes.
+    /// Writes a byte `n` times (at most 65,536) from `a` (below 2^24) on, where the store can write all of them at
+    /// once. False, and no change, elsewhere, even with all of them in areas: then `write` writes the bytes.
     fn fill_fast(&mut self, a: u32, n: usize, value: u8) -> bool
         requires address { a < 2 ^ 24 }
         requires size { n ≤ 65536 }
@@ -197,15 +197,15 @@ pub trait Store {
         ensures found { result ≡ is_some (area_at (storage self.old) start) }
         ensures after { storage self.new ≡ with_areas_kept (starts_elsewhere start) (storage self.old) };
 
-    /// Frees all areas of a slot's owners, with their bytes.
+    /// Frees all areas whose owner has this slot, with their bytes.
     fn free_slot(&mut self, slot: u8)
         ensures { storage self.new ≡ with_areas_kept (is_of_other_slot slot) (storage self.old) };
 
-    /// An empty store of the same kind, which takes its memory where this one does. It takes none itself.
+    /// An empty store of the same kind, which takes its memory where this one does. The call takes none.
     fn emptied(&self) -> Self
         ensures { storage result ≡ [] };
 
-    ghost sound: { (s : Self) → IsSound (storage s) };
+    ghost sound: { (s : Self) → IsSoundStorage (storage s) };
 
     ghost aligned: { (s : Self) → AreAligned (storage s) };
 }

@@ -4,9 +4,9 @@ use Rattle.std.proofs.lemmas.Bool.{cases_Bool, cases_eq, eq-eqb, ne_eqb, le-ltb,
 use Rattle.std.proofs.lemmas.Option.{slice_get_read}
 use Rattle.std.proofs.lemmas.List.{at_drop_more, drop_all}
 use Rattle.std.specs.List.{AllByRecursion, filter, insert, list_any, remove}
-use Rattle.cx_storage.specs.Storage.{Held, Storage, end_of, covers, byte_at, area_at, areas_of, area_from, zeros, put_held, with_area, with_areas_kept, with_byte, starts_elsewhere, IsWhole, IsSound}
+use Rattle.cx_storage.specs.Storage.{Held, Storage, end_of, covers, byte_at, area_at, areas_of, area_from, zeros, put_held, with_area, with_areas_kept, with_byte, starts_elsewhere, IsWhole, IsSoundStorage}
 use Rattle.cx_storage.specs.Place.{Misses, CanPlace, IsLeastPlace}
-use Rattle.cx_storage.specs.Facts.Sound.{IsSound-head, IsSound-tail, IsSound-apart, covers_cases, All-filter, sound_with_byte, sound_with_area, sound_with_areas_kept}
+use Rattle.cx_storage.specs.Facts.Sound.{IsSoundStorage-head, IsSoundStorage-tail, IsSoundStorage-apart, covers_cases, All-filter, sound_with_byte, sound_with_area, sound_with_areas_kept}
 use Rattle.cx_storage.specs.Facts.Areas.{byte_before, byte_after_get}
 use Rattle.cx_storage.specs.Facts.Writes.{byte_after_set, byte_after_set_elsewhere, areas_after_set}
 use Rattle.cx_storage.specs.declared.areas.Area.{Area}
@@ -14,7 +14,7 @@ use Rattle.cx_storage.specs.declared.areas.Owner.{Owner}
 use Rattle.cx_storage_pages.specs.declared.page.Page.{Page}
 use Rattle.cx_storage_pages.specs.Parts.Change.{is_within, Changes, Sets, Fills, zero_to}
 use Rattle.cx_storage_pages.specs.Pages.{byte_in_pages, held_in, storage_of}
-use Rattle.cx_storage_pages.specs.Parts.Shown.{spot, IsAligned, IsShown}
+use Rattle.cx_storage_pages.specs.Parts.Shown.{areas_before, IsAligned, IsShown}
 use Rattle.cx_storage_pages.proofs.ShownLemmas.{Shows, shows, areas_shown, shown_sound, shown_aligned, shown_byte}
 
 -- a byte set
@@ -89,7 +89,7 @@ get_bytes areas old new first last len a owner shown some can each x =
     ]
 
 -- where a fresh area is in the table
-put_spot : (h : Held) (s : Storage) → AllByRecursion (λ g. g.area.start ≢ h.area.start) s → areas_of (put_held h s) ≡ insert (areas_of s) (spot h.area.start (areas_of s)) h.area
+put_spot : (h : Held) (s : Storage) → AllByRecursion (λ g. g.area.start ≢ h.area.start) s → areas_of (put_held h s) ≡ insert (areas_of s) (areas_before h.area.start (areas_of s)) h.area
 unfolding put_held areas_of
 put_spot h [] other = refl
 put_spot h (g ∷ gs) other = elim (cases_Bool (nat_lt h.area.start g.area.start)) [
@@ -105,9 +105,9 @@ missed_starts (g ∷ gs) a len some whole misses =
     let mine = whole.0.nonempty in
     (λ e. absurd (elim misses.0 [ inl p ↦ omega (arith, p) | inr p ↦ omega (arith, p) ]), missed_starts gs a len some whole.1 misses.1)
 
-get_areas : (s : Storage) (first last len a : ℕ) (owner : Owner) → IsSound s → 0 < len → CanPlace s first last len a
-    → areas_of (with_area s (Some a) len owner) ≡ insert (areas_of s) (spot a (areas_of s)) (area_from a len owner)
-unfolding with_area CanPlace IsSound
+get_areas : (s : Storage) (first last len a : ℕ) (owner : Owner) → IsSoundStorage s → 0 < len → CanPlace s first last len a
+    → areas_of (with_area s (Some a) len owner) ≡ insert (areas_of s) (areas_before a (areas_of s)) (area_from a len owner)
+unfolding with_area CanPlace IsSoundStorage
 get_areas s first last len a owner ok some can = put_spot (zeros a len owner) s (missed_starts s a len some ok.0 can.3)
 
 aligned_insert : (areas : List Area) (i : ℕ) (area : Area) → IsAligned area → AllByRecursion IsAligned areas → AllByRecursion IsAligned (insert areas i area)
@@ -116,14 +116,14 @@ aligned_insert [] (suc i) area here all = (here, tt)
 aligned_insert (b ∷ bs) (suc i) area here all = (all.0, aligned_insert bs i area here all.1)
 
 pub get_shows : (areas : List Area) (old new : List Page) (first last len a : ℕ) (owner : Owner) → IsShown areas old → last < 2 ^ 24 → 0 < len → IsLeastPlace (storage_of areas old) first last len (Some a)
-    → Zeroed a len old new → Shows (with_area (storage_of areas old) (Some a) len owner) (insert areas (spot a areas) (area_from a len owner)) new
+    → Zeroed a len old new → Shows (with_area (storage_of areas old) (Some a) len owner) (insert areas (areas_before a areas) (area_from a len owner)) new
 unfolding IsLeastPlace CanPlace
 get_shows areas old new first last len a owner shown below some placed each =
     let s = storage_of areas old in
     let sound = shown_sound areas old shown in
     let table = rw (areas_shown areas old) at (get_areas s first last len a owner sound some placed.0) in
-    shows (with_area s (Some a) len owner) (insert areas (spot a areas) (area_from a len owner)) new (sound_with_area s first last len (Some a) owner sound below some placed) table
-    (aligned_insert areas (spot a areas) (area_from a len owner) placed.0.0 (shown_aligned areas old shown)) (get_bytes areas old new first last len a owner shown some placed.0 each)
+    shows (with_area s (Some a) len owner) (insert areas (areas_before a areas) (area_from a len owner)) new (sound_with_area s first last len (Some a) owner sound below some placed) table
+    (aligned_insert areas (areas_before a areas) (area_from a len owner) placed.0.0 (shown_aligned areas old shown)) (get_bytes areas old new first last len a owner shown some placed.0 each)
 
 -- areas freed: a byte is gone where an area that isn't kept has its address
 goes : (Area → Bool) → Storage → ℕ → Bool
@@ -140,16 +140,16 @@ goes_after keeps (h ∷ hs) e x apart below = elim (covers_cases h.area x) [
   ]
 ]
 
-free_byte : (s : Storage) (keeps : Area → Bool) (x : ℕ) → IsSound s → byte_at (with_areas_kept keeps s) x ≡ (if goes keeps s x then None else byte_at s x)
+free_byte : (s : Storage) (keeps : Area → Bool) (x : ℕ) → IsSoundStorage s → byte_at (with_areas_kept keeps s) x ≡ (if goes keeps s x then None else byte_at s x)
 unfolding goes byte_at with_areas_kept
 free_byte [] keeps x ok = refl
 free_byte (h ∷ hs) keeps x ok =
-    let rest = free_byte hs keeps x (IsSound-tail h hs ok) in
+    let rest = free_byte hs keeps x (IsSoundStorage-tail h hs ok) in
     elim (covers_cases h.area x) [
       | inl c ↦ elim (cases_Bool (keeps h.area)) [
-        | inl k ↦ rw (k, c.0, goes_after keeps hs (end_of h.area) x (IsSound-apart h hs ok) c.2) refl
+        | inl k ↦ rw (k, c.0, goes_after keeps hs (end_of h.area) x (IsSoundStorage-apart h hs ok) c.2) refl
         | inr k ↦
-            let apart = All-filter (λ later. end_of h.area ≤ later.area.start) (λ g. keeps g.area) hs (IsSound-apart h hs ok) in
+            let apart = All-filter (λ later. end_of h.area ≤ later.area.start) (λ g. keeps g.area) hs (IsSoundStorage-apart h hs ok) in
             rw (k, c.0) (byte_before (filter (λ g. keeps g.area) hs) (end_of h.area) x apart c.2)
       ]
       | inr c ↦ elim (cases_Bool (keeps h.area)) [
@@ -202,7 +202,7 @@ tail_after (h ∷ hs) e x aligned apart within = elim (covers_cases h.area x) [
   | inr c ↦ rw c.0 (tail_after hs e x aligned.1 apart.1 within)
 ]
 
-granule_after : (areas : List Area) (pages : List Page) (i x : ℕ) (area : Area) → IsSound (storage_of areas pages) → AlignedHeld (storage_of areas pages) → slice_get areas i ≡ Some area
+granule_after : (areas : List Area) (pages : List Page) (i x : ℕ) (area : Area) → IsSoundStorage (storage_of areas pages) → AlignedHeld (storage_of areas pages) → slice_get areas i ≡ Some area
     → end_of area ≤ x → x / 16 < (end_of area + 15) / 16 → byte_at (storage_of areas pages) x ≡ None
 unfolding byte_at storage_of AlignedHeld
 granule_after [] pages i x area ok aligned at past within = cc
@@ -212,13 +212,13 @@ granule_after (b ∷ bs) pages zero x area ok aligned at past within =
     let within' : x / 16 < (end_of b + 15) / 16 = rw same within in
     elim (covers_cases b x) [
       | inl c ↦ absurd (omega (arith, c.2, past'))
-      | inr c ↦ rw c.0 (tail_after (storage_of bs pages) (end_of b) x aligned.1 (IsSound-apart (held_in pages b) (storage_of bs pages) ok) within')
+      | inr c ↦ rw c.0 (tail_after (storage_of bs pages) (end_of b) x aligned.1 (IsSoundStorage-apart (held_in pages b) (storage_of bs pages) ok) within')
     ]
 granule_after (b ∷ bs) pages (suc i) x area ok aligned at past within = elim (covers_cases b x) [
   | inl c ↦
-      let beyond = later_is bs (end_of b) i area (IsSound-apart (held_in pages b) (storage_of bs pages) ok) at in
+      let beyond = later_is bs (end_of b) i area (IsSoundStorage-apart (held_in pages b) (storage_of bs pages) ok) at in
       absurd (omega (arith, c.2, past, beyond))
-  | inr c ↦ rw c.0 (granule_after bs pages i x area (IsSound-tail (held_in pages b) (storage_of bs pages) ok) aligned.1 at past within)
+  | inr c ↦ rw c.0 (granule_after bs pages i x area (IsSoundStorage-tail (held_in pages b) (storage_of bs pages) ok) aligned.1 at past within)
 ]
   where
     later_is : (cs : List Area) (e j : ℕ) (a : Area) → AllByRecursion (λ later. e ≤ later.area.start) (map (held_in pages) cs) → slice_get cs j ≡ Some a → e ≤ a.start
@@ -227,16 +227,16 @@ granule_after (b ∷ bs) pages (suc i) x area ok aligned at past within = elim (
     later_is (d ∷ ds) e (suc j) a all f = later_is ds e j a all.1 f
 
 -- what an area of the table has
-area_fits_in : (area : Area) (bs : List Area) (pages : List Page) (j : ℕ) → IsSound (storage_of bs pages) → AllByRecursion IsAligned bs → slice_get bs j ≡ Some area → (area.start % 16 ≡ 0) × (area.start < end_of area) × (end_of area ≤ 2 ^ 24)
+area_fits_in : (area : Area) (bs : List Area) (pages : List Page) (j : ℕ) → IsSoundStorage (storage_of bs pages) → AllByRecursion IsAligned bs → slice_get bs j ≡ Some area → (area.start % 16 ≡ 0) × (area.start < end_of area) × (end_of area ≤ 2 ^ 24)
 unfolding storage_of
 area_fits_in area [] pages j ok aligned e = cc
 area_fits_in area (b ∷ bs) pages zero ok aligned e =
     let same : b ≡ area = cc in
-    let whole = IsSound-head (held_in pages b) (storage_of bs pages) ok in
+    let whole = IsSoundStorage-head (held_in pages b) (storage_of bs pages) ok in
     let some : 0 < b.len = whole.nonempty in
     let below : end_of b ≤ 2 ^ 24 = whole.below in
     rw (← same) (aligned.0, omega (arith, some), below)
-area_fits_in area (b ∷ bs) pages (suc j) ok aligned e = area_fits_in area bs pages j (IsSound-tail (held_in pages b) (storage_of bs pages) ok) aligned.1 e
+area_fits_in area (b ∷ bs) pages (suc j) ok aligned e = area_fits_in area bs pages j (IsSoundStorage-tail (held_in pages b) (storage_of bs pages) ok) aligned.1 e
 
 pub area_fits : (areas : List Area) (pages : List Page) (i : ℕ) (area : Area) → IsShown areas pages → i < length areas → area ≡ get_or areas i area
     → (area.start % 16 ≡ 0) × (area.start < end_of area) × (end_of area ≤ 2 ^ 24)
@@ -274,20 +274,20 @@ later_in [] ps f j a all d = cc
 later_in (d ∷ ds) ps f zero a all k = let same : d ≡ a = cc in rw (← same) all.0
 later_in (d ∷ ds) ps f (suc j) a all k = later_in ds ps f j a all.1 k
 
-pub one_goes : (areas : List Area) (pages : List Page) (i start x : ℕ) (area : Area) → IsSound (storage_of areas pages) → slice_get areas i ≡ Some area → area.start ≡ start
+pub one_goes : (areas : List Area) (pages : List Page) (i start x : ℕ) (area : Area) → IsSoundStorage (storage_of areas pages) → slice_get areas i ≡ Some area → area.start ≡ start
     → goes_in (starts_elsewhere start) areas x ≡ covers area x
 unfolding goes_in storage_of
 one_goes [] pages i start x area ok at e = cc
 one_goes (b ∷ bs) pages zero start x area ok at e =
     let same : b ≡ area = cc in
     let here : b.start ≡ start = rw same e in
-    let some : 0 < b.len = (IsSound-head (held_in pages b) (storage_of bs pages) ok).nonempty in
-    let rest = goes_past bs pages start (end_of b) x (IsSound-apart (held_in pages b) (storage_of bs pages) ok) (omega (arith, here, some)) in
+    let some : 0 < b.len = (IsSoundStorage-head (held_in pages b) (storage_of bs pages) ok).nonempty in
+    let rest = goes_past bs pages start (end_of b) x (IsSoundStorage-apart (held_in pages b) (storage_of bs pages) ok) (omega (arith, here, some)) in
     rw (← same, eq-eqb b.start start here, rest) (elim (cases_Bool (covers b x)) [ inl k ↦ rw k refl | inr k ↦ rw k refl ])
 one_goes (b ∷ bs) pages (suc i) start x area ok at e =
-    let some : 0 < b.len = (IsSound-head (held_in pages b) (storage_of bs pages) ok).nonempty in
-    let beyond = later_in bs pages (end_of b) i area (IsSound-apart (held_in pages b) (storage_of bs pages) ok) at in
-    rw (ne_eqb b.start start (λ d. absurd (omega (arith, beyond, some, e)))) (one_goes bs pages i start x area (IsSound-tail (held_in pages b) (storage_of bs pages) ok) at e)
+    let some : 0 < b.len = (IsSoundStorage-head (held_in pages b) (storage_of bs pages) ok).nonempty in
+    let beyond = later_in bs pages (end_of b) i area (IsSoundStorage-apart (held_in pages b) (storage_of bs pages) ok) at in
+    rw (ne_eqb b.start start (λ d. absurd (omega (arith, beyond, some, e)))) (one_goes bs pages i start x area (IsSoundStorage-tail (held_in pages b) (storage_of bs pages) ok) at e)
 
 pub none_freed : (s : Storage) (start : ℕ) → area_at s start ≡ None → with_areas_kept (starts_elsewhere start) s ≡ s
 unfolding area_at with_areas_kept
@@ -333,7 +333,7 @@ same_shows areas old new shown each =
 
 -- a fresh area, in pages that were made for it and show the same until then
 pub made_shows : (areas after : List Area) (old made new : List Page) (i first last len a : ℕ) (owner : Owner) → IsShown areas old → last < 2 ^ 24 → 0 < len → IsLeastPlace (storage_of areas old) first last len (Some a)
-    → i ≡ spot a areas → after ≡ insert areas i (area_from a len owner) → ((x : ℕ) → byte_in_pages made x ≡ byte_in_pages old x) → Zeroed a len made new → Shows (with_area (storage_of areas old) (Some a) len owner) after new
+    → i ≡ areas_before a areas → after ≡ insert areas i (area_from a len owner) → ((x : ℕ) → byte_in_pages made x ≡ byte_in_pages old x) → Zeroed a len made new → Shows (with_area (storage_of areas old) (Some a) len owner) after new
 made_shows areas after old made new i first last len a owner shown below some placed at put same each =
     let now = same_shows areas old made shown same in
     let least : IsLeastPlace (storage_of areas made) first last len (Some a) = rw now.is placed in
@@ -354,19 +354,19 @@ unfolding storage_of
 kept_past [] pages start e apart below = refl
 kept_past (b ∷ bs) pages start e apart below = rw (ne_eqb b.start start (λ d. absurd (omega (arith, apart.0)))) (ap (λ rest. b ∷ rest) (kept_past bs pages start e apart.1 below))
 
-taken_out : (areas : List Area) (pages : List Page) (i start : ℕ) (area : Area) → IsSound (storage_of areas pages) → slice_get areas i ≡ Some area → area.start ≡ start
+taken_out : (areas : List Area) (pages : List Page) (i start : ℕ) (area : Area) → IsSoundStorage (storage_of areas pages) → slice_get areas i ≡ Some area → area.start ≡ start
     → remove areas i ≡ filter (starts_elsewhere start) areas
 unfolding storage_of
 taken_out [] pages i start area ok at e = cc
 taken_out (b ∷ bs) pages zero start area ok at e =
     let same : b ≡ area = cc in
     let here : b.start ≡ start = rw same e in
-    let some : 0 < b.len = (IsSound-head (held_in pages b) (storage_of bs pages) ok).nonempty in
-    rw (eq-eqb b.start start here) (sym (kept_past bs pages start (end_of b) (IsSound-apart (held_in pages b) (storage_of bs pages) ok) (omega (arith, here, some))))
+    let some : 0 < b.len = (IsSoundStorage-head (held_in pages b) (storage_of bs pages) ok).nonempty in
+    rw (eq-eqb b.start start here) (sym (kept_past bs pages start (end_of b) (IsSoundStorage-apart (held_in pages b) (storage_of bs pages) ok) (omega (arith, here, some))))
 taken_out (b ∷ bs) pages (suc i) start area ok at e =
-    let some : 0 < b.len = (IsSound-head (held_in pages b) (storage_of bs pages) ok).nonempty in
-    let beyond = later_in bs pages (end_of b) i area (IsSound-apart (held_in pages b) (storage_of bs pages) ok) at in
-    rw (ne_eqb b.start start (λ d. absurd (omega (arith, beyond, some, e)))) (ap (λ rest. b ∷ rest) (taken_out bs pages i start area (IsSound-tail (held_in pages b) (storage_of bs pages) ok) at e))
+    let some : 0 < b.len = (IsSoundStorage-head (held_in pages b) (storage_of bs pages) ok).nonempty in
+    let beyond = later_in bs pages (end_of b) i area (IsSoundStorage-apart (held_in pages b) (storage_of bs pages) ok) at in
+    rw (ne_eqb b.start start (λ d. absurd (omega (arith, beyond, some, e)))) (ap (λ rest. b ∷ rest) (taken_out bs pages i start area (IsSoundStorage-tail (held_in pages b) (storage_of bs pages) ok) at e))
 
 pub removed : (areas : List Area) (pages : List Page) (i start : ℕ) (area : Area) → IsShown areas pages → i < length areas → area ≡ get_or areas i area → area.start ≡ start
     → remove areas i ≡ filter (starts_elsewhere start) areas

@@ -4,10 +4,10 @@ use Rattle.std.proofs.lemmas.Bool.{cases_lt}
 use Rattle.std.specs.Prelude.{OnErr, Result, Ok, Err}
 use Rattle.std.proofs.lemmas.Option.{slice_get-get_or, none-some}
 use Rattle.std.specs.List.{AllByRecursion}
-use Rattle.cx_storage.specs.Storage.{Storage, byte_at, IsSound}
+use Rattle.cx_storage.specs.Storage.{Storage, byte_at, IsSoundStorage}
 use Rattle.cx_storage.specs.Place.{CanPlace, IsLeastPlace}
 use Rattle.cx_storage.specs.Laws.Places.{PlaceIsFree}
-use Rattle.cx_storage.specs.Facts.Sound.{IsSound-head, IsSound-tail, covers_cases}
+use Rattle.cx_storage.specs.Facts.Sound.{IsSoundStorage-head, IsSoundStorage-tail, covers_cases}
 use Rattle.cx_storage.specs.declared.areas.Area.{Area}
 use Rattle.cx_storage_pages.specs.declared.page.Page.{Page}
 use Rattle.cx_storage_pages.specs.Parts.Frame.{Skips}
@@ -16,13 +16,13 @@ use Rattle.cx_storage_pages.specs.Parts.Shown.{IsAligned, IsShown}
 use Rattle.cx_storage_pages.proofs.ShownLemmas.{shown_sound, shown_aligned, shown_byte}
 
 -- a granule whose first byte is absent has none
-front_absent : (areas : List Area) (pages : List Page) (x : ℕ) → IsSound (storage_of areas pages) → AllByRecursion IsAligned areas
+front_absent : (areas : List Area) (pages : List Page) (x : ℕ) → IsSoundStorage (storage_of areas pages) → AllByRecursion IsAligned areas
     → byte_at (storage_of areas pages) (x / 16 * 16) ≡ None → byte_at (storage_of areas pages) x ≡ None
 unfolding byte_at storage_of
 front_absent [] pages x ok aligned gone = refl
 front_absent (b ∷ bs) pages x ok aligned gone = elim (covers_cases b (x / 16 * 16)) [
   | inl c ↦
-      let whole = IsSound-head (held_in pages b) (storage_of bs pages) ok in
+      let whole = IsSoundStorage-head (held_in pages b) (storage_of bs pages) ok in
       let full : length (held_in pages b).bytes ≡ b.len = whole.full in
       let here = rw c.0 at gone in
       absurd (none-some _ (sym here ∙ slice_get-get_or (held_in pages b).bytes (x / 16 * 16 - b.start) 0 (omega (arith, full, c.1, c.2))))
@@ -30,7 +30,7 @@ front_absent (b ∷ bs) pages x ok aligned gone = elim (covers_cases b (x / 16 *
     | inl d ↦
         let even : b.start % 16 ≡ 0 = aligned.0 in
         absurd (elim c.1 [ inl before ↦ omega (arith, before, even, d.1) | inr after ↦ omega (arith, after, d.2) ])
-    | inr d ↦ rw d.0 (front_absent bs pages x (IsSound-tail (held_in pages b) (storage_of bs pages) ok) aligned.1 (rw c.0 at gone))
+    | inr d ↦ rw d.0 (front_absent bs pages x (IsSoundStorage-tail (held_in pages b) (storage_of bs pages) ok) aligned.1 (rw c.0 at gone))
   ]
 ]
 

@@ -1,8 +1,8 @@
 -- What areas and pages show, and what shows a storage.
 use Rattle.std.proofs.Common.{◌≡◌, ℕ, suc, ◌+◌, ◌-◌, ◌<◌, ◌≤◌, refl, sym, ap, ◌∙◌, arith, inl, inr, List, [], ◌∷◌, map, length, slice_get, Some}
 use Rattle.std.specs.List.{AllByRecursion}
-use Rattle.cx_storage.specs.Storage.{Storage, end_of, byte_at, areas_of, IsSound}
-use Rattle.cx_storage.specs.Facts.Sound.{sound_nil, IsSound-head, IsSound-tail, IsSound-apart, covers_cases, covers_from}
+use Rattle.cx_storage.specs.Storage.{Storage, end_of, byte_at, areas_of, IsSoundStorage}
+use Rattle.cx_storage.specs.Facts.Sound.{sound_nil, IsSoundStorage-head, IsSoundStorage-tail, IsSoundStorage-apart, covers_cases, covers_from}
 use Rattle.cx_storage.specs.declared.areas.Area.{Area}
 use Rattle.cx_storage_pages.specs.declared.page.Page.{Page}
 use Rattle.cx_storage_pages.specs.Pages.{byte_in_pages, cells, held_in, storage_of}
@@ -17,17 +17,17 @@ cells_are pages a (b ∷ bs) each =
     rw (first, rest) refl
 
 -- pages that have the bytes of a storage show it
-shows_held : (s : Storage) (e : ℕ) (pages : List Page) → IsSound s → AllByRecursion (λ h. e ≤ h.area.start) s → ((x : ℕ) → e ≤ x → byte_in_pages pages x ≡ byte_at s x)
+shows_held : (s : Storage) (e : ℕ) (pages : List Page) → IsSoundStorage s → AllByRecursion (λ h. e ≤ h.area.start) s → ((x : ℕ) → e ≤ x → byte_in_pages pages x ≡ byte_at s x)
     → storage_of (areas_of s) pages ≡ s
 unfolding storage_of areas_of byte_at
 shows_held [] e pages ok low each = refl
 shows_held (h ∷ hs) e pages ok low each =
-    let whole = IsSound-head h hs ok in
+    let whole = IsSoundStorage-head h hs ok in
     let bytes : cells pages h.area.start (length h.bytes) ≡ h.bytes = cells_are pages h.area.start h.bytes (λ k l.
     let inside = covers_from h.area (h.area.start + k) (omega arith) (omega (arith, whole.full, l)) in
     let back : h.area.start + k - h.area.start ≡ k = omega arith in
     rw (inside, back) at (each (h.area.start + k) (omega (arith, low.0)))) in
-    let rest = shows_held hs (end_of h.area) pages (IsSound-tail h hs ok) (IsSound-apart h hs ok) (λ x past. elim (covers_cases h.area x) [
+    let rest = shows_held hs (end_of h.area) pages (IsSoundStorage-tail h hs ok) (IsSoundStorage-apart h hs ok) (λ x past. elim (covers_cases h.area x) [
       | inl c ↦ absurd (omega (arith, c.2, past))
       | inr c ↦ rw c.0 at (each x (omega (arith, low.0, past)))
     ]) in
@@ -44,7 +44,7 @@ pub record Shows (s : Storage) (areas : List Area) (pages : List Page) : Type 0 
   pub is : storage_of areas pages ≡ s
   pub shown : IsShown areas pages
 
-pub shows : (s : Storage) (areas : List Area) (pages : List Page) → IsSound s → areas_of s ≡ areas → AllByRecursion IsAligned areas → ((x : ℕ) → byte_in_pages pages x ≡ byte_at s x) → Shows s areas pages
+pub shows : (s : Storage) (areas : List Area) (pages : List Page) → IsSoundStorage s → areas_of s ≡ areas → AllByRecursion IsAligned areas → ((x : ℕ) → byte_in_pages pages x ≡ byte_at s x) → Shows s areas pages
 unfolding IsShown
 shows s areas pages ok same aligned each =
     let is : storage_of areas pages ≡ s = rw (← same) (shows_held s 0 pages ok (all_low s) (λ x _. each x)) in
@@ -56,7 +56,7 @@ areas_shown [] pages = refl
 areas_shown (area ∷ areas) pages = ap (λ rest. area ∷ rest) (areas_shown areas pages)
 
 -- what is shown
-pub shown_sound : (areas : List Area) (pages : List Page) → IsShown areas pages → IsSound (storage_of areas pages)
+pub shown_sound : (areas : List Area) (pages : List Page) → IsShown areas pages → IsSoundStorage (storage_of areas pages)
 unfolding IsShown
 shown_sound areas pages shown = shown.0
 

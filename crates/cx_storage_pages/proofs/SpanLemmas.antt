@@ -6,7 +6,7 @@ use Rattle.std.proofs.lemmas.List.{get_or-replicate, length-replicate}
 use Rattle.std.specs.Prelude.{IfSome, OnSome}
 use Rattle.std.specs.List.{AllByRecursion}
 use Rattle.cx_storage.specs.Address.{address_after, distance}
-use Rattle.cx_storage.specs.Storage.{Storage, byte_at, span, with_byte, with_bytes, after_write, IsTogether, IsSound}
+use Rattle.cx_storage.specs.Storage.{Storage, byte_at, span, with_byte, with_bytes, after_write, IsTogether, IsSoundStorage}
 use Rattle.cx_storage.specs.Facts.Sound.{sound_with_byte, byte_beyond}
 use Rattle.cx_storage.specs.Facts.Spans.{span_present, span_has, span_inside, span_from}
 use Rattle.cx_storage.specs.Facts.Areas.{together_present}
@@ -86,7 +86,7 @@ filled_span s a buffer la there each = span_from s a (length buffer) buffer la r
     present_byte (byte_at s (address_after a k)) (span_has s a (length buffer) k la there h) ∙ ap Some (sym (each k h)))
 
 -- a span of one page written at once
-sound_with_bytes : (s : Storage) (a : ℕ) (bytes : List ℕ) → IsSound s → AllByRecursion (λ b. b < 256) bytes → IsSound (with_bytes s a bytes)
+sound_with_bytes : (s : Storage) (a : ℕ) (bytes : List ℕ) → IsSoundStorage s → AllByRecursion (λ b. b < 256) bytes → IsSoundStorage (with_bytes s a bytes)
 unfolding with_bytes
 sound_with_bytes s a [] ok small = ok
 sound_with_bytes s a (b ∷ bs) ok small = sound_with_bytes (with_byte s a b) (address_after a 1) bs (sound_with_byte s a b ok small.0) small.1
@@ -127,7 +127,7 @@ write_bytes areas old new a bytes shown la fits present each x = each x ∙ elim
         go (Some v) f = cc
 
 written_sound : (areas : List Area) (pages : List Page) (a : ℕ) (bytes : List ℕ) → IsShown areas pages → ((k : ℕ) → k < length bytes → slice_index bytes k < 256)
-    → is_some (span (storage_of areas pages) a (length bytes)) ≡ true → IsSound (after_write (storage_of areas pages) a bytes)
+    → is_some (span (storage_of areas pages) a (length bytes)) ≡ true → IsSoundStorage (after_write (storage_of areas pages) a bytes)
 written_sound areas pages a bytes shown small present =
     rw (written_whole (storage_of areas pages) a bytes present) (sound_with_bytes (storage_of areas pages) a bytes (shown_sound areas pages shown) (all_small bytes small))
 

@@ -43,7 +43,7 @@ pub(crate) fn mark_in(pages: &mut Vec<Page>, g: usize, end: usize, to: usize)
     requires order { g < end }
     requires together { (end - 1) / 256 ≡ g / 256 }
     requires low { end ≤ 2 ^ 20 }
-    requires few { to ≤ 16 * end }
+    requires in_granules { to ≤ 16 * end }
     ensures set { Marks (has_page pages.old.items (g / 256)) g end to (byte_in_pages pages.old.items)
         (byte_in_pages pages.new.items) }
     ensures pages { (i : ℕ) → has_page pages.new.items i ≡ has_page pages.old.items i }
@@ -146,7 +146,8 @@ pub(crate) fn write_in(pages: &mut Vec<Page>, a: u32, source: &[u8]) -> bool
     }
 }
 
-/// Writes a byte `n` times from `a` on, where all of the addresses are in one page and present; else it changes nothing.
+/// Writes a byte `n` times from `a` on, where all of the addresses are in one page and present; else it changes
+/// nothing.
 #[inline(always)]
 pub(crate) fn fill_in(pages: &mut Vec<Page>, a: u32, n: usize, value: u8) -> bool
     ensures gap { result ≡ false → (x : ℕ)

@@ -77,7 +77,7 @@ fn fill(counts: &mut [u8; 256], from: usize, to: usize, number: u8)
 fn count(counts: &mut [u8; 256], first: usize, end: usize, to: usize)
     requires order { first ≤ end }
     requires within { end ≤ 256 }
-    requires few { to ≤ 16 * end }
+    requires in_granules { to ≤ 16 * end }
     ensures { Recounts (is_within first end) (λ h. min (to - 16 * h) 255) counts.old counts.new }
 {
     // Most granules have a row of 255 bytes, or none at all.
@@ -184,7 +184,7 @@ impl Frame {
     pub(crate) fn mark(&mut self, first: usize, end: usize, to: usize)
         requires order { first ≤ end }
         requires within { end ≤ 256 }
-        requires few { to ≤ 16 * end }
+        requires in_granules { to ≤ 16 * end }
         ensures { Fills first end (zero_to to) (frame_byte self.old) (frame_byte self.new) }
     {
         self.top = top_after(self.top, first as u16, end as u16, to > 0);
@@ -248,8 +248,8 @@ impl Frame {
         self.has_each(from, to)
     }
 
-    /// Whether there are `n` bytes from the place `from` on, all of them present, where they are few and a row has this granule
-    /// and the next one, which are both on the page then.
+    /// Whether there are `n` bytes from the place `from` on, all of them present, where they are few and a row has this
+    /// granule and the next one, which are both on the page then.
     #[inline(always)]
     fn holds_few(&self, from: usize, n: usize) -> bool
         requires { from < 4096 }
@@ -325,7 +325,8 @@ impl Frame {
         true
     }
 
-    /// Writes a byte `n` times from the place `from` on. False, and no change, where one has no place there or isn't present.
+    /// Writes a byte `n` times from the place `from` on. False, and no change, where one has no place there or isn't
+    /// present.
     #[tactic(auto, unfolding(crate::specs::Pages::frame_byte))]
     #[inline(always)]
     pub(crate) fn fill(&mut self, from: usize, n: usize, value: u8) -> bool

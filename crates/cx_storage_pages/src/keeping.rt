@@ -13,8 +13,8 @@ use std::alloc::AllocError;
 /// The address after the last one.
 const LIMIT: u32 = 0x100_0000;
 
-/// A store that keeps the eight bytes at each of 1,024 addresses, those fetched last, and asks the store below for all else. A
-/// write clears those that it may change; an area that is made or freed clears all.
+/// A store that keeps the eight bytes at each of 1,024 addresses, those fetched last, and asks the store below for all
+/// else. A write clears those that it may change; an area that is made or freed clears all.
 #[derive(Drop)]
 pub struct KeepingStore<S: Store + Drop> {
     store: S,

@@ -69,7 +69,7 @@ impl Page {
     pub(crate) fn mark(&mut self, first: usize, end: usize, to: usize)
         requires order { first ≤ end }
         requires within { end ≤ 256 }
-        requires few { to ≤ 16 * end }
+        requires in_granules { to ≤ 16 * end }
         ensures set { Marks (is_made self.old) first end to (page_byte self.old) (page_byte self.new) }
         ensures same { is_made self.new ≡ is_made self.old }
     {
@@ -139,7 +139,8 @@ impl Page {
         }
     }
 
-    /// Writes a byte `n` times from the place `from` on. False, and no change, where one has no place there or isn't present.
+    /// Writes a byte `n` times from the place `from` on. False, and no change, where one has no place there or isn't
+    /// present.
     #[tactic(auto, unfolding(crate::specs::Pages::page_byte))]
     #[inline(always)]
     pub(crate) fn fill(&mut self, from: usize, n: usize, value: u8) -> bool

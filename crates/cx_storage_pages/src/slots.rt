@@ -55,8 +55,8 @@ pub(crate) fn empty_near(slots: &mut [u32; 1024], a: u32, n: usize)
     empty_part(slots, a.saturating_sub(7) / 2, (a + n + 1) / 2);
 }
 
-/// Whether it is known that none of the bytes that are kept, which are from `first` up to `end`, exclusive, is one of the `n`
-/// from `a` on.
+/// Whether it is known that none of the bytes that are kept, which are from `first` up to `end`, exclusive, is one of
+/// the `n` from `a` on.
 #[inline(always)]
 pub(crate) fn is_aside(slots: &[u32; 1024], first: u32, end: u32, a: u32, n: usize) -> bool
     requires within { AreWithin first end slots.now }
@@ -68,8 +68,8 @@ pub(crate) fn is_aside(slots: &[u32; 1024], first: u32, end: u32, a: u32, n: usi
     n <= 4096 && (end <= a || a as usize + n <= first as usize)
 }
 
-/// Empties the slots whose eight bytes have one of the `n` from `a` on, where all that are kept are from `first` up to `end`,
-/// exclusive.
+/// Empties the slots whose eight bytes have one of the `n` from `a` on, where all that are kept are from `first` up to
+/// `end`, exclusive.
 #[inline(always)]
 pub(crate) fn forget(slots: &mut [u32; 1024], first: u32, end: u32, a: u32, n: usize)
     requires placed { IsPlaced slots.old }

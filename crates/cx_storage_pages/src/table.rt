@@ -2,7 +2,7 @@
 
 ghost use Rattle.std.specs.Prelude.{◌≡◌, ℕ, ◌≤◌, length, nat_lt, vec_len};
 ghost use Rattle.cx_storage.specs.Storage.{area_at, next_area};
-ghost use Rattle.cx_storage_pages.specs.Parts.Shown.{stored, spot, IsShown};
+ghost use Rattle.cx_storage_pages.specs.Parts.Shown.{stored, areas_before, IsShown};
 
 use crate::page::Page;
 use cx_storage::Area;
@@ -10,7 +10,7 @@ use cx_storage::Area;
 /// How many areas start before an address.
 pub(crate) fn spot_of(areas: &Vec<Area>, _pages: &Vec<Page>, start: u32) -> usize
     requires { IsShown areas.now.items _pages.now.items }
-    ensures value { result ≡ spot start areas.now.items }
+    ensures value { result ≡ areas_before start areas.now.items }
     ensures within { result ≤ vec_len areas.now }
 {
     areas.as_slice().partition_point(

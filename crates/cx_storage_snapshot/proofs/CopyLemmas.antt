@@ -9,8 +9,8 @@ use Rattle.std.proofs.lemmas.Bool.{cases_Bool, le-leb, lt-leb, leb-true}
 use Rattle.std.proofs.lemmas.List.{drop_more, take-take, length-take-le, length-drop, get_or-take, get_or-drop, take-append-drop, drop-take}
 use Rattle.std.proofs.lemmas.Option.{slice_get-get_or, same_Some}
 use Rattle.cx_storage.specs.Address.{address_after}
-use Rattle.cx_storage.specs.Storage.{Held, Storage, end_of, byte_at, span, next_area, IsSound}
-use Rattle.cx_storage.specs.Facts.Sound.{IsSound-head, IsSound-tail, IsSound-apart, covers_cases, covers_from}
+use Rattle.cx_storage.specs.Storage.{Held, Storage, end_of, byte_at, span, next_area, IsSoundStorage}
+use Rattle.cx_storage.specs.Facts.Sound.{IsSoundStorage-head, IsSoundStorage-tail, IsSoundStorage-apart, covers_cases, covers_from}
 use Rattle.cx_storage.specs.Facts.Spans.{span_from, span_at, span_length}
 use Rattle.cx_storage.specs.declared.areas.Area.{Area}
 use Rattle.cx_storage_snapshot.specs.Hash.{hash_with_area}
@@ -111,16 +111,16 @@ record IsNextHeld (s : Storage) (from : ℕ) (area : Area) : Type 0 where
   bytes : (k : ℕ) → k < area.len → byte_at s (area.start + k) ≡ slice_get held.bytes k
   rest : areas_from from s ≡ held ∷ areas_from (end_of area) s
 
-next_held : (s : Storage) (from : ℕ) (area : Area) → IsSound s → next_area s from ≡ Some area → IsNextHeld s from area
+next_held : (s : Storage) (from : ℕ) (area : Area) → IsSoundStorage s → next_area s from ≡ Some area → IsNextHeld s from area
 unfolding areas_from next_area byte_at
 next_held [] from area ok e = cc
 next_held (h ∷ hs) from area ok e = elim (cases_Bool (nat_le from h.area.start)) [
   | inl c ↦
       let found = rw c at e in
       let same : h.area ≡ area = cc in
-      let whole = IsSound-head h hs ok in
+      let whole = IsSoundStorage-head h hs ok in
       let past : nat_le (end_of area) h.area.start ≡ false = lt-leb (end_of area) h.area.start (rw (← same) (omega (arith, whole.nonempty))) in
-      let apart : AllByRecursion (λ later. end_of area ≤ later.area.start) hs = rw same at (IsSound-apart h hs ok) in
+      let apart : AllByRecursion (λ later. end_of area ≤ later.area.start) hs = rw same at (IsSoundStorage-apart h hs ok) in
       record {
         held = h;
         same = same;
@@ -134,8 +134,8 @@ next_held (h ∷ hs) from area ok e = elim (cases_Bool (nat_le from h.area.start
         rest = rw (c, past, areas_from_all hs (end_of area) apart) refl;
       }
   | inr c ↦
-      let next = next_held hs from area (IsSound-tail h hs ok) (rw c at e) in
-      let apart = IsSound-apart h hs ok in
+      let next = next_held hs from area (IsSoundStorage-tail h hs ok) (rw c at e) in
+      let apart = IsSoundStorage-apart h hs ok in
       let after = first_after hs from area (end_of h.area) apart (rw c at e) in
       let past : nat_le (end_of area) h.area.start ≡ false = lt-leb (end_of area) h.area.start (omega (arith, after, next.some)) in
       record {
@@ -170,7 +170,7 @@ copy_is s from area copy next is =
     ap (λ area. record { area = area; bytes = copy.bytes }) (is.same ∙ sym next.same) ∙ ap (λ bytes. record { area = next.held.area; bytes = bytes }) bytes
 
 -- one area more is copied
-pub copied_more : (s : Storage) (from : ℕ) (area : Area) (copies : List (Rc Held Global)) (copy : Rc Held Global) → IsSound s → next_area s from ≡ Some area
+pub copied_more : (s : Storage) (from : ℕ) (area : Area) (copies : List (Rc Held Global)) (copy : Rc Held Global) → IsSoundStorage s → next_area s from ≡ Some area
     → IsCopyOf s area copy.value → values copies ++ areas_from from s ≡ s → values (copies ++ copy ∷ []) ++ areas_from (area.start + area.len) s ≡ s
 copied_more s from area copies copy ok e is so =
     let next = next_held s from area ok e in
@@ -182,7 +182,7 @@ copied_more s from area copies copy ok e is so =
     moved [] rest = refl
     moved (c ∷ cs) rest = ap (λ r. c.value ∷ r) (moved cs rest)
 
-pub next_bounds : (s : Storage) (from : ℕ) (area : Area) → IsSound s → next_area s from ≡ Some area → (from ≤ area.start) × (0 < area.len) × (end_of area ≤ 2 ^ 24)
+pub next_bounds : (s : Storage) (from : ℕ) (area : Area) → IsSoundStorage s → next_area s from ≡ Some area → (from ≤ area.start) × (0 < area.len) × (end_of area ≤ 2 ^ 24)
 next_bounds s from area ok e = let next = next_held s from area ok e in (next.low, next.some, next.below)
 
 -- the hash, one copy more

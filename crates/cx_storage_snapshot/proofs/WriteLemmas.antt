@@ -10,8 +10,8 @@ use Rattle.std.proofs.lemmas.Option.{slice_get-get_or}
 use Rattle.cx_storage.specs.Address.{address_after}
 use Rattle.cx_storage.specs.Aligned.{AreAligned}
 use Rattle.cx_storage.specs.Place.{Misses, CanPlace, IsLeastPlace}
-use Rattle.cx_storage.specs.Storage.{Held, Storage, end_of, byte_at, span, put_byte, with_byte, with_bytes, after_write, zeros, put_held, with_area, IsWhole, IsSound}
-use Rattle.cx_storage.specs.Facts.Sound.{sound_nil, IsSound-head, IsSound-tail, IsSound-apart, IsSound-cons, covers_cases, covers_from}
+use Rattle.cx_storage.specs.Storage.{Held, Storage, end_of, byte_at, span, put_byte, with_byte, with_bytes, after_write, zeros, put_held, with_area, IsWhole, IsSoundStorage}
+use Rattle.cx_storage.specs.Facts.Sound.{sound_nil, IsSoundStorage-head, IsSoundStorage-tail, IsSoundStorage-apart, IsSoundStorage-cons, covers_cases, covers_from}
 use Rattle.cx_storage.specs.Facts.Spans.{span_inside}
 use Rattle.cx_storage.specs.Facts.Writes.{written_whole}
 use Rattle.cx_storage.specs.declared.areas.Area.{Area}
@@ -133,17 +133,17 @@ partly_all area bytes k le =
     rw (none, take_all k bytes le) (ap (λ (bs : List ℕ). record { area = area; bytes = bs }) (append-nil bytes))
 
 -- the last of the areas of a sound storage: those before it end before it
-pub ends_before : (s : Storage) (h : Held) → IsSound (s ++ h ∷ []) → EndBefore h.area.start s
+pub ends_before : (s : Storage) (h : Held) → IsSoundStorage (s ++ h ∷ []) → EndBefore h.area.start s
 ends_before [] h ok = tt
-ends_before (g ∷ gs) h ok = (at_last gs (IsSound-apart g (gs ++ h ∷ []) ok), ends_before gs h (IsSound-tail g (gs ++ h ∷ []) ok))
+ends_before (g ∷ gs) h ok = (at_last gs (IsSoundStorage-apart g (gs ++ h ∷ []) ok), ends_before gs h (IsSoundStorage-tail g (gs ++ h ∷ []) ok))
   where
     at_last : (hs : Storage) → AllByRecursion (λ later. end_of g.area ≤ later.area.start) (hs ++ h ∷ []) → end_of g.area ≤ h.area.start
     at_last [] all = all.0
     at_last (x ∷ xs) all = at_last xs all.1
 
-pub last_whole : (s : Storage) (h : Held) → IsSound (s ++ h ∷ []) → IsWhole h
-last_whole [] h ok = IsSound-head h [] ok
-last_whole (g ∷ gs) h ok = last_whole gs h (IsSound-tail g (gs ++ h ∷ []) ok)
+pub last_whole : (s : Storage) (h : Held) → IsSoundStorage (s ++ h ∷ []) → IsWhole h
+last_whole [] h ok = IsSoundStorage-head h [] ok
+last_whole (g ∷ gs) h ok = last_whole gs h (IsSoundStorage-tail g (gs ++ h ∷ []) ok)
 
 -- its place is found, and it is put last
 misses : (s : Storage) (len start : ℕ) → EndBefore start s → AllByRecursion (Misses len start) s
@@ -168,11 +168,11 @@ unfolding with_area
 area_put_last s start len owner place before e = rw e (put_held_last s (zeros start len owner) before)
 
 -- the bounds of the last area
-pub last_bounds : (s : Storage) (copy : Held) (area : Area) → IsSound (s ++ copy ∷ []) → area ≡ copy.area → (0 < area.len) × (area.start + area.len ≤ 2 ^ 24) × (length copy.bytes ≡ area.len)
+pub last_bounds : (s : Storage) (copy : Held) (area : Area) → IsSoundStorage (s ++ copy ∷ []) → area ≡ copy.area → (0 < area.len) × (area.start + area.len ≤ 2 ^ 24) × (length copy.bytes ≡ area.len)
 last_bounds s copy area ok e = let whole = last_whole s copy ok in rw e (whole.nonempty, whole.below, whole.full)
 
 -- an area made and filled is put after the others
-pub area_put : (old got new : Storage) (copy : Held) (area : Area) (bytes : List ℕ) (place : Option ℕ) → IsSound (old ++ copy ∷ []) → area ≡ copy.area → bytes ≡ copy.bytes → copy.area.start % 16 ≡ 0
+pub area_put : (old got new : Storage) (copy : Held) (area : Area) (bytes : List ℕ) (place : Option ℕ) → IsSoundStorage (old ++ copy ∷ []) → area ≡ copy.area → bytes ≡ copy.bytes → copy.area.start % 16 ≡ 0
     → IsLeastPlace old area.start (area.start + area.len - 1) area.len place → got ≡ with_area old place area.len area.owner
     → ((others : Storage) → EndBefore area.start others → got ≡ others ++ partly area bytes 0 ∷ [] → new ≡ others ++ partly area bytes area.len ∷ []) → new ≡ old ++ copy ∷ []
 area_put old got new copy area bytes place ok e f aligned least is filled =
@@ -194,11 +194,11 @@ all_take P zero s all = tt
 all_take P (suc n) [] all = tt
 all_take P (suc n) (h ∷ hs) all = (all.0, all_take P n hs all.1)
 
-pub sound_take : (n : ℕ) (s : Storage) → IsSound s → IsSound (take n s)
+pub sound_take : (n : ℕ) (s : Storage) → IsSoundStorage s → IsSoundStorage (take n s)
 sound_take zero s ok = sound_nil
 sound_take (suc n) [] ok = sound_nil
 sound_take (suc n) (h ∷ hs) ok =
-    IsSound-cons h (take n hs) (IsSound-head h hs ok) (all_take (λ later. end_of h.area ≤ later.area.start) n hs (IsSound-apart h hs ok)) (sound_take n hs (IsSound-tail h hs ok))
+    IsSoundStorage-cons h (take n hs) (IsSoundStorage-head h hs ok) (all_take (λ later. end_of h.area ≤ later.area.start) n hs (IsSoundStorage-apart h hs ok)) (sound_take n hs (IsSoundStorage-tail h hs ok))
 
 -- the copies that come next
 pub front_more : (xs : List (Rc Held Global)) (i : ℕ) (x : Rc Held Global) → i < length xs → x ≡ get_or xs i x → take (i + 1) (values xs) ≡ take i (values xs) ++ x.value ∷ []

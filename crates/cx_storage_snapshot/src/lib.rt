@@ -1,4 +1,5 @@
-//! `StorageSnapshot`: the areas of a store with their bytes, kept apart from it, to be compared and given to a store like it.
+//! `StorageSnapshot`: the areas of a store with their bytes, kept apart from it, to be compared and given to a store
+//! like it.
 #![tactic(auto)]
 
 mod area;

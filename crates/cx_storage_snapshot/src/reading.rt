@@ -12,7 +12,7 @@ use std::rc::Rc;
 /// How many bytes from `at` on lie before the end of their block of 4,096 bytes and before `end`.
 pub(crate) fn piece(at: u32, end: u32) -> usize
     requires { at < end }
-    ensures some { 0 < result }
+    ensures above_0 { 0 < result }
     ensures within { at + result ≤ end }
     ensures together { at % 4096 + result ≤ 4096 }
 {
@@ -24,7 +24,7 @@ fn part_at<'a, S: Store>(store: &'a S, area: Area, at: u32) -> &'a [u8]
     requires there { area_at (S.storage store.now) area.start ≡ Some area }
     requires low { area.start ≤ at }
     requires high { at < end_of area }
-    ensures some { 0 < length result.now }
+    ensures nonempty { 0 < length result.now }
     ensures within { at + length result.now ≤ end_of area }
     ensures bytes { span (S.storage store.now) at (length result.now) ≡ Some result.now }
 {

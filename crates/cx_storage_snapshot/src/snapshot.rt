@@ -22,7 +22,7 @@ pub struct StorageSnapshot {
 }
 
 impl Model for StorageSnapshot {
-    ghost use Rattle.cx_storage.specs.Storage.{Storage, IsSound};
+    ghost use Rattle.cx_storage.specs.Storage.{Storage, IsSoundStorage};
     ghost use Rattle.cx_storage.specs.Aligned.{AreAligned};
 
     ghost Value = { Storage };
@@ -31,7 +31,7 @@ impl Model for StorageSnapshot {
 
     ghost view = { λ snapshot. values snapshot.areas.items };
 
-    ghost invariant = { λ snapshot. IsSound (values snapshot.areas.items) × AreAligned (values snapshot.areas.items) };
+    ghost invariant = { λ snapshot. IsSoundStorage (values snapshot.areas.items) × AreAligned (values snapshot.areas.items) };
 }
 
 /// All areas of a store, each with a copy of its bytes.
@@ -58,8 +58,8 @@ fn copies<S: Store>(
 }
 
 impl StorageSnapshot {
-    /// The storage of a store. What is the same as in an earlier snapshot, `before`, is shared with it, so a snapshot of what is
-    /// like one before takes little memory, and `before` changes nothing else.
+    /// The storage of a store. What is the same as in an earlier snapshot, `before`, is shared with that, so that a
+    /// snapshot of what is like one before takes little memory; `before` has no other effect.
     ///
     /// An error comes only where an allocation failed.
     pub fn take<S: Store>(
@@ -75,7 +75,7 @@ impl StorageSnapshot {
         Ok(StorageSnapshot { areas })
     }
 
-    /// A store of the kind of another with this storage, in memory from where that one takes its own.
+    /// A store of the same kind as `store` that has this storage. It takes its memory where `store` does.
     ///
     /// An error comes only where an allocation failed.
     pub fn store_like<S: Store + Drop>(&self, store: &S) -> Result<S, AllocError>
@@ -86,8 +86,8 @@ impl StorageSnapshot {
         Ok(fresh)
     }
 
-    /// The copy of the area at an address, or of the next one. It has no clause: `copy_of` compares what it is given with the
-    /// area, so that only what is shared depends on it.
+    /// The copy of the area at an address, or of the next one. It has no clause: `copy_of` compares what it is given
+    /// with the area, so that only what is shared depends on it.
     fn at(&self, start: u32) -> Option<&Rc<AreaCopy>> {
         let i = self
             .areas

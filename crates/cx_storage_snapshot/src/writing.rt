@@ -1,6 +1,6 @@
 //! Areas with their bytes, put into a store.
 ghost use Rattle.std.specs.Prelude.{◌≡◌, ◌+◌, ◌%◌, ◌^◌, ◌≤◌, ◌<◌, ◌++◌, [], ◌∷◌, length, OnOk};
-ghost use Rattle.cx_storage.specs.Storage.{Storage, IsSound, end_of};
+ghost use Rattle.cx_storage.specs.Storage.{Storage, IsSoundStorage, end_of};
 ghost use Rattle.cx_storage.specs.Aligned.{AreAligned};
 ghost use Rattle.cx_base.specs.Shared.{values};
 ghost use Rattle.cx_storage_snapshot.specs.Parts.Copies.{EndBefore, partly};
@@ -30,7 +30,7 @@ fn fill<S: Store>(store: &mut S, area: Area, bytes: &[u8])
 
 /// Puts an area with its bytes after those of a store.
 fn put_area<S: Store>(store: &mut S, copy: &AreaCopy) -> Result<(), AllocError>
-    requires sound { IsSound (S.storage store.old ++ copy.now ∷ []) }
+    requires sound { IsSoundStorage (S.storage store.old ++ copy.now ∷ []) }
     requires aligned { copy.now.area.start % 16 ≡ 0 }
     ensures { OnOk result (S.storage store.new ≡ S.storage store.old ++ copy.now ∷ []) }
 {
@@ -44,7 +44,7 @@ fn put_area<S: Store>(store: &mut S, copy: &AreaCopy) -> Result<(), AllocError>
 /// Puts areas with their bytes into an empty store.
 pub(crate) fn put_areas<S: Store>(store: &mut S, copies: &[Rc<AreaCopy>]) -> Result<(), AllocError>
     requires empty { S.storage store.old ≡ [] }
-    requires sound { IsSound (values copies.now) }
+    requires sound { IsSoundStorage (values copies.now) }
     requires aligned { AreAligned (values copies.now) }
     ensures { OnOk result (S.storage store.new ≡ values copies.now) }
 {

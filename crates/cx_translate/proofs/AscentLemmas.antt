@@ -16,7 +16,7 @@ use Rattle.cx_translate.specs.Sections.{name_at, bases, begins_exec, begins_sect
 use Rattle.cx_translate.specs.Translation.{continues_exec, expanded_items, expansion, is_dropped, made_source, statement_faults, translation, translation_of}
 use Rattle.cx_translate.specs.Laws.Ascent.{AscendFrom, number_of, statement_lines}
 use Rattle.cx_translate.specs.Facts.AllFaults.{accepted}
-use Rattle.cx_translate.specs.Facts.Found.{bases_after, continued, eib_before, eib_section, line_of, made_lines, storage_before, storage_after, storage_section}
+use Rattle.cx_translate.specs.Facts.Found.{bases_after, continued, eib_before, eib_section, listed_line, made_lines, storage_before, storage_after, storage_section}
 
 abbrev Ascend : ℕ → List Item → Type 0
 Ascend n items = AscendFrom n (statement_lines items)
@@ -113,7 +113,7 @@ put_before_ascends p n made place items f e w =
     let rest : drop place items ≡ x ∷ drop (place + 1) items = at_drop_more (λ l. l) items place some_item at.0 in
     let whole : items ≡ take place items ++ x ∷ drop (place + 1) items = sym (take-append-drop place items) ∙ ap (λ l. take place items ++ l) rest in
     let done = before_in (take place items) n made x (drop (place + 1) items) (f x at.1) (subst (Ascend n) whole w) in
-    subst (Ascend n) (sym (ap (λ o. take place items ++ lines (line_of o) made ++ drop place items) got ∙ ap (λ l. take place items ++ lines x.line made ++ l) rest)) done
+    subst (Ascend n) (sym (ap (λ o. take place items ++ lines (listed_line o) made ++ drop place items) got ∙ ap (λ l. take place items ++ lines x.line made ++ l) rest)) done
 
 put_after_ascends : (p : Item → Bool) (n : ℕ) (made : List Stmt) (place : ℕ) (items : List Item)
     → ((x : Item) → p x ≡ true → is_some x.stmt ≡ true) → position p items ≡ Some place
@@ -130,7 +130,7 @@ put_after_ascends p n made place items f e w =
     let done = after_in (take place items) n made x (continued (slice_get items place)) tail (f x at.1) (subst (Ascend n) whole w) in
     let front : take (place + 1 + c) items ≡ (take place items ++ x ∷ []) ++ take c tail = take-add (place + 1) c items ∙ ap (λ l. l ++ take c tail) (take_more items place some_item at.0) in
     let back : drop (place + 1 + c) items ≡ drop c tail = sym (drop-drop c (place + 1) items) in
-    let same_place : line_of (slice_get items place) ≡ x.line = ap line_of got in
+    let same_place : listed_line (slice_get items place) ≡ x.line = ap listed_line got in
     subst (Ascend n) (sym (λ i. front i ++ lines (same_place i) made ++ back i)) done
 
 -- ---- the sections

@@ -1,16 +1,18 @@
 -- The conditions that an accepted statement lists are a legal list.
-use Rattle.std.proofs.Common.{◌≡◌, ℕ, Bool, true, false, cond, ◌&&◌, ◌||◌, nat_eq, List, [], ◌∷◌, ◌++◌, Option, Some, None, refl, sym, ◌∙◌}
-use Rattle.std.specs.Prelude.{is_none, is_some, option_map}
+use Rattle.std.proofs.Common.{◌≡◌, ℕ, Bool, true, false, cond, ◌&&◌, ◌||◌, nat_eq, List, [], ◌∷◌, ◌++◌, Option, Some, None, refl, sym, ◌∙◌, ap}
+use Rattle.std.specs.Prelude.{◌==◌, is_none, is_some, option_map}
 use Rattle.std.specs.List.{find, list_all, list_any}
 use Rattle.std.specs.Option.{option_or}
 use Rattle.std.specs.Str.{bytes_eq}
+use Rattle.std.proofs.lemmas.Bool.{eqb-true}
 use Rattle.std.proofs.lemmas.Slice.Eq.{bytes_eq-Decides}
 use Rattle.cx_base.specs.declared.commands.Command.{Command}
 use Rattle.cx_base.specs.declared.conditions.Condition.{Condition}
-use Rattle.cx_base.specs.declared.conditions.Condition.TheVariants.{Normal, Error, Invreq, Nospace, Lengerr, Itemerr, Pgmiderr, Nostg, Qiderr, Enqbusy}
+use Rattle.cx_base.specs.declared.conditions.Condition.TheVariants.{Normal}
 use Rattle.cx_base.specs.declared.options.CommandOption.{CommandOption}
 use Rattle.cx_base.specs.Commands.{row_of}
 use Rattle.cx_base.specs.Conditions.{entry_of, handled_conditions}
+use Rattle.cx_base.specs.Facts.Conditions.{number_finds}
 use Rattle.cx_base.specs.Legal.{is_handle, is_handled_number, is_legal_list, is_listed, lists_conditions, may_list}
 use Rattle.cx_translate.specs.declared.due_arguments.DueArgument.{DueArgument}
 use Rattle.cx_translate.specs.declared.due_arguments.DueArgument.TheVariants.{Nothing, Label}
@@ -22,110 +24,17 @@ use Rattle.cx_translate.specs.Refusals.{fault_in, has_twice, has_wrong, is_given
 use Rattle.cx_translate.specs.Facts.Found.{is_wrong, listed_by}
 use Rattle.cx_translate.specs.Call.{listed_of, text_in}
 use Rattle.cx_translate.proofs.CountLemmas.{all_clear, clear, found}
-use Rattle.cx_translate.proofs.RefusalLemmas.{once, right}
+use Rattle.cx_translate.specs.Facts.Arguments.{right}
+use Rattle.cx_translate.proofs.RefusalLemmas.{once}
 
 -- conditions with one number have one name
 one_name : (a b : Condition) → nat_eq (entry_of a).number (entry_of b).number ≡ true → (entry_of a).name ≡ (entry_of b).name
-one_name Normal Normal e = refl
-one_name Normal Error e = absurd (cc)
-one_name Normal Invreq e = absurd (cc)
-one_name Normal Nospace e = absurd (cc)
-one_name Normal Lengerr e = absurd (cc)
-one_name Normal Itemerr e = absurd (cc)
-one_name Normal Pgmiderr e = absurd (cc)
-one_name Normal Nostg e = absurd (cc)
-one_name Normal Qiderr e = absurd (cc)
-one_name Normal Enqbusy e = absurd (cc)
-one_name Error Normal e = absurd (cc)
-one_name Error Error e = refl
-one_name Error Invreq e = absurd (cc)
-one_name Error Nospace e = absurd (cc)
-one_name Error Lengerr e = absurd (cc)
-one_name Error Itemerr e = absurd (cc)
-one_name Error Pgmiderr e = absurd (cc)
-one_name Error Nostg e = absurd (cc)
-one_name Error Qiderr e = absurd (cc)
-one_name Error Enqbusy e = absurd (cc)
-one_name Invreq Normal e = absurd (cc)
-one_name Invreq Error e = absurd (cc)
-one_name Invreq Invreq e = refl
-one_name Invreq Nospace e = absurd (cc)
-one_name Invreq Lengerr e = absurd (cc)
-one_name Invreq Itemerr e = absurd (cc)
-one_name Invreq Pgmiderr e = absurd (cc)
-one_name Invreq Nostg e = absurd (cc)
-one_name Invreq Qiderr e = absurd (cc)
-one_name Invreq Enqbusy e = absurd (cc)
-one_name Nospace Normal e = absurd (cc)
-one_name Nospace Error e = absurd (cc)
-one_name Nospace Invreq e = absurd (cc)
-one_name Nospace Nospace e = refl
-one_name Nospace Lengerr e = absurd (cc)
-one_name Nospace Itemerr e = absurd (cc)
-one_name Nospace Pgmiderr e = absurd (cc)
-one_name Nospace Nostg e = absurd (cc)
-one_name Nospace Qiderr e = absurd (cc)
-one_name Nospace Enqbusy e = absurd (cc)
-one_name Lengerr Normal e = absurd (cc)
-one_name Lengerr Error e = absurd (cc)
-one_name Lengerr Invreq e = absurd (cc)
-one_name Lengerr Nospace e = absurd (cc)
-one_name Lengerr Lengerr e = refl
-one_name Lengerr Itemerr e = absurd (cc)
-one_name Lengerr Pgmiderr e = absurd (cc)
-one_name Lengerr Nostg e = absurd (cc)
-one_name Lengerr Qiderr e = absurd (cc)
-one_name Lengerr Enqbusy e = absurd (cc)
-one_name Itemerr Normal e = absurd (cc)
-one_name Itemerr Error e = absurd (cc)
-one_name Itemerr Invreq e = absurd (cc)
-one_name Itemerr Nospace e = absurd (cc)
-one_name Itemerr Lengerr e = absurd (cc)
-one_name Itemerr Itemerr e = refl
-one_name Itemerr Pgmiderr e = absurd (cc)
-one_name Itemerr Nostg e = absurd (cc)
-one_name Itemerr Qiderr e = absurd (cc)
-one_name Itemerr Enqbusy e = absurd (cc)
-one_name Pgmiderr Normal e = absurd (cc)
-one_name Pgmiderr Error e = absurd (cc)
-one_name Pgmiderr Invreq e = absurd (cc)
-one_name Pgmiderr Nospace e = absurd (cc)
-one_name Pgmiderr Lengerr e = absurd (cc)
-one_name Pgmiderr Itemerr e = absurd (cc)
-one_name Pgmiderr Pgmiderr e = refl
-one_name Pgmiderr Nostg e = absurd (cc)
-one_name Pgmiderr Qiderr e = absurd (cc)
-one_name Pgmiderr Enqbusy e = absurd (cc)
-one_name Nostg Normal e = absurd (cc)
-one_name Nostg Error e = absurd (cc)
-one_name Nostg Invreq e = absurd (cc)
-one_name Nostg Nospace e = absurd (cc)
-one_name Nostg Lengerr e = absurd (cc)
-one_name Nostg Itemerr e = absurd (cc)
-one_name Nostg Pgmiderr e = absurd (cc)
-one_name Nostg Nostg e = refl
-one_name Nostg Qiderr e = absurd (cc)
-one_name Nostg Enqbusy e = absurd (cc)
-one_name Qiderr Normal e = absurd (cc)
-one_name Qiderr Error e = absurd (cc)
-one_name Qiderr Invreq e = absurd (cc)
-one_name Qiderr Nospace e = absurd (cc)
-one_name Qiderr Lengerr e = absurd (cc)
-one_name Qiderr Itemerr e = absurd (cc)
-one_name Qiderr Pgmiderr e = absurd (cc)
-one_name Qiderr Nostg e = absurd (cc)
-one_name Qiderr Qiderr e = refl
-one_name Qiderr Enqbusy e = absurd (cc)
-one_name Enqbusy Normal e = absurd (cc)
-one_name Enqbusy Error e = absurd (cc)
-one_name Enqbusy Invreq e = absurd (cc)
-one_name Enqbusy Nospace e = absurd (cc)
-one_name Enqbusy Lengerr e = absurd (cc)
-one_name Enqbusy Itemerr e = absurd (cc)
-one_name Enqbusy Pgmiderr e = absurd (cc)
-one_name Enqbusy Nostg e = absurd (cc)
-one_name Enqbusy Qiderr e = absurd (cc)
-one_name Enqbusy Enqbusy e = refl
+one_name a b e =
+    let same : (entry_of a).number ≡ (entry_of b).number = eqb-true (entry_of a).number (entry_of b).number e in
+    let found : Some a ≡ Some b = sym (number_finds a)
+    ∙ ap (λ n. find (λ (c : Condition). (entry_of c).number == n) (Normal ∷ handled_conditions)) same ∙ number_finds b in
+    let one : a ≡ b = cc in
+    ap (λ c. (entry_of c).name) one
 
 -- every condition that can be handled has such a number
 all_handled : list_all (λ condition. is_handled_number (entry_of condition).number) handled_conditions ≡ true

@@ -117,20 +117,14 @@ kept_cut depth part rest true c e = at (eqb_tells depth 0) (eqb_tells depth 1) (
 -- in parentheses nothing is lost
 in_parentheses : (d depth : ℕ) (part rest : List ℕ) (o : Bool) (c : ℕ) → d ≢ 0 → depth ≢ 0
     → front d (part ++ c ∷ []) ++ rest ≡ front depth part ++ unblanked (o && nat_eq depth 0 && nat_eq c 32) c rest
-in_parentheses d depth part rest false c x y = at (eqb_tells d 0) (eqb_tells depth 0)
+in_parentheses d depth part rest o c x y = at o (eqb_tells d 0) (eqb_tells depth 0)
   where
-    at : ((eqb d 0 ≡ true) × (d ≡ 0)) ⊎ ((eqb d 0 ≡ false) × (d ≢ 0)) → ((eqb depth 0 ≡ true) × (depth ≡ 0)) ⊎ ((eqb depth 0 ≡ false) × (depth ≢ 0))
-        → front d (part ++ c ∷ []) ++ rest ≡ front depth part ++ unblanked false c rest
-    at (inl a) _ = absurd (x a.1)
-    at (inr _) (inl b) = absurd (y b.1)
-    at (inr a) (inr b) = simp (a.0, b.0) (ap (λ xs. 40 ∷ xs) (append_assoc part (c ∷ []) rest))
-in_parentheses d depth part rest true c x y = at (eqb_tells d 0) (eqb_tells depth 0)
-  where
-    at : ((eqb d 0 ≡ true) × (d ≡ 0)) ⊎ ((eqb d 0 ≡ false) × (d ≢ 0)) → ((eqb depth 0 ≡ true) × (depth ≡ 0)) ⊎ ((eqb depth 0 ≡ false) × (depth ≢ 0))
-        → front d (part ++ c ∷ []) ++ rest ≡ front depth part ++ unblanked (true && nat_eq depth 0 && nat_eq c 32) c rest
-    at (inl a) _ = absurd (x a.1)
-    at (inr _) (inl b) = absurd (y b.1)
-    at (inr a) (inr b) = simp (a.0, b.0) (ap (λ xs. 40 ∷ xs) (append_assoc part (c ∷ []) rest))
+    at : (o : Bool) → ((eqb d 0 ≡ true) × (d ≡ 0)) ⊎ ((eqb d 0 ≡ false) × (d ≢ 0)) → ((eqb depth 0 ≡ true) × (depth ≡ 0)) ⊎ ((eqb depth 0 ≡ false) × (depth ≢ 0))
+        → front d (part ++ c ∷ []) ++ rest ≡ front depth part ++ unblanked (o && nat_eq depth 0 && nat_eq c 32) c rest
+    at o (inl a) _ = absurd (x a.1)
+    at o (inr _) (inl b) = absurd (y b.1)
+    at false (inr a) (inr b) = simp (a.0, b.0) (ap (λ xs. 40 ∷ xs) (append_assoc part (c ∷ []) rest))
+    at true (inr a) (inr b) = simp (a.0, b.0) (ap (λ xs. 40 ∷ xs) (append_assoc part (c ∷ []) rest))
 
 pub kept_on : (depth : ℕ) (part rest : List ℕ) (o : Bool) (c : ℕ) → is_cut depth o c ≡ false
     → front (depth_after depth o c) (part ++ c ∷ []) ++ rest

@@ -5,7 +5,7 @@ use Rattle.std.specs.List.{filter, list_all, list_any, sum_by}
 use Rattle.std.specs.Option.{option_to_list, option_and}
 use Rattle.std.specs.Str.{bytes_eq}
 use Rattle.std.specs.Int.{bit_at}
-use Rattle.std.proofs.lemmas.Bool.{eqb-true}
+use Rattle.std.proofs.lemmas.Bool.{and_parts, eqb-true}
 use Rattle.std.proofs.lemmas.List.Sums.{sum_by-cons}
 use Rattle.std.proofs.lemmas.Nat.Bits.{bit_at_and, bit_at_or, bit_at-zero, same_from_bits}
 use Rattle.std.proofs.lemmas.Slice.Eq.{bytes_eq-Decides}
@@ -14,24 +14,22 @@ use Rattle.cx_base.specs.declared.commands.Command.TheVariants as command
 use Rattle.cx_base.specs.declared.conditions.Condition.{Condition}
 use Rattle.cx_base.specs.declared.options.CommandOption.{CommandOption}
 use Rattle.cx_base.specs.declared.options.CommonOption.TheVariants.{Nohandle, Resp}
-use Rattle.cx_base.specs.declared.options.ArgumentKind.{ArgumentKind}
 use Rattle.cx_base.specs.declared.options.ArgumentKind.TheVariants as kind
-use Rattle.cx_base.specs.Arguments.{arguments_in, is_argument, takes_argument}
+use Rattle.cx_base.specs.Arguments.{arguments_in, is_argument}
 use Rattle.cx_base.specs.Commands.{row_of}
 use Rattle.cx_base.specs.Facts.Commands.{each_command}
 use Rattle.cx_base.specs.Options.{common_of, option_name}
 use Rattle.cx_base.specs.Legal.{has_bit}
-use Rattle.cx_translate.specs.declared.due_arguments.DueArgument.{DueArgument}
-use Rattle.cx_translate.specs.declared.due_arguments.DueArgument.TheVariants.{Nothing, Name, Value, Label}
+use Rattle.cx_translate.specs.declared.due_arguments.DueArgument.TheVariants.{Value}
 use Rattle.cx_translate.specs.declared.words.Argument.{Argument}
 use Rattle.cx_translate.specs.declared.words.Argument.TheVariants.{Absent, Given, Bad}
 use Rattle.cx_translate.specs.declared.words.Word.{Word}
-use Rattle.cx_translate.specs.DueArguments.{common_due, condition_called, condition_due, due_of, option_called, suits}
+use Rattle.cx_translate.specs.DueArguments.{common_due, condition_called, condition_due, due_of, option_called}
 use Rattle.cx_translate.specs.Refusals.{fault_in, first_byte, has_wrong, is_given, second_byte}
-use Rattle.cx_translate.specs.Facts.Found.{is_wrong, listed_by, operand_by, with_option}
+use Rattle.cx_translate.specs.Facts.Found.{listed_by, operand_by, with_option}
 use Rattle.cx_translate.specs.Call.{argument_of, labels_of, list_of, listed_condition, listed_of, operands_of, text_in}
 use Rattle.cx_translate.specs.Laws.Read.{has_label, words_read}
-use Rattle.cx_translate.proofs.RefusalLemmas.{right}
+use Rattle.cx_translate.specs.Facts.Arguments.{argued, fits, right}
 
 -- ---- the bits of an option byte
 
@@ -119,13 +117,6 @@ given_by words m name (p ∷ rest) h =
     go true false d e f more = absurd (cc)
     go false b d e f more = skipped (is_given words (option_name p.name)) (is_given words name) _ _ (more f)
 
--- what is due with an option agrees with its kind
-abbrev fits : Option DueArgument → ArgumentKind → Bool
-fits (Some Nothing) kind = not (takes_argument kind)
-fits (Some (Name n)) kind = takes_argument kind
-fits (Some Value) kind = takes_argument kind
-fits due kind = false
-
 -- the option's bit is its own, and what is due with its name is its own
 abbrev own : Command → List CommandOption → CommandOption → Bool
 own c options o = fits (due_of c (option_name o.name)) o.kind && (list_all (alike o.bit (option_name o.name)) options && list_any (λ p. has_bit p.bit o.bit) options)
@@ -135,50 +126,6 @@ unfolding due_of option_called common_due condition_due has_bit
 all_own = each_command (λ c. list_all (own c (row_of c).options) (row_of c).options) refl
 
 -- ---- the arguments given
-
-suited : (d : DueArgument) (a : Argument) (m : ArgumentKind) → fits (Some d) m ≡ true → suits d a ≡ true → is_some (text_in a) ≡ takes_argument m
-unfolding suits
-suited Nothing Absent m f s = not_so (takes_argument m) f
-  where
-    not_so : (b : Bool) → not b ≡ true → false ≡ b
-    not_so true e = absurd (cc)
-    not_so false e = refl
-suited Nothing (Given text) m f s = absurd (cc)
-suited Nothing Bad m f s = absurd (cc)
-suited (Name n) Absent m f s = absurd (cc)
-suited (Name n) (Given text) m f s = sym f
-suited (Name n) Bad m f s = absurd (cc)
-suited Value Absent m f s = absurd (cc)
-suited Value (Given text) m f s = sym f
-suited Value Bad m f s = absurd (cc)
-suited Label a m f s = absurd (cc)
-
-right_by : (d : Option DueArgument) (a : Argument) (m : ArgumentKind) → fits d m ≡ true → is_wrong d a ≡ false → is_some (text_in a) ≡ takes_argument m
-right_by None a m f w = absurd (cc)
-right_by (Some d) a m f w = suited d a m f (truth (suits d a) w)
-  where
-    truth : (b : Bool) → not b ≡ false → b ≡ true
-    truth true e = refl
-    truth false e = absurd (cc)
-
--- a name has an argument where it is given, and one is due
-argued : (c : Command) (words : List Word) (name : List ℕ) (m : ArgumentKind) → fits (due_of c name) m ≡ true → has_wrong c words ≡ false
-    → is_some (argument_of words name) ≡ (is_given words name && takes_argument m)
-unfolding has_wrong is_given
-argued c [] name m f w = refl
-argued c (word ∷ rest) name m f w =
-    go (bytes_eq word.name name) refl (is_wrong (due_of c word.name) word.argument) refl w (λ v. argued c rest name m f v)
-  where
-    go : (b : Bool) → bytes_eq word.name name ≡ b → (a : Bool) → is_wrong (due_of c word.name) word.argument ≡ a
-        → (a || list_any (λ v. is_wrong (due_of c v.name) v.argument) rest) ≡ false
-        → (list_any (λ v. is_wrong (due_of c v.name) v.argument) rest ≡ false → is_some (argument_of rest name) ≡ (list_any (λ v. bytes_eq v.name name) rest && takes_argument m))
-        → is_some (cond b (text_in word.argument) (argument_of rest name)) ≡ ((b || list_any (λ v. bytes_eq v.name name) rest) && takes_argument m)
-    go b e true d v more = absurd (cc)
-    go true e false d v more =
-        let same : word.name ≡ name = (bytes_eq-Decides word.name name).0 e in
-        right_by (due_of c word.name) word.argument m (rw same f) d
-    go false e false d v more = more v
-
 one_operand : (o : CommandOption) (t : Option (List ℕ)) → length (operand_by o.kind t) ≡ cond (is_some t) 1 0
 one_operand o None = refl
 one_operand o (Some t) = refl
@@ -211,11 +158,6 @@ own_bit words o options a b =
 
     clear_first : {x y : Bool} → x ≡ y → (has_bit 0 o.bit || x) ≡ y
     clear_first e = rw (nothing o.bit) e
-
-and_parts : (a b : Bool) → (a && b) ≡ true → (a ≡ true) × (b ≡ true)
-and_parts true true e = (refl, refl)
-and_parts true false e = absurd (cc)
-and_parts false b e = absurd (cc)
 
 -- as many arguments as option byte 1 has options with one
 operands_read : (c : Command) (words : List Word) (options rest : List CommandOption) → list_all (own c options) rest ≡ true → has_wrong c words ≡ false
@@ -257,12 +199,6 @@ in_options command.Suspend words w = operands_read command.Suspend words (row_of
 in_options command.SendText words w = operands_read command.SendText words (row_of command.SendText).options (row_of command.SendText).options (all_own command.SendText) w
 
 -- ---- the labels, and RESP's argument
-
-label_read : (o : Option Condition) (a : Argument) → length (option_to_list (option_and o (text_in a))) ≡ sum_by (λ l. cond (has_label l) 1 0) (listed_by o a)
-label_read None a = refl
-label_read (Some x) Absent = refl
-label_read (Some x) (Given text) = refl
-label_read (Some x) Bad = refl
 
 labels_read : (words : List Word) → length (labels_of words) ≡ sum_by (λ l. cond (has_label l) 1 0) (listed_of words)
 labels_read [] = refl

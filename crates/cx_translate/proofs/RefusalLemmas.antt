@@ -1,18 +1,17 @@
 -- Lemmas on statements without a fault.
-use Rattle.std.proofs.Common.{◌≡◌, ◌≢◌, ℕ, Bool, true, false, cond, List, Option, Some, None, Ok, Err, slice_get, refl, ◌||◌}
+use Rattle.std.proofs.Common.{◌≡◌, ℕ, Bool, true, false, cond, List, Option, Some, None, Ok, refl, ◌||◌}
 use Rattle.cx_source.specs.declared.source.Source.{Source}
 use Rattle.cx_base.specs.declared.commands.Command.{Command}
 use Rattle.cx_base.specs.Commands.{row_of}
 use Rattle.cx_base.specs.Legal.{is_legal}
 use Rattle.cx_translate.specs.declared.words.Word.{Word}
 use Rattle.cx_translate.specs.declared.faults.TransFault.{TransFault}
-use Rattle.cx_translate.specs.declared.faults.TransFault.TheVariants.{UnknownCommand, Memory, UnknownOption, BadArgument, TooManyConditions, Conflict, MissingOption}
+use Rattle.cx_translate.specs.declared.faults.TransFault.TheVariants.{UnknownOption, BadArgument, TooManyConditions, Conflict, MissingOption}
 use Rattle.cx_translate.specs.Refusals.{fault_in, first_byte, has_argument, has_excluded, has_too_many, has_twice, has_unknown, has_wrong, second_byte}
-use Rattle.cx_translate.specs.Translation.{AnswersAs, made_source, translation_of}
+use Rattle.cx_translate.specs.Translation.{made_source, translation_of}
 use Rattle.cx_translate.specs.Sections.{begins_exec}
-use Rattle.std.specs.List.{cons_option, list_any}
+use Rattle.std.specs.List.{list_any}
 use Rattle.cx_translate.specs.Facts.AllFaults.{no_exec_no_fault}
-use Rattle.cx_translate.specs.Facts.Found.{judged}
 
 chain : (a b c d e : Bool) (f g h i j : TransFault) → cond a (Some f) (cond b (Some g) (cond c (Some h) (cond d (Some i) (cond e None (Some j))))) ≡ None → c ≡ false
 chain false false false d e f g h i j p = refl
@@ -36,19 +35,6 @@ head true f o p = absurd (cc)
 pub known : (line : ℕ) (command : Command) (cics named words : List Word) → fault_in line command cics named words ≡ None → has_unknown command words ≡ false
 unfolding fault_in
 known line command cics named words none = head (has_unknown command words) (UnknownOption line) _ none
-
-second : (a b c d : Bool) (f g : TransFault) (o : Option TransFault) → cond a (Some f) (cond (b || c || d) (Some g) o) ≡ None → d ≡ false
-second false false false false f g o p = refl
-second false false false true f g o p = absurd (cc)
-second false false true d f g o p = absurd (cc)
-second false true c d f g o p = absurd (cc)
-second true b c d f g o p = absurd (cc)
-
--- nor an argument other than is due
-pub right : (line : ℕ) (command : Command) (cics named words : List Word) → fault_in line command cics named words ≡ None → has_wrong command words ≡ false
-unfolding fault_in
-right line command cics named words none =
-    second (has_unknown command words) (has_argument cics) (has_argument named) (has_wrong command words) (UnknownOption line) (BadArgument line) _ none
 
 fourth : (a b c d e : Bool) (f g h i : TransFault) (o : Option TransFault) → cond a (Some f) (cond b (Some g) (cond c (Some h) (cond (d || e) (Some i) o))) ≡ None → d ≡ false
 fourth false false false false e f g h i o p = refl
@@ -87,17 +73,3 @@ few_conditions line command cics named words none =
     chain (has_unknown command words) (has_argument cics || has_argument named || has_wrong command words) (has_too_many command words)
     (has_twice words || has_excluded (row_of command).rules (first_byte command words)) (is_legal command (first_byte command words) (second_byte words))
     (UnknownOption line) (BadArgument line) (TooManyConditions line) (Conflict line) (MissingOption line) none
-
--- the first statement's fault is the source's
-pub due_first : (first : Option TransFault) (rest : List TransFault) (fault : TransFault) → first ≡ Some fault → slice_get (cons_option first rest) 0 ≡ Some fault
-due_first first rest fault e = rw e refl
-
--- and the answer
-pub answers_due : (due : Option TransFault) (source : Source) (fault : TransFault) → (fault ≢ Memory → due ≡ Some fault) → AnswersAs (judged due source) (Err fault)
-answers_due due source (UnknownCommand line) e = rw (e (λ m. cc)) refl
-answers_due due source (UnknownOption line) e = rw (e (λ m. cc)) refl
-answers_due due source (MissingOption line) e = rw (e (λ m. cc)) refl
-answers_due due source (Conflict line) e = rw (e (λ m. cc)) refl
-answers_due due source (TooManyConditions line) e = rw (e (λ m. cc)) refl
-answers_due due source (BadArgument line) e = rw (e (λ m. cc)) refl
-answers_due due source Memory e = tt

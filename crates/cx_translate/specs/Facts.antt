@@ -1,4 +1,5 @@
 -- Lemmas and words for the crates above.
 pub mod AllFaults
 pub mod Found
+pub mod Arguments
 pub mod Mended

@@ -18,14 +18,14 @@ use Rattle.cx_translate.specs.declared.faults.TransFault.TheVariants.{UnknownCom
 use Rattle.cx_translate.specs.DueArguments.{condition_called, due_of, suits}
 
 -- a fault's name
-abbrev pub fault_name : TransFault → List ℕ
-fault_name (UnknownCommand line) = codes "UnknownCommand"
-fault_name (UnknownOption line) = codes "UnknownOption"
-fault_name (MissingOption line) = codes "MissingOption"
-fault_name (Conflict line) = codes "Conflict"
-fault_name (TooManyConditions line) = codes "TooManyConditions"
-fault_name (BadArgument line) = codes "BadArgument"
-fault_name Memory = codes "Memory"
+abbrev pub refusal_name : TransFault → List ℕ
+refusal_name (UnknownCommand line) = codes "UnknownCommand"
+refusal_name (UnknownOption line) = codes "UnknownOption"
+refusal_name (MissingOption line) = codes "MissingOption"
+refusal_name (Conflict line) = codes "Conflict"
+refusal_name (TooManyConditions line) = codes "TooManyConditions"
+refusal_name (BadArgument line) = codes "BadArgument"
+refusal_name Memory = codes "Memory"
 
 -- the word at a place, empty past the end
 abbrev pub word_at : List Word → ℕ → List ℕ
@@ -100,7 +100,7 @@ fault_in line command cics named words =
     else Some (MissingOption line)))))
 
 -- the fault of the EXEC statement on this line, of which these are the words
-unfoldable pub fault_of : ℕ → List Word → Option TransFault
-fault_of line words = option_map_or
+unfoldable pub refusal_of : ℕ → List Word → Option TransFault
+refusal_of line words = option_map_or
     (λ found. fault_in line found.0 (take 1 words) (take found.1 (drop 1 words)) (drop found.1 (drop 1 words)))
     (command_in words) (Some (UnknownCommand line))

@@ -10,7 +10,7 @@ use Rattle.cx_source.specs.Statements.{is_continued}
 use Rattle.cx_translate.specs.declared.faults.TransFault.{TransFault}
 use Rattle.cx_translate.specs.declared.faults.TransFault.TheVariants.{Memory}
 use Rattle.cx_translate.specs.Words.{words_of}
-use Rattle.cx_translate.specs.Refusals.{fault_of}
+use Rattle.cx_translate.specs.Refusals.{refusal_of}
 use Rattle.cx_translate.specs.Expansion.{made_of, stmt}
 use Rattle.cx_translate.specs.Sections.{begins_exec, lines, with_bases, with_eib, with_storage}
 
@@ -38,7 +38,7 @@ expanded_items continues (item ∷ rest) = expansion continues item ++ expanded_
 -- the fault of the EXEC statement that begins on a line, with the line's number
 unfoldable pub fault_at : Item → Option TransFault
 fault_at item =
-    if begins_exec item then option_and_then (λ exec. fault_of item.line (words_of exec.operand)) item.stmt else None
+    if begins_exec item then option_and_then (λ exec. refusal_of item.line (words_of exec.operand)) item.stmt else None
 
 -- those of all EXEC statements, in their order
 abbrev pub statement_faults : List Item → List TransFault

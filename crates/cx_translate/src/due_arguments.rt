@@ -15,10 +15,10 @@ use crate::names::{is_name_or_place, is_value};
 use crate::words::Argument;
 use cx_base::{ArgumentKind, Command, CommandOption, CommonOption, Condition};
 
-/// The argument that is due with a word.
+/// The argument that is due with a word of an EXEC statement (SC33-0077).
 #[derive(Clone, Copy, Debug)]
 pub enum DueArgument {
-    /// None.
+    /// None: no parentheses follow the word.
     Nothing,
     /// A name of up to this number of characters in apostrophes, or the place of one.
     Name(u8),

@@ -4,7 +4,7 @@ ghost use Rattle.std.specs.Prelude.{◌≡◌, ◌≢◌, ◌*◌, ◌++◌, ◌
 ghost use Rattle.cx_base.specs.Commands.{row_of};
 ghost use Rattle.cx_translate.specs.Call.{list_of, pointers_of};
 ghost use Rattle.cx_translate.specs.Expansion.{call, fill_to_column, label, load, made_in, made_item, made_of, stmt, stores};
-ghost use Rattle.cx_translate.specs.Refusals.{fault_of, has_too_many};
+ghost use Rattle.cx_translate.specs.Refusals.{refusal_of, has_too_many};
 ghost use Rattle.cx_translate.specs.declared.faults.TransFault.TheVariants.{Memory};
 ghost use Rattle.cx_translate.specs.Words.{words_of};
 
@@ -159,16 +159,16 @@ fn made_in(
 /// The statements made of the EXEC statement on a line.
 ///
 /// Its fault is the first that applies. Memory comes only where an allocation failed.
-#[tactic(auto, using(crate::proofs::RefusalLemmas::few_conditions), unfolding(crate::specs::Expansion::made_of, crate::specs::Refusals::fault_of))]
+#[tactic(auto, using(crate::proofs::RefusalLemmas::few_conditions), unfolding(crate::specs::Expansion::made_of, crate::specs::Refusals::refusal_of))]
 pub(crate) fn statements_of(
     alloc: Global,
     line: usize,
     exec: &Stmt,
 ) -> Result<Vec<Stmt>, TransFault>
-    ensures sound { OnOk result (fault_of line (words_of exec.now.operand) ≡ None) }
+    ensures sound { OnOk result (refusal_of line (words_of exec.now.operand) ≡ None) }
     ensures made { IfOk result (λ made. made.items ≡ made_of exec.now.name (words_of exec.now.operand)) }
     ensures fault { IfErr result
-        (λ fault. fault ≢ Memory → fault_of line (words_of exec.now.operand) ≡ Some fault) }
+        (λ fault. fault ≢ Memory → refusal_of line (words_of exec.now.operand) ≡ Some fault) }
 {
     let words = words_of(alloc, exec.operand.as_slice())?;
     let Some((command, taken)) = command_in(words.as_slice()) else {

@@ -1,7 +1,7 @@
 //! Why a source can't be translated.
 
 ghost use Rattle.std.specs.Prelude.{◌≡◌};
-ghost use Rattle.cx_translate.specs.Refusals.{fault_name};
+ghost use Rattle.cx_translate.specs.Refusals.{refusal_name};
 
 use std::alloc::{AllocError, AllocFailed};
 use thiserror::Error;
@@ -24,7 +24,7 @@ pub enum TransFault {
     /// An option or a condition occurs twice, or options that exclude each other are given together.
     #[error("line {0}: {name}", name = self.name())]
     Conflict(usize),
-    /// More than 16 conditions are listed.
+    /// A HANDLE CONDITION or IGNORE CONDITION lists more than 16 conditions.
     #[error("line {0}: {name}", name = self.name())]
     TooManyConditions(usize),
     /// An argument is missing, empty, unexpected or not closed, in apostrophes where no name is due, or a name of no or
@@ -39,7 +39,7 @@ pub enum TransFault {
 impl TransFault {
     /// The fault's name, as `UnknownCommand`.
     pub fn name(self) -> &'static str
-        ensures { result.now ≡ fault_name self }
+        ensures { result.now ≡ refusal_name self }
     {
         match self {
             TransFault::UnknownCommand(_) => "UnknownCommand",

@@ -32,14 +32,16 @@ pub fn accepted_bytes_are_legal()
         → is_legal command (first_byte command words) (second_byte words) ≡ true }
 {}
 
-/// The conditions that an accepted HANDLE CONDITION or IGNORE CONDITION lists are legal for it.
+/// The conditions that an accepted statement of a command that lists conditions (HANDLE CONDITION, IGNORE CONDITION)
+/// has are legal for it.
 #[tactic(auto, using(crate::proofs::ListedLemmas::accepted_list))]
 pub fn accepted_conditions_are_legal()
     ensures { (line : ℕ) (command : Command) (cics named words : List Word) → lists_conditions command ≡ true
         → fault_in line command cics named words ≡ None → is_legal_list command (listed_of words) ≡ true }
 {}
 
-/// Option byte 1 is their number; a command that lists none has none.
+/// Option byte 1 of a command that lists conditions is the number of those listed; an accepted statement of another
+/// command lists none.
 #[tactic(auto, using(crate::proofs::CountLemmas::counted, crate::proofs::CountLemmas::none_there))]
 pub fn accepted_conditions_are_counted()
     ensures number { (command : Command) (words : List Word) → lists_conditions command ≡ true
@@ -57,7 +59,8 @@ pub fn accepted_lists_have_room()
         → length (list_of command words) ≤ 18 }
 {}
 
-/// It has exactly the words that the command reads of it.
+/// The argument list of an accepted statement has exactly as many words as the command reads of it, by its option bytes
+/// and conditions.
 #[tactic(auto, using(crate::proofs::ReadLemmas::all_read))]
 pub fn accepted_lists_are_read()
     ensures { (n : ℕ) (command : Command) (cics named words : List Word)
@@ -66,7 +69,7 @@ pub fn accepted_lists_are_read()
         length (list_of command words) ≡ read }
 {}
 
-/// A source without an EXEC statement stays as it is.
+/// The translation of a source without an EXEC statement is that source.
 #[tactic(auto, using(crate::proofs::RefusalLemmas::no_exec))]
 pub fn a_source_without_exec_stays()
     ensures { (source : Source) → list_any begins_exec source.items ≡ false
@@ -80,7 +83,7 @@ pub fn other_lines_stay()
         → AreAmong (kept false source.items) made.items }
 {}
 
-/// The lines on which statements begin ascend where they did in the source.
+/// Where the numbers of the lines on which a source's statements begin ascend, those of its translation ascend too.
 #[tactic(auto, using(crate::proofs::AscentLemmas::lines_ascend))]
 pub fn lines_ascend_where_they_did()
     ensures { (source made : Source) → AscendFrom 0 (statement_lines source.items)

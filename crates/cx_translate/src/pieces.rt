@@ -6,10 +6,10 @@ ghost use Rattle.cx_translate.specs.Pieces.{depth_after, end_of_pieces, is_cut, 
 use cx_source::{Text, outside};
 use std::alloc::{AllocError, Global};
 
-/// A piece of an operand.
+/// A piece of the operand of an EXEC statement, as it is cut.
 #[derive(Debug, Drop)]
 pub enum Token {
-    /// A word.
+    /// A word: what stands between blanks and parentheses.
     Word(Text),
     /// What is between two parentheses that belong together.
     Argument(Text),

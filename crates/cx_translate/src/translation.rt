@@ -117,7 +117,8 @@ fn put_sections(alloc: Global, items: &mut Vec<Item>) -> Result<(), AllocError>
 /// before the control section; the bases after the control section's first CSECT or START; the EIB before END. A source
 /// without EXEC stays as it is. Statements are those of the list's items, in order, whatever their lines say.
 ///
-/// The fault is that of the first faulty EXEC statement, with its line. Memory comes only where an allocation failed.
+/// The fault is that of the first faulty EXEC statement, with the number of the line on which it begins. Memory comes
+/// only where an allocation failed.
 ///
 /// Application Programmer's Reference Manual, SC33-0077, "EXEC CICS" command format.
 #[tactic(auto, using(crate::specs::Facts::AllFaults::no_exec_no_fault), unfolding(crate::specs::Translation::translation_of, crate::specs::Translation::made_source, crate::specs::Translation::translation))]

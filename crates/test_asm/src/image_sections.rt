@@ -1,10 +1,10 @@
 //! Sections of lines.
 use cx_asm_image::{Assembled, LARGEST_TEXT, ResolvedLines, working_storage};
-use cx_code::{Bytes, Line, Offsets, What, decode};
+use cx_code::{Bytes, Line, LineContent, Offsets, decode};
 use std::alloc::{AllocError, Global};
 use std::test::Fail;
 
-/// What is at a place, as plain bytes.
+/// What is at a place, as plain bytes: an instruction, data, or a number of bytes without content.
 #[derive(Clone, Copy, Debug)]
 pub enum Content {
     Code(&'static [u8]),
@@ -13,18 +13,19 @@ pub enum Content {
 }
 
 /// The instruction that bytes are; these bytes as data where they are none.
-fn what(alloc: Global, content: &Content) -> Result<What, AllocError> {
+fn what(alloc: Global, content: &Content) -> Result<LineContent, AllocError> {
     match content {
         Content::Code(bytes) => match decode(*bytes) {
-            Some((inst, _)) => Ok(What::Code(inst)),
-            None => Ok(What::Data(Bytes::from_vec(bytes.to_vec(alloc)?))),
+            Some((inst, _)) => Ok(LineContent::Code(inst)),
+            None => Ok(LineContent::Data(Bytes::from_vec(bytes.to_vec(alloc)?))),
         },
-        Content::Data(bytes) => Ok(What::Data(Bytes::from_vec(bytes.to_vec(alloc)?))),
-        Content::Space(count) => Ok(What::Space(*count)),
+        Content::Data(bytes) => Ok(LineContent::Data(Bytes::from_vec(bytes.to_vec(alloc)?))),
+        Content::Space(count) => Ok(LineContent::Space(*count)),
     }
 }
 
-/// What a section's image has beside its text.
+/// What a section's image has beside its text: offsets of relocated words, the entry's offset, and the length of
+/// working storage in bytes.
 #[derive(Clone, Copy, Debug)]
 pub struct Beside<'a> {
     pub relocs: &'a [u32],
@@ -39,7 +40,8 @@ pub const LEAST: Beside<'static> = Beside {
     stg_len: 80,
 };
 
-/// The section of these lines, and of a size, in bytes; None where the lines overlap, or the section isn't as long.
+/// The section of these lines, and of a size, in bytes; None where the lines overlap, or the section isn't as long. An
+/// error means out of memory.
 pub fn section(
     alloc: Global,
     contents: &[(u32, Content)],

@@ -1,5 +1,5 @@
-//! Tests of the assembler, over public calls: of its parts, and of whole sources. `checks/refuse-places` refuses each allocation of the
-//! first pass in turn.
+//! Tests of the assembler, over public calls: of its parts, and of whole sources. `checks/refuse-places` refuses each
+//! allocation of the first pass in turn.
 #![tactic(auto)]
 
 #[cfg(test)]

@@ -18,8 +18,8 @@ fn push_pool(alloc: Global, text: &mut String, pool: &Pool<'_>) -> Result<(), Al
     Ok(())
 }
 
-/// Each statement's offset, with those of its items where it has two or more; the pools; the length of the control section and
-/// of DFHEISTG.
+/// Each statement's offset, with those of its items where it has two or more; the pools; the length of the control
+/// section and of DFHEISTG.
 fn shown(alloc: Global, places: &Places<'_>) -> Result<String, AllocError> {
     let mut text = String::new(alloc);
     for place in places.statements.as_slice() {

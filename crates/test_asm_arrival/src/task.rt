@@ -15,6 +15,7 @@ const OWNER: Owner = Owner {
     kind: Kind::Fixed,
 };
 
+/// A processor, and storage with a program and DFHEISTG.
 #[derive(Drop)]
 pub struct Task {
     pub cpu: Cpu,
@@ -22,7 +23,8 @@ pub struct Task {
 }
 
 impl Task {
-    /// A task whose program is at a multiple of 16, where it begins; register 3 holds the address.
+    /// A task whose program (at most 1,024 bytes) is at `place`, a multiple of 16 below 2^23, where it begins; register
+    /// 3 holds the address. An error means out of memory.
     pub fn new(alloc: Global, place: u32, program: &[u8]) -> Result<Task, AllocError>
         requires place { place < 2 ^ 23 }
         requires size { length program.now ≤ 1024 }
@@ -44,14 +46,15 @@ impl Task {
         })
     }
 
-    /// Sets a register.
+    /// Sets a register, 0 to 15; none where the number is higher.
     pub fn set(&mut self, register: usize, value: u32) {
         if let Some(word) = self.cpu.regs.get_mut(register) {
             *word = value;
         }
     }
 
-    /// Writes bytes of the program.
+    /// Writes bytes (at most 1,024) from the address `a` (below 2^24) on; nothing where one of the addresses is in no
+    /// area.
     pub fn store_bytes(&mut self, a: u32, bytes: &[u8])
         requires address { a < 2 ^ 24 }
         requires size { length bytes.now ≤ 1024 }
@@ -64,7 +67,7 @@ impl Task {
         advance(&mut self.cpu, &mut self.store, limit)
     }
 
-    /// The call whose list is at the address in register 1.
+    /// The call whose list is at the address in register 1, or why it can't be read.
     pub fn call(&self) -> Result<Call, CallFault> {
         read_call(&self.store, address_in(self.cpu.regs[1]))
     }

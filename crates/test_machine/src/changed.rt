@@ -1,5 +1,5 @@
-//! Programs that change themselves: each byte of the next instruction and of the one after it, after all of them were performed
-//! as they were, wherever a page ends.
+//! Programs that change themselves: each byte of the next instruction and of the one after it, after all of them were
+//! performed as they were, wherever a page ends.
 ghost use Rattle.std.specs.Prelude.{◌<◌, ◌^◌};
 
 use crate::machine::{DATA, Machine};
@@ -14,8 +14,8 @@ enum By {
     Execute,
 }
 
-/// A byte of the two instructions by its place, what it was and what it becomes, and what registers 1, 2 and 4 hold then; the
-/// program's address is added to the one that is named.
+/// A byte of the two instructions by its place, what it was and what it becomes, and what registers 1, 2 and 4 hold
+/// then; the program's address is added to the one that is named.
 #[derive(Clone, Copy)]
 struct Change {
     place: u8,
@@ -93,7 +93,8 @@ const CHANGES: [Change; 8] = [
     },
 ];
 
-/// STC 3, MVC of one byte from the address in register 5, or EX of that MVC, to a place of LA 1,1 and LA 2,2 which follow.
+/// STC 3, MVC of one byte from the address in register 5, or EX of that MVC, to a place of LA 1,1 and LA 2,2 which
+/// follow.
 fn program(by: By, place: u8) -> [u8; 22] {
     let next = 4 + place % 8;
     let after = 6 + place % 8;
@@ -113,8 +114,8 @@ fn program(by: By, place: u8) -> [u8; 22] {
     }
 }
 
-/// Performs the three instructions at an address, at once or one by one, where a byte is put into a place, and says whether
-/// registers 1, 2 and 4 hold these words then.
+/// Performs the three instructions at an address, at once or one by one, where a byte is put into a place, and says
+/// whether registers 1, 2 and 4 hold these words then.
 fn performs(machine: &mut Machine, a: u32, byte: u8, singly: bool, left: (u32, u32, u32)) -> bool
     requires { a < 2 ^ 24 }
 {

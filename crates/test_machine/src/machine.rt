@@ -1,5 +1,5 @@
-//! A processor over both stores and over one that keeps what it fetches, for tests of instructions: the calls without what
-//! their contracts ensure.
+//! A processor over both stores and over one that keeps what it fetches, for tests of instructions: the calls without
+//! what their contracts ensure.
 ghost use Rattle.std.specs.Prelude.{◌<◌, ◌^◌, ◌-◌, ◌≤◌, length};
 
 use cx_exec::{Cpu, Halt, Step, advance, step};
@@ -67,7 +67,8 @@ fn are_alike(first: &Cpu, second: &Cpu) -> bool {
 }
 
 impl Machine {
-    /// The machine whose areas begin with the program, and whose next instruction is its first.
+    /// The machine whose areas begin with the program, of at most 65,536 bytes, and whose next instruction is its
+    /// first. An error means out of memory.
     pub fn new(alloc: Global, program: &[u8]) -> Result<Machine, AllocError>
         requires { length program.now ≤ 65536 }
     {
@@ -85,7 +86,7 @@ impl Machine {
         })
     }
 
-    /// The same with an operand.
+    /// The machine whose areas begin with the program, and have an operand at `DATA`. An error means out of memory.
     pub fn with_operand(
         alloc: Global,
         program: &[u8],
@@ -99,7 +100,8 @@ impl Machine {
         Ok(machine)
     }
 
-    /// Makes an area of 16 bytes from an address on, in each store.
+    /// Makes an area of 16 bytes at an address, a multiple of 16, in each store; none where one is there. An error
+    /// means out of memory.
     pub fn get(&mut self, first: u32) -> Result<(), AllocError>
         requires { first ≤ 2 ^ 24 - 16 }
     {
@@ -133,7 +135,7 @@ impl Machine {
         self.cpu = cpu_at(PROGRAM);
     }
 
-    /// The same at an address, which register 15 holds.
+    /// Begins again at an address, which register 15 holds, with all other registers as at first.
     pub fn begin_at(&mut self, a: u32)
         requires { a < 2 ^ 24 }
     {

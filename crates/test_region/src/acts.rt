@@ -26,17 +26,17 @@ pub enum Act<'a> {
     Alter(u8, Change),
 }
 
-/// T00 and a byte.
+/// The terminal's name: T00 and a byte, the EBCDIC code of a character.
 pub fn terminal(n: u8) -> Name4 {
     Name4::from_bytes([0xE3, 0xF0, 0xF0, n])
 }
 
-/// RET and a byte.
+/// The transaction's name: RET and a byte, the EBCDIC code of a character.
 pub fn transaction(n: u8) -> Name4 {
     Name4::from_bytes([0xD9, 0xC5, 0xE3, n])
 }
 
-/// RET and a byte.
+/// The program's name: RET and a byte, the EBCDIC code of a character.
 pub fn program(n: u8) -> Name8 {
     Name8::from_bytes([0xD9, 0xC5, 0xE3, n, 0x40, 0x40, 0x40, 0x40])
 }
@@ -53,7 +53,7 @@ fn input(alloc: Global, size: usize) -> Result<Vec<u8>, Fail> {
     Ok(bytes)
 }
 
-/// A checked image of a text, entered at its first byte.
+/// A checked image of a text, entered at its first byte. An error means that the image has a fault, or out of memory.
 pub fn checked(alloc: Global, text: &[u8], stg_len: u32) -> Result<CheckedImage, Fail> {
     let image = Image {
         text: Bytes::from_vec(text.to_vec(alloc)?),
@@ -132,7 +132,8 @@ fn empty(alloc: Global) -> Result<Region<FlatStore>, Fail> {
     Ok(Region::new(alloc, FlatStore::new(alloc))?)
 }
 
-/// A region after some calls, and what the last of them was answered.
+/// A region after some calls, and what the last of them was answered. An error means that an image has a fault, or out
+/// of memory.
 pub fn after(alloc: Global, acts: &[Act]) -> Result<(Region<FlatStore>, Option<Reply>), Fail> {
     let mut region = empty(alloc)?;
     let mut reply = None;
@@ -142,7 +143,7 @@ pub fn after(alloc: Global, acts: &[Act]) -> Result<(Region<FlatStore>, Option<R
     Ok((region, reply))
 }
 
-/// What the last of some calls is answered.
+/// What the last of some calls is answered. Errors are those of `after`.
 pub fn reply(alloc: Global, acts: &[Act]) -> Result<Option<Reply>, Fail> {
     let (_, reply) = after(alloc, acts)?;
     Ok(reply)
@@ -152,7 +153,8 @@ fn byte_in(region: &Region<FlatStore>, address: u32) -> Option<u8> {
     region.byte(address)
 }
 
-/// The bytes of storage after some calls, from an address on: as many as are there, and at most `most`.
+/// The bytes of storage after some calls, from an address on: as many as are there, and at most `most`. Errors are
+/// those of `after`.
 pub fn bytes(alloc: Global, acts: &[Act], start: u32, most: u32) -> Result<Vec<u8>, Fail> {
     let (region, _) = after(alloc, acts)?;
     let mut bytes = Vec::new(alloc);
@@ -169,7 +171,7 @@ fn task_in(region: &Region<FlatStore>, n: u8) -> Option<TaskInfo> {
     region.task(terminal(n))
 }
 
-/// The task of a terminal after some calls.
+/// The task of a terminal after some calls. None where it has none. Errors are those of `after`.
 pub fn task(alloc: Global, acts: &[Act], n: u8) -> Result<Option<TaskInfo>, Fail> {
     let (region, _) = after(alloc, acts)?;
     Ok(task_in(&region, n))
@@ -186,7 +188,8 @@ fn is_blank_in(region: &Region<FlatStore>, n: u8) -> Option<bool> {
     )
 }
 
-/// Whether a terminal's screen is blank after some calls; None where there is no such terminal.
+/// Whether a terminal's screen is blank after some calls; None where there is no such terminal. Errors are those of
+/// `after`.
 pub fn is_blank(alloc: Global, acts: &[Act], n: u8) -> Result<Option<bool>, Fail> {
     let (region, _) = after(alloc, acts)?;
     Ok(is_blank_in(&region, n))

@@ -24,7 +24,7 @@ pub fn expect_run<R: Abort + AllocGlobal>(
     }
 }
 
-/// The same of a script with looks.
+/// Runs a script with looks byte by byte and in whole pieces, and looks at the answer and the transcript.
 pub fn expect_look_run<R: Abort + AllocGlobal>(
     rt: &R,
     script: &[u8],

@@ -76,7 +76,8 @@ impl<'a, 'b> ScriptIn for LookingIn<'a, 'b> {
     }
 }
 
-/// The script of these steps is read in such pieces, and at each read all is written for the steps that were read whole.
+/// The script of these steps is read in such pieces, and at each read all is written for the steps that were read
+/// whole.
 fn expect_answers<R: Abort + AllocGlobal>(rt: &R, steps: &[Step], most: usize) -> Result<(), Fail> {
     let example = Example::new(rt, steps)?;
     let written = Rc::new(rt.alloc(), Cell::new(0))?;

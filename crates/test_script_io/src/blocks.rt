@@ -1,4 +1,5 @@
-//! A block that is cut at each of its lines: by the end of the script, by a failed read, and by the most bytes of a script.
+//! A block that is cut at each of its lines: by the end of the script, by a failed read, and by the most bytes of a
+//! script.
 
 use crate::runs::{comments, expect_read};
 use cx_script::{RunFault, SourceKind, Summary};

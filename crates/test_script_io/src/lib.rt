@@ -1,5 +1,5 @@
-//! Tests of a script's devices, over public calls: pieces of every length, failures at every byte, the most bytes of a script,
-//! answers before more is read.
+//! Tests of a script's devices, over public calls: pieces of every length, failures at every byte, the most bytes of a
+//! script, answers before more is read.
 #![tactic(auto)]
 
 #[cfg(test)]

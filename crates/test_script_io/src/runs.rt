@@ -7,7 +7,7 @@ use std::process::Abort;
 use std::test::Fail;
 use test_devices::{PieceIn, PieceOut};
 
-/// Runs a script between devices that have not failed.
+/// Runs a script between devices that have not failed, and gives the run's answer.
 pub fn run<'a, 'b, R: AllocGlobal>(
     rt: &R,
     devices: &mut Devices<PieceIn<'a>, PieceOut<'b>>,
@@ -46,7 +46,7 @@ pub fn expect_read<'a, R: Abort + AllocGlobal>(
     assert_eq!(rt; writer.text(), transcript, "at {place}");
 }
 
-/// `len` bytes of comments: an LF is where what is left, divided by 64, leaves `end`.
+/// `len` bytes of comments: an LF is where what is left, divided by 64, leaves `end`. An error means out of memory.
 pub fn comments<R: AllocGlobal>(rt: &R, len: usize, end: usize) -> Result<Vec<u8>, Fail> {
     let mut text = vec![in rt.alloc(); b'*'; len]?;
     let mut left = len;

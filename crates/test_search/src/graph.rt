@@ -6,14 +6,14 @@ ghost use Rattle.test_search.specs.Graph.{Edge, edge_of, move_of};
 use cx_search::Space;
 use std::alloc::AllocError;
 
-/// Where the two moves from a place lead.
+/// Where the moves 0 and 1 from a place lead; None where one can't be made.
 #[derive(Clone, Copy)]
 pub struct Row {
     pub zero: Option<usize>,
     pub one: Option<usize>,
 }
 
-/// A graph, by its places.
+/// A graph: a row for each place, from 0 on.
 #[derive(Drop)]
 pub struct Graph {
     pub rows: Vec<Row>,

@@ -1,6 +1,6 @@
 //! Queues, resources and screens, by rows worked by hand.
 use cx_ebcdic::Name8;
-use cx_service::{COLUMNS, Enqueues, Queues, ROWS, ResourceName, Screen, ServiceFault};
+use cx_service::{COLUMNS, Enqueues, Queues, ROWS, Reading, ResourceName, Screen, ServiceFault};
 use std::alloc::Global;
 use std::test::Fail;
 
@@ -46,14 +46,15 @@ fn delete(queues: &mut Queues) -> Answer<()> {
 
 /// The number of items, and that of the one read last.
 fn counts(queues: &Queues) -> Option<(usize, usize)> {
-    Some((queues.items(name(QUEUE))?, queues.last_read(name(QUEUE))?))
+    let queue = queues.all().get(&name(QUEUE))?;
+    Some((queue.count(), queue.last_read()))
 }
 
-/// Whether an item is this.
+/// Whether an item is this, and is read with its length.
 fn has(queues: &Queues, n: usize, item: &[u8]) -> bool {
+    let read = queues.reading(name(QUEUE), Some(n));
     queues.item(name(QUEUE), n) == Some(item)
-        && queues.item_len(name(QUEUE), n) == Some(item.len())
-        && queues.can_read(name(QUEUE), n) == Ok(())
+        && read.is_ok_and(|read| read.number == n && usize::from(read.len) == item.len())
 }
 
 /// A queue of items with these first bytes.
@@ -74,10 +75,27 @@ fn items_are_read_in_turn(rt: HostRuntime) -> Result<(), Fail> {
         assert!(rt; counts(&queues) == Some((3, number)));
     }
     assert!(rt; read_next(&mut queues) == Err(ServiceFault::Itemerr));
+    assert!(rt; read(&mut queues, 0) == Err(ServiceFault::Itemerr));
     assert!(rt; read(&mut queues, 1) == Ok(()));
     assert!(rt; has(&queues, 1, &[0x11]));
     assert!(rt; read_next(&mut queues) == Ok(2));
     assert!(rt; read(&mut queues, 4) == Err(ServiceFault::Itemerr));
+    Ok(())
+}
+
+#[test]
+fn an_item_is_read_with_its_numbers(rt: HostRuntime) -> Result<(), Fail> {
+    let mut queues = queue_of(rt.alloc(), &[0x11])?;
+    assert!(rt; write(&mut queues, QUEUE, &[0x22, 0x22, 0x22]) == Ok(2));
+    let second = Reading {
+        number: 2,
+        len: 3,
+        count: 2,
+    };
+    assert!(rt; queues.reading(name(QUEUE), Some(2)) == Ok(second));
+    assert!(rt; read(&mut queues, 2) == Ok(()));
+    assert!(rt; queues.reading(name(QUEUE), None) == Err(ServiceFault::Itemerr));
+    assert!(rt; queues.reading(name(OTHER), None) == Err(ServiceFault::Qiderr));
     Ok(())
 }
 

@@ -1,6 +1,6 @@
-//! Programs that change their own instructions, over any store: each byte of the instruction that changes it, of the next ones, of
-//! the target of an EX and of data among them, over a page's end at each halfword. The byte is first stored as it is, so that all
-//! instructions have been fetched when it is changed.
+//! Programs that change their own instructions, over any store: each byte of the instruction that changes it, of the
+//! next ones, of the target of an EX and of data among them, over a page's end at each halfword. The byte is first
+//! stored as it is, so that all instructions have been fetched when it is changed.
 ghost use Rattle.std.specs.Prelude.{◌<◌, ◌^◌};
 
 use crate::rows::get;
@@ -45,7 +45,8 @@ const REST: [u8; 64] = [
     0x1B, 0x42, 0, 0, 0, 0, 1, 2, 3, 4, 5, 6, 7, 8, 9, 10,
 ];
 
-/// The program that changes the byte at a place: six bytes, in which MVC k(1,15),60(15), or STC 1,k(15) and LR 6,6, and the rest.
+/// The program that changes the byte at a place: six bytes, in which MVC k(1,15),60(15), or STC 1,k(15) and LR 6,6, and
+/// the rest.
 fn program_for(means: Means, place: u8) -> [u8; 64] {
     let first = match means {
         Means::Stc => [0x42, 0x10, 0xF0, place, 0x18, 0x66],
@@ -116,8 +117,8 @@ pub(crate) fn agree<S: Store, T: Store>(first: &mut S, second: &mut T) -> Result
     Ok(agree_by(first, second, Means::Stc)? && agree_by(first, second, Means::Mvc)?)
 }
 
-/// Whether a program whose next instruction, AR 2,3, becomes SR 2,3 by STC in its second turn adds 3 in the first and takes it away
-/// in the second.
+/// Whether a program whose next instruction, AR 2,3, becomes SR 2,3 by STC in its second turn adds 3 in the first and
+/// takes it away in the second.
 pub(crate) fn a_fetched_instruction_is_changed<S: Store>(
     store: &mut S,
 ) -> Result<bool, AllocError> {

@@ -266,8 +266,8 @@ pub(crate) fn words_are_read<S: Store>(store: &mut S) -> Result<bool, AllocError
     )
 }
 
-/// Areas that touch: a span inside one of them is lent; one over both, or over a border of blocks, is lent as it is or not
-/// at all.
+/// Areas that touch: a span inside one of them is lent; one over both, or over a border of blocks, is lent as it is or
+/// not at all.
 pub(crate) fn lends_parts<S: Store>(store: &mut S) -> Result<bool, AllocError> {
     get(store, 0x1_0FF0, 0x1_1FFF, 0x20, TASK)?;
     get(store, 0x1_1010, 0x1_1FFF, 16, TASK)?;

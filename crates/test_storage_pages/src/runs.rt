@@ -14,7 +14,8 @@ const OWNER: Owner = Owner {
 /// Where programs are; register 15 holds the address.
 const PROGRAM: u32 = 0x1_0FE0;
 
-/// A processor, and an area of 8,192 bytes over a border of blocks of 4,096 that has the program, and in register 5 a count.
+/// A processor, and an area of 8,192 bytes over a border of blocks of 4,096 that has the program, and in register 5 a
+/// count.
 fn begin<S: Store>(store: &mut S, program: &[u8], count: u32) -> Result<Cpu, AllocError>
     requires { length program.now ≤ 65536 }
 {

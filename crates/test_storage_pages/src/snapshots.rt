@@ -1,4 +1,5 @@
-//! Snapshots of stores: they are the areas, owners and bytes that are there, and nothing else; and a store gets them back.
+//! Snapshots of stores: they are the areas, owners and bytes that are there, and nothing else; and a store gets them
+//! back.
 
 use cx_storage::{FlatStore, Kind, Owner, Store};
 use cx_storage_pages::{KeepingStore, PagedStore};

@@ -2,8 +2,8 @@
 use cx_base::List;
 use cx_source::{
     Delimiter, Items, Source, SourceFault, SourceReader, Stmt, begins_with_letter, cut, first_mark,
-    is_continued, is_letter, is_name, is_name_character, outside, read_source, skip_blanks,
-    text_of, trim_blanks,
+    is_continued, is_letter, is_symbol_name, is_symbol_name_character, outside, read_source,
+    skip_blanks, text_of, trim_blanks,
 };
 use std::alloc::{AllocError, Global};
 use std::test::Fail;
@@ -462,9 +462,9 @@ fn a_long_operand_is_cut(rt: HostRuntime) -> Result<(), Fail> {
 #[test]
 fn names_begin_with_a_letter(rt: HostRuntime) {
     assert!(rt; is_letter(b'$') && !is_letter(b'7') && !is_letter(b'a'));
-    assert!(rt; is_name_character(b'7') && !is_name_character(b'.'));
+    assert!(rt; is_symbol_name_character(b'7') && !is_symbol_name_character(b'.'));
     assert!(rt; begins_with_letter(b"@.") && !begins_with_letter(b""));
-    assert!(rt; is_name(b"#2345678") && !is_name(b"#23456789"));
+    assert!(rt; is_symbol_name(b"#2345678") && !is_symbol_name(b"#23456789"));
 }
 
 /// Whether a text without the blanks at its beginning is the one, and without those at its end the other.

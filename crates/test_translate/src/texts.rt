@@ -96,7 +96,8 @@ pub(crate) fn translated(alloc: Global, bytes: &[u8]) -> Result<Vec<u8>, SourceF
     }
 }
 
-/// The lines that a control section with SUSPEND, and with END on each of these lines, becomes. Those that it has itself are empty.
+/// The lines that a control section with SUSPEND, and with END on each of these lines, becomes. Those that it has
+/// itself are empty.
 pub(crate) fn suspended(alloc: Global, ends: &[usize]) -> Result<Vec<u8>, AllocError> {
     match translate(alloc, &section_with_ends(alloc, b"CICS SUSPEND", ends)?) {
         Ok(made) => numbered(alloc, &made),

@@ -1,6 +1,6 @@
-//! Runs loops for measuring (`bench/loops`). An input line has the word for a store, a number of slices (at least 2) and the digits
-//! of an image, whose word at offset 4 becomes that number. After each slice the program goes to the entry, and at the end
-//! once more. The line that is printed has the number of instructions that were performed.
+//! Runs loops for measuring (`bench/loops`). An input line has the word for a store, a number of slices (at least 2)
+//! and the digits of an image, whose word at offset 4 becomes that number. After each slice the program goes to the
+//! entry, and at the end once more. The line that is printed has the number of instructions that were performed.
 
 use crate::slices::{Job, perform};
 use cx_storage::FlatStore;
@@ -19,7 +19,7 @@ fn perform_over(alloc: Global, word: &str, job: &Job) -> Result<Option<u64>, All
     }
 }
 
-/// Performs the loops of the lines.
+/// Performs the loop of each line, and prints how many instructions that took.
 pub fn run<R: BufRead + Drop>(rt: &HostRuntime, reader: R) -> io::Result<()> {
     for line in reader.lines(rt.alloc()) {
         let line = line?;

@@ -1,8 +1,11 @@
-//! Measures what the first line of standard input names, each by a module of that name, which says what the other lines are:
+//! Measures what the first line of standard input names, each by a module of that name, which says what the other lines
+//! are:
 //!
 //! - `storage`: the calls of stores;
 //! - `loops`: instructions, in loops;
 //! - `pass1`: the assembler's first pass.
+//!
+//! In every module an error means that memory ran out, or that reading or printing failed.
 #![tactic(auto)]
 
 mod loops;

@@ -1,5 +1,5 @@
-//! Times the first pass: a line with a number is followed by a source, which is read once and placed that many times. Prints how
-//! many statements have a place, or why none has. `bench/places` makes sources and measures it.
+//! Times the first pass: a line with a number is followed by a source, which is read once and placed that many times.
+//! Prints how many statements have a place, or why none has. `bench/places` makes sources and measures it.
 
 use cx_asm_pass1::place_all;
 use cx_source::{Source, read_source};
@@ -20,7 +20,8 @@ fn place(rt: &HostRuntime, source: &Source, is_last: bool) -> io::Result<()> {
     }
 }
 
-/// Reads a source, and places it.
+/// Reads sources, places each as often as the line before it says, and prints how many statements have a place, or why
+/// none has.
 pub fn run<R: BufRead + Drop>(rt: &HostRuntime, mut reader: R) -> io::Result<()> {
     let mut line = String::new(rt.alloc());
     reader.read_line(&mut line)?;

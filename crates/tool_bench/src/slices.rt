@@ -4,7 +4,7 @@ use cx_exec::{Cpu, Halt, Step, advance, step};
 use cx_storage::{Kind, Owner, Store, address_in};
 use std::alloc::AllocError;
 
-/// An image, and how many slices are to be performed.
+/// An image, entered at its first byte, and how many slices, at least 2, are to be performed.
 #[derive(Drop)]
 pub struct Job {
     pub image: Vec<u8>,
@@ -68,8 +68,9 @@ fn advance_slices<S: Store>(cpu: &mut Cpu, store: &mut S, slices: u32) -> bool {
     true
 }
 
-/// Performs a job, and returns how many instructions that took: the first two slices and what comes after the last
-/// are counted, and all slices from the second on take as many as that.
+/// Performs a job, and returns how many instructions that took: the first two slices and what comes after the last are
+/// counted, and all slices from the second on take as many as that. None where there are fewer than two slices, the
+/// image has no place, or a slice doesn't come to the entry.
 pub fn perform<S: Store>(store: &mut S, job: &Job) -> Result<Option<u64>, AllocError> {
     if job.slices < 2 || !load(store, job)? {
         return Ok(None);

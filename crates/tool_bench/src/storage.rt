@@ -1,6 +1,6 @@
 //! Times stores: areas of 16 bytes got and freed in an order of a fixed generator, addresses looked up, and the areas
-//! of 16 owners freed. The first word of an input line is `flat`, `paged` or `kept`, the second the number of areas; the line
-//! that is printed has nanoseconds for each call.
+//! of 16 owners freed. The first word of an input line is `flat`, `paged` or `kept`, the second the number of areas;
+//! the line that is printed has nanoseconds for each call.
 
 ghost use Rattle.std.specs.Prelude.{◌<◌, ◌^◌, ◌≤◌, length};
 
@@ -198,7 +198,7 @@ fn time<S: Store>(rt: &HostRuntime, store: &mut S, name: &str, count: u32) -> io
     )
 }
 
-/// Times the stores of the lines.
+/// Times the store of each line, and prints nanoseconds for each call.
 pub fn run<R: BufRead + Drop>(rt: &HostRuntime, reader: R) -> io::Result<()> {
     for line in reader.lines(rt.alloc()) {
         let line = line?;

@@ -68,12 +68,16 @@ pub enum Act {
     Off,
 }
 
-/// What was done at a terminal, which had a task or not, and what that was answered.
+/// What was done at a terminal.
 #[derive(Clone, Copy)]
 pub struct Done {
+    /// The terminal.
     pub terminal: Name4,
+    /// What was done.
     pub act: Act,
+    /// Whether it had a task before.
     pub had_task: bool,
+    /// What that was answered.
     pub answer: Answer,
 }
 
@@ -97,7 +101,7 @@ fn answer(
     }
 }
 
-/// Does it under EDF.
+/// Does an act at a terminal under EDF.
 pub fn perform(
     debugged: &mut Debugged<PagedStore>,
     terminal: Name4,
@@ -113,8 +117,8 @@ pub fn perform(
     })
 }
 
-/// Does in a region without EDF what was done with it. None where it is EDF's own: then nothing is done. PF12 that EDF took is the
-/// task's end by an alteration.
+/// Does in a region without EDF what was done under EDF. None where EDF answered that itself: then nothing is done. A
+/// PF12 that ended a task under EDF is the alteration that ends it.
 pub fn perform_alone(
     region: &mut Region<PagedStore>,
     done: &Done,

@@ -27,7 +27,8 @@ fn area(store: &mut PagedStore, len: u32) -> Result<u32, AllocError> {
     Ok(start.unwrap_or(FIRST))
 }
 
-/// How the program's first turn ends; None where storage has no place for it.
+/// How the first turn of a program ends that is run by itself, with an EIB and DFHEISTG of zeros; None where storage
+/// has no place for it.
 pub fn first_halt(alloc: Global, image: &CheckedImage) -> Result<Option<Halt>, AllocError> {
     let mut store = PagedStore::new(alloc);
     let loaded = match load(alloc, image, &mut store) {

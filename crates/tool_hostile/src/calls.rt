@@ -180,8 +180,8 @@ fn asking(alloc: Global) -> Result<Subject, AllocError> {
     })
 }
 
-/// The program of a number, made of calls: of 125 numbers one that fills and one that asks; of the others a third has one to three
-/// bytes changed.
+/// The program of a number, made of calls: of 125 numbers one that fills and one that asks; of the others a third has
+/// one to three bytes changed.
 pub fn of_calls(alloc: Global, draws: &mut Draws, number: u32) -> Result<Subject, AllocError> {
     match number % 125 {
         3 => return filling(alloc),

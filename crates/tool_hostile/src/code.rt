@@ -2,8 +2,8 @@
 
 use std::alloc::{AllocError, Global};
 
-/// What each text begins with: the program returns where EIBCALEN's second byte isn't zero, so a level that a program begins
-/// for itself with a COMMAREA comes back; else it goes on after the constants.
+/// What each text begins with: the program returns where EIBCALEN's second byte isn't zero, so a level that a program
+/// begins for itself with a COMMAREA comes back; else it goes on after the constants.
 const HEAD: [u8; 70] = [
     // 00: CLI 25(11),0; BC 8,X'46'(3)
     0x95, 0x00, 0xB0, 0x19, 0x47, 0x80, 0x30, 0x46,
@@ -17,8 +17,8 @@ const HEAD: [u8; 70] = [
     0x00, 0x00, 0x00, 0x01, 0x00, 0x04, 0x7F, 0xFF, 0xFF, 0xF0,
 ];
 
-/// Base and displacement of what calls name: in the text, whose base is R3, where it begins, its RETURN, the names, and four of the
-/// halfwords.
+/// Base and displacement of what calls name: in the text, whose base is R3, where it begins, its RETURN, the names, and
+/// four of the halfwords.
 pub const START: u16 = 0x3000;
 
 pub const RETURN: u16 = 0x3008;
@@ -40,7 +40,7 @@ pub const MOST_OF_AN_AREA: u16 = 0x3044;
 /// The terminal's name in the EIB.
 pub const EIBTRMID: u16 = 0xB010;
 
-/// After the head of DFHEISTG a word for an address, one for RESP, and forty bytes.
+/// After the head of DFHEISTG a word for an address, one for RESP, and forty bytes; and how long DFHEISTG is.
 pub const POINTER: u16 = 0xD050;
 
 pub const RESP: u16 = 0xD054;
@@ -52,7 +52,8 @@ pub const STG_LEN: u32 = 128;
 /// What is at the address in POINTER.
 pub const AREA: u16 = 0x5000;
 
-/// All names, all halfwords, and what a call may name that is neither of them; what a call can do most with comes more than once.
+/// All names, all halfwords, and what a call may name that is neither of them; what a call can do most with comes more
+/// than once.
 pub const NAMES: [u16; 4] = [A, A, B, T002];
 
 pub const HALFWORDS: [u16; 7] = [
@@ -88,7 +89,7 @@ fn field_at(place: usize) -> u16 {
 }
 
 impl Code {
-    /// No call yet.
+    /// The head of a text alone, without a call.
     pub fn new(alloc: Global) -> Result<Code, AllocError> {
         Ok(Code {
             text: Vec::from_slice(alloc, &HEAD)?,
@@ -96,7 +97,7 @@ impl Code {
         })
     }
 
-    /// LA 0,argument; ST 0 into the next word of DFHEIPL.
+    /// Appends LA 0,argument, and ST 0 into the next word of DFHEIPL: `field` has the base and the displacement.
     pub fn argument(&mut self, field: u16) -> Result<(), AllocError> {
         let [base, displacement] = field.to_be_bytes();
         let word = self.words.saturating_mul(4);
@@ -105,7 +106,7 @@ impl Code {
         Ok(self.text.extend_from_slice(&instructions)?)
     }
 
-    /// A call's block, with a branch round it, and its address as the first word of the list.
+    /// Appends a call's block, with a branch round it, and puts its address into the first word of DFHEIPL.
     pub fn block(&mut self, block: &[u8]) -> Result<(), AllocError> {
         let start = self.text.len().saturating_add(4);
         let [base, displacement] = field_at(start.saturating_add(block.len())).to_be_bytes();
@@ -116,14 +117,14 @@ impl Code {
         self.argument(field_at(start))
     }
 
-    /// The high bit of the list's last word, and the call.
+    /// Appends an OI for the high bit of the list's last word, and the call.
     pub fn enter(&mut self) -> Result<(), AllocError> {
         let last = self.words.saturating_sub(1).saturating_mul(4);
         self.text.extend_from_slice(&[0x96, 0x80, 0xD0, last])?;
         Ok(self.text.extend_from_slice(&ENTER)?)
     }
 
-    /// A call with these arguments.
+    /// Appends a call with these arguments, each by its base and displacement.
     pub fn call(&mut self, block: [u8; 4], arguments: &[u16]) -> Result<(), AllocError> {
         self.block(&block)?;
         for argument in arguments {

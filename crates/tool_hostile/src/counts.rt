@@ -6,7 +6,7 @@ use cx_exec::Halt;
 use cx_region::{Reply, TurnReply};
 use std::alloc::{AllocError, Global};
 
-/// An answer in words, and how often it was given.
+/// An answer in two words (`words`), and how often it was given.
 #[derive(Drop)]
 pub struct Count {
     pub what: &'static str,
@@ -92,7 +92,8 @@ fn reply_words(reply: &Reply) -> (&'static str, &'static str) {
     }
 }
 
-/// An answer in words.
+/// An answer in two words: its name, and the condition or the abend code that it has; an empty text where it has
+/// neither.
 pub fn words(answer: &Answer) -> (&'static str, &'static str) {
     match answer {
         Answer::Region(reply) => reply_words(reply),
@@ -120,7 +121,7 @@ fn halt_words(halt: Halt) -> (&'static str, &'static str) {
 }
 
 impl Counts {
-    /// Nothing is counted yet.
+    /// The counts before any answer.
     pub fn new(alloc: Global) -> Counts {
         Counts {
             counts: Vec::new(alloc),
@@ -144,7 +145,7 @@ impl Counts {
         )
     }
 
-    /// How often an answer came, or a condition with any answer that reports it.
+    /// How often an answer was given of which this is the first or the second word.
     pub fn times(&self, word: &str) -> u64 {
         let mut times = 0u64;
         for count in self.counts.iter() {
@@ -155,7 +156,7 @@ impl Counts {
         times
     }
 
-    /// Counts an answer.
+    /// Counts an answer, in its words.
     pub fn answer(&mut self, answer: &Answer) -> Result<(), AllocError> {
         let (what, more) = words(answer);
         self.add(what, more)

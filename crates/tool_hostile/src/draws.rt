@@ -15,7 +15,7 @@ pub struct Draws {
 }
 
 impl Draws {
-    /// The first number is to come.
+    /// The generator before its first number.
     pub fn new() -> Draws {
         Draws {
             generator: Pcg32::new(STATE, SEQUENCE),
@@ -27,22 +27,22 @@ impl Draws {
         self.generator.next_word().to_be_bytes()
     }
 
-    /// One byte.
+    /// Draws a byte of any value.
     pub fn byte(&mut self) -> u8 {
         self.word()[0]
     }
 
-    /// A number below a bound; 0 where the bound is.
+    /// Draws a number below a bound; 0 where the bound is 0.
     pub fn below(&mut self, bound: u32) -> u32 {
         self.generator.next_word() % bound.max(1)
     }
 
-    /// Whether it is one of `cases` cases.
+    /// Draws: true in one of `cases` draws on average, and always where `cases` is 0 or 1.
     pub fn is_one_in(&mut self, cases: u32) -> bool {
         self.below(cases) == 0
     }
 
-    /// An item of a list; None where it has none.
+    /// Draws an item of a list; None where it has none.
     pub fn pick<T: Copy>(&mut self, items: &[T]) -> Option<T> {
         let at = self.generator.next_word() as usize % items.len().max(1);
         items.get(at).copied()

@@ -1,15 +1,17 @@
-//! Turns hostile programs in a region, and looks after each event whether the region is what it has to be. The first line
-//! of its input is the number of programs; each further line has the length of an example's working storage and the hexadecimal digits
-//! of its text. A fifth of the programs have bytes of any values, a fifth rows of the table of instructions with fields of
-//! any values, and a fifth are examples with one to three bytes changed; two fifths are calls with drawn options and arguments, some of
-//! these with bytes changed too. Every second one is run under EDF, and the same events, without EDF's own, beside it
-//! in a region without EDF.
+//! Turns hostile programs in a region, and looks after each event whether the region is what it has to be. The first
+//! line of its input is the number of programs; each further line has the length of an example's working storage and
+//! the hexadecimal digits of its text. A fifth of the programs have bytes of any values, a fifth rows of the table of
+//! instructions with fields of any values, and a fifth are examples with one to three bytes changed; two fifths are
+//! calls with drawn options and arguments, some of these with bytes changed too. Every second one is run under EDF, and
+//! the same events, without EDF's own, beside it in a region without EDF.
 //!
-//! Each violation is printed, then how often each answer was given, and last how often those came that must. The status is 1
-//! where there was a violation, or one of the last is 0.
+//! Each violation is printed, then how often each answer was given, and last how often those came that must. The status
+//! is 1 where there was a violation, or one of the last is 0.
 //!
 //! The file stdout is recorded from this program, since nothing else can say how often an answer comes of what is
 //! drawn: it shows that each build draws and counts the same. What must hold doesn't rest on it, but is looked at here.
+//!
+//! In every module an error is that of memory or of printing, but for `Stop`, which says what it is.
 #![tactic(auto)]
 
 mod acts;

@@ -6,7 +6,7 @@ use cx_ebcdic::Aid;
 use cx_edf::{Answer, EdfReply};
 use cx_region::{Reply, TurnReply};
 
-/// A mode.
+/// The mode of a terminal, without the kind of its stop.
 #[derive(Clone, Copy, Debug, PartialEq, Eq)]
 pub enum Mode {
     Off,
@@ -65,7 +65,7 @@ fn is_taken(words: Words, reply: &TurnReply) -> bool {
 }
 
 impl Watch {
-    /// EDF is off.
+    /// The watch of a terminal at which EDF is off.
     pub fn new() -> Watch {
         Watch {
             mode: Mode::Off,
@@ -125,8 +125,8 @@ impl Watch {
         }
     }
 
-    /// Whether an event is answered as the mode asks: a key goes to EDF exactly in Stopped, and a turn is held exactly there with a
-    /// live task.
+    /// Whether an event is answered as the mode asks: a key goes to EDF exactly in Stopped, and a turn is held exactly
+    /// there with a live task.
     pub fn answers(&self, done: &Done) -> bool {
         let is_stopped = self.mode == Mode::Stopped;
         match done.act {
@@ -137,7 +137,7 @@ impl Watch {
         }
     }
 
-    /// Takes an event.
+    /// Takes an event into account: the mode and the number of displays afterwards.
     pub fn note(&mut self, done: &Done) {
         match (done.act, done.answer) {
             (Act::Key(aid, sent), Answer::ToEdf) => self.key(aid, sent, done.had_task),

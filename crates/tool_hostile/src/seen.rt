@@ -12,7 +12,7 @@ const MOST_LEVELS: usize = 16;
 
 const MOST_NUMBER: u32 = 9_999_999;
 
-/// What was seen of a terminal.
+/// What was seen of a terminal at some time: its task and its screen.
 #[derive(Drop)]
 pub struct Seen {
     pub terminal: Name4,
@@ -51,7 +51,7 @@ fn is_same_task(one: &TaskInfo, other: &TaskInfo) -> bool {
         && one.due == other.due
 }
 
-/// Whether both are no task, or alike.
+/// Whether there are two tasks that are alike in all that is seen, or none.
 pub fn are_same(one: &Option<TaskInfo>, other: &Option<TaskInfo>) -> bool {
     match (one, other) {
         (None, None) => true,
@@ -78,7 +78,7 @@ impl Seen {
         }
     }
 
-    /// Whether it is of that terminal.
+    /// Whether it was seen of this terminal.
     pub fn is_of(&self, terminal: Name4) -> bool {
         self.terminal == terminal
     }

@@ -61,7 +61,8 @@ pub fn other_image(alloc: Global) -> Result<CheckedImage, Stop> {
     }
 }
 
-/// A region in which all is defined.
+/// A region in which all programs, transactions and terminals of a trial are defined. Stop::Met(Definition) where a
+/// definition is refused, Stop::Memory where memory ran out.
 pub fn defined(
     alloc: Global,
     other: &CheckedImage,

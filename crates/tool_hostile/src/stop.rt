@@ -14,14 +14,15 @@ pub enum Violation {
     Other,
     /// A key, a turn or EDF itself isn't answered as the mode asks.
     Answer,
-    /// A display is shown outside Stopped, or none is in Stopped, or not as many are kept as there were stops, ten at most.
+    /// A display is shown outside Stopped, or none is in Stopped, or not as many are kept as there were stops, ten at
+    /// most.
     Display,
     /// Without EDF the answer or the task differs.
     Erased,
 }
 
 impl Violation {
-    /// In words.
+    /// The violation in words, as it is printed.
     pub fn text(self) -> &'static str {
         match self {
             Violation::Definition => "a definition is refused",
@@ -37,7 +38,9 @@ impl Violation {
 /// Why a trial ends before its time.
 #[derive(Drop)]
 pub enum Stop {
+    /// Memory ran out.
     Memory,
+    /// What must not be met was met.
     Met(Violation),
 }
 
@@ -62,7 +65,7 @@ impl From<DefineFault> for Stop {
     }
 }
 
-/// That a violation isn't met.
+/// Stops with a violation unless something holds.
 pub fn unless(holds: bool, violation: Violation) -> Result<(), Stop> {
     if holds {
         Ok(())

@@ -21,7 +21,8 @@ const LEAST_STG: u32 = 80;
 /// LA 14,X'800' and BALR 14,14: the entry is called.
 const ENTRY_CALL: [u8; 6] = [0x41, 0xE0, 0x08, 0x00, 0x05, 0xEE];
 
-/// Base fields whose registers hold an address when a program is entered: R3, R15, R13, R11; and R1, which the rows load.
+/// Base fields whose registers hold an address when a program is entered: R3, R15, R13, R11; and R1, which the rows
+/// load.
 const BASES: [u8; 5] = [0x30, 0xF0, 0xD0, 0xB0, 0x10];
 
 /// All rows of the table of instructions.
@@ -49,7 +50,7 @@ fn stg_len(draws: &mut Draws) -> u32 {
     }
 }
 
-/// Bytes of any values.
+/// A program of bytes of any values.
 pub fn plain(alloc: Global, draws: &mut Draws) -> Result<Subject, AllocError> {
     let mut text = Vec::new(alloc);
     for _k in 0..length(draws) {
@@ -96,7 +97,7 @@ fn push_row(text: &mut Vec<u8>, draws: &mut Draws, rows: &[Op]) -> Result<(), Al
     Ok(text.extend_from_slice(own)?)
 }
 
-/// Rows of the table of instructions with fields of any values.
+/// A program of rows of the table of instructions, with fields of any values.
 pub fn of_rows(alloc: Global, draws: &mut Draws, rows: &[Op]) -> Result<Subject, AllocError> {
     let len = length(draws);
     let mut text = Vec::new(alloc);
@@ -114,7 +115,7 @@ pub fn of_rows(alloc: Global, draws: &mut Draws, rows: &[Op]) -> Result<Subject,
     })
 }
 
-/// A program with one to three bytes changed.
+/// A program like another, with one to three bytes changed.
 pub fn changed(alloc: Global, draws: &mut Draws, program: &Subject) -> Result<Subject, AllocError> {
     let mut text = Vec::from_slice(alloc, program.text.as_slice())?;
     for _k in 0..=draws.below(3) {

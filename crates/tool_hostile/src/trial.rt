@@ -33,6 +33,7 @@ pub struct Trial {
     watch: Watch,
     seen: [Seen; 3],
     last: Option<Answer>,
+    /// How many events there were.
     pub events: u64,
 }
 
@@ -53,7 +54,7 @@ impl Trial {
         }
     }
 
-    /// What was answered last, in words.
+    /// What was answered last, in two words (`counts::words`).
     pub fn last_words(&self) -> (&'static str, &'static str) {
         match &self.last {
             Some(answer) => words(answer),
@@ -81,8 +82,8 @@ impl Trial {
         Ok(())
     }
 
-    /// A turn of the hostile program's terminal, and what comes before it: at times an event of another terminal; an event of EDF; and
-    /// a key.
+    /// A turn of the hostile program's terminal, and what comes before it: at times an event of another terminal; an
+    /// event of EDF; and a key.
     fn turn(&mut self, draws: &mut Draws, counts: &mut Counts) -> Result<(), Stop> {
         self.other_event(draws, counts)?;
         self.session(draws, counts)?;

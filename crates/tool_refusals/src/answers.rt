@@ -76,7 +76,7 @@ fn print_reply(rt: &HostRuntime, reply: Reply) -> io::Result<()> {
     }
 }
 
-/// Prints an event's answer.
+/// Prints an event's answer, as a transcript has it.
 pub fn print_answer(rt: &HostRuntime, event: &EdfEvent, answer: Answer) -> io::Result<()> {
     print_event(rt, event)?;
     match answer {
@@ -88,7 +88,7 @@ pub fn print_answer(rt: &HostRuntime, event: &EdfEvent, answer: Answer) -> io::R
     }
 }
 
-/// Prints that an image is refused before its definition.
+/// Prints the line of a program whose image is refused before its definition.
 pub fn print_refused(rt: &HostRuntime, name: Name8, fault: &str) -> io::Result<()> {
     print_program(rt, &name)?;
     println!(rt; " REFUSED {fault}")

@@ -19,7 +19,7 @@ fn region<S: Store + Drop>(alloc: Global, store: S) -> Result<Debugged<S>, Alloc
     Ok(Debugged::new(alloc, region))
 }
 
-/// A region under EDF over pages, begun once more where that is answered Memory.
+/// A region under EDF over `PagedStore`, begun once more where that is answered Memory.
 pub fn begun_over_pages(alloc: Global) -> Result<Debugged<PagedStore>, AllocError> {
     match region(alloc, PagedStore::new(alloc)) {
         Ok(region) => Ok(region),
@@ -27,7 +27,7 @@ pub fn begun_over_pages(alloc: Global) -> Result<Debugged<PagedStore>, AllocErro
     }
 }
 
-/// The same over the plain store.
+/// A region under EDF over `FlatStore`, begun once more where that is answered Memory.
 pub fn begun_over_areas(alloc: Global) -> Result<Debugged<FlatStore>, AllocError> {
     match region(alloc, FlatStore::new(alloc)) {
         Ok(region) => Ok(region),
@@ -35,7 +35,8 @@ pub fn begun_over_areas(alloc: Global) -> Result<Debugged<FlatStore>, AllocError
     }
 }
 
-/// What a line asks, as a region may be asked it.
+/// What a line asks, as a region may be asked it; None where it is a bad line. Where memory is refused it is read once
+/// more.
 pub fn allowed_line(alloc: Global, line: &[u8]) -> Result<Option<Line<Action>>, AllocError>
     ensures { IfOk result (λ line. IfSome line (IsAllowedLine IsAllowedAction)) }
 {

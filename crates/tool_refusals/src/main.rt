@@ -1,9 +1,12 @@
-//! Does lists of events over a region under EDF, and gives each event that is answered Memory once more, and so each call that
-//! makes a program of a source. The lists are read from standard input, in the lines of scripts; a line `LIST` with a name
-//! begins a list, with a region of its own. Storage is in pages; with a line `FLAT` before all lists it is the plain store. Answers are printed as in a transcript; at the end of a list also
-//! each terminal's task and screen, and all pages of the displays that EDF keeps of it.
+//! Does lists of events over a region under EDF, and gives each event that is answered Memory once more, and so each
+//! call that makes a program of a source. The lists are read from standard input, in the lines of scripts; a line
+//! `LIST` with a name begins a list, with a region of its own. Storage is in pages; with a line `FLAT` before all lists
+//! it is the plain store. Answers are printed as in a transcript; at the end of a list also each terminal's task and
+//! screen, and all pages of the displays that EDF keeps of it.
 //!
 //! `checks/refused-events` runs it with each allocation refused in turn: what is printed must be as without a refusal.
+//!
+//! In every module an error means that memory ran out, also when a call was given once more, or that printing failed.
 #![tactic(auto)]
 
 mod answers;

@@ -54,7 +54,7 @@ fn screen_of<S: Store + Drop>(region: &Debugged<S>, name: Name4) -> Option<&Scre
     region.screen(name)
 }
 
-/// Prints the screen of a terminal.
+/// Prints the screen of a terminal as SCREEN does.
 pub fn print_screen<S: Store + Drop>(
     rt: &HostRuntime,
     region: &Debugged<S>,

@@ -40,6 +40,7 @@ pub enum Due {
 }
 
 impl Due {
+    /// The answer that it stands for.
     pub fn answer(self) -> Answer {
         match self {
             Due::Program(number) => Answer::Region(Reply::Program(Ok(loaded(number)))),

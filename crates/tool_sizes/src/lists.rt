@@ -12,7 +12,7 @@ use std::ops::Range;
 pub trait List {
     ghost use Rattle.cx_edf.specs.Runs.{IsAllowedEdf};
 
-    /// Puts in an event, and what it is due to be answered.
+    /// Puts an event last, with the answer that is due to it. An error comes only where an allocation failed.
     fn push(&mut self, event: EdfEvent, due: Due) -> Result<(), AllocError>
         requires { IsAllowedEdf event };
 }
@@ -40,6 +40,7 @@ impl Events {
     ghost use Rattle.std.specs.List.{AllByRecursion};
     ghost use Rattle.cx_region.specs.Events.{IsAllowed};
 
+    /// The empty list.
     pub fn new(alloc: Global) -> Events {
         Events {
             events: Vec::new(alloc),
@@ -47,12 +48,14 @@ impl Events {
         }
     }
 
+    /// Its events, in order.
     pub fn events(&self) -> &[Event]
         ensures { AllByRecursion IsAllowed result.now }
     {
         self.events.as_slice()
     }
 
+    /// The answers that are due to them, in order.
     pub fn due(&self) -> &[Due] {
         self.due.as_slice()
     }
@@ -91,6 +94,7 @@ impl EdfEvents {
     ghost use Rattle.std.specs.List.{AllByRecursion};
     ghost use Rattle.cx_edf.specs.Runs.{IsAllowedEdf};
 
+    /// The empty list.
     pub fn new(alloc: Global) -> EdfEvents {
         EdfEvents {
             events: Vec::new(alloc),
@@ -98,12 +102,14 @@ impl EdfEvents {
         }
     }
 
+    /// Its events, in order.
     pub fn events(&self) -> &[EdfEvent]
         ensures { AllByRecursion IsAllowedEdf result.now }
     {
         self.events.as_slice()
     }
 
+    /// The answers that are due to them, in order.
     pub fn due(&self) -> &[Due] {
         self.due.as_slice()
     }
@@ -117,7 +123,7 @@ impl List for EdfEvents {
     }
 }
 
-/// Puts in an act with a number; nothing where an image has a fault.
+/// Puts an act with a number last, with the answer that is due to it; nothing where an image has a fault.
 pub fn put_one<L: List>(
     alloc: Global,
     list: &mut L,
@@ -131,7 +137,7 @@ pub fn put_one<L: List>(
     }
 }
 
-/// Puts in an act with each of some numbers.
+/// Puts an act with each of some numbers last, with the answer that is due to each.
 pub fn put<L: List>(
     alloc: Global,
     list: &mut L,
@@ -145,7 +151,7 @@ pub fn put<L: List>(
     Ok(())
 }
 
-/// Puts in acts, each at all sixteen terminals before the next, and all of it `rounds` times.
+/// Puts acts last, each at all sixteen terminals before the next, and all of it `rounds` times.
 pub fn put_rounds<L: List>(
     alloc: Global,
     list: &mut L,

@@ -1,8 +1,10 @@
-//! Runs lists of 5,000 events, which no script can: `Region::run` and `Debugged::run`, over each of the two stores. Each
-//! event has the answer that is due by the rules beside it. The first forty events define what the others need; the others
-//! are rounds, each act at all sixteen terminals before the next, so that sixteen tasks live at once. Prints how many events
-//! there were, and how many answers are as is due; under EDF also how many displays are kept at the end, ten of each
-//! terminal.
+//! Runs lists of 5,000 events, which no script can: `Region::run` and `Debugged::run`, over each of the two stores.
+//! Each event has the answer that is due by the rules beside it. The first forty events define what the others need;
+//! the others are rounds, each act at all sixteen terminals before the next, so that sixteen tasks live at once. Prints
+//! how many events there were, and how many answers are as is due; under EDF also how many displays are kept at the
+//! end, ten of each terminal.
+//!
+//! In every module an error means that memory ran out, or that printing failed.
 #![tactic(auto)]
 
 mod acts;
@@ -35,8 +37,8 @@ fn plain_events(alloc: Global) -> Result<Events, AllocError> {
     Ok(list)
 }
 
-/// 8 programs, 8 transactions, 8 terminals and EDF ON at all sixteen, and 62 acts at 16 terminals five times: 5,000 events.
-/// The first four programs and eight terminals are defined before.
+/// 8 programs, 8 transactions, 8 terminals and EDF ON at all sixteen, and 62 acts at 16 terminals five times: 5,000
+/// events. The first four programs and eight terminals are defined before.
 fn edf_events(alloc: Global) -> Result<EdfEvents, AllocError> {
     let mut list = EdfEvents::new(alloc);
     put_definitions(alloc, &mut list, 5..13, 9..17)?;
@@ -83,8 +85,8 @@ fn run_plain<S: Store + Drop>(rt: &HostRuntime, stored: &str, store: S) -> io::R
     }
 }
 
-/// Defines the first four programs with their transactions, and eight terminals. How many of these definitions are answered
-/// as is due.
+/// Defines the first four programs with their transactions, and eight terminals. How many of these definitions are
+/// answered as is due.
 fn define_first<S: Store + Drop>(
     alloc: Global,
     region: &mut Debugged<S>,

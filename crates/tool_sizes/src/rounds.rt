@@ -47,9 +47,9 @@ pub const PLAIN: [(Act, Due); 31] = [
     (Act::KeyOfNone, Due::KeyOfNone),
 ];
 
-/// A round under EDF, 62 acts, which finds EDF on: P001 under suppression, with EDF begun anew before its second command,
-/// and ended by PF12; P001 with two stops at each of its eight commands; P003. It leaves each terminal stopped with 20
-/// displays taken.
+/// A round under EDF, 62 acts, which finds EDF on: P001 under suppression, with EDF begun anew before its second
+/// command, and ended by PF12; P001 with two stops at each of its eight commands; P003. It leaves each terminal stopped
+/// with 20 displays taken.
 pub const UNDER_EDF: [(Act, Due); 62] = [
     (Act::Off, Due::Closed),
     (Act::Off, Due::NotOn),

@@ -21,12 +21,12 @@ here_for op = record { section = symbol_name (codes "P"); number = pos 0; length
 abbrev pub context_for : Op → Context
 context_for op = context (find_in []) (Some (here_for op)) none_in_use None
 
-abbrev pub bytes_of : Result Instruction FaultKind → Option (List ℕ)
-bytes_of (Ok made) = Some (spelling made)
-bytes_of (Err fault) = None
+abbrev pub instruction_bytes : Result Instruction FaultKind → Option (List ℕ)
+instruction_bytes (Ok made) = Some (spelling made)
+instruction_bytes (Err fault) = None
 
 abbrev pub bytes_by : Operation → Option Op → List ℕ → Option (List ℕ)
-bytes_by operation (Some op) operand = bytes_of (instruction_or_fault operation (context_for op) operand)
+bytes_by operation (Some op) operand = instruction_bytes (instruction_or_fault operation (context_for op) operand)
 bytes_by operation None operand = None
 
 abbrev pub bytes_for : Option Operation → List ℕ → Option (List ℕ)

@@ -21,7 +21,9 @@ pub struct Section {
 /// What a register holds at the first instruction, as an expression.
 #[derive(Drop)]
 pub struct Register {
+    /// The register's number.
     pub number: usize,
+    /// An expression, whose value it holds.
     pub value: String,
 }
 
@@ -44,9 +46,11 @@ pub struct Case {
     pub at: u32,
     /// `STORAGE`: where DFHEISTG is; not given, at the end of storage.
     pub storage: Option<u32>,
-    /// `REGISTER`: number and value. 3, 11 and 13 hold the addresses of the program, of the EIB and of DFHEISTG if nothing else is said.
+    /// `REGISTER`: number and value. 3, 11 and 13 hold the addresses of the program, of the EIB and of DFHEISTG if
+    /// nothing else is said.
     pub registers: Vec<Register>,
-    /// `LIMIT`: how many instructions may be performed. Not given, as many as are made of the statement, which are all needed.
+    /// `LIMIT`: how many instructions may be performed. Not given, as many as are made of the statement, which are all
+    /// needed.
     pub limit: Option<u32>,
     /// `ENDS`: where the run ends: AtEntry, Limit, Interrupt.
     pub ends: String,
@@ -75,6 +79,7 @@ fn cut(text: &str) -> (&str, &str) {
 }
 
 impl Case {
+    /// A case of which no line is known: the program is at 010000.
     pub fn new(alloc: Global) -> Case {
         Case {
             name: String::new(alloc),

@@ -84,8 +84,8 @@ fn halt_name(halt: Halt) -> &'static str {
     }
 }
 
-/// Runs the program. Whether the run ends where it must: without a limit with the last of two instructions for each word of
-/// the list and four.
+/// Runs the program. Whether the run ends where it must: without a limit with the last of two instructions for each
+/// word of the list and four.
 fn ends_so(case: &Case, cpu: &mut Cpu, store: &mut FlatStore) -> bool {
     if let Some(limit) = case.limit {
         return halt_name(advance(cpu, store, limit)) == case.ends.as_str();

@@ -59,7 +59,7 @@ fn next_offset(symbols: &[Symbol<'_>], section: &str) -> u32 {
     at
 }
 
-/// The places of a case's fields: each begins at the next offset on its boundary.
+/// The case's fields with their offsets: each begins at the next offset on its boundary, in DFHEISTG from 80 on.
 pub fn symbols_of<'a>(alloc: Global, case: &'a Case) -> Result<Vec<Symbol<'a>>, AllocError> {
     let mut symbols = Vec::new(alloc);
     for field in case.fields.iter() {
@@ -79,10 +79,15 @@ pub fn symbols_of<'a>(alloc: Global, case: &'a Case) -> Result<Vec<Symbol<'a>>, 
 /// Where the sections of a program lie.
 #[derive(Drop)]
 pub struct Layout<'a> {
+    /// The case that says what the sections have.
     pub case: &'a Case,
+    /// The case's fields with their offsets.
     pub symbols: &'a [Symbol<'a>],
+    /// The address of the control section.
     pub program: u32,
+    /// The address of DFHEISTG.
     pub storage: u32,
+    /// The address of the EXEC interface block.
     pub eib: u32,
 }
 
@@ -120,7 +125,7 @@ impl<'a> Layout<'a> {
         }
     }
 
-    /// The sum of the terms of an expression.
+    /// The sum of an expression's terms; None where one of them isn't known.
     pub fn sum(&self, text: &str) -> Option<u32> {
         let mut sum = 0u32;
         for part in text.split('+') {
@@ -129,7 +134,8 @@ impl<'a> Layout<'a> {
         Some(sum)
     }
 
-    /// The address of an argument: the sum, and what index and base hold, where they are given. Register 0 is neither.
+    /// The address of an argument, below 2^24: the sum, and what index and base hold, where they are given. Register 0
+    /// is neither. None where a part of it isn't known.
     pub fn place(&self, regs: &[u32; 16], text: &str) -> Option<u32> {
         let Some((sum, subfields)) = text.split_once('(') else {
             return Some(address_in(self.sum(text)?));

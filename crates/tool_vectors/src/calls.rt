@@ -1,9 +1,10 @@
-//! The part of calls: EXEC statements, each in a program of its own, which is read, translated, assembled, loaded and run until the
-//! command is called: the argument list that is found there must be the command's, and each argument's place the one that
-//! its own expression has by the sections' layout, which is worked out here from the fields' definitions.
+//! The part of calls: EXEC statements, each in a program of its own, which is read, translated, assembled, loaded and
+//! run until the command is called: the argument list that is found there must be the command's, and each argument's
+//! place the one that its own expression has by the sections' layout, which is worked out here from the fields'
+//! definitions.
 //!
-//! A case begins with a line `CASE` with its name and ends with `DONE`; what comes between is explained in `call_case`. Each
-//! case that ends otherwise is printed, and last how many there were and how many of them differ.
+//! A case begins with a line `CASE` with its name and ends with `DONE`; what comes between is explained in `call_case`.
+//! Each case that ends otherwise is printed, and last how many there were and how many of them differ.
 
 use crate::call_case::Case;
 use crate::call_judge::agrees;
@@ -19,7 +20,7 @@ pub struct CallPart {
 }
 
 impl CallPart {
-    /// No line so far.
+    /// The part before its first line.
     pub fn new(alloc: Global) -> Self {
         CallPart {
             case: Case::new(alloc),
@@ -28,7 +29,8 @@ impl CallPart {
         }
     }
 
-    /// Takes a line.
+    /// Takes a line of a case. With the case's last line the case is judged and counted, and its name is printed where
+    /// it ends otherwise than it says.
     pub fn line(&mut self, rt: &HostRuntime, line: &str) -> io::Result<()> {
         if self.case.take(rt.alloc(), line)? {
             self.end_case(rt)?;
@@ -47,7 +49,7 @@ impl CallPart {
         Ok(())
     }
 
-    /// Prints the counts.
+    /// Prints how many cases there were, and how many of them differ.
     pub fn print(&self, rt: &HostRuntime) -> io::Result<()> {
         println!(rt; "{} cases done, {} differ", self.done, self.differ)
     }

@@ -1,14 +1,16 @@
-//! Runs vectors, which it reads from standard input in parts: a line `VECTORS` with a part's name begins one, and the next such line
-//! or the end of the input ends it. Each part prints those of its vectors that the library disagrees with, and at its end how
-//! many there were and how many of them differ. The parts are
+//! Runs vectors, which it reads from standard input in parts: a line `VECTORS` with a part's name begins one, and the
+//! next such line or the end of the input ends it. Each part prints those of its vectors that the library disagrees
+//! with, and at its end how many there were and how many of them differ. The parts are
 //!
 //! - `VECTORS spellings`: spellings of instructions (`spellings`);
 //! - `VECTORS steps`: single instructions and short programs (`steps`);
 //! - `VECTORS statements`: single statements and whole sources (`statements`);
 //! - `VECTORS calls`: EXEC statements, up to their calls (`calls`).
 //!
-//! A line before all parts is printed and counted as a difference (`strays`). So are a line `VECTORS` with another name, and what
-//! follows it up to the next part.
+//! A line before all parts is printed and counted as a difference (`strays`). So are a line `VECTORS` with another
+//! name, and what follows it up to the next part.
+//!
+//! In every module an error means that memory ran out, or that printing failed.
 #![tactic(auto)]
 
 mod call_case;

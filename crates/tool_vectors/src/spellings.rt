@@ -1,5 +1,6 @@
-//! The part of spellings: a line has the bytes of an instruction as hexadecimal digits, and after a blank its mnemonic and
-//! operands, or `- -` where the bytes are no instruction's canonical spelling. The bytes of a line that differs are printed.
+//! The part of spellings: a line has the bytes of an instruction as hexadecimal digits, and after a blank its mnemonic
+//! and operands, or `- -` where the bytes are no instruction's canonical spelling. The bytes of a line that differs are
+//! printed.
 
 use crate::spelling_vector::described;
 use std::alloc::{AllocError, Global};
@@ -25,12 +26,12 @@ fn agrees(alloc: Global, digits: &str, said: &str) -> Result<bool, AllocError> {
 }
 
 impl SpellingPart {
-    /// No line so far.
+    /// The part before its first line.
     pub fn new() -> Self {
         SpellingPart { done: 0, differ: 0 }
     }
 
-    /// Takes a line.
+    /// Judges a line and counts it; its bytes are printed where it differs.
     pub fn line(&mut self, rt: &HostRuntime, line: &str) -> io::Result<()> {
         let (digits, said) = line.split_once(' ').unwrap_or((line, ""));
         self.done = self.done.saturating_add(1);
@@ -41,7 +42,7 @@ impl SpellingPart {
         rt.println(digits)
     }
 
-    /// Prints the counts.
+    /// Prints how many lines there were, and how many of them differ.
     pub fn print(&self, rt: &HostRuntime) -> io::Result<()> {
         println!(rt; "{} done, {} differ", self.done, self.differ)
     }

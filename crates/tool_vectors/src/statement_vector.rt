@@ -39,8 +39,8 @@ fn bytes_by(
     }
 }
 
-/// The bytes of the statement with this operation and operand, in a control section of its own; None where it has a fault
-/// or makes no instruction.
+/// The bytes of the statement with this operation and operand, in a control section by itself; None where it has a
+/// fault or makes no instruction.
 #[tactic(auto, unfolding(crate::specs::Statements::statement_bytes))]
 pub fn statement_bytes(
     alloc: Global,

@@ -1,7 +1,8 @@
-//! The part of statements and whole sources. A statement is a line: its bytes as hexadecimal digits, and itself. A source begins
-//! with a line `SOURCE` with its number and ends with `/*`; then come its text, its relocated words, its entry, and the lines
-//! listed with an offset (`PLACES`, the last line). Each statement and the first line of each source that the library assembles
-//! to something else is printed, and last how many there were and how many of them differ.
+//! The part of statements and whole sources. A statement is a line: its bytes as hexadecimal digits, and itself. A
+//! source begins with a line `SOURCE` with its number and ends with `/*`; then come its text, its relocated words, its
+//! entry, and the lines listed with an offset (`PLACES`, the last line). Each statement and the first line of each
+//! source that the library assembles to something else is printed, and last how many there were and how many of them
+//! differ.
 
 use crate::source::made_lines;
 use crate::statement_vector::statement_bytes;
@@ -49,7 +50,7 @@ pub struct StatementPart {
 }
 
 impl StatementPart {
-    /// No line so far.
+    /// The part before its first line.
     pub fn new(alloc: Global) -> Self {
         StatementPart {
             state: State::Statements,
@@ -117,7 +118,8 @@ impl StatementPart {
         }
     }
 
-    /// Takes a line.
+    /// Takes a line: a statement, or a line of a source or after it. The statement, or the source whose last line it
+    /// is, is judged and counted; it is printed where it differs.
     pub fn line(&mut self, rt: &HostRuntime, line: &str) -> io::Result<()> {
         if self.take(rt.alloc(), line)? {
             return Ok(());
@@ -126,7 +128,7 @@ impl StatementPart {
         rt.println(self.name.as_str())
     }
 
-    /// Prints the counts.
+    /// Prints how many statements and sources there were, and how many differ.
     pub fn print(&self, rt: &HostRuntime) -> io::Result<()> {
         println!(rt;
             "{} statements and {} sources done, {} differ",

@@ -5,10 +5,13 @@ use cx_exec::{Cpu, Halt, Step, advance, step};
 use cx_storage::{Kind, Owner, Store};
 use std::alloc::{AllocError, Global};
 
-/// What is to be said of a line.
+/// What is said of a line.
 pub enum Verdict {
+    /// The library ends as the line says.
     Agrees,
+    /// It ends otherwise.
     Differs,
+    /// The line can't be read, or its areas have no place.
     Skipped,
 }
 

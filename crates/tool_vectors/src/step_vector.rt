@@ -4,7 +4,7 @@ use byteorder::{BigEndian, ByteOrder};
 use cx_exec::Cpu;
 use std::alloc::{AllocError, Global};
 
-/// An area and its bytes.
+/// An area: the address of its first byte, and its bytes.
 #[derive(Drop)]
 pub struct VectorBlock {
     pub start: u32,
@@ -14,18 +14,26 @@ pub struct VectorBlock {
 /// What is to be done: one step, or a run of at most a given number.
 #[derive(Clone, Copy)]
 pub enum Task {
+    /// One step.
     Step,
+    /// A run of at most `limit` instructions, of which `steps` are performed.
     Run { limit: u32, steps: u32 },
 }
 
 /// A machine before, and how the vector says that it ends.
 #[derive(Drop)]
 pub struct Vector<'a> {
+    /// The registers, the condition code and the next address before.
     pub before: Cpu,
+    /// The areas of storage before.
     pub blocks: Vec<VectorBlock>,
+    /// What is done.
     pub task: Task,
+    /// How it ends.
     pub end: &'a str,
+    /// The registers, the condition code and the next address after.
     pub after: Cpu,
+    /// The areas that have other bytes after, with these.
     pub changed: Vec<VectorBlock>,
 }
 
@@ -79,8 +87,9 @@ fn blocks_of(alloc: Global, text: &str) -> Result<Option<Vec<VectorBlock>>, Allo
     Ok(Some(blocks))
 }
 
-/// What a line says, or None where it can't be read. Its words are a name; the machine before; for a run the most steps; `=`; how
-/// it ends; for a run after how many steps; and the machine after, of its areas only those with other bytes.
+/// What a line says, or None where it can't be read. Its words are a name; the machine before; for a run the most
+/// steps; `=`; how it ends; for a run after how many steps; and the machine after, of its areas only those with other
+/// bytes.
 pub fn vector_of(alloc: Global, line: &str) -> Result<Option<Vector<'_>>, AllocError> {
     let words: Vec<&str> = line.split(' ').collect(alloc)?;
     let [_, at, cc, regs, blocks, rest @ ..] = words.as_slice() else {

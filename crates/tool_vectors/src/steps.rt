@@ -1,6 +1,7 @@
-//! The part of steps: a line has a single instruction or a short program, which is run over the plain store, over the store
-//! in pages, and over stores that keep what they fetch of each. The name of a line that differs is printed with the store's, and last for each store how many lines were done, how
-//! many of them differ, and how many could not be read.
+//! The part of steps: a line has a single instruction or a short program, which is run over the plain store, over the
+//! store in pages, and over stores that keep what they fetch of each. The name of a line that differs is printed with
+//! the store's, and last for each store how many lines were done, how many of them differ, and how many could not be
+//! read.
 
 use crate::step_judge::{Verdict, judge};
 use cx_storage::{FlatStore, Store};
@@ -8,7 +9,8 @@ use cx_storage_pages::{KeepingStore, PagedStore};
 use std::alloc::Global;
 use std::io;
 
-/// A store with its name, and over it how many lines were done, how many of them differ, and how many could not be read.
+/// A store with its name, and over it how many lines were done, how many of them differ, and how many could not be
+/// read.
 #[derive(Drop)]
 struct NamedStore<S> {
     name: &'static str,
@@ -54,7 +56,7 @@ impl<S: Store> NamedStore<S> {
     }
 }
 
-/// The stores.
+/// The stores over which each line is run.
 #[derive(Drop)]
 pub struct StepPart {
     flat: NamedStore<FlatStore>,
@@ -64,7 +66,7 @@ pub struct StepPart {
 }
 
 impl StepPart {
-    /// No line so far.
+    /// The part before its first line.
     pub fn new(alloc: Global) -> Self {
         StepPart {
             flat: NamedStore::new("flat", FlatStore::new(alloc)),
@@ -74,7 +76,7 @@ impl StepPart {
         }
     }
 
-    /// Takes a line.
+    /// Judges a line over each store and counts it; its name is printed, with the store's, where it differs.
     pub fn line(&mut self, rt: &HostRuntime, line: &str) -> io::Result<()> {
         self.flat.line(rt, line)?;
         self.paged.line(rt, line)?;
@@ -82,7 +84,7 @@ impl StepPart {
         self.kept_paged.line(rt, line)
     }
 
-    /// Prints the counts.
+    /// Prints for each store how many lines were done, how many of them differ, and how many could not be read.
     pub fn print(&self, rt: &HostRuntime) -> io::Result<()> {
         self.flat.print(rt)?;
         self.paged.print(rt)?;

@@ -2,14 +2,14 @@
 
 use std::io;
 
-/// How many there were.
+/// How many lines there were before all parts, or after the name of none.
 #[derive(Drop)]
 pub struct StrayLines {
     count: u64,
 }
 
 impl StrayLines {
-    /// No line so far.
+    /// The lines before the first of them.
     pub fn new() -> Self {
         StrayLines { count: 0 }
     }

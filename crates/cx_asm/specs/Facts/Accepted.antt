@@ -9,7 +9,7 @@ use Rattle.cx_asm_pass1.specs.PassState.{line_fault}
 use Rattle.cx_asm_pass1.specs.Locations.{final_state}
 use Rattle.cx_asm_pass1.specs.declared.place.LineFault.{LineFault}
 use Rattle.cx_source.specs.declared.source.Source.{Source}
-use Rattle.cx_asm.specs.Assembly.{AssemblyParts, assembly_faults, assembly_of, end_line, fault_at, first_found, made_of, second_faults_of, size_faults, size_of}
+use Rattle.cx_asm.specs.Assembly.{AssemblyParts, assembly_faults, assembly_of, end_line, fault_at, first_found, assembly_parts, second_faults_of, size_faults, control_section_size}
 use Rattle.cx_asm.specs.declared.faults.AsmFault.{AsmFault}
 use Rattle.cx_asm_expressions.specs.declared.faults.FaultKind.TheVariants as kind
 
@@ -34,18 +34,18 @@ short size e = grind (arith, nat_tests)
 pub record Accepted (source : Source) (made : AssemblyParts) : Type 0 where
   pub sound : (final_state source).fault ≡ None
   pub second : second_faults_of source ≡ []
-  pub short : size_of source ≤ 65536
-  pub made_is : made_of source ≡ made
+  pub short : control_section_size source ≤ 65536
+  pub made_is : assembly_parts source ≡ made
 
 pub accepted : (source : Source) (made : AssemblyParts) → assembly_of source ≡ Ok made → Accepted source made
 unfolding assembly_of assembly_faults
 accepted source made e =
-    let all = made_without _ (made_of source) made e in
+    let all = made_without _ (assembly_parts source) made e in
     let first = neither (place_faults source) _ all.0 in
-    let second = neither (second_faults_of source) (size_faults (size_of source) (end_line source)) first.1 in
+    let second = neither (second_faults_of source) (size_faults (control_section_size source) (end_line source)) first.1 in
     record {
       sound = sym (places.first_of_faults (reverse source.items)) ∙ ap (λ (l : List LineFault). slice_get l 0) first.0;
       second = second.0;
-      short = short (size_of source) (when_short (nat_le (size_of source) 65536) [] (line_fault (end_line source) kind.TooLarge) second.1);
+      short = short (control_section_size source) (when_short (nat_le (control_section_size source) 65536) [] (line_fault (end_line source) kind.TooLarge) second.1);
       made_is = all.1;
     }

@@ -5,7 +5,7 @@ use Rattle.std.specs.Option.{option_map_or}
 use Rattle.std.specs.Result.{result_err}
 use Rattle.cx_source.specs.declared.source.Source.{Source}
 use Rattle.cx_asm_pass1.specs.declared.place.LineFault.{LineFault}
-use Rattle.cx_asm.specs.Assembly.{AssemblyParts, assembly_faults, assembly_of, fault_at, made_of}
+use Rattle.cx_asm.specs.Assembly.{AssemblyParts, assembly_faults, assembly_of, fault_at, assembly_parts}
 use Rattle.cx_asm.specs.declared.faults.AsmFault.{AsmFault}
 
 reported : (made : AssemblyParts) (first : Option LineFault)
@@ -15,4 +15,4 @@ reported made (Some first) = refl
 
 pub first_is_reported : (source : Source) → result_err (assembly_of source) ≡ option_map fault_at (slice_get (assembly_faults source) 0)
 unfolding assembly_of
-first_is_reported source = reported (made_of source) (slice_get (assembly_faults source) 0)
+first_is_reported source = reported (assembly_parts source) (slice_get (assembly_faults source) 0)

@@ -6,7 +6,7 @@ use Rattle.std.proofs.Common.{◌≡◌, ℕ, Option, Some, None, List, [], ◌�
 use Rattle.std.proofs.lemmas.List.{length-set}
 use Rattle.cx_asm_expressions.specs.declared.faults.FaultKind.{FaultKind}
 use Rattle.cx_asm_operands.specs.Bases.{Bases, UsingStatement, after_drop, after_using}
-use Rattle.cx_asm_operands.specs.Checking.{made_of}
+use Rattle.cx_asm_operands.specs.Checking.{with_made}
 use Rattle.cx_asm_operands.specs.Context.{Context}
 use Rattle.cx_asm_operands.specs.Directives.{bases_in, drop_in, using_in}
 use Rattle.cx_asm_operands.specs.Forms.{operands_of}
@@ -29,12 +29,12 @@ abbrev or_kept : Result Bases FaultKind → Bases → Bases
 or_kept made bases = unwrap_or (result_ok made) bases
 
 using_sixteen : (given : Result UsingStatement FaultKind) (bases : Bases) → length bases ≡ 16
-    → length (or_kept (made_of (λ u. after_using u.section u.number u.registers bases) given) bases) ≡ 16
+    → length (or_kept (with_made (λ u. after_using u.section u.number u.registers bases) given) bases) ≡ 16
 using_sixteen (Ok given) bases e = held_length given.section given.registers given.number bases ∙ e
 using_sixteen (Err fault) bases e = e
 
 drop_sixteen : (registers : Result (Option (List ℕ)) FaultKind) (bases : Bases) → length bases ≡ 16
-    → length (or_kept (made_of (λ named. after_drop named bases) registers) bases) ≡ 16
+    → length (or_kept (with_made (λ named. after_drop named bases) registers) bases) ≡ 16
 drop_sixteen (Ok None) bases e = refl
 drop_sixteen (Ok (Some registers)) bases e = ended_length registers bases ∙ e
 drop_sixteen (Err fault) bases e = e

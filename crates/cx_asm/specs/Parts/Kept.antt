@@ -8,5 +8,5 @@ kept true old part = join_sections old part
 kept false old part = old
 
 -- where it is kept it fits in the largest text
-abbrev pub Fits : Bool → Standing → Standing → Type 0
-Fits keeps old part = keeps ≡ true → IsWithin 0 (join_sections old part) 65536
+abbrev pub FitsSection : Bool → Standing → Standing → Type 0
+FitsSection keeps old part = keeps ≡ true → IsWithin 0 (join_sections old part) 65536

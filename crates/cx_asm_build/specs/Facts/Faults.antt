@@ -1,6 +1,5 @@
 -- No source is refused for lack of memory.
 use Rattle.std.proofs.Common.{◌≡◌, ◌≢◌, ℕ, ◌+◌, Bool, true, false, cond, List, [], ◌∷◌, map, Option, Some, None, Result, Ok, Err, slice_get, refl, sym, ap, subst}
-use Rattle.std.specs.Prelude.{drop, option_and_then, take}
 use Rattle.std.specs.Option.{option_map_or, option_or}
 use Rattle.std.specs.List.{cons_option}
 use Rattle.cx_base.specs.declared.commands.Command.{Command}
@@ -13,14 +12,15 @@ use Rattle.cx_source.specs.declared.source.Source.{Source}
 use Rattle.cx_source.specs.declared.source.SourceFault.{SourceFault}
 use Rattle.cx_source.specs.declared.source.SourceFault.TheVariants as source
 use Rattle.cx_source.specs.declared.source.Stmt.{Stmt}
-use Rattle.cx_translate.specs.Refusals.{command_in, fault_in, fault_of}
+use Rattle.cx_translate.specs.Facts.Found.{fault_in_stmt, fault_of_command, judged}
+use Rattle.cx_translate.specs.Refusals.{command_in, fault_in, refusal_of}
 use Rattle.cx_translate.specs.Sections.{begins_exec}
 use Rattle.cx_translate.specs.Translation as translation
 use Rattle.cx_translate.specs.Words.{words_of}
 use Rattle.cx_translate.specs.declared.faults.TransFault.{TransFault}
 use Rattle.cx_translate.specs.declared.faults.TransFault.TheVariants as trans
 use Rattle.cx_translate.specs.declared.words.Word.{Word}
-use Rattle.cx_asm.specs.Assembly.{AssemblyParts, assembly_faults, assembly_of, fault_on, made_of}
+use Rattle.cx_asm.specs.Assembly.{AssemblyParts, assembly_faults, assembly_of, fault_on, assembly_parts}
 use Rattle.cx_asm_pass1.specs.declared.place.LineFault.{LineFault}
 use Rattle.cx_asm_expressions.specs.declared.faults.FaultKind.{FaultKind}
 use Rattle.cx_asm_expressions.specs.declared.faults.FaultKind.TheVariants as reason
@@ -44,8 +44,8 @@ line_chain false false true d n = tt
 line_chain false false false true n = tt
 line_chain false false false false n = tt
 
-line_sound : (continues : Bool) (n : ℕ) (line : List ℕ) → sound_line (lines.fault_of continues n line)
-unfolding lines.fault_of
+line_sound : (continues : Bool) (n : ℕ) (line : List ℕ) → sound_line (lines.source_fault continues n line)
+unfolding lines.source_fault
 line_sound continues n line = line_chain _ _ _ _ n
 
 line_or : (a b : Option SourceFault) → sound_line a → sound_line b → sound_line (option_or a b)
@@ -59,7 +59,7 @@ line_end false rest h = h
 lines_sound : (continues : Bool) (n : ℕ) (all : List (List ℕ)) → sound_line (first_line_fault continues n all)
 lines_sound continues n [] = tt
 lines_sound continues n (line ∷ more) =
-    line_or (lines.fault_of continues n line) _ (line_sound continues n line)
+    line_or (lines.source_fault continues n line) _ (line_sound continues n line)
     (line_end (is_last continues (text_of line)) _ (lines_sound (is_continued continues (text_of line)) (n + 1) more))
 
 -- ---- the translation
@@ -79,22 +79,12 @@ in_sound : (line : ℕ) (command : Command) (cics named words : List Word) → s
 unfolding fault_in
 in_sound line command cics named words = statement_chain _ _ _ _ _ line
 
-abbrev fault_of_command : ℕ → List Word → Option (Command × ℕ) → Option TransFault
-fault_of_command line words found = option_map_or
-    (λ f. fault_in line f.0 (take 1 words) (take f.1 (drop 1 words)) (drop f.1 (drop 1 words))) found (Some (trans.UnknownCommand line))
-
-abbrev fault_in_stmt : ℕ → Option Stmt → Option TransFault
-fault_in_stmt line statement = option_and_then (λ exec. fault_of line (words_of exec.operand)) statement
-
-abbrev judged : Option TransFault → Source → Result Source TransFault
-judged fault source = option_map_or (λ f. Err f) fault (Ok source)
-
 command_sound : (line : ℕ) (words : List Word) (found : Option (Command × ℕ)) → sound_statement (fault_of_command line words found)
 command_sound line words None = tt
 command_sound line words (Some found) = in_sound line found.0 _ _ _
 
-of_sound : (line : ℕ) (words : List Word) → sound_statement (fault_of line words)
-unfolding fault_of
+of_sound : (line : ℕ) (words : List Word) → sound_statement (refusal_of line words)
+unfolding refusal_of
 of_sound line words = command_sound line words (command_in words)
 
 stmt_sound : (line : ℕ) (stmt : Option Stmt) → sound_statement (fault_in_stmt line stmt)
@@ -155,7 +145,7 @@ reported_not_memory (Some first) made = λ e. let same : fault_on first.line fir
 
 assembly_not_memory : (s : Source) → assembly_of s ≢ Err asm.Memory
 unfolding assembly_of
-assembly_not_memory s = reported_not_memory (slice_get (assembly_faults s) 0) (made_of s)
+assembly_not_memory s = reported_not_memory (slice_get (assembly_faults s) 0) (assembly_parts s)
 
 translation_fault_sound : (fault : TransFault) → sound_statement (Some fault) → Sound (Err (of_translation fault))
 unfolding of_translation

@@ -3,13 +3,14 @@ use Rattle.std.specs.Prelude.{◌≡◌, ℕ, ◌+◌, ◌*◌, ◌≤◌, lengt
 use Rattle.cx_exec.specs.declared.machine.Halt.TheVariants as halt
 use Rattle.cx_exec.specs.Machine.{Machine}
 use Rattle.cx_exec.specs.Advance.{Advances}
-use Rattle.cx_asm_execution.specs.Expansion.{Statement, instructions_made, words_of}
-use Rattle.cx_asm_execution.specs.Stands.{IsMachine, IsLegal, Stands, IsAddressed, IsClear, code_length}
+use Rattle.cx_asm_execution.specs.Expansion.{Statement, instructions_made, words_of_list}
+use Rattle.cx_asm_execution.specs.Stands.{IsMachine, IsLegal, StandsInStorage, IsListAddressed, IsClear, code_length}
 use Rattle.cx_asm_execution.specs.Arrives.{Arrives}
 
 -- the instructions at the next address lead to a machine that has arrived
 abbrev pub ReachesEntry : Type 0
-ReachesEntry = (m : Machine) (s : Statement) → IsMachine m → IsLegal s → Stands m s → IsAddressed m s → IsClear m s
+ReachesEntry =
+    (m : Machine) (s : Statement) → IsMachine m → IsLegal s → StandsInStorage m s → IsListAddressed m s → IsClear m s
     → (after : Machine) × Arrives m s after
 
 -- a run with any limit that they fit in ends there, at the entry
@@ -23,5 +24,5 @@ ArrivalsDecide = (m : Machine) (s : Statement) (a b : Machine) → Arrives m s a
 
 -- Two instructions are made for each word of the list, and four; those except BALR have four bytes.
 abbrev pub MadeAreCounted : Type 0
-MadeAreCounted = (s : Statement) → (length (instructions_made s) ≡ 2 * length (words_of s) + 4)
-    × (code_length (instructions_made s) ≡ 8 * length (words_of s) + 14)
+MadeAreCounted = (s : Statement) → (length (instructions_made s) ≡ 2 * length (words_of_list s) + 4)
+    × (code_length (instructions_made s) ≡ 8 * length (words_of_list s) + 14)

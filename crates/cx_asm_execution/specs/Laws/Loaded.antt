@@ -3,7 +3,7 @@
 use Rattle.std.specs.Prelude.{◌≡◌, ◌⊎◌, ℕ, ◌+◌, ◌≤◌, true, Ok, Some, List}
 use Rattle.std.specs.List.{AllByRecursion}
 use Rattle.cx_code.specs.declared.disassembly.Line.{Line}
-use Rattle.cx_asm_image.specs.Resolved.{bytes_of, end_of, size_of, is_code}
+use Rattle.cx_asm_image.specs.Resolved.{bytes_of, offset_after, size_of, is_code}
 use Rattle.cx_load.specs.Fault.{IsFit}
 use Rattle.cx_load.specs.Program.{IsLoaded}
 use Rattle.cx_load.specs.declared.program.Loaded.{Loaded}
@@ -18,7 +18,7 @@ StandsAt s at line = span s (address_after at line.at) (size_of line.what) ≡ S
 
 -- no relocated word has a byte of a line
 abbrev pub IsUnrelocated : List ℕ → Line → Type 0
-IsUnrelocated relocs line = AllByRecursion (λ r. (r + 4 ≤ line.at) ⊎ (end_of line ≤ r)) relocs
+IsUnrelocated relocs line = AllByRecursion (λ r. (r + 4 ≤ line.at) ⊎ (offset_after line ≤ r)) relocs
 
 -- Each resolved line of an accepted source without such a word is in storage when the program is loaded.
 abbrev pub LinesAreLoaded : Type 0

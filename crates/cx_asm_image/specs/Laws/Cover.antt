@@ -2,16 +2,16 @@
 use Rattle.std.specs.Prelude.{◌≡◌, ℕ, Bool, false, ◌&&◌, nat_le, nat_lt, List, length, take, drop, slice_index, ⊤}
 use Rattle.std.specs.List.{list_any, AllByRecursion}
 use Rattle.cx_code.specs.declared.disassembly.Line.{Line}
-use Rattle.cx_code.specs.declared.disassembly.What.{What}
-use Rattle.cx_code.specs.declared.disassembly.What.TheVariants.{Code}
+use Rattle.cx_code.specs.declared.disassembly.LineContent.{LineContent}
+use Rattle.cx_code.specs.declared.disassembly.LineContent.TheVariants.{Code}
 use Rattle.cx_code.specs.Spelling.{IsWellFormed}
 use Rattle.cx_code.specs.declared.image.Span.{Span}
 use Rattle.cx_code.specs.declared.image.SpanKind.TheVariants as kinds
-use Rattle.cx_asm_image.specs.Resolved.{bytes_of, size_of, end_of}
+use Rattle.cx_asm_image.specs.Resolved.{bytes_of, size_of, offset_after}
 
 -- a byte at an offset is one of a line's
 abbrev pub covers : ℕ → Line → Bool
-covers k line = nat_le line.at k && nat_lt k (end_of line)
+covers k line = nat_le line.at k && nat_lt k (offset_after line)
 
 -- the bytes of a line are at its place
 abbrev pub StandsIn : List ℕ → Line → Type 0
@@ -24,12 +24,12 @@ pub record IsTextOf (resolved : List Line) (size : ℕ) (text : List ℕ) : Type
   pub gaps : (k : ℕ) → list_any (covers k) resolved ≡ false → slice_index text k ≡ 0
 
 -- each line that is an instruction is a well-formed one
-abbrev pub IsSound : What → Type 0
-IsSound (Code i) = IsWellFormed i
-IsSound _ = ⊤
+abbrev pub HasWellFormed : LineContent → Type 0
+HasWellFormed (Code i) = IsWellFormed i
+HasWellFormed _ = ⊤
 
 abbrev pub AreWellFormed : List Line → Type 0
-AreWellFormed resolved = AllByRecursion (λ line. IsSound line.what) resolved
+AreWellFormed resolved = AllByRecursion (λ line. HasWellFormed line.what) resolved
 
 -- a span called data
 abbrev pub as_data : Span → Span

@@ -2,14 +2,14 @@
 use Rattle.std.specs.Prelude.{◌≡◌, ℕ, ◌++◌, List, length, ⊤}
 use Rattle.std.specs.List.{AllByRecursion}
 use Rattle.cx_code.specs.declared.disassembly.Line.{Line}
-use Rattle.cx_code.specs.declared.disassembly.What.{What}
-use Rattle.cx_code.specs.declared.disassembly.What.TheVariants.{Code}
+use Rattle.cx_code.specs.declared.disassembly.LineContent.{LineContent}
+use Rattle.cx_code.specs.declared.disassembly.LineContent.TheVariants.{Code}
 use Rattle.cx_code.specs.Spelling.{spelling, Spells}
 use Rattle.cx_asm_image.specs.Resolved.{AreApart, end_after}
 use Rattle.cx_asm_image.specs.Text.{text_from}
 
 -- an instruction is spelled by its spelling, as a well-formed one is
-abbrev pub IsSpelled : What → Type 0
+abbrev pub IsSpelled : LineContent → Type 0
 IsSpelled (Code i) = Spells i (spelling i)
 IsSpelled _ = ⊤
 

@@ -6,7 +6,7 @@ use Rattle.std.specs.List.{AllByRecursion, list_all}
 use Rattle.std.proofs.Math.Seq.{get_or-append_seam, take-append_seam}
 use Rattle.std.proofs.lemmas.Bool.Decides.{nat_tests}
 use Rattle.std.proofs.lemmas.List.{append_assoc, append-nil, length-append}
-use Rattle.cx_asm_expressions.specs.Bytes.{copy_of_constant, made_of}
+use Rattle.cx_asm_expressions.specs.Bytes.{copy_of_constant, constant_copy}
 use Rattle.cx_asm_expressions.specs.Digits.{digit, is_digit, digit_value}
 use Rattle.cx_asm_expressions.specs.Items.{constant, constant_in, value_in}
 use Rattle.cx_asm_expressions.specs.Kinds.{digit_from_right, half_bytes, kind_of}
@@ -17,21 +17,21 @@ use Rattle.cx_code.specs.Text.{hex_pair}
 use Rattle.cx_asm_pass2.specs.Whole.{Whole, item_made}
 use Rattle.cx_asm_laws.specs.Facts.Plain.{ArePlain, glyph_plain, other}
 
-abbrev pub AreBytes : List ℕ → Type 0
-AreBytes bytes = AllByRecursion (λ byte. byte < 256) bytes
+abbrev pub EachIsByte : List ℕ → Type 0
+EachIsByte bytes = AllByRecursion (λ byte. byte < 256) bytes
 
 -- ---- digits
 glyph_digit : (d : ℕ) → d < 16 → digit (digit_glyph true d) ≡ Some d
 unfolding digit
 glyph_digit d h = grind (arith, nat_tests)
 
-pub hex_plain : (bytes : List ℕ) → AreBytes bytes → ArePlain (flat_map hex_pair bytes)
+pub hex_plain : (bytes : List ℕ) → EachIsByte bytes → ArePlain (flat_map hex_pair bytes)
 hex_plain [] h = tt
 hex_plain (b ∷ bytes) h =
     let small = h.0 in
     (glyph_plain true (b / 16) (omega (arith, small)), (glyph_plain true (b % 16) (omega arith), hex_plain bytes h.1))
 
-hex_digits : (bytes : List ℕ) → AreBytes bytes → list_all (is_digit 16) (flat_map hex_pair bytes) ≡ true
+hex_digits : (bytes : List ℕ) → EachIsByte bytes → list_all (is_digit 16) (flat_map hex_pair bytes) ≡ true
 hex_digits [] h = refl
 hex_digits (b ∷ bytes) h =
     let small = h.0 in
@@ -54,7 +54,7 @@ digit_at front glyph after j e =
     let less : nat_lt j (length (front ++ glyph ∷ after)) ≡ true = grind (arith, nat_tests, fits) in
     rw (less, at) (ap digit_value (get_or-append_seam front glyph after 0))
 
-half_bytes_are : (front bytes : List ℕ) → AreBytes bytes → half_bytes Hexadecimal (front ++ flat_map hex_pair bytes) (length bytes) ≡ bytes
+half_bytes_are : (front bytes : List ℕ) → EachIsByte bytes → half_bytes Hexadecimal (front ++ flat_map hex_pair bytes) (length bytes) ≡ bytes
 half_bytes_are front [] h = refl
 half_bytes_are front (b ∷ bytes) h =
     let one = digit_glyph true (b / 16) in
@@ -95,9 +95,9 @@ pub constant_is : (hex : List ℕ) → ArePlain hex → 0 < length hex → const
 unfolding constant_in kind_of digit
 constant_is hex plain some = rw (value_is hex plain some) refl
 
-pub made_is : (whole : Whole) (counter : Option Value) (bytes : List ℕ) → AreBytes bytes → 0 < length bytes
+pub made_is : (whole : Whole) (counter : Option Value) (bytes : List ℕ) → EachIsByte bytes → 0 < length bytes
     → item_made whole false counter (88 ∷ 39 ∷ (flat_map hex_pair bytes ++ 39 ∷ [])) ≡ Ok (copy_of_constant bytes false)
-unfolding made_of
+unfolding constant_copy
 made_is whole counter bytes h some =
     let hex = flat_map hex_pair bytes in
     let many = hex_length bytes in

@@ -13,7 +13,7 @@ use Rattle.cx_asm_expressions.specs.declared.faults.FaultKind.{FaultKind}
 use Rattle.cx_asm_pass1.specs.Facts.Apart.{control_kept, in_control}
 use Rattle.cx_asm_pass1.specs.Facts.Faults.{none_before}
 use Rattle.cx_asm_pass1.specs.Facts.StatementExtents.{lower_none}
-use Rattle.cx_asm_pass1.specs.PassState.{PassState, next_state, after_line, duplicate_in, fault_in, first_fault_after, given_in, is_control, literal_fault, name_fault, operation_fault, control_after, state_after, extent_in, line_fault, own_fault, parts_in, role_in, section_fault, name_in, place_in}
+use Rattle.cx_asm_pass1.specs.PassState.{PassState, next_state, after_line, duplicate_in, statement_fault_in, first_fault_after, given_in, is_control, literal_fault, name_fault, operation_fault, control_after, state_after, extent_in, line_fault, own_fault, parts_in, role_in, section_fault, name_in, place_in}
 use Rattle.cx_asm_pass1.specs.declared.place.LineFault.{LineFault}
 use Rattle.cx_asm_pass1.specs.declared.place.Place.{Place}
 use Rattle.cx_asm_pass2.specs.Statements.{PlacedItem, PlacedStatement, placed_latest_first, placed_of, stated_in, statements_of}
@@ -25,12 +25,12 @@ placed_item item place = record { item = item; place = place }
 abbrev pub place_for : Option Stmt → PassState → Option Place
 place_for stmt state = option_map (λ s. place_in s state) stmt
 
-abbrev pub placed_from : List Item → List Item → List PlacedItem
-placed_from before [] = []
-placed_from before (item ∷ items) = placed_item item (place_for item.stmt (state_after before)) ∷ placed_from (item ∷ before) items
+abbrev pub placed_items_from : List Item → List Item → List PlacedItem
+placed_items_from before [] = []
+placed_items_from before (item ∷ items) = placed_item item (place_for item.stmt (state_after before)) ∷ placed_items_from (item ∷ before) items
 
 abbrev pub statements_from : List Item → List Item → List PlacedStatement
-statements_from before items = filter_map stated_in (placed_from before items)
+statements_from before items = filter_map stated_in (placed_items_from before items)
 
 -- ---- lists
 pub reverse_cons : {X : Type 0} (x : X) (xs : List X) → reverse (x ∷ xs) ≡ reverse xs ++ (x ∷ [])
@@ -39,13 +39,13 @@ reverse_cons x xs = reverse-append (x ∷ []) xs
 pub reverse_step : {X : Type 0} (x : X) (xs before : List X) → reverse (x ∷ xs) ++ before ≡ reverse xs ++ (x ∷ before)
 reverse_step x xs before = ap (λ k. k ++ before) (reverse_cons x xs) ∙ append_assoc (reverse xs) (x ∷ []) before
 
-placed_turned : (xs before : List Item) → reverse (placed_latest_first (reverse xs ++ before)) ≡ reverse (placed_latest_first before) ++ placed_from before xs
+placed_turned : (xs before : List Item) → reverse (placed_latest_first (reverse xs ++ before)) ≡ reverse (placed_latest_first before) ++ placed_items_from before xs
 placed_turned [] before = sym (append-nil (reverse (placed_latest_first before)))
 placed_turned (x ∷ xs) before =
     let p = placed_item x (place_for x.stmt (state_after before)) in
     ap (λ k. reverse (placed_latest_first k)) (reverse_step x xs before) ∙ placed_turned xs (x ∷ before)
-    ∙ ap (λ k. k ++ placed_from (x ∷ before) xs) (reverse_cons p (placed_latest_first before))
-    ∙ append_assoc (reverse (placed_latest_first before)) (p ∷ []) (placed_from (x ∷ before) xs)
+    ∙ ap (λ k. k ++ placed_items_from (x ∷ before) xs) (reverse_cons p (placed_latest_first before))
+    ∙ append_assoc (reverse (placed_latest_first before)) (p ∷ []) (placed_items_from (x ∷ before) xs)
 
 pub statements_are : (source : Source) → statements_of source ≡ statements_from [] source.items
 unfolding placed_of
@@ -53,15 +53,15 @@ statements_are source =
     ap (filter_map stated_in) (ap (λ k. reverse (placed_latest_first k)) (sym (append-nil (reverse source.items))) ∙ placed_turned source.items [])
 
 -- lists of lines, one after the other
-placed_joined : (xs ys before : List Item) → placed_from before (xs ++ ys) ≡ placed_from before xs ++ placed_from (reverse xs ++ before) ys
+placed_joined : (xs ys before : List Item) → placed_items_from before (xs ++ ys) ≡ placed_items_from before xs ++ placed_items_from (reverse xs ++ before) ys
 placed_joined [] ys before = refl
 placed_joined (x ∷ xs) ys before =
     ap (λ k. placed_item x (place_for x.stmt (state_after before)) ∷ k) (placed_joined xs ys (x ∷ before)
-    ∙ ap (λ k. placed_from (x ∷ before) xs ++ placed_from k ys) (sym (reverse_step x xs before)))
+    ∙ ap (λ k. placed_items_from (x ∷ before) xs ++ placed_items_from k ys) (sym (reverse_step x xs before)))
 
 pub statements_joined : (xs ys before : List Item) → statements_from before (xs ++ ys) ≡ statements_from before xs ++ statements_from (reverse xs ++ before) ys
 statements_joined xs ys before =
-    ap (filter_map stated_in) (placed_joined xs ys before) ∙ filter_map-append stated_in (placed_from before xs) (placed_from (reverse xs ++ before) ys)
+    ap (filter_map stated_in) (placed_joined xs ys before) ∙ filter_map-append stated_in (placed_items_from before xs) (placed_items_from (reverse xs ++ before) ys)
 
 pub none_first : (line : ℕ) (fault : Option FaultKind) (first : Option LineFault) → first_fault_after line fault first ≡ None → (first ≡ None) × (fault ≡ None)
 none_first line None None e = (refl, refl)
@@ -90,7 +90,7 @@ section_sound stmt state e =
 pub own_sound : (line : ℕ) (stmt : Stmt) (state : PassState) → (next_state line stmt state).fault ≡ None → own_fault stmt state ≡ None
 unfolding next_state
 own_sound line stmt state e =
-    (lower_none (own_fault stmt state) (literal_fault (role_in stmt) (length state.places) (parts_in stmt) state.pool) (none_first line (fault_in stmt state) state.fault e).1).0
+    (lower_none (own_fault stmt state) (literal_fault (role_in stmt) (length state.places) (parts_in stmt) state.pool) (none_first line (statement_fault_in stmt state) state.fault e).1).0
 
 -- ---- the lines that follow leave the control section, and have no fault
 control_line : (line : ℕ) (stmt : Option Stmt) (state : PassState) (name : List ℕ) → state.control ≡ Some name → (after_line line stmt state).control ≡ Some name

@@ -10,12 +10,12 @@ use Rattle.std.proofs.lemmas.Bool.Decides.{nat_tests}
 use Rattle.std.proofs.lemmas.Fmt.{decimal_is_IsNumeral}
 use Rattle.std.proofs.lemmas.Int.Digits.{digits_value_is}
 use Rattle.std.proofs.lemmas.List.{append_assoc, append-nil}
-use Rattle.cx_source.specs.Marks.{depth_after, is_mark, lies_outside, outside_from, parts_from, scan_after, within_after}
+use Rattle.cx_source.specs.Marks.{scan_depth_after, is_mark, lies_outside, outside_from, parts_from, scan_after, within_after}
 use Rattle.cx_source.specs.declared.marks.Delimiter.TheVariants.{TopComma}
 use Rattle.cx_source.specs.declared.marks.Scan.{Scan}
 use Rattle.cx_asm_expressions.specs.Digits.{digit, is_digit, number_in, digit_value}
-use Rattle.cx_source.specs.Lines.{is_letter, is_name}
-use Rattle.cx_asm_expressions.specs.Terms.{is_sign, part_of, parts_from as signed_parts_from, read_term, term_of}
+use Rattle.cx_source.specs.Lines.{is_letter, is_symbol_name}
+use Rattle.cx_asm_expressions.specs.Terms.{is_sign, part_of, expression_parts_from as signed_parts_from, read_term, term_of}
 use Rattle.cx_asm_expressions.specs.declared.terms.TermKind.TheVariants.{Decimal}
 use Rattle.cx_asm_expressions.specs.declared.terms.Sign.{Sign}
 use Rattle.cx_asm_expressions.specs.declared.terms.Sign.TheVariants.{Plus, Minus}
@@ -38,8 +38,8 @@ neither false = refl
 no_comma : (scan : Scan) (c : ℕ) (after : List ℕ) → 48 ≤ c → (lies_outside scan c after && is_mark TopComma scan.depth c) ≡ false
 no_comma scan c after h = rw (other c 44 h (omega arith)) (neither (lies_outside scan c after))
 
-depth_same : (scan : Scan) (c : ℕ) (after : List ℕ) → 48 ≤ c → depth_after scan c after ≡ scan.depth
-unfolding depth_after
+depth_same : (scan : Scan) (c : ℕ) (after : List ℕ) → 48 ≤ c → scan_depth_after scan c after ≡ scan.depth
+unfolding scan_depth_after
 depth_same scan c after h = rw (other c 40 h (omega arith), other c 41 h (omega arith), neither (lies_outside scan c after)) refl
 
 -- plain characters go into the part, and what follows them is cut
@@ -55,7 +55,7 @@ plain_cut scan part [] rest h =
 plain_cut scan part (c ∷ text) rest h =
     let next : Scan = record { within = scan.within; depth = scan.depth; before = scan.last; last = c } in
     let step : scan_after scan c (text ++ rest) ≡ next =
-    ap (λ w. record { within = w; depth = depth_after scan c (text ++ rest); before = scan.last; last = c }) (within_same scan c (text ++ rest) h.0)
+    ap (λ w. record { within = w; depth = scan_depth_after scan c (text ++ rest); before = scan.last; last = c }) (within_same scan c (text ++ rest) h.0)
     ∙ ap (λ d. record { within = scan.within; depth = d; before = scan.last; last = c }) (depth_same scan c (text ++ rest) h.0) in
     let more = plain_cut next (part ++ (c ∷ [])) text rest h.1 in
     record {
@@ -133,7 +133,7 @@ split true b e = (refl, e)
 split false b e = absurd (cc)
 
 pub decimal_term : (text : List ℕ) → ArePlain text → list_all (is_digit 10) text ≡ true → 0 < length text → read_term (part_of Plus text) ≡ Some (term_of Plus Decimal text)
-unfolding read_term is_name
+unfolding read_term is_symbol_name
 decimal_term [] plain all some = absurd (omega arith)
 decimal_term (c ∷ []) plain all some =
     rw (other c 42 plain.0 (omega arith), no_letter c (split (is_digit 10 c) true all).0, (split (is_digit 10 c) true all).0) refl

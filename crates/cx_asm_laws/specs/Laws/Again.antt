@@ -7,10 +7,10 @@ use Rattle.cx_code.specs.Lines.{lines}
 use Rattle.cx_code.specs.declared.disassembly.Line.{Line}
 use Rattle.cx_source.specs.declared.source.Source.{Source}
 use Rattle.cx_asm_expressions.specs.Names.{symbol_name}
-use Rattle.cx_asm_image.specs.Resolved.{end_of}
+use Rattle.cx_asm_image.specs.Resolved.{offset_after}
 use Rattle.cx_asm.specs.Assembly.{AssemblyParts, assembly_of}
-use Rattle.cx_code.specs.declared.disassembly.What.{What}
-use Rattle.cx_code.specs.declared.disassembly.What.TheVariants.{Code, Data, Space}
+use Rattle.cx_code.specs.declared.disassembly.LineContent.{LineContent}
+use Rattle.cx_code.specs.declared.disassembly.LineContent.TheVariants.{Code, Data, Space}
 use Rattle.cx_code.specs.Spelling.{Instruction, IsWellFormed}
 use Rattle.cx_code.specs.Table.{is_shift, mnemonic_of}
 use Rattle.cx_code.specs.Text.{hex_text, operands, what_text}
@@ -29,7 +29,7 @@ use Rattle.cx_asm_pass2.specs.Whole.{Whole, item_made}
 abbrev pub statement : List ℕ → List ℕ → List ℕ → Stmt
 statement name operation operand = record { name = name; operation = operation; operand = operand }
 
-unfoldable pub statement_of : What → Stmt
+unfoldable pub statement_of : LineContent → Stmt
 statement_of (Code i) = statement [] (mnemonic_of i.op) (operands (is_shift i.op) i.fields)
 statement_of (Data bytes) = statement [] (codes "DC") (codes "X'" ++ hex_text bytes ++ codes "'")
 statement_of (Space n) = statement [] (codes "DS") (codes "XL" ++ decimal n)
@@ -37,7 +37,7 @@ statement_of (Space n) = statement [] (codes "DS") (codes "XL" ++ decimal n)
 -- they have a blank between them
 abbrev pub LinesAreStatements : Type 0
 LinesAreStatements =
-    (what : What) → what_text what ≡ (statement_of what).operation ++ codes " " ++ (statement_of what).operand
+    (what : LineContent) → what_text what ≡ (statement_of what).operation ++ codes " " ++ (statement_of what).operand
 
 -- ---- a well-formed instruction is read back, whatever symbols and bases its operand is read by
 abbrev pub InstructionsAreReadBack : Type 0
@@ -58,23 +58,23 @@ SpacesAreReadBack = (n : ℕ) → 1 ≤ n → n ≤ 65535
     → constant_in true (statement_of (Space n)).operand ≡ Ok (constant 1 Hexadecimal (Some n) None)
 
 -- ---- the lines of a section, with gaps as spaces
-abbrev pub space : ℕ → List What
+abbrev pub space : ℕ → List LineContent
 space n = if n == 0 then [] else Space n ∷ []
 
 -- what is at each offset from one up to a size, where lines ascend
-abbrev pub filled : ℕ → List Line → ℕ → List What
+abbrev pub filled : ℕ → List Line → ℕ → List LineContent
 filled from [] size = space (size - from)
-filled from (line ∷ rest) size = space (line.at - from) ++ line.what ∷ filled (end_of line) rest size
+filled from (line ∷ rest) size = space (line.at - from) ++ line.what ∷ filled (offset_after line) rest size
 
 -- CSECT with a name, a statement for each of them, and END
-abbrev pub statements_again : List ℕ → List What → List Stmt
+abbrev pub statements_again : List ℕ → List LineContent → List Stmt
 statements_again name whats =
     statement name (codes "CSECT") [] ∷ (map statement_of whats ++ statement [] (codes "END") [] ∷ [])
 
 -- ---- what is assembled again
 -- The text is that of the image before, the lines are those that were written; the entry is the section's start, no
 -- word is relocated, and the working storage is the least.
-pub record IsAssembledAgain (again : Source) (text : List ℕ) (whats : List What) : Type 0 where
+pub record IsAssembledAgain (again : Source) (text : List ℕ) (whats : List LineContent) : Type 0 where
   pub made : AssemblyParts
   pub accepted : assembly_of again ≡ Ok made
   pub image : made.section.image ≡ record { text = text; entry = 0; relocs = []; stg_len = 80 }
@@ -84,7 +84,7 @@ pub record IsAssembledAgain (again : Source) (text : List ℕ) (whats : List Wha
 -- text by its spans, under any name of a section. A text that is one space of 65,536 bytes is apart: no length modifier
 -- is above 65,535.
 abbrev pub AssemblesAgain : Type 0
-AssemblesAgain = (source again : Source) (made : AssemblyParts) (whats : List What) (name section : List ℕ)
+AssemblesAgain = (source again : Source) (made : AssemblyParts) (whats : List LineContent) (name section : List ℕ)
     → assembly_of source ≡ Ok made → symbol_name name ≡ Some section
     → filled 0 (lines made.section.image.text made.section.spans) (length made.section.image.text) ≡ whats
     → whats ≢ Space 65536 ∷ [] → filter_map (λ item. item.stmt) again.items ≡ statements_again name whats

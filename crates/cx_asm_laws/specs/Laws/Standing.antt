@@ -4,7 +4,7 @@
 use Rattle.std.specs.Prelude.{◌≡◌, ◌⊎◌, ℕ, Bool, true, false, Option, Some, Ok, List, [], ◌∷◌, Contains, ⊤}
 use Rattle.std.specs.List.{AllByRecursion, repeat}
 use Rattle.cx_code.specs.declared.disassembly.Line.{Line}
-use Rattle.cx_code.specs.declared.disassembly.What.TheVariants.{Code}
+use Rattle.cx_code.specs.declared.disassembly.LineContent.TheVariants.{Code}
 use Rattle.cx_code.specs.Spelling.{Instruction as MadeInstruction}
 use Rattle.cx_source.specs.declared.source.Source.{Source}
 use Rattle.cx_asm_expressions.specs.Bytes.{CopyOfConstant}

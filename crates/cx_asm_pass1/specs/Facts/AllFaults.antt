@@ -6,7 +6,7 @@ use Rattle.cx_source.specs.declared.source.Stmt.{Stmt}
 use Rattle.cx_asm_expressions.specs.Faults.{lower_of}
 use Rattle.cx_asm_expressions.specs.declared.faults.FaultKind.{FaultKind}
 use Rattle.cx_asm_pass1.specs.AllFaults.{faults_after, with_fault}
-use Rattle.cx_asm_pass1.specs.PassState.{PassState, next_state, after_line, fault_in, first_fault_after, state_after, line_fault}
+use Rattle.cx_asm_pass1.specs.PassState.{PassState, next_state, after_line, statement_fault_in, first_fault_after, state_after, line_fault}
 use Rattle.cx_asm_pass1.specs.declared.place.LineFault.{LineFault}
 
 kept_first : (is : Bool) (first : LineFault) → Some first ≡ cond is (Some (line_fault first.line first.kind)) (Some first)
@@ -27,11 +27,11 @@ first_with_fault line None (first ∷ more) = kept_first (line == first.line) fi
 first_with_fault line (Some kind) (first ∷ more) = lowered_first (line == first.line) kind first more (with_fault line (Some kind) more)
 
 line_more : (line : ℕ) (stmt : Option Stmt) (state : PassState) (faults : List LineFault) → slice_get faults 0 ≡ state.fault
-    → slice_get (with_fault line (option_and_then (λ s. fault_in s state) stmt) faults) 0 ≡ (after_line line stmt state).fault
+    → slice_get (with_fault line (option_and_then (λ s. statement_fault_in s state) stmt) faults) 0 ≡ (after_line line stmt state).fault
 unfolding next_state
 line_more line None state faults e = e
 line_more line (Some stmt) state faults e =
-    first_with_fault line (fault_in stmt state) faults ∙ ap (λ (o : Option LineFault). first_fault_after line (fault_in stmt state) o) e
+    first_with_fault line (statement_fault_in stmt state) faults ∙ ap (λ (o : Option LineFault). first_fault_after line (statement_fault_in stmt state) o) e
 
 pub first_of_faults : (items : List Item) → slice_get (faults_after items) 0 ≡ (state_after items).fault
 first_of_faults [] = refl

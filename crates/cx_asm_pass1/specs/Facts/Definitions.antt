@@ -9,7 +9,7 @@ use Rattle.std.proofs.lemmas.Map.Keys.{IsDistinct-head, IsDistinct-tail, IsDisti
 use Rattle.cx_ebcdic.specs.Facts.Names.{is_name-laws}
 use Rattle.cx_ebcdic.specs.Characters.{code_of, table}
 use Rattle.cx_ebcdic.specs.Names.{is_name_character as is_character, name_code, padded_name}
-use Rattle.cx_source.specs.Lines.{is_letter, is_name as is_symbol, is_name_character as is_symbol_character}
+use Rattle.cx_source.specs.Lines.{is_letter, is_symbol_name as is_symbol, is_symbol_name_character as is_symbol_character}
 use Rattle.cx_source.specs.declared.source.Item.{Item}
 use Rattle.cx_source.specs.declared.source.Stmt.{Stmt}
 use Rattle.cx_asm_expressions.specs.Names.{is_same, symbol_name}

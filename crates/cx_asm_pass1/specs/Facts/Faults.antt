@@ -9,7 +9,7 @@ use Rattle.cx_asm_expressions.specs.declared.faults.FaultKind.{FaultKind}
 use Rattle.cx_asm_expressions.specs.declared.faults.FaultKind.TheVariants.{BadOperand}
 use Rattle.cx_asm_pass1.specs.Facts.StatementExtents.{lower_none}
 use Rattle.cx_asm_pass1.specs.Given.{duplicate}
-use Rattle.cx_asm_pass1.specs.PassState.{PassState, next_state, bad_name, control_or_blank, named_control, named_section, is_astray, definitions_in, duplicate_in, fault_in, first_fault_after, given_in, extent_in, literal_fault, name_fault, name_in, operation_fault, own_fault, parts_in, role_in, section_fault, line_fault}
+use Rattle.cx_asm_pass1.specs.PassState.{PassState, next_state, bad_name, control_or_blank, named_control, named_section, is_astray, definitions_in, duplicate_in, statement_fault_in, first_fault_after, given_in, extent_in, literal_fault, name_fault, name_in, operation_fault, own_fault, parts_in, role_in, section_fault, line_fault}
 use Rattle.cx_asm_pass1.specs.declared.place.LineFault.{LineFault}
 use Rattle.cx_asm_pass1.specs.declared.roles.Role.{Role}
 use Rattle.cx_asm_pass1.specs.declared.roles.Role.TheVariants.{Unknown, Instruction, Control, Dummy, Equate, Storage, Pool, Registers, Member, Nothing}
@@ -34,14 +34,14 @@ none_first line fault (Some first) e = absurd (some_stays (line == first.line) f
 -- where none has a fault so far, none had one before
 pub none_before : (line : ℕ) (stmt : Stmt) (state : PassState) → (next_state line stmt state).fault ≡ None → state.fault ≡ None
 unfolding next_state
-none_before line stmt state e = (none_first line (fault_in stmt state) state.fault e).0
+none_before line stmt state e = (none_first line (statement_fault_in stmt state) state.fault e).0
 
 none_own : (line : ℕ) (stmt : Stmt) (state : PassState) → (next_state line stmt state).fault ≡ None → own_fault stmt state ≡ None
 unfolding next_state
 none_own line stmt state e =
-    (lower_none (own_fault stmt state) (literal_fault (role_in stmt) _ (parts_in stmt) state.pool) (none_first line (fault_in stmt state) state.fault e).1).0
+    (lower_none (own_fault stmt state) (literal_fault (role_in stmt) _ (parts_in stmt) state.pool) (none_first line (statement_fault_in stmt state) state.fault e).1).0
 
-pub record IsSound (stmt : Stmt) (state : PassState) : Type 0 where
+pub record IsSoundStatement (stmt : Stmt) (state : PassState) : Type 0 where
   pub extent : (extent_in stmt state).fault ≡ None
   pub definitions : duplicate state.symbols (definitions_in stmt state) ≡ None
   pub in_place : is_astray (role_in stmt) (name_in stmt) state.section state.control ≡ false
@@ -64,7 +64,7 @@ not_astray Registers text name section control e f g = refl
 not_astray Member text name section control e f g = refl
 not_astray Nothing text name section control e f g = refl
 
-sound_own : (stmt : Stmt) (state : PassState) → own_fault stmt state ≡ None → IsSound stmt state
+sound_own : (stmt : Stmt) (state : PassState) → own_fault stmt state ≡ None → IsSoundStatement stmt state
 sound_own stmt state e =
     let inner = lower_none (duplicate_in stmt state) None in
     let valued = lower_none (result_err (given_in stmt state)) (lower (duplicate_in stmt state) None) in
@@ -86,7 +86,7 @@ sound_own stmt state e =
     }
 
 -- a statement has no fault where there is none after it is taken in
-pub sound_statement : (line : ℕ) (stmt : Stmt) (state : PassState) → (next_state line stmt state).fault ≡ None → IsSound stmt state
+pub sound_statement : (line : ℕ) (stmt : Stmt) (state : PassState) → (next_state line stmt state).fault ≡ None → IsSoundStatement stmt state
 sound_statement line stmt state e = sound_own stmt state (none_own line stmt state e)
 
 -- then its section and the control section are those of the names

@@ -8,7 +8,7 @@ use Rattle.std.proofs.lemmas.Bool.Decides.{nat_tests}
 use Rattle.cx_asm_expressions.specs.Digits.{bound}
 use Rattle.cx_asm_expressions.specs.Faults.{lower, lowest}
 use Rattle.cx_asm_expressions.specs.Items.{Constant, alignment_of, constant_in, size_of}
-use Rattle.cx_asm_expressions.specs.Kinds.{row_of}
+use Rattle.cx_asm_expressions.specs.Kinds.{row_of_kind}
 use Rattle.cx_asm_expressions.specs.declared.faults.FaultKind.{FaultKind}
 use Rattle.cx_asm_expressions.specs.declared.faults.FaultKind.TheVariants.{ValueOutOfRange}
 use Rattle.cx_asm_expressions.specs.declared.kinds.ConstantKind.{ConstantKind}
@@ -22,7 +22,7 @@ use Rattle.cx_asm_pass1.specs.declared.roles.Role.{Role}
 use Rattle.cx_asm_pass1.specs.declared.roles.Role.TheVariants.{Unknown, Instruction, Control, Dummy, Equate, Storage, Pool, Registers, Member, Nothing}
 
 -- ---- boundaries
-kind_small : (kind : ConstantKind) → (1 ≤ (row_of kind).alignment) × ((row_of kind).alignment ≤ 8)
+kind_small : (kind : ConstantKind) → (1 ≤ (row_of_kind kind).alignment) × ((row_of_kind kind).alignment ≤ 8)
 kind_small Character = (lit≤ tt, lit≤ tt)
 kind_small Hexadecimal = (lit≤ tt, lit≤ tt)
 kind_small Binary = (lit≤ tt, lit≤ tt)
@@ -33,7 +33,7 @@ kind_small Address = (lit≤ tt, lit≤ tt)
 kind_small External = (lit≤ tt, lit≤ tt)
 kind_small Doubleword = (lit≤ tt, lit≤ tt)
 
-small : (kind : ConstantKind) (modifier : Option ℕ) → (1 ≤ (if is_some modifier then 1 else (row_of kind).alignment)) × ((if is_some modifier then 1 else (row_of kind).alignment) ≤ 8)
+small : (kind : ConstantKind) (modifier : Option ℕ) → (1 ≤ (if is_some modifier then 1 else (row_of_kind kind).alignment)) × ((if is_some modifier then 1 else (row_of_kind kind).alignment) ≤ 8)
 small kind None = kind_small kind
 small kind (Some m) = (lit≤ tt, lit≤ tt)
 

@@ -5,7 +5,7 @@ use Rattle.cx_source.specs.declared.source.Item.{Item}
 use Rattle.cx_source.specs.declared.source.Stmt.{Stmt}
 use Rattle.cx_asm_expressions.specs.Laws.FaultLaws.{IsNotBelow}
 use Rattle.cx_asm_expressions.specs.declared.faults.FaultKind.{FaultKind}
-use Rattle.cx_asm_pass1.specs.PassState.{PassState, fault_in, state_after}
+use Rattle.cx_asm_pass1.specs.PassState.{PassState, statement_fault_in, state_after}
 use Rattle.cx_asm_pass1.specs.declared.place.LineFault.{LineFault}
 
 -- a statement's line, and its lowest fault
@@ -13,21 +13,22 @@ abbrev pub Fault : Type 0
 Fault = ℕ × Option FaultKind
 
 -- those of the statements of lines, the latest first
-abbrev pub fault_at : ℕ → Option Stmt → PassState → List Fault → List Fault
-fault_at line None state faults = faults
-fault_at line (Some stmt) state faults = (line, fault_in stmt state) ∷ faults
+abbrev pub with_fault_at : ℕ → Option Stmt → PassState → List Fault → List Fault
+with_fault_at line None state faults = faults
+with_fault_at line (Some stmt) state faults = (line, statement_fault_in stmt state) ∷ faults
 
-abbrev pub faults_after : List Item → List Fault
-faults_after [] = []
-faults_after (item ∷ before) = fault_at item.line item.stmt (state_after before) (faults_after before)
+abbrev pub statement_faults_after : List Item → List Fault
+statement_faults_after [] = []
+statement_faults_after (item ∷ before) =
+    with_fault_at item.line item.stmt (state_after before) (statement_faults_after before)
 
 abbrev pub AreSound : List Fault → Type 0
 AreSound faults = AllByRecursion (λ fault. fault.1 ≡ None) faults
 
 -- some statement of the line has the fault
-abbrev pub Has : ℕ → FaultKind → List Fault → Type 0
-Has line kind [] = ⊥
-Has line kind (fault ∷ before) = ((fault.0 ≡ line) × (fault.1 ≡ Some kind)) ⊎ Has line kind before
+abbrev pub HasFault : ℕ → FaultKind → List Fault → Type 0
+HasFault line kind [] = ⊥
+HasFault line kind (fault ∷ before) = ((fault.0 ≡ line) × (fault.1 ≡ Some kind)) ⊎ HasFault line kind before
 
 -- none of that line has one with a lower number
 abbrev pub HasNoLower : ℕ → FaultKind → List Fault → Type 0
@@ -40,7 +41,7 @@ BeginOn line (fault ∷ before) = BeginOn line before ⊎ (AreSound before × (f
 
 pub record IsFirst (faults : List Fault) (first : LineFault) : Type 0 where
   pub begins : BeginOn first.line faults
-  pub has : Has first.line first.kind faults
+  pub has : HasFault first.line first.kind faults
   pub lowest : HasNoLower first.line first.kind faults
 
 abbrev pub IsFirstOf : List Fault → Option LineFault → Type 0

@@ -15,9 +15,9 @@ abbrev pub has_own_bits : List CommandOption → Bool
 has_own_bits options = list_all (λ option. list_any (λ bit. bit == option.bit) bits_of_byte) options
 
 -- no two options have one bit
-abbrev pub are_apart : List CommandOption → Bool
-are_apart [] = true
-are_apart (option ∷ rest) = list_all (λ other. not (other.bit == option.bit)) rest && are_apart rest
+abbrev pub have_own_bits : List CommandOption → Bool
+have_own_bits [] = true
+have_own_bits (option ∷ rest) = list_all (λ other. not (other.bit == option.bit)) rest && have_own_bits rest
 
 -- the bits that a rule speaks of
 abbrev pub bits_of_rule : Rule → List ℕ

@@ -65,9 +65,9 @@ PlainRunsAgree = (make : DisplayMaker) (old : EdfState) (events : List EdfEvent)
     → (replies ≡ region_replies old events answers states) × (after ≡ (last_state old states).region)
 
 -- the alteration that a key asks for is a PF12's that ends the task
-abbrev pub ends_task : EdfState → EdfEvent → Bool
-ends_task old (edf_event.Plain (event.Key name aid bytes)) = ends_by_key old name aid
-ends_task old e = false
+abbrev pub event_ends_task : EdfState → EdfEvent → Bool
+event_ends_task old (edf_event.Plain (event.Key name aid bytes)) = ends_by_key old name aid
+event_ends_task old e = false
 
 -- whether an answer is EDF's own
 abbrev pub is_edfs : Answer → Bool
@@ -83,7 +83,7 @@ is_refusal e given = false
 -- that ends a task.
 abbrev pub given_by : EdfState → EdfEvent → Answer → List Reply
 given_by old e given =
-    if ends_task old e then reply.Alter alter.Altered ∷ []
+    if event_ends_task old e then reply.Alter alter.Altered ∷ []
     else if is_edfs given || is_refusal e given then [] else reply_in given ∷ []
 
 unfoldable pub given_in : EdfState → List EdfEvent → List Answer → List EdfState → List Reply
@@ -106,7 +106,7 @@ OwnEventsHaveOwnAnswers = (make : DisplayMaker) (old : EdfState) (e : EdfEvent) 
 abbrev pub ErasedEvents : Type 0
 ErasedEvents = (make : DisplayMaker) (old : EdfState) (e : EdfEvent) (given : Answer) (new : EdfState)
     → AppliesBy make old e given new
-    → (length (left_of old e given) == 0) ≡ ((is_edfs given && not (ends_task old e)) || is_refusal e given)
+    → (length (left_of old e given) == 0) ≡ ((is_edfs given && not (event_ends_task old e)) || is_refusal e given)
 
 -- and then the region stays
 abbrev pub ErasedEventsLeaveTheRegion : Type 0

@@ -5,7 +5,7 @@ use Rattle.cx_code.specs.declared.table.Op.TheVariants as op
 use Rattle.cx_code.specs.declared.table.Format.TheVariants as form
 use Rattle.cx_code.specs.declared.instruction.Fields.{Fields}
 use Rattle.cx_code.specs.declared.instruction.Fields.TheVariants.{Rr, Rx, Rs, Si, Ss, Ss2}
-use Rattle.cx_code.specs.Table.{row_of, format_of}
+use Rattle.cx_code.specs.Table.{operation_row, format_of}
 use Rattle.cx_code.specs.Spelling.{Instruction, instruction, format_with}
 use Rattle.cx_storage.specs.Storage.{byte_at, areas_of, span}
 use Rattle.cx_storage.specs.Word.{word_at}
@@ -70,7 +70,7 @@ divided r divisor updated m = record {
 }
 
 rr : {aside : Interruption → Machine → Type 0} (row : Op) (r1 r2 : ℕ) (updated : Updated) (m : Machine) → IsEffect (format_of row ≡ form.Rr → ⊥) aside m (RrEffect row r1 r2 updated m)
-unfolding RrEffect row_of
+unfolding RrEffect operation_row
 rr op.Balr r1 r2 updated m = goes m _ refl
 rr op.Bctr r1 r2 updated m = goes m _ refl
 rr op.Bcr r1 r2 updated m = goes m _ refl
@@ -110,7 +110,7 @@ cvb r1 a updated m =
 
 rx : (row : Op) (r1 a : ℕ) (updated : Updated) (m : Machine)
     → IsEffect (format_of row ≡ form.Rx → is_execute row ≡ false → ⊥) (IsConverted row r1 m) m (RxEffect row r1 a updated m)
-unfolding RxEffect CvdEffect row_of
+unfolding RxEffect CvdEffect operation_row
 rx op.Sth r1 a updated m = stored a _ _ updated m
 rx op.La r1 a updated m = goes m _ refl
 rx op.Stc r1 a updated m = stored a _ _ updated m
@@ -136,7 +136,7 @@ rx _ r1 a updated m = stops interruption.Operation m (λ e f g. cc)
 
 rs : {aside : Interruption → Machine → Type 0} (row : Op) (r1 r3 a : ℕ) (updated : Updated) (m : Machine)
     → IsEffect (format_of row ≡ form.Rs → ⊥) aside m (RsEffect row r1 r3 a updated m)
-unfolding RsEffect LoadsRegisters StcmEffect IcmEffect row_of
+unfolding RsEffect LoadsRegisters StcmEffect IcmEffect operation_row
 rs op.Srl r1 r3 a updated m = goes m _ refl
 rs op.Sll r1 r3 a updated m = goes m _ refl
 rs op.Sra r1 r3 a updated m = goes m _ refl
@@ -149,7 +149,7 @@ rs op.Icm r1 mask a updated m = when_present (span m.storage a _) m _ (λ bytes.
 rs _ r1 r3 a updated m = stops interruption.Operation m (λ e f. cc)
 
 si : {aside : Interruption → Machine → Type 0} (row : Op) (i2 a : ℕ) (updated : Updated) (m : Machine) → IsEffect (format_of row ≡ form.Si → ⊥) aside m (SiEffect row i2 a updated m)
-unfolding SiEffect row_of
+unfolding SiEffect operation_row
 si op.Tm i2 a updated m = loads (byte_at m.storage a) m _ (λ x. refl)
 si op.Mvi i2 a updated m = stored a _ _ updated m
 si op.Ni i2 a updated m = when_present (byte_at m.storage a) m _ (λ byte. stored a _ _ updated m)
@@ -185,7 +185,7 @@ finds n a1 a2 updated m (Some k) = when_present (table_byte m.storage a1 a2 k) m
 
 ss : {aside : Interruption → Machine → Type 0} (row : Op) (n a1 a2 : ℕ) (updated : Updated) (m : Machine)
     → IsEffect (format_of row ≡ form.Ss → ⊥) aside m (SsEffect row n a1 a2 updated m)
-unfolding SsEffect MvcEffect ComparesStrings XcEffect TrtEffect row_of
+unfolding SsEffect MvcEffect ComparesStrings XcEffect TrtEffect operation_row
 ss op.Mvc n a1 a2 updated m = when_present (span m.storage a2 n) m _ (λ x. stored a1 _ _ updated m)
 ss op.Clc n a1 a2 updated m = when_present (span m.storage a1 n) m _ (λ x. when_present (span m.storage a2 n) m _ (λ y. goes m _ refl))
 ss op.Xc n a1 a2 updated m = when_present (span m.storage a2 n) m _ (λ x. stored a1 _ _ updated m)
@@ -195,7 +195,7 @@ ss _ n a1 a2 updated m = stops interruption.Operation m (λ e f. cc)
 
 ss2 : {aside : Interruption → Machine → Type 0} (row : Op) (n1 n2 a1 a2 : ℕ) (updated : Updated) (m : Machine)
     → IsEffect (format_of row ≡ form.Ss2 → ⊥) aside m (Ss2Effect row n1 n2 a1 a2 updated m)
-unfolding Ss2Effect PackEffect UnpkEffect row_of
+unfolding Ss2Effect PackEffect UnpkEffect operation_row
 ss2 op.Pack n1 n2 a1 a2 updated m = when_present (span m.storage a2 n2) m _ (λ x. stored a1 _ _ updated m)
 ss2 op.Unpk n1 n2 a1 a2 updated m = when_present (span m.storage a2 n2) m _ (λ x. stored a1 _ _ updated m)
 ss2 _ n1 n2 a1 a2 updated m = stops interruption.Operation m (λ e f. cc)

@@ -1,8 +1,8 @@
 -- A look changes nothing: what was done of each script with looks that ran.
-use Rattle.std.specs.Prelude.{◌≡◌, ℕ, Bool, false, List, take, Result}
+use Rattle.std.specs.Prelude.{◌≡◌, ℕ, false, List, take, Result}
 use Rattle.std.specs.List.{flat_map}
 use Rattle.cx_script_actions.specs.Effects.{fresh_state}
-use Rattle.cx_script_io.specs.Calls.{Call, taken}
+use Rattle.cx_script_io.specs.Calls.{DeviceCall, taken}
 use Rattle.cx_script_io.specs.Input.{IsReadOf}
 use Rattle.cx_script_io.specs.declared.input.Ending.{Ending}
 use Rattle.cx_script_blocks.specs.declared.faults.RunFault.{RunFault}
@@ -35,7 +35,7 @@ pub record IsLookedOver (script : Script LookAction) (answer : Result Summary Ru
 
 -- so it is of each script that ran: the premise is what `run_script_on` ensures of `cicslook`'s performer
 abbrev pub ScriptsAreLookedOver : Type 0
-ScriptsAreLookedOver = (calls : List Call) (answer : Result Summary RunFault)
+ScriptsAreLookedOver = (calls : List DeviceCall) (answer : Result Summary RunFault)
     (session : IsSession look_language LookPerforms fresh_look_state calls answer)
     (ending : Ending) (bytes : List ℕ) → IsReadOf calls ending bytes
     → IsLookedOver (script_in look_language ending bytes) answer (taken calls)

@@ -6,7 +6,7 @@ use Rattle.cx_base.specs.declared.conditions.Condition.{Condition}
 use Rattle.cx_base.specs.declared.options.CommandOption.{CommandOption}
 use Rattle.cx_base.specs.declared.options.OptionName.{OptionName}
 use Rattle.cx_storage.specs.Address.{address_after}
-use Rattle.cx_storage.specs.Storage.{Storage, IsSound as IsSoundStorage}
+use Rattle.cx_storage.specs.Storage.{Storage, IsSoundStorage}
 use Rattle.cx_load.specs.Fault.{IsFit}
 use Rattle.cx_load.specs.Program.{IsLoaded}
 use Rattle.cx_load.specs.declared.program.Loaded.{Loaded}
@@ -25,7 +25,7 @@ use Rattle.cx_asm_operands.specs.Bases.{Bases}
 use Rattle.cx_asm_operands.specs.Forms.{operands_of}
 use Rattle.cx_asm.specs.Assembly.{AssemblyParts}
 use Rattle.cx_asm_execution.specs.Arguments.{HoldsBase, Sections}
-use Rattle.cx_asm_execution.specs.Arrival.{AreKept, CommandArrives, ComesBack, IsPointer}
+use Rattle.cx_asm_execution.specs.Arrival.{AreKept, CommandArrives, PointerComesBack, IsPointer}
 use Rattle.cx_asm_execution.specs.MadeLines.{Site, bases_of, site_of}
 use Rattle.cx_region_commands.specs.Common.{output as output_of}
 use Rattle.cx_region_state.specs.State.{TaskContext}
@@ -70,7 +70,8 @@ pub record GetsPointer (load place number : ℕ) (option : OptionName) (s : Stat
 -- So a loaded program gets the pointer of a call that is at an offset and comes to its command. Which argument
 -- was handed over for it, and which register is named, `back` says.
 abbrev pub GivesPointer : {earlier : List CommandOption} {register : List ℕ} (site : Site) (assembly : AssemblyParts)
-    (at : ℕ) (s : Statement) (name : OptionName) → ComesBack site assembly.section.image at s earlier register → Type 0
+    (at : ℕ) (s : Statement) (name : OptionName) → PointerComesBack site assembly.section.image at s earlier register
+    → Type 0
 GivesPointer site assembly at s name back =
     (storage loaded : Storage) (program : Loaded) (sections : Sections) (m : Machine) (before : TaskContext)
     (condition : Condition) (after : TaskContext) → IsFit assembly.section.image

@@ -21,7 +21,7 @@ use Rattle.cx_edf.specs.declared.answers.EdfEvent.{EdfEvent}
 use Rattle.cx_edf.specs.declared.answers.EdfEvent.TheVariants as edf_event
 use Rattle.cx_edf.specs.State.{EdfState, ends_by_key}
 use Rattle.cx_edf.specs.Erasure.{is_own}
-use Rattle.cx_edf.specs.Laws.Edf.{ends_task}
+use Rattle.cx_edf.specs.Laws.Edf.{event_ends_task}
 use Rattle.cx_headline.specs.Laws.Runs.{state_after_first}
 
 -- The region is the one before with what a half-turn of the terminal's task reached put back; the answer is its reply;
@@ -51,7 +51,7 @@ pub record IsRow (old : RegionState) (event : Event) (given : Answer) (new : Reg
 -- What an event did to the region. EDF's own leaves it, except that a PF12 that ends a task is the alteration that does
 -- so. A turn that isn't EDF's is a half-turn; a key, a definition, the clock and an alteration are their rows.
 pub record IsItsRow (before : EdfState) (e : EdfEvent) (given : Answer) (after : EdfState) : Type 0 where
-  pub own : is_own before e ≡ true → ends_task before e ≡ false → after.region ≡ before.region
+  pub own : is_own before e ≡ true → event_ends_task before e ≡ false → after.region ≡ before.region
   pub ended : (name : List ℕ) (aid : Aid) (bytes : List ℕ) → e ≡ edf_event.Plain (event.Key name aid bytes)
       → ends_by_key before name aid ≡ true → Alters before.region name change.Abend alter.Altered after.region
   pub turn : (name : List ℕ) → e ≡ edf_event.Plain (event.Turn name) → is_own before e ≡ false

@@ -1,6 +1,6 @@
 -- The runs of which the headline holds: every list of events under EDF, and every script that ran.
-use Rattle.std.specs.Prelude.{◌≡◌, ℕ, Bool, false, List, take, Result, Err}
-use Rattle.cx_script_io.specs.Calls.{Call, taken}
+use Rattle.std.specs.Prelude.{◌≡◌, ℕ, false, List, take, Result, Err}
+use Rattle.cx_script_io.specs.Calls.{DeviceCall, taken}
 use Rattle.cx_script_io.specs.Input.{IsReadOf}
 use Rattle.cx_script_io.specs.declared.input.Ending.{Ending}
 use Rattle.cx_edf.specs.declared.answers.Answer.{Answer}
@@ -53,7 +53,8 @@ pub record IsDoneOf (script : Script Action) (answer : Result Summary RunFault) 
 -- What holds of the run that each script did, however it ended: the premise is what `run_script` ensures of the calls
 -- that it made, whatever its devices are.
 abbrev pub OfEachScript : (EdfState → List EdfEvent → List Answer → List EdfState → Type 0) → Type 0
-OfEachScript Holds = (calls : List Call) (answer : Result Summary RunFault) (session : IsScriptSession calls answer)
+OfEachScript Holds =
+    (calls : List DeviceCall) (answer : Result Summary RunFault) (session : IsScriptSession calls answer)
     (ending : Ending) (bytes : List ℕ) → IsReadOf calls ending bytes
     → (done : IsDoneOf (script_in edf_language ending bytes) answer (taken calls))
     × Holds fresh_state (events_of done.actions) done.did.answers done.did.run.states

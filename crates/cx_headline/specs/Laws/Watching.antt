@@ -14,7 +14,7 @@ use Rattle.cx_edf.specs.State.{EdfState}
 use Rattle.cx_edf.specs.Erasure.{erasure, region_replies}
 use Rattle.cx_edf.specs.Steps.{DisplayMaker}
 use Rattle.cx_edf.specs.Runs.{Trace, last_state}
-use Rattle.cx_edf.specs.Laws.Edf.{AreAnsweredOff, ends_task, is_alteration, off_at}
+use Rattle.cx_edf.specs.Laws.Edf.{AreAnsweredOff, event_ends_task, is_alteration, off_at}
 use Rattle.cx_script_actions.specs.Effects.{Performs}
 use Rattle.cx_script_actions.specs.declared.actions.Action.{Action}
 use Rattle.cx_script.specs.Laws.Events.{event_of}
@@ -31,7 +31,7 @@ replies_of_first old events answers states n = region_replies old (take n events
 -- no event ends a task by PF12, and none is answered Altered
 abbrev pub AltersNothing : EdfState → List EdfEvent → List Answer → List EdfState → Type 0
 AltersNothing old events answers states = (n : ℕ) (e : EdfEvent) → slice_get events n ≡ Some e
-    → (ends_task (state_after_first old states n) e ≡ false)
+    → (event_ends_task (state_after_first old states n) e ≡ false)
     × (slice_get answers n ≡ Some (answer.Region (reply.Alter alter.Altered)) → ⊥)
 
 -- the events that the region answered, with its replies, except alterations

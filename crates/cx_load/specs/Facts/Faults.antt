@@ -5,7 +5,7 @@ use Rattle.std.proofs.lemmas.Bool.{and_from, le-leb, leb-true, lt-ltb, ltb-true}
 use Rattle.cx_code.specs.declared.image.Image.{Image}
 use Rattle.cx_load.specs.declared.fault.ImageFault.{ImageFault}
 use Rattle.cx_load.specs.declared.fault.ImageFault.TheVariants.{BadLength, EntryOutside, RelocOutside, Overlap, StgLength}
-use Rattle.cx_load.specs.Fault.{has_length, has_entry, are_inside, all_apart, has_stg_length, IsFit, fault_of}
+use Rattle.cx_load.specs.Fault.{has_length, has_entry, are_inside, all_apart, has_stg_length, IsFit, image_fault}
 use Rattle.cx_load.specs.Laws.Fit.{FitFacts}
 
 both : (a b : Bool) → (a && b) ≡ true → (a ≡ true) × (b ≡ true)
@@ -51,7 +51,7 @@ all_passed true true true true false q = absurd (cc)
 all_passed true true true true true q = record { first = refl; second = refl; third = refl; fourth = refl; fifth = refl }
 
 pub facts_of_fit : (image : Image) → IsFit image → FitFacts image
-unfolding fault_of
+unfolding image_fault
 facts_of_fit image fit =
     let passed = all_passed (has_length image) (has_entry image) (are_inside (length image.text) image.relocs) (all_apart image.relocs) (has_stg_length image) fit.none in
     let size = length_bounds image passed.first in
@@ -80,7 +80,7 @@ unfolding has_stg_length
 has_stg_of image fit = and_from _ _ (le-leb 80 image.stg_len fit.stg_low) (le-leb image.stg_len 65520 fit.stg_high)
 
 pub fit_of_facts : (image : Image) → FitFacts image → IsFit image
-unfolding fault_of
+unfolding image_fault
 fit_of_facts image fit = record { none = rw (has_length_of image fit, has_entry_of image fit, fit.inside, fit.apart, has_stg_of image fit) refl }
 
 -- words that end in the text and share no byte are no fault
@@ -90,9 +90,9 @@ not_words true false e fault q = (λ same. cc, λ same. cc)
 not_words true true false fault q = (λ same. cc, λ same. cc)
 not_words true true true fault q = absurd (cc)
 
-pub words_not_at_fault : (image : Image) (fault : ImageFault) → are_inside (length image.text) image.relocs ≡ true → all_apart image.relocs ≡ true → fault_of image ≡ Some fault
+pub words_not_at_fault : (image : Image) (fault : ImageFault) → are_inside (length image.text) image.relocs ≡ true → all_apart image.relocs ≡ true → image_fault image ≡ Some fault
     → (fault ≢ RelocOutside) × (fault ≢ Overlap)
-unfolding fault_of
+unfolding image_fault
 words_not_at_fault image fault inside apart is =
     not_words (has_length image) (has_entry image) (has_stg_length image) fault (rw (inside, apart) at is)
 
@@ -105,6 +105,6 @@ not_length true true true false e q = absurd (cc)
 not_length true true true true false q = absurd (cc)
 not_length true true true true true q = absurd (cc)
 
-pub refused_length : (image : Image) → fault_of image ≡ Some BadLength → has_length image ≡ false
-unfolding fault_of
+pub refused_length : (image : Image) → image_fault image ≡ Some BadLength → has_length image ≡ false
+unfolding image_fault
 refused_length image is = not_length (has_length image) (has_entry image) (are_inside (length image.text) image.relocs) (all_apart image.relocs) (has_stg_length image) is

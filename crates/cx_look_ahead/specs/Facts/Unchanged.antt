@@ -5,14 +5,14 @@ use Rattle.std.specs.Str.{bytes_eq}
 use Rattle.cx_storage.specs.Storage.{Storage}
 use Rattle.cx_look_tables.specs.Words.{Lines}
 use Rattle.cx_look_ahead.specs.declared.rows.Row.{Row}
-use Rattle.cx_look_ahead.specs.Watching.{AreChanges, AreOfRange, AreOfRanges, Effect, IsChange, kept_in, shown_in}
+use Rattle.cx_look_ahead.specs.Watching.{AreChanges, AreOfRange, AreOfRanges, ActionEffect, IsChange, kept_in, shown_in}
 use Rattle.cx_look_ahead.specs.declared.watching.Kept.{Kept}
 
-same_line : (effect : Effect) (kept : Kept) (lines : Lines) (same : Bool) → MatchBool same (lines ≡ []) (IsChange effect kept lines) → same ≡ true → lines ≡ []
+same_line : (effect : ActionEffect) (kept : Kept) (lines : Lines) (same : Bool) → MatchBool same (lines ≡ []) (IsChange effect kept lines) → same ≡ true → lines ≡ []
 same_line effect kept lines true are e = are
 same_line effect kept lines false are e = cc
 
-pub no_changes : (ranges : List Row) (effect : Effect) (storage : Storage) (lines : Lines) → effect.storage ≡ storage → AreChanges ranges storage effect lines → lines ≡ []
+pub no_changes : (ranges : List Row) (effect : ActionEffect) (storage : Storage) (lines : Lines) → effect.storage ≡ storage → AreChanges ranges storage effect lines → lines ≡ []
 unfolding AreOfRanges AreOfRange
 no_changes [] effect storage lines e none = none
 no_changes (range ∷ ranges) effect storage lines e (first, rest, one, others, are) =

@@ -1,7 +1,7 @@
 -- A change is written where there is one, with the instruction that made it.
 use Rattle.std.specs.Prelude.{◌≡◌, ◌↔◌, ℕ, Option, Some, None, MatchOption, List, [], slice_index}
 use Rattle.cx_storage.specs.Address.{address_in}
-use Rattle.cx_storage.specs.Storage.{Storage, IsSound}
+use Rattle.cx_storage.specs.Storage.{Storage, IsSoundStorage}
 use Rattle.cx_exec.specs.Advance.{Advances}
 use Rattle.cx_exec.specs.Machine.{Machine}
 use Rattle.cx_exec.specs.declared.machine.Halt.{Halt}
@@ -13,7 +13,7 @@ use Rattle.cx_region.specs.State.{RegionState, TerminalState}
 use Rattle.cx_region.specs.Tables.{task_of, terminal_of}
 use Rattle.cx_region.specs.Turn.{TakesTurn, context_of, put_back, task_after}
 use Rattle.cx_look_tables.specs.Words.{Lines}
-use Rattle.cx_look_ahead.specs.Watching.{AreChanges, AreOfRange, Effect, work_of, kept_in}
+use Rattle.cx_look_ahead.specs.Watching.{AreChanges, AreOfRange, ActionEffect, work_of, kept_in}
 use Rattle.cx_look_ahead.specs.Writing.{IsUnchanged, LastWriter}
 use Rattle.cx_look_ahead.specs.declared.rows.Row.{Row}
 use Rattle.cx_look_ahead.specs.declared.watching.Cause.TheVariants as cause
@@ -22,8 +22,8 @@ use Rattle.cx_look_ahead.specs.declared.writing.Work.TheVariants as work
 
 -- a range has no line exactly where none of its bytes differs
 abbrev pub ChangesAreWritten : Type 0
-ChangesAreWritten = (effect : Effect) (before : Storage) (range : Row) (lines : Lines) → IsSound before
-    → IsSound effect.storage → AreOfRange effect (kept_in before range) lines
+ChangesAreWritten = (effect : ActionEffect) (before : Storage) (range : Row) (lines : Lines) → IsSoundStorage before
+    → IsSoundStorage effect.storage → AreOfRange effect (kept_in before range) lines
     → (lines ≡ []) ↔ IsUnchanged before effect.storage range
 
 -- there is one last writer, and one text
@@ -32,7 +32,7 @@ WritersDecide = (limit : ℕ) (m : Machine) (range : Row) (one other : Option �
     → LastWriter limit m range one → LastWriter limit m range other → one ≡ other
 
 abbrev pub ChangesDecide : Type 0
-ChangesDecide = (effect : Effect) (ranges : List Row) (before : Storage) (one other : Lines)
+ChangesDecide = (effect : ActionEffect) (ranges : List Row) (before : Storage) (one other : Lines)
     → AreChanges ranges before effect one → AreChanges ranges before effect other → one ≡ other
 
 -- a run none of whose instructions is a writer changes no byte of the range
@@ -42,11 +42,11 @@ WritersAreFound = (limit : ℕ) (m after : Machine) (how : Halt) (range : Row)
 
 -- a half-turn performs the task's command, which leads back to the address in its register 14, or its run begins at the
 -- machine
-abbrev pub IsDone : Work → TaskContext → TurnReply → Option AbendRecord → TaskContext → Type 0
-IsDone work.Nothing before reply abend_record after = ⊥
-IsDone (work.Command back) before reply abend_record after =
+abbrev pub IsWorkDone : Work → TaskContext → TurnReply → Option AbendRecord → TaskContext → Type 0
+IsWorkDone work.Nothing before reply abend_record after = ⊥
+IsWorkDone (work.Command back) before reply abend_record after =
     PerformsCommand before reply abend_record after × (back ≡ address_in (slice_index before.task.regs 14))
-IsDone (work.Instructions m) before reply abend_record after =
+IsWorkDone (work.Instructions m) before reply abend_record after =
     RunsOn before reply abend_record after × (m ≡ machine_of before)
 
 -- the turn of a terminal with a task does it
@@ -58,7 +58,7 @@ pub record DoesIt (what : Work) (region : RegionState) (name : List ℕ) (reply 
   pub live : terminal.task ≡ Some task
   pub abend_record : Option AbendRecord
   pub reached : TaskContext
-  pub done : IsDone what (context_of region terminal task) reply abend_record reached
+  pub done : IsWorkDone what (context_of region terminal task) reply abend_record reached
   pub is : new ≡ put_back region name reached (task_after reply reached.task)
 
 -- what is taken for what a turn does, the turn does

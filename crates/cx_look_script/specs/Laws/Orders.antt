@@ -13,7 +13,7 @@ use Rattle.cx_orders.specs.declared.states.KeyLine.{KeyLine}
 use Rattle.cx_look.specs.Laws.{IsAskedByItsLine}
 use Rattle.cx_look.specs.declared.orders.OrdersBlock.{OrdersBlock}
 use Rattle.cx_look_tables.specs.Words.{Lines}
-use Rattle.cx_look_orders.specs.Laws.{event_of}
+use Rattle.cx_look_orders.specs.Laws.{event_of_step}
 use Rattle.cx_look_orders.specs.Script.{script_lines}
 use Rattle.cx_look_orders.specs.declared.steps.Step.{Step}
 use Rattle.cx_look_script.specs.Looking.{ShowsOrders}
@@ -54,5 +54,5 @@ abbrev pub ScriptsAskForEvents : Type 0
 ScriptsAskForEvents = (region : RegionState) (keys : List KeyLine) (edf : List (List ℕ)) (steps : List Step)
     (events : List Event) → AllByRecursion HasSpelling (names_of region.terminals) → AllByRecursion HasSpelling edf
     → AllByRecursion IsAskedByItsLine keys
-    → map (event_of (names_of region.terminals) keys) steps ≡ map Some events
+    → map (event_of_step (names_of region.terminals) keys) steps ≡ map Some events
     → AskForEvents (script_lines region keys edf steps) (map edf_event.Off edf ++ map edf_event.Plain events)

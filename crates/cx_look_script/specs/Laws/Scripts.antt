@@ -20,12 +20,12 @@ plain_action (action.Source name lines a) = Some a
 plain_action _ = None
 
 -- actions of `cicslook` that are these of `cicsedf`, in their order
-abbrev pub ArePlain : List LookAction → List Action → Type 0
-ArePlain actions plain = map plain_action actions ≡ map (λ a. Some a) plain
+abbrev pub ArePlainActions : List LookAction → List Action → Type 0
+ArePlainActions actions plain = map plain_action actions ≡ map (λ a. Some a) plain
 
 -- the same script
 pub record IsSame (script : Script Action) (here : Script LookAction) : Type 0 where
-  pub actions : ArePlain here.actions script.actions
+  pub actions : ArePlainActions here.actions script.actions
   pub fault : here.fault ≡ script.fault
 
 abbrev pub HasNoBadLine : Script Action → Type 0
@@ -39,5 +39,5 @@ ScriptsStay = (ending : Ending) (bytes : List ℕ) → HasNoBadLine (script_in e
 -- and where nothing is watched its actions write the same, from the same state to the same state
 abbrev pub ActionsStay : Type 0
 ActionsStay = (old : LookState) (actions : List LookAction) (plain : List Action) (text : List ℕ) (new : LookState)
-    → ArePlain actions plain → old.watched ≡ [] → PerformsAll LookPerforms old actions text new
+    → ArePlainActions actions plain → old.watched ≡ [] → PerformsAll LookPerforms old actions text new
     → PerformsAll Performs old.edf plain text new.edf

@@ -23,8 +23,8 @@ abbrev pub lines_of_name : List (List ℕ × BTreeSet ℕ) → List ℕ → List
 lines_of_name entries name = lines_for (is_same name) entries
 
 -- the literal of a text in the pool of a number
-abbrev pub is_literal : ℕ → List ℕ → PoolText → Bool
-is_literal pool text literal = (pool == literal.pool) && bytes_eq text literal.text.now
+abbrev pub is_pool_literal : ℕ → List ℕ → PoolText → Bool
+is_pool_literal pool text literal = (pool == literal.pool) && bytes_eq text literal.text.now
 
 -- Operands of an instruction, whose pool has the number `place`, use the literal of a text in the pool of a second
 -- number.
@@ -34,4 +34,4 @@ uses_part pool text place parts =
 
 -- those of a literal
 abbrev pub lines_of_literal : List (PoolText × BTreeSet ℕ) → ℕ → List ℕ → List ℕ
-lines_of_literal entries pool text = lines_for (is_literal pool text) entries
+lines_of_literal entries pool text = lines_for (is_pool_literal pool text) entries

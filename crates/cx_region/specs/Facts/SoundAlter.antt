@@ -7,7 +7,7 @@ use Rattle.std.proofs.lemmas.Bool.{cases_Bool, true≢false}
 use Rattle.cx_storage.specs.declared.areas.Area.{Area}
 use Rattle.cx_storage.specs.Facts.Areas.{area_of_areas}
 use Rattle.cx_storage.specs.Facts.Writes.{areas_after_set}
-use Rattle.cx_storage.specs.Storage.{Storage, areas_of, area_at, is_of_other_slot, with_areas_kept, with_byte, IsSound as IsSoundStorage}
+use Rattle.cx_storage.specs.Storage.{Storage, areas_of, area_at, is_of_other_slot, with_areas_kept, with_byte, IsSoundStorage}
 use Rattle.cx_program.specs.declared.level.Level.{Level}
 use Rattle.cx_program.specs.Levels.{with_current}
 use Rattle.cx_service.specs.Queues.{AreSoundQueues}

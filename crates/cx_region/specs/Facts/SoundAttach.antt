@@ -1,18 +1,16 @@
 -- What always holds of a region is kept by a key.
 use Rattle.std.proofs.Common.{◌≡◌, ℕ, zero, suc, ◌<◌, ◌≤◌, Bool, true, false, Option, Some, None, List, [], ◌∷◌, length, refl, sym, ◌∙◌, ap, subst, arith, inl, inr, is_some}
 use Rattle.std.specs.Prelude.{◌==◌, ◌||◌, if◌then◌else◌, nat_eq, MatchOption, ⊤}
-use Rattle.std.specs.Option.{option_map_or}
 use Rattle.std.specs.List.{AllByRecursion, IsDistinct}
 use Rattle.std.specs.Map.{set_value}
 use Rattle.std.proofs.lemmas.Bool.{cases_eq, eq-eqb, ne_eqb}
 use Rattle.std.proofs.lemmas.Option.{none-some, same_Some}
 use Rattle.std.proofs.lemmas.Map.{length-set_value}
 use Rattle.cx_storage.specs.declared.areas.Area.{Area}
-use Rattle.cx_storage.specs.Storage.{Storage, area_at, area_from, with_area, IsSound as IsSoundStorage}
+use Rattle.cx_storage.specs.Storage.{Storage, area_at, area_from, with_area, IsSoundStorage}
 use Rattle.cx_storage.specs.Address.{address_after}
 use Rattle.cx_storage.specs.Place.{CanPlace, IsLeastPlace}
 use Rattle.cx_storage.specs.Facts.Sound.{sound_with_area}
-use Rattle.cx_load.specs.declared.program.Loaded.{Loaded}
 use Rattle.cx_base.specs.declared.eistg.EistgField.TheVariants.{Eicap}
 use Rattle.cx_base.specs.Eistg.{eistg_field}
 use Rattle.cx_base.specs.Eib.{eib_field, eib_len}
@@ -20,64 +18,22 @@ use Rattle.cx_region_state.specs.Eib.{Content, with_field, with_fields}
 use Rattle.cx_region_state.specs.declared.verdict.NewLevel.{NewLevel}
 use Rattle.cx_region_state.specs.Areas.{IsAreaOf, IsSoundProgram, IsTaskPlace, entry_level, first_of_tasks, last_of_tasks, system_owner, with_cap}
 use Rattle.cx_region_state.specs.Facts.Areas.{all_areas_put, all_areas_written, area_kept_get, area_put, area_written, not_there}
-use Rattle.cx_region_state.specs.State.{Input, TaskState}
+use Rattle.cx_region_state.specs.State.{Input}
 use Rattle.cx_base.specs.Facts.Tables.{distinct-set_value, each-set_value, found_meets}
 use Rattle.cx_region_task.specs.Sound.{IsSoundTask}
-use Rattle.cx_region.specs.declared.asking.Asked.TheVariants.{Answer, Attach, Give}
 use Rattle.cx_region.specs.declared.asking.Start.{Start}
-use Rattle.cx_region.specs.declared.replies.KeyReply.TheVariants as key
 use Rattle.cx_region.specs.State.{RegionState, TerminalState}
 use Rattle.cx_ebcdic.specs.Names.{is_name}
-use Rattle.cx_region.specs.Tables.{program_of, terminal_of, transaction_of}
-use Rattle.cx_region.specs.Attach.{ArePlaced, IsCopyPlace, commarea_kept, with_areas_filled, fresh_task, next_number, transaction_named, with_copy, with_eib_area, with_kept_area, with_task, with_task_areas}
+use Rattle.cx_region.specs.Tables.{terminal_of}
+use Rattle.cx_region.specs.Attach.{ArePlaced, IsCopyPlace, with_areas_filled, fresh_task, next_number, with_copy, with_eib_area, with_kept_area, with_task, with_task_areas}
 use Rattle.cx_region.specs.declared.asking.Places.{Places}
-use Rattle.cx_region.specs.Parts.Asking.{asked, asked_at, input_asked, start_asked, start_of, task_of_start}
+use Rattle.cx_region.specs.Parts.Asking.{Giving, Starting, task_of_start}
 use Rattle.cx_region.specs.Parts.Placing.{IsSlotFree}
 use Rattle.cx_region.specs.Sound.{IsOwned, IsSound, IsSoundTerminal, is_live}
 use Rattle.cx_region.specs.Facts.SoundDefining.{AreasStay, all_weaker, terminal_stays}
 use Rattle.cx_region.specs.Facts.Live.{live-set_value, live_at, numbered-set_value, slot_free, slot_from}
 
--- ---- what is known where a task is to be attached
-pub record Starting (r : RegionState) (name bytes : List ℕ) (start : Start) : Type 0 where
-  pub terminal : TerminalState
-  pub there : terminal_of r name ≡ Some terminal
-  pub idle : terminal.task ≡ None
-  pub slot : start.slot ≡ terminal.entry.slot
-  pub tran : start.tran ≡ transaction_named terminal.entry.following bytes
-  pub defined : transaction_of r start.tran ≡ Some start.program
-  pub program : program_of r start.program ≡ Some start.loaded
-  pub calen : start.calen ≡ length (commarea_kept terminal.entry.following)
-
-pub asked_start : (r : RegionState) (name bytes : List ℕ) (start : Start) → asked r name bytes ≡ Attach start → Starting r name bytes start
-unfolding asked start_asked
-asked_start r name bytes start is = by_terminal (terminal_of r name) refl is
-  where
-    by_program : (t : TerminalState) (program : List ℕ) (o : Option Loaded) → program_of r program ≡ o → transaction_of r (transaction_named t.entry.following bytes) ≡ Some program
-        → terminal_of r name ≡ Some t → t.task ≡ None
-        → option_map_or (start_of t (transaction_named t.entry.following bytes) program) o (Answer key.NoSuchTransaction) ≡ Attach start → Starting r name bytes start
-    by_program t program None e defined there idle h = cc
-    by_program t program (Some loaded) e defined there idle h =
-        let same : record { slot = t.entry.slot; tran = transaction_named t.entry.following bytes; program = program; loaded = loaded; calen = length (commarea_kept t.entry.following) } ≡ start = cc in
-        subst (Starting r name bytes) same (record { terminal = t; there = there; idle = idle; slot = refl; tran = refl; defined = defined; program = e; calen = refl })
-
-    by_tran : (t : TerminalState) (o : Option (List ℕ)) → transaction_of r (transaction_named t.entry.following bytes) ≡ o → terminal_of r name ≡ Some t → t.task ≡ None
-        → option_map_or (λ program. option_map_or (start_of t (transaction_named t.entry.following bytes) program) (program_of r program) (Answer key.NoSuchTransaction)) o (Answer key.NoSuchTransaction) ≡ Attach start → Starting r name bytes start
-    by_tran t None e there idle h = cc
-    by_tran t (Some program) e there idle h = by_program t program (program_of r program) refl e there idle h
-
-    by_input : (o : Option Input) → input_asked o ≡ Attach start → Starting r name bytes start
-    by_input None h = cc
-    by_input (Some input) h = cc
-
-    by_task : (t : TerminalState) (o : Option TaskState) → t.task ≡ o → terminal_of r name ≡ Some t
-        → option_map_or (λ (_ : TaskState). input_asked t.entry.input) o (start_asked r t (transaction_named t.entry.following bytes)) ≡ Attach start → Starting r name bytes start
-    by_task t None e there h = by_tran t (transaction_of r (transaction_named t.entry.following bytes)) refl there e h
-    by_task t (Some task) e there h = by_input t.entry.input h
-
-    by_terminal : (o : Option TerminalState) → terminal_of r name ≡ o → option_map_or (asked_at r bytes) o (Answer key.NoSuchTerminal) ≡ Attach start → Starting r name bytes start
-    by_terminal None e h = cc
-    by_terminal (Some t) e h = by_task t t.task refl e h
-
+-- ---- where a task is to be attached
 pub start_free : (r : RegionState) (name bytes : List ℕ) (start : Start) → IsSound r → Starting r name bytes start → IsSlotFree r.shared.storage start.slot
 start_free r name bytes start ok starting =
     let low = slot_from 1 r.terminals (is_name name) starting.terminal ok.numbered starting.there in
@@ -278,39 +234,6 @@ sound_attached r name bytes start input places fields commarea level s ts ok sta
     ]
 
 -- ---- an input held
-pub record Giving (r : RegionState) (name : List ℕ) : Type 0 where
-  pub terminal : TerminalState
-  pub there : terminal_of r name ≡ Some terminal
-  pub task : TaskState
-  pub live : terminal.task ≡ Some task
-  pub none : terminal.entry.input ≡ None
-
-pub asked_give : (r : RegionState) (name bytes : List ℕ) → asked r name bytes ≡ Give → Giving r name
-unfolding asked start_asked
-asked_give r name bytes is = by_terminal (terminal_of r name) refl is
-  where
-    by_program : (t : TerminalState) (tran program : List ℕ) (o : Option Loaded) → option_map_or (start_of t tran program) o (Answer key.NoSuchTransaction) ≡ Give → Giving r name
-    by_program t tran program None h = cc
-    by_program t tran program (Some loaded) h = cc
-
-    by_tran : (t : TerminalState) (tran : List ℕ) (o : Option (List ℕ))
-        → option_map_or (λ program. option_map_or (start_of t tran program) (program_of r program) (Answer key.NoSuchTransaction)) o (Answer key.NoSuchTransaction) ≡ Give → Giving r name
-    by_tran t tran None h = cc
-    by_tran t tran (Some program) h = by_program t tran program (program_of r program) h
-
-    by_input : (t : TerminalState) (task : TaskState) (o : Option Input) → t.entry.input ≡ o → t.task ≡ Some task → terminal_of r name ≡ Some t → input_asked o ≡ Give → Giving r name
-    by_input t task None e live there h = record { terminal = t; there = there; task = task; live = live; none = e }
-    by_input t task (Some held) e live there h = cc
-
-    by_task : (t : TerminalState) (o : Option TaskState) → t.task ≡ o → terminal_of r name ≡ Some t
-        → option_map_or (λ (_ : TaskState). input_asked t.entry.input) o (start_asked r t (transaction_named t.entry.following bytes)) ≡ Give → Giving r name
-    by_task t None e there h = by_tran t (transaction_named t.entry.following bytes) (transaction_of r (transaction_named t.entry.following bytes)) h
-    by_task t (Some task) e there h = by_input t task t.entry.input refl e there h
-
-    by_terminal : (o : Option TerminalState) → terminal_of r name ≡ o → option_map_or (asked_at r bytes) o (Answer key.NoSuchTerminal) ≡ Give → Giving r name
-    by_terminal None e h = cc
-    by_terminal (Some t) e h = by_task t t.task refl e h
-
 pub sound_given : (r : RegionState) (name : List ℕ) (input : Input) (ts : List (List ℕ × TerminalState)) → IsSound r → (giving : Giving r name)
     → ts ≡ set_value (is_name name) r.terminals (record giving.terminal { entry = record giving.terminal.entry { input = Some input } }) → IsSound (record r { terminals = ts })
 sound_given r name input ts ok giving is =

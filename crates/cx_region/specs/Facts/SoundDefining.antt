@@ -11,7 +11,7 @@ use Rattle.cx_storage.specs.Storage.{Storage}
 use Rattle.cx_service.specs.Queues.{Queues, AreSoundQueues}
 use Rattle.cx_service.specs.Resources.{Resources, AreSoundResources}
 use Rattle.cx_load.specs.declared.program.Loaded.{Loaded}
-use Rattle.cx_storage.specs.Storage.{IsSound as IsSoundStorage, area_at}
+use Rattle.cx_storage.specs.Storage.{IsSoundStorage, area_at}
 use Rattle.cx_storage.specs.declared.areas.Area.{Area}
 use Rattle.cx_storage.specs.Storage.{with_area}
 use Rattle.cx_storage.specs.Place.{CanPlace, IsLeastPlace}
@@ -48,10 +48,6 @@ all_weaker P Q (x ∷ xs) each all = (each x all.0, all_weaker P Q xs each all.1
 numbered_push : (from : ℕ) (ts : List (List ℕ × TerminalState)) (name : List ℕ) (t : TerminalState) → AreNumbered from ts → t.entry.slot ≡ from + length ts → AreNumbered from (ts ++ (name, t) ∷ [])
 numbered_push from [] name t all is = (omega (arith, is), tt)
 numbered_push from (e ∷ ts) name t all is = (all.0, numbered_push (suc from) ts name t all.1 (omega (arith, is)))
-
-or_true : (a b : Bool) → b ≡ true → a || b ≡ true
-or_true true b e = refl
-or_true false b e = e
 
 or_left : (a b c : Bool) → a || b ≡ true → (b ≡ true → c ≡ true) → a || c ≡ true
 or_left true b c e f = refl

@@ -7,7 +7,7 @@ use Rattle.std.proofs.lemmas.Bool.{cases_Bool, cases_eq, eq-eqb, ne_eqb}
 use Rattle.std.proofs.lemmas.Option.{none-some, same_Some}
 use Rattle.std.proofs.lemmas.Map.{length-set_value}
 use Rattle.cx_storage.specs.declared.areas.Area.{Area}
-use Rattle.cx_storage.specs.Storage.{Storage, area_at, is_of_other_slot, with_areas_kept, IsSound as IsSoundStorage}
+use Rattle.cx_storage.specs.Storage.{Storage, area_at, is_of_other_slot, with_areas_kept, IsSoundStorage}
 use Rattle.cx_storage.specs.Facts.Areas.{area_after_free, area_of_areas}
 use Rattle.cx_storage.specs.Laws.Areas.{kept_only}
 use Rattle.cx_program.specs.declared.level.Level.{Level}
@@ -133,19 +133,9 @@ sound_back r name t u shared ok there same programs sound queues_ok resources_ok
     }
 
 -- ---- which slots have a task then
-by_slot : (here task before after : Bool) → after ≡ (if here then task else before) → task ≡ true → before ≡ true → after ≡ true
-by_slot true task before after e live was = e ∙ live
-by_slot false task before after e live was = e ∙ was
-
 or_keeps : (zero before after : Bool) → (before ≡ true → after ≡ true) → zero || before ≡ true → zero || after ≡ true
 or_keeps true before after step e = refl
 or_keeps false before after step e = step e
-
-live_on : (r : RegionState) (name : List ℕ) (t u : TerminalState) (slot : ℕ) → IsSound r → lookup (is_name name) r.terminals ≡ Some t → u.entry.slot ≡ t.entry.slot → is_some u.task ≡ true
-    → is_live r.terminals slot ≡ true → is_live (set_value (is_name name) r.terminals u) slot ≡ true
-live_on r name t u slot ok there same live was =
-    by_slot (t.entry.slot == slot) (is_some u.task) (is_live r.terminals slot) (is_live (set_value (is_name name) r.terminals u) slot)
-    (live-set_value 1 r.terminals (is_name name) t u slot ok.numbered there same) live was
 
 live_off : (r : RegionState) (name : List ℕ) (t u : TerminalState) (slot : ℕ) → IsSound r → lookup (is_name name) r.terminals ≡ Some t → u.entry.slot ≡ t.entry.slot → slot == t.entry.slot ≡ false
     → is_live r.terminals slot ≡ true → is_live (set_value (is_name name) r.terminals u) slot ≡ true

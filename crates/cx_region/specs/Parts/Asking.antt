@@ -1,47 +1,44 @@
--- What a key asks for, as a plan that is made before anything changes; no public contract cites it.
-use Rattle.std.specs.Prelude.{ℕ, List, length, Option, Some, None}
-use Rattle.std.specs.Option.{option_map_or}
-use Rattle.cx_load.specs.declared.program.Loaded.{Loaded}
+-- What a key asks for, found before anything changes; no public contract cites it.
+use Rattle.std.specs.Prelude.{◌≡◌, ℕ, List, length, Some, None}
+use Rattle.cx_ebcdic.specs.declared.aids.Aid.{Aid}
 use Rattle.cx_region_state.specs.declared.verdict.NewLevel.{NewLevel}
 use Rattle.cx_region_state.specs.State.{Input, TaskState}
-use Rattle.cx_region.specs.declared.replies.KeyReply.TheVariants as key
-use Rattle.cx_region.specs.declared.asking.Asked.{Asked}
-use Rattle.cx_region.specs.declared.asking.Asked.TheVariants.{Answer, Give, Attach}
+use Rattle.cx_region.specs.declared.asking.KeyEffect.{KeyEffect}
+use Rattle.cx_region.specs.declared.asking.KeyEffect.TheVariants.{Answer, Hold, Attach}
 use Rattle.cx_region.specs.declared.asking.Start.{Start}
 use Rattle.cx_region.specs.State.{RegionState, TerminalState}
 use Rattle.cx_region.specs.Tables.{program_of, terminal_of, transaction_of}
-use Rattle.cx_region.specs.Attach.{commarea_kept, first_level, fresh_task, transaction_named}
+use Rattle.cx_region.specs.Attach.{TakesKey, commarea_kept, first_level, fresh_task, transaction_named}
 use Rattle.cx_region.specs.declared.asking.Places.{Places}
 
--- a task to be attached
-abbrev pub start_of : TerminalState → List ℕ → List ℕ → Loaded → Asked
-start_of terminal tran program loaded =
-    Attach (record {
-      slot = terminal.entry.slot;
-      tran = tran;
-      program = program;
-      loaded = loaded;
-      calen = length (commarea_kept terminal.entry.following);
-    })
+-- an input by its parts
+abbrev pub input_with : Aid → List ℕ → Input
+input_with aid bytes = record { aid = aid; bytes = bytes }
 
-unfoldable pub start_asked : RegionState → TerminalState → List ℕ → Asked
-start_asked region terminal tran =
-    option_map_or
-    (λ program. option_map_or (start_of terminal tran program) (program_of region program)
-    (Answer key.NoSuchTransaction))
-    (transaction_of region tran) (Answer key.NoSuchTransaction)
+-- the terminal has no task, and its transaction's program is there
+pub record Starting (r : RegionState) (name bytes : List ℕ) (start : Start) : Type 0 where
+  pub terminal : TerminalState
+  pub there : terminal_of r name ≡ Some terminal
+  pub idle : terminal.task ≡ None
+  pub slot : start.slot ≡ terminal.entry.slot
+  pub tran : start.tran ≡ transaction_named terminal.entry.following bytes
+  pub defined : transaction_of r start.tran ≡ Some start.program
+  pub program : program_of r start.program ≡ Some start.loaded
+  pub calen : start.calen ≡ length (commarea_kept terminal.entry.following)
 
-abbrev pub input_asked : Option Input → Asked
-input_asked None = Give
-input_asked (Some held) = Answer key.AlreadyHeldInput
+-- the terminal has a task, and no input is held for it
+pub record Giving (r : RegionState) (name : List ℕ) : Type 0 where
+  pub terminal : TerminalState
+  pub there : terminal_of r name ≡ Some terminal
+  pub task : TaskState
+  pub live : terminal.task ≡ Some task
+  pub none : terminal.entry.input ≡ None
 
-abbrev pub asked_at : RegionState → List ℕ → TerminalState → Asked
-asked_at region bytes terminal =
-    option_map_or (λ (_ : TaskState). input_asked terminal.entry.input) terminal.task
-    (start_asked region terminal (transaction_named terminal.entry.following bytes))
-
-unfoldable pub asked : RegionState → List ℕ → List ℕ → Asked
-asked region name bytes = option_map_or (asked_at region bytes) (terminal_of region name) (Answer key.NoSuchTerminal)
+-- an answer that is due with no change; that the input be held; that a task be attached
+abbrev pub Asks : RegionState → List ℕ → List ℕ → KeyEffect → Type 0
+Asks region name bytes (Answer reply) = (aid : Aid) → TakesKey region name (input_with aid bytes) reply region
+Asks region name bytes Hold = Giving region name
+Asks region name bytes (Attach start) = Starting region name bytes start
 
 -- the level and the task that begin
 abbrev pub level_of : Start → Places → NewLevel

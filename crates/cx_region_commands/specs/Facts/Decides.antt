@@ -7,12 +7,11 @@ use Rattle.cx_base.specs.declared.abends.Abend.TheVariants as abend
 use Rattle.cx_base.specs.declared.options.OptionName.TheVariants as option
 use Rattle.cx_load.specs.declared.program.Loaded.{Loaded}
 use Rattle.cx_program.specs.Levels.{Levels}
-use Rattle.cx_service.specs.declared.faults.ServiceFault.{ServiceFault}
-use Rattle.cx_service.specs.Queues.{Queues, read_fault}
+use Rattle.cx_service.specs.Queues.{Queues, queue_of, reading_of_queue}
 use Rattle.cx_storage.specs.Facts.Places.{place_decides}
 use Rattle.cx_storage.specs.Storage.{Storage}
 use Rattle.cx_region_state.specs.Call.{Call}
-use Rattle.cx_region_state.specs.Inputs.{is_length_negative}
+use Rattle.cx_region_state.specs.Inputs.{halfword_of, is_length_negative}
 use Rattle.cx_region_state.specs.declared.inputs.StorageSpan.{StorageSpan}
 use Rattle.cx_region_state.specs.State.{TaskContext}
 use Rattle.cx_region_state.specs.declared.verdict.Verdict.{Verdict}
@@ -22,7 +21,7 @@ use Rattle.cx_region_commands.specs.Common.{AtPlace, commarea_of, has, name_at, 
 use Rattle.cx_region_commands.specs.Getmain.{GetmainRow, asked_len, is_area_length}
 use Rattle.cx_region_commands.specs.CommandVerdicts.{HasVerdict, JudgedBy}
 use Rattle.cx_region_commands.specs.Link.{LinkRow, Links}
-use Rattle.cx_region_commands.specs.ReadqTs.{Reads, ReadsItem, ReadqRow, item_asked}
+use Rattle.cx_region_commands.specs.ReadqTs.{ReadsQueueItem, ReadqRow}
 use Rattle.cx_region_commands.specs.Xctl.{Copies, Transfers, XctlRow, XctlTo, copying_to}
 
 both_tests : {A B A2 B2 C : Type 0} (b : Bool) → MatchBool b A B → MatchBool b A2 B2 → (A → A2 → C) → (B → B2 → C) → C
@@ -77,16 +76,12 @@ unfolding GetmainRow
 getmain_once s call v w one other = both_tests (is_area_length (asked_len s call)) one other (at_place s _ _ v w) same
 
 readq_once : (s : Storage) (queues : Queues) (call : Call) (v w : Verdict) → ReadqRow s queues call v → ReadqRow s queues call w → v ≡ w
-unfolding ReadqRow Reads
+unfolding ReadqRow ReadsQueueItem
 readq_once s queues call v w one other =
     both_tests (has call option.Into && is_length_negative s call) one other same
-    (λ l k.
-    let name = name_at s call option.Queue in
-    by_fault name (item_asked s queues call name) (read_fault queues name (item_asked s queues call name)) l k)
-  where
-    by_fault : (name : List ℕ) (n : ℕ) (o : Option ServiceFault) → ReadsItem s queues call name n o v → ReadsItem s queues call name n o w → v ≡ w
-    by_fault name n None l k = both_tests (has call option.Set) l k (at_place s _ _ v w) same
-    by_fault name n (Some fault) l k = same l k
+    (λ l k. both_options (queue_of queues (name_at s call option.Queue)) l k same
+    (λ queue l k. both_options (reading_of_queue (halfword_of s call option.Item) queue) l k same
+    (λ reading l k. both_tests (has call option.Set) l k (at_place s _ _ v w) same)))
 
 pub judged_once : (call : Call) (r : TaskContext) (one other : Verdict) → HasVerdict call r one → HasVerdict call r other → one ≡ other
 unfolding HasVerdict

@@ -19,14 +19,14 @@ use Rattle.cx_region_state.specs.Facts.Inputs.{IsMeasuredInput, commarea_of_retu
 use Rattle.cx_region_state.specs.declared.inputs.StorageSpan.{StorageSpan}
 use Rattle.cx_region_state.specs.Areas.{IsSoundProgram, IsTaskPlace, with_copy_area}
 use Rattle.cx_region_state.specs.State.{Input, TaskContext}
-use Rattle.cx_region_state.specs.Parts.Fits.{Fits, FitsCopy, FitsNext, FitsPiece}
+use Rattle.cx_region_state.specs.Parts.Fits.{Fits, FitsCopy, FitsTransaction, FitsPiece}
 use Rattle.cx_region_state.specs.declared.verdict.Copying.{Copying}
 use Rattle.cx_region_state.specs.declared.verdict.Verdict.{Verdict}
 use Rattle.cx_region_state.specs.declared.verdict.Verdict.TheVariants.{Refuses}
 use Rattle.cx_base.specs.declared.abends.Abend.TheVariants as abend
 use Rattle.cx_region_commands.specs.declared.common.Called.{Called}
 use Rattle.cx_region_commands.specs.Facts.Programs.{program_sound}
-use Rattle.cx_region_commands.specs.Common.{AreSoundPrograms, commarea_of, has, name_at, named_program, program_of}
+use Rattle.cx_region_commands.specs.Common.{AreSoundPrograms, commarea_of, has, name_at, named_program, program_named}
 use Rattle.cx_region_commands.specs.Abend.{abend_row}
 use Rattle.cx_region_commands.specs.HandleAbend.{handle_abend_row}
 use Rattle.cx_region_commands.specs.Handling.{asks, handle_row, ignore_row, pop_row, push_row}
@@ -64,9 +64,9 @@ commarea_is s call piece e = go (piece_of s call Commarea) e
 named_sound : (s : Storage) (call : Call) (programs : List (List ℕ × Loaded)) (called : Called) → AreSoundPrograms programs
     → named_program s call programs ≡ Some called → IsSoundProgram called.loaded
 unfolding named_program
-named_sound s call programs called sound e = found (name_at s call Program) (program_of programs (name_at s call Program)) refl e
+named_sound s call programs called sound e = found (name_at s call Program) (program_named programs (name_at s call Program)) refl e
   where
-    found : (name : List ℕ) (o : Option Loaded) → program_of programs name ≡ o
+    found : (name : List ℕ) (o : Option Loaded) → program_named programs name ≡ o
         → option_map (λ loaded. record { name = name; loaded = loaded }) o ≡ Some called → IsSoundProgram called.loaded
     found name None is e = cc
     found name (Some loaded) is e =
@@ -149,11 +149,11 @@ return_fits call r v low is there e = rw e (go r.task.levels.callers)
     kept None at = tt
     kept (Some piece) at = piece_there r.shared.storage call Commarea piece low there row (commarea_is r.shared.storage call piece at).0
 
-    following : (o : Option (List ℕ)) → FitsNext (option_map (λ tran. record { tran = tran; commarea = commarea_of r.shared.storage call }) o) r
+    following : (o : Option (List ℕ)) → FitsTransaction (option_map (λ tran. record { tran = tran; commarea = commarea_of r.shared.storage call }) o) r
     following None = tt
     following (Some name) = kept (commarea_of r.shared.storage call) refl
 
-    next : FitsNext (next_of r.shared.storage call) r
+    next : FitsTransaction (next_of r.shared.storage call) r
     next = following (bytes_of r.shared.storage call Transid 4)
 
     highest : Fits (highest_return r.shared.storage call) r

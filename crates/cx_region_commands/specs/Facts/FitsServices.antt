@@ -1,17 +1,17 @@
 -- What the commands of storage, queues and resources are judged to do can be done.
-use Rattle.std.proofs.Common.{◌≡◌, ℕ, ◌+◌, ◌<◌, ◌≤◌, ◌^◌, ◌==◌, Bool, true, false, List, [], ◌∷◌, Option, Some, None, refl, sym, ap, ◌∙◌, arith, inl, inr, nat_le, unwrap_or, is_none}
+use Rattle.std.proofs.Common.{◌≡◌, ℕ, ◌+◌, ◌<◌, ◌≤◌, ◌^◌, ◌==◌, Bool, true, false, List, [], ◌∷◌, Option, Some, None, refl, sym, ap, ◌∙◌, arith, inl, inr, nat_le, length, unwrap_or, is_none, is_some}
 use Rattle.std.specs.Prelude.{◌&&◌, if◌then◌else◌}
-use Rattle.std.specs.Option.{option_map_or}
+use Rattle.std.specs.Option.{option_and_then, option_map, option_map_or}
 use Rattle.std.specs.List.{AllByRecursion}
 use Rattle.std.proofs.lemmas.Bool.{and_parts, cases_Bool, eqb-true, leb-true}
 use Rattle.cx_base.specs.declared.commands.Command.TheVariants as command
 use Rattle.cx_base.specs.declared.options.OptionName.TheVariants as option
-use Rattle.cx_base.specs.declared.conditions.Condition.TheVariants.{Normal, Invreq, Qiderr}
-use Rattle.cx_region_state.specs.declared.verdict.TaskChange.TheVariants.{Ends, Makes}
-use Rattle.cx_region_state.specs.declared.verdict.Made.TheVariants.{Enqueues, ItemAt, ItemLast}
+use Rattle.cx_base.specs.declared.conditions.Condition.TheVariants.{Normal, Invreq}
+use Rattle.cx_region_state.specs.declared.verdict.TaskChange.TheVariants.{After, Before}
+use Rattle.cx_region_state.specs.declared.verdict.BeforeOutputs.TheVariants.{Enqueues, ItemAt, ItemLast}
 use Rattle.cx_region_state.specs.declared.verdict.Verdict.TheVariants.{Meets}
 use Rattle.cx_region_state.specs.declared.outputs.OutputValue.TheVariants.{Half}
-use Rattle.cx_region_state.specs.declared.verdict.Ended.TheVariants.{Frees}
+use Rattle.cx_region_state.specs.declared.verdict.AfterOutputs.TheVariants.{Frees}
 use Rattle.cx_storage.specs.declared.areas.Area.{Area}
 use Rattle.cx_storage.specs.declared.areas.Kind.{Kind}
 use Rattle.cx_storage.specs.declared.areas.Kind.TheVariants.{Got, Fixed, System}
@@ -20,10 +20,12 @@ use Rattle.cx_service.specs.declared.faults.ServiceFault.{ServiceFault}
 use Rattle.cx_service.specs.declared.faults.ServiceFault.TheVariants as fault
 use Rattle.cx_service.specs.declared.resources.Hold.{Hold}
 use Rattle.cx_service.specs.declared.resources.ResourceName.{ResourceName}
-use Rattle.cx_service.specs.Queues.{AreSoundQueues, Queues, count_of, delete_fault, item_len_of, read_fault, rewrite_fault, write_fault}
+use Rattle.cx_service.specs.Queues.{AreSoundQueues, Queues, count_of, item_len_of, item_numbered, item_of, queue_of, reading_of_queue, rewrite_fault, write_fault}
+use Rattle.cx_service.specs.declared.queues.Reading.{Reading}
+use Rattle.cx_service.specs.Facts.Readings.{reading_is}
 use Rattle.cx_service.specs.Resources.{Resources, enq_fault, hold_fault, hold_of}
 use Rattle.cx_region_state.specs.Call.{Call, place_of}
-use Rattle.cx_region_state.specs.Inputs.{are_inputs_there, is_length_negative, length_option}
+use Rattle.cx_region_state.specs.Inputs.{are_inputs_there, halfword_of, is_length_negative, length_option}
 use Rattle.cx_region_state.specs.Facts.Inputs.{from_of_writeq_ts, place_below}
 use Rattle.cx_region_state.specs.declared.inputs.StorageSpan.{StorageSpan}
 use Rattle.cx_region_state.specs.Areas.{IsTaskPlace, got_owner}
@@ -37,11 +39,11 @@ use Rattle.cx_region_commands.specs.Deq.{deq_row}
 use Rattle.cx_region_commands.specs.Enq.{enq_row, is_wrong_length, resource_at}
 use Rattle.cx_region_commands.specs.Freemain.{freemain_row, is_got, is_got_by}
 use Rattle.cx_region_commands.specs.Getmain.{GetmainRow, asked_len, fill_byte, gets, is_area_length}
-use Rattle.cx_region_commands.specs.ReadqTs.{Reads, ReadsItem, ReadqRow, item_asked, reading_of, reads_into, reads_to}
+use Rattle.cx_region_commands.specs.ReadqTs.{ReadsQueueItem, ReadqRow, reads_into, reads_to}
 use Rattle.cx_region_commands.specs.Services.{fault_or_verdict}
 use Rattle.cx_region_commands.specs.WriteqTs.{item_named, writeq_row}
-use Rattle.cx_region_commands.specs.Facts.Queues.{few_bytes, some_bytes}
-use Rattle.cx_region_commands.specs.Facts.FitsParts.{by_test, enqbusy_fits, invreq_fits, itemerr_fits, lengerr_fits, normal_fits, nospace_fits, nostg_fits, piece_at_there, qiderr_fits}
+use Rattle.cx_region_commands.specs.Facts.Queues.{found as found_sound}
+use Rattle.cx_region_commands.specs.Facts.FitsParts.{by_option, by_test, enqbusy_fits, invreq_fits, itemerr_fits, lengerr_fits, normal_fits, nospace_fits, nostg_fits, piece_at_there, qiderr_fits}
 
 -- ---- the conditions of services
 
@@ -110,10 +112,10 @@ unfolding address_row
 address_fits r v e = rw e (normal_fits, tt)
 
 pub deleteq_fits : (call : Call) (r : TaskContext) (v : Verdict) → v ≡ deleteq_row r.shared.storage r.shared.queues call → Fits v r
-unfolding deleteq_row delete_fault
+unfolding deleteq_row
 deleteq_fits call r v e = elim (cases_Bool (is_none (count_of r.shared.queues (name_at r.shared.storage call option.Queue)))) [
   | inl t ↦ rw (e, t) (qiderr_fits, tt)
-  | inr f ↦ rw (e, f) (normal_fits, rw f refl)
+  | inr f ↦ rw (e, f) (normal_fits, tt)
 ]
 
 pub enq_fits : (call : Call) (r : TaskContext) (v : Verdict) → v ≡ enq_row r.shared.storage r.shared.resources r.terminal_entry.slot call → Fits v r
@@ -123,7 +125,7 @@ enq_fits call r v e = elim (cases_Bool (is_wrong_length r.shared.storage call)) 
   | inr f ↦
       let name = resource_at r.shared.storage call in
       rw (e, f)
-      (fault_or_verdict_fits (enq_fault r.shared.resources r.terminal_entry.slot name) r (does (Makes (Enqueues name)))
+      (fault_or_verdict_fits (enq_fault r.shared.resources r.terminal_entry.slot name) r (does (Before (Enqueues name)))
       (enq_never r.shared.resources r.terminal_entry.slot name) (λ none. (normal_fits, none)))
 ]
 
@@ -188,7 +190,7 @@ freemain_fits call r v low e =
     below (Some place) at = place_below call option.Data place low at
 
     found : (place : ℕ) → place < 2 ^ 24 → (o : Option Area) → area_at r.shared.storage place ≡ o
-        → Fits (if option_map_or (is_got_by r.terminal_entry.slot) o false then does (Ends (Frees place)) else condition_alone Invreq) r
+        → Fits (if option_map_or (is_got_by r.terminal_entry.slot) o false then does (After (Frees place)) else condition_alone Invreq) r
     found place below None at = (invreq_fits, tt)
     found place below (Some area) at = elim (cases_Bool (is_got_by r.terminal_entry.slot area)) [
       | inl t ↦ rw t (normal_fits, record { below = below; len = area.len; area = got_area r.shared.storage r.terminal_entry.slot place area at t })
@@ -200,11 +202,11 @@ pub writeq_fits : (call : Call) (r : TaskContext) (v : Verdict) → AllByRecursi
 unfolding writeq_row
 writeq_fits call r v low is there e = elim (cases_Bool (has call option.Rewrite)) [
   | inl t ↦ rw (e, t)
-      (fault_or_verdict_fits (rewrite_fault r.shared.queues name n piece.len) r (does (Makes (ItemAt name n piece)))
+      (fault_or_verdict_fits (rewrite_fault r.shared.queues name n piece.len) r (does (Before (ItemAt name n piece)))
       (rewrite_never r.shared.queues name n piece.len) (λ none. (normal_fits, record { rewrites = none; there = stands })))
   | inr f ↦ rw (e, f)
       (fault_or_verdict_fits (write_fault r.shared.queues name piece.len) r
-      (Meets Normal (output option.Item (Half (unwrap_or (count_of r.shared.queues name) 0 + 1)) ∷ []) (Makes (ItemLast name piece)))
+      (Meets Normal (output option.Item (Half (unwrap_or (count_of r.shared.queues name) 0 + 1)) ∷ []) (Before (ItemLast name piece)))
       (write_never r.shared.queues name piece.len) (λ none. (normal_fits, record { writes = none; there = stands })))
 ]
   where
@@ -220,50 +222,33 @@ writeq_fits call r v low is there e = elim (cases_Bool (has call option.Rewrite)
     stands : IsThere r.shared.storage piece
     stands = piece_at_there r.shared.storage call option.From low there (rw is from_of_writeq_ts)
 
--- an item that is read has its length
-item_read : (o : Option ℕ) (no_queue : Bool) → (if no_queue then Some fault.Qiderr else if is_none o then Some fault.Itemerr else None) ≡ None → o ≡ Some (unwrap_or o 0)
-item_read None true e = cc
-item_read None false e = cc
-item_read (Some len) no_queue e = refl
-
-read_len : (queues : Queues) (name : List ℕ) (n : ℕ) → read_fault queues name n ≡ None → item_len_of queues name n ≡ Some (unwrap_or (item_len_of queues name n) 0)
-unfolding read_fault
-read_len queues name n e = item_read (item_len_of queues name n) (is_none (count_of queues name)) e
-
-read_never : (queues : Queues) (name : List ℕ) (n : ℕ) → read_fault queues name n ≡ Some fault.Memory → ⊥
-unfolding read_fault
-read_never queues name n = first_or _ fault.Qiderr _ qiderr_other (first_or _ fault.Itemerr _ itemerr_other no_fault)
-
 pub readq_fits : (call : Call) (r : TaskContext) (v : Verdict) → AreSoundQueues r.shared.queues → ReadqRow r.shared.storage r.shared.queues call v → Fits v r
-unfolding ReadqRow Reads reading_of
+unfolding ReadqRow ReadsQueueItem
 readq_fits call r v sound row =
-    by_test (has call option.Into && is_length_negative r.shared.storage call) row
-    (λ t e. rw e (lengerr_fits, tt))
-    (λ f reads.
-    let name = name_at r.shared.storage call option.Queue in
-    item name (item_asked r.shared.storage r.shared.queues call name) reads)
+    by_test (has call option.Into && is_length_negative r.shared.storage call) row (λ t e. rw e (lengerr_fits, tt))
+    (λ f reads. by_option (queue_of r.shared.queues name) reads (λ e. rw e (qiderr_fits, tt))
+    (λ queue there found. by_option (reading_of_queue asked queue) found (λ e. rw e (itemerr_fits, tt))
+    (λ reading is it.
+    let item = reading_is asked queue reading (found_sound r.shared.queues name sound queue there) is in
+    let len = ap (λ o. option_map length (option_and_then (item_numbered reading.number) o)) there ∙ item.item in
+    by_test (has call option.Set) it
+    (λ t at. to reading len item.some item.few at.place at.least at.is)
+    (λ f e. rw e (into reading (length_option r.shared.storage call) len)))))
   where
-    to : (name : List ℕ) (n : ℕ) → read_fault r.shared.queues name n ≡ None → (place : Option ℕ)
-        → IsTaskPlace r.shared.storage (reading_of r.shared.queues name n).len place → v ≡ reads_to (reading_of r.shared.queues name n) place → Fits v r
-    to name n none None least e = rw e (nostg_fits, tt)
-    to name n none (Some place) least e =
-        let some = some_bytes r.shared.queues name n sound none in
-        let few = few_bytes r.shared.queues name n sound in
-        rw e (normal_fits, record { some = some; few = omega (arith, few); place = least; fill = read_len r.shared.queues name n none })
+    name : List ℕ
+    name = name_at r.shared.storage call option.Queue
 
-    into : (name : List ℕ) (n room : ℕ) → read_fault r.shared.queues name n ≡ None → Fits (reads_into room (reading_of r.shared.queues name n)) r
-    into name n room none = elim (cases_Bool (nat_le (reading_of r.shared.queues name n).len room)) [
-      | inl t ↦ rw t (normal_fits, none)
-      | inr f ↦ rw f (lengerr_fits, none)
+    asked : Option ℕ
+    asked = halfword_of r.shared.storage call option.Item
+
+    to : (reading : Reading) → item_len_of r.shared.queues name reading.number ≡ Some reading.len → 1 ≤ reading.len → reading.len ≤ 32767 → (place : Option ℕ)
+        → IsTaskPlace r.shared.storage reading.len place → v ≡ reads_to name reading place → Fits v r
+    to reading len some few None least e = rw e (nostg_fits, tt)
+    to reading len some few (Some place) least e =
+        rw e (normal_fits, record { some = some; few = omega (arith, few); place = least; fill = len })
+
+    into : (reading : Reading) (room : ℕ) → item_len_of r.shared.queues name reading.number ≡ Some reading.len → Fits (reads_into room name reading) r
+    into reading room there = elim (cases_Bool (nat_le reading.len room)) [
+      | inl t ↦ rw t (normal_fits, there)
+      | inr f ↦ rw f (lengerr_fits, there)
     ]
-
-    by_fault : (name : List ℕ) (n : ℕ) (o : Option ServiceFault) → read_fault r.shared.queues name n ≡ o
-        → ReadsItem r.shared.storage r.shared.queues call name n o v → Fits v r
-    by_fault name n None none reads =
-        by_test (has call option.Set) reads
-        (λ t at. to name n none at.place at.least at.is)
-        (λ f e. rw e (into name n (length_option r.shared.storage call) none))
-    by_fault name n (Some fault) is e = rw e (fault_or_verdict_fits (Some fault) r (condition_alone Qiderr) (λ memory. read_never r.shared.queues name n (is ∙ memory)) (λ none. (qiderr_fits, tt)))
-
-    item : (name : List ℕ) (n : ℕ) → ReadsItem r.shared.storage r.shared.queues call name n (read_fault r.shared.queues name n) v → Fits v r
-    item name n reads = by_fault name n (read_fault r.shared.queues name n) refl reads

@@ -3,7 +3,7 @@
 use Rattle.std.specs.Prelude.{◌≡◌, ℕ, Bool, true, false, ◌||◌, ◌⊎◌, nat_lt, List, length, Option, Some, None, is_some, Ok}
 use Rattle.std.specs.List.{list_any}
 use Rattle.cx_storage.specs.Address.{distance}
-use Rattle.cx_storage.specs.Storage.{Storage, areas_of, byte_at, is_of_other_slot, with_areas_kept, IsSound as IsSoundStorage}
+use Rattle.cx_storage.specs.Storage.{Storage, areas_of, byte_at, is_of_other_slot, with_areas_kept, IsSoundStorage}
 use Rattle.cx_service.specs.Queues.{AreSoundQueues}
 use Rattle.cx_region_state.specs.declared.outputs.Output.{Output}
 use Rattle.cx_region_state.specs.Call.{Call, call_of, place_of, resp_place}
@@ -15,7 +15,7 @@ use Rattle.cx_region_state.specs.declared.verdict.Verdict.{Verdict}
 use Rattle.cx_region_state.specs.declared.verdict.Verdict.TheVariants.{Meets}
 use Rattle.cx_region_state.specs.State.{TaskContext}
 use Rattle.cx_region_state.specs.Verdicts.{handed_over}
-use Rattle.cx_region_task.specs.Performing.{list_of}
+use Rattle.cx_region_task.specs.Performing.{argument_list}
 use Rattle.cx_region_task.specs.Sound.{IsSoundTask}
 use Rattle.cx_region_task.specs.Turn.{HalfTurn}
 
@@ -41,7 +41,7 @@ writes_to x call _ r = false
 -- the command that is due writes to the address, as its row judges it
 pub record DueWrites (x : ℕ) (before : TaskContext) : Type 0 where
   pub call : Call
-  pub reads : call_of before.shared.storage (list_of before.task) ≡ Ok call
+  pub reads : call_of before.shared.storage (argument_list before.task) ≡ Ok call
   pub verdict : Verdict
   pub judged : HasVerdict call before verdict
   pub writes : writes_to x call verdict before ≡ true

@@ -17,7 +17,7 @@ use Rattle.cx_region_state.specs.Call.{Call, call_of, place_of, resp_place}
 use Rattle.cx_region_state.specs.Inputs.{length_option}
 use Rattle.cx_region_state.specs.declared.replies.TurnReply.TheVariants as turn
 use Rattle.cx_region_state.specs.State.{Input, TaskContext, TaskState}
-use Rattle.cx_region_task.specs.Performing.{list_of}
+use Rattle.cx_region_task.specs.Performing.{argument_list}
 use Rattle.cx_region_task.specs.Turn.{HalfTurn}
 use Rattle.cx_region.specs.declared.replies.KeyReply.TheVariants as key
 use Rattle.cx_region.specs.Attach.{TakesKey, commarea_kept}
@@ -53,7 +53,7 @@ IsCommareaApart _ eib call storage = ⊤
 -- a program that is entered by LINK or XCTL finds the COMMAREA as the command found it
 abbrev pub EnteredFindCommareas : Type 0
 EnteredFindCommareas = (before after : TaskContext) (call : Call) (bytes : List ℕ)
-    → IsSoundContext before → IsRespApart before → call_of before.shared.storage (list_of before.task) ≡ Ok call
+    → IsSoundContext before → IsRespApart before → call_of before.shared.storage (argument_list before.task) ≡ Ok call
     → passed_by before.shared.storage call ≡ Some bytes
     → IsCommareaApart call.command before.task.eib call before.shared.storage
     → HalfTurn before turn.Entered after → FindsCommarea after.shared.storage after.task bytes

@@ -21,7 +21,7 @@ use Rattle.cx_region_state.specs.declared.verdict.Verdict.TheVariants.{Meets}
 use Rattle.cx_region_state.specs.State.{TaskContext, TaskState}
 use Rattle.cx_region_task.specs.Abends.{Abends, with_exit_off}
 use Rattle.cx_region_task.specs.Changes.{Commits}
-use Rattle.cx_region_task.specs.Performing.{list_of}
+use Rattle.cx_region_task.specs.Performing.{argument_list}
 use Rattle.cx_region_task.specs.Turn.{HalfTurn, after_machine, machine_of, most_steps}
 
 -- the area is none of the levels' DFHEISTGs
@@ -99,7 +99,7 @@ pub record HaveRun (before abend : TaskContext) : Type 0 where
 -- what is reached when all is done that the command that is due does for the condition it meets
 pub record HasDone (before abend : TaskContext) : Type 0 where
   pub call : Call
-  pub reads : call_of before.shared.storage (list_of before.task) ≡ Ok call
+  pub reads : call_of before.shared.storage (argument_list before.task) ≡ Ok call
   pub condition : Condition
   pub outputs : List Output
   pub change : TaskChange
@@ -108,14 +108,14 @@ pub record HasDone (before abend : TaskContext) : Type 0 where
 
 -- How a half-turn comes to an abend: its instructions have run; or its command is refused, and nothing is done, or has
 -- done all that it does.
-abbrev pub ComesTo : TaskContext → TaskContext → Type 0
-ComesTo before abend = MatchBool before.task.due ((abend ≡ before) ⊎ HasDone before abend) (HaveRun before abend)
+abbrev pub ComesToAbend : TaskContext → TaskContext → Type 0
+ComesToAbend before abend = MatchBool before.task.due ((abend ≡ before) ⊎ HasDone before abend) (HaveRun before abend)
 
 -- A half-turn in which an exit takes an abend: the task comes to it with the levels that it had, and the exit takes it
 -- there.
 pub record ComesToExit (before after : TaskContext) : Type 0 where
   pub abend : TaskContext
-  pub comes : ComesTo before abend
+  pub comes : ComesToAbend before abend
   pub levels : abend.task.levels ≡ before.task.levels
   pub takes : TakesExit abend after
 

@@ -94,7 +94,7 @@ RunsBelow depth from (turned ∷ rest) to =
     × (depth ≤ length turned.after.task.levels.callers) × RunsBelow depth turned.after.task rest to
 
 -- A LINK: a level has begun under the linking one.
-pub record Links (linking entered : TaskContext) : Type 0 where
+pub record HasLinked (linking entered : TaskContext) : Type 0 where
   pub enters : HalfTurn linking turn.Entered entered
   pub under : length entered.task.levels.callers ≡ suc (length linking.task.levels.callers)
 
@@ -109,7 +109,7 @@ pub record ReturnsTo (linking entered returning returned : TaskContext) : Type 0
 -- program has the registers and the code that it had at its LINK.
 abbrev pub LinksAreReturned : Type 0
 LinksAreReturned =
-    (linking entered returning returned : TaskContext) → Links linking entered
+    (linking entered returning returned : TaskContext) → HasLinked linking entered
     → ReturnsTo linking entered returning returned
     → IsBack linking.task.levels.current linking.task.levels.callers returned.task
 

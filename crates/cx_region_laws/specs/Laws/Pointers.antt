@@ -6,7 +6,7 @@ use Rattle.cx_base.specs.declared.conditions.Condition.{Condition}
 use Rattle.cx_base.specs.declared.options.OptionName.{OptionName}
 use Rattle.cx_base.specs.Eib.{eib_len}
 use Rattle.cx_storage.specs.Address.{address_in, address_after}
-use Rattle.cx_storage.specs.Storage.{Storage, byte_at, IsSound as IsSoundStorage}
+use Rattle.cx_storage.specs.Storage.{Storage, byte_at, IsSoundStorage}
 use Rattle.cx_storage.specs.Word.{word_at}
 use Rattle.cx_region_state.specs.declared.outputs.Output.{Output}
 use Rattle.cx_region_state.specs.declared.outputs.OutputValue.TheVariants.{Word}
@@ -19,7 +19,7 @@ use Rattle.cx_region_state.specs.declared.verdict.TaskChange.{TaskChange}
 use Rattle.cx_region_state.specs.declared.verdict.Verdict.TheVariants.{Meets}
 use Rattle.cx_region_state.specs.State.{TaskContext, TaskState}
 use Rattle.cx_region_state.specs.Verdicts.{handed_over}
-use Rattle.cx_region_task.specs.Performing.{list_of}
+use Rattle.cx_region_task.specs.Performing.{argument_list}
 use Rattle.cx_region_task.specs.Sound.{IsSoundTask}
 use Rattle.cx_region_task.specs.Turn.{HalfTurn}
 use Rattle.cx_region_laws.specs.Laws.Bytes.{is_among, is_in_output}
@@ -66,7 +66,7 @@ PointersStand storage eib call text outputs =
 -- their places.
 pub record HasPutOut (condition : Condition) (before after : TaskContext) : Type 0 where
   pub call : Call
-  pub reads : call_of before.shared.storage (list_of before.task) ≡ Ok call
+  pub reads : call_of before.shared.storage (argument_list before.task) ≡ Ok call
   pub outputs : List Output
   pub change : TaskChange
   pub judged : HasVerdict call before (Meets condition outputs change)

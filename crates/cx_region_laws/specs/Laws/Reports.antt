@@ -14,7 +14,7 @@ use Rattle.cx_base.specs.Commands.{row_of}
 use Rattle.cx_base.specs.Conditions.{entry_of}
 use Rattle.cx_base.specs.Eib.{eib_field, eib_len}
 use Rattle.cx_storage.specs.Address.{address_after}
-use Rattle.cx_storage.specs.Storage.{Storage, span, IsSound as IsSoundStorage}
+use Rattle.cx_storage.specs.Storage.{Storage, span, IsSoundStorage}
 use Rattle.cx_service.specs.Queues.{AreSoundQueues}
 use Rattle.cx_region_state.specs.declared.outputs.Output.{Output}
 use Rattle.cx_region_state.specs.Call.{Call, call_of, resp_place}
@@ -27,7 +27,7 @@ use Rattle.cx_region_state.specs.declared.verdict.TaskChange.{TaskChange}
 use Rattle.cx_region_state.specs.declared.verdict.Verdict.TheVariants.{Meets}
 use Rattle.cx_region_state.specs.State.{TaskContext}
 use Rattle.cx_region_state.specs.Verdicts.{handed_over}
-use Rattle.cx_region_task.specs.Performing.{list_of}
+use Rattle.cx_region_task.specs.Performing.{argument_list}
 use Rattle.cx_region_task.specs.Sound.{IsSoundTask}
 use Rattle.cx_region_task.specs.Turn.{HalfTurn}
 use Rattle.cx_region_laws.specs.Laws.Bytes.{is_among, is_in_output}
@@ -45,7 +45,7 @@ field_at storage eib field = span storage (address_after eib (eib_field field).o
 
 -- RESP's word, where the command that is due has one, doesn't lie over the EIB.
 abbrev pub IsRespApart : TaskContext → Type 0
-IsRespApart r = (call : Call) (x : ℕ) → call_of r.shared.storage (list_of r.task) ≡ Ok call
+IsRespApart r = (call : Call) (x : ℕ) → call_of r.shared.storage (argument_list r.task) ≡ Ok call
     → is_among x (Some r.task.eib) eib_len ≡ true → is_among x (resp_place call) 4 ≡ false
 
 -- nor do outputs of a call, with the text that the command hands over
@@ -77,7 +77,7 @@ function_after _ call = (row_of call.command).function
 -- The command that was due has met the condition, with these outputs, as its row judges it; and it reports that.
 pub record HasReported (reply : TurnReply) (condition : Condition) (before after : TaskContext) : Type 0 where
   pub call : Call
-  pub reads : call_of before.shared.storage (list_of before.task) ≡ Ok call
+  pub reads : call_of before.shared.storage (argument_list before.task) ≡ Ok call
   pub outputs : List Output
   pub change : TaskChange
   pub judged : HasVerdict call before (Meets condition outputs change)

@@ -2,7 +2,7 @@
 use Rattle.cx_load.specs.Fault.{IsFit}
 use Rattle.cx_service.specs.Queues.{AreSoundQueues}
 use Rattle.cx_service.specs.Resources.{AreSoundResources}
-use Rattle.cx_storage.specs.Storage.{IsSound as IsSoundStorage}
+use Rattle.cx_storage.specs.Storage.{IsSoundStorage}
 use Rattle.cx_region.specs.declared.replies.Event.{Event}
 use Rattle.cx_region.specs.declared.replies.Event.TheVariants as event
 use Rattle.cx_region.specs.declared.replies.Reply.{Reply}

@@ -6,7 +6,7 @@ use Rattle.std.proofs.lemmas.Bool.{cases_Bool, cases_eq, eq-eqb, ne_eqb}
 use Rattle.std.proofs.lemmas.Option.{none-some, same_Some}
 use Rattle.cx_storage.specs.declared.areas.Area.{Area}
 use Rattle.cx_storage.specs.declared.areas.Owner.{Owner}
-use Rattle.cx_storage.specs.Storage.{Storage, Held, area_at, areas_of, with_area, put_held, zeros, starts_elsewhere, after_write, with_areas_kept, IsWhole, IsSound}
+use Rattle.cx_storage.specs.Storage.{Storage, Held, area_at, areas_of, with_area, put_held, zeros, starts_elsewhere, after_write, with_areas_kept, IsWhole, IsSoundStorage}
 use Rattle.cx_storage.specs.Place.{Misses, CanPlace, IsLeastPlace}
 use Rattle.cx_region_state.specs.Areas.{IsTaskPlace}
 use Rattle.cx_storage.specs.Storage.{area_from}
@@ -24,9 +24,9 @@ not_there (h ∷ hs) len b some whole misses = elim (cases_eq h.area.start b) [
 ]
 
 -- an area that is there stays where a new one is put in
-pub area_kept_get : (s : Storage) (first last len a : ℕ) (owner : Owner) (x : ℕ) (area : Area) → IsSound s → 0 < len → CanPlace s first last len a
+pub area_kept_get : (s : Storage) (first last len a : ℕ) (owner : Owner) (x : ℕ) (area : Area) → IsSoundStorage s → 0 < len → CanPlace s first last len a
     → area_at s x ≡ Some area → area_at (with_area s (Some a) len owner) x ≡ Some area
-unfolding CanPlace IsSound
+unfolding CanPlace IsSoundStorage
 area_kept_get s first last len a owner x area ok some can stands =
     let absent = not_there s len a some ok.0 can.3 in
     area_after_get s first last len a owner x ok some can ∙ elim (cases_eq a x) [
@@ -35,14 +35,14 @@ area_kept_get s first last len a owner x area ok some can stands =
     ]
 
 -- and the new one is there
-pub area_put : (s : Storage) (first last len a : ℕ) (owner : Owner) → IsSound s → 0 < len → CanPlace s first last len a
+pub area_put : (s : Storage) (first last len a : ℕ) (owner : Owner) → IsSoundStorage s → 0 < len → CanPlace s first last len a
     → area_at (with_area s (Some a) len owner) a ≡ Some (area_from a len owner)
 area_put s first last len a owner ok some can = area_after_get s first last len a owner a ok some can ∙ rw (eq-eqb a a refl) refl
 
 pub area_written : (s : Storage) (a : ℕ) (bytes : List ℕ) (x : ℕ) → area_at (after_write s a bytes) x ≡ area_at s x
 area_written s a bytes x = area_of_areas (after_write s a bytes) s x (areas_after_write s a bytes)
 
-pub area_kept_free : (s : Storage) (keeps : Area → Bool) (x : ℕ) (area : Area) → IsSound s → area_at s x ≡ Some area → keeps area ≡ true → area_at (with_areas_kept keeps s) x ≡ Some area
+pub area_kept_free : (s : Storage) (keeps : Area → Bool) (x : ℕ) (area : Area) → IsSoundStorage s → area_at s x ≡ Some area → keeps area ≡ true → area_at (with_areas_kept keeps s) x ≡ Some area
 area_kept_free s keeps x area ok stands keep = area_after_free s keeps x ok ∙ rw (stands, keep) refl
 
 -- ---- what holds of each area
@@ -127,8 +127,8 @@ unfolding IsLeastPlace CanPlace
 place_below s len place some least = let ends : place + len ≤ 0xFFFFFF + 1 = least.0.2 in omega (arith, some, ends)
 
 -- no area starts there
-pub none_there : (s : Storage) (len place : ℕ) → IsSound s → 0 < len → IsTaskPlace s len (Some place) → area_at s place ≡ None
-unfolding IsLeastPlace CanPlace IsSound
+pub none_there : (s : Storage) (len place : ℕ) → IsSoundStorage s → 0 < len → IsTaskPlace s len (Some place) → area_at s place ≡ None
+unfolding IsLeastPlace CanPlace IsSoundStorage
 none_there s len place ok some least = not_there s len place some ok.0 least.0.3
 
 all_elsewhere : (s : Storage) (place : ℕ) → area_at s place ≡ None → AllByRecursion (λ h. starts_elsewhere place h.area ≡ true) s
@@ -140,7 +140,7 @@ all_elsewhere (h ∷ hs) place none = elim (cases_eq h.area.start place) [
 ]
 
 -- an area that was put in its place and is freed leaves storage as it was
-pub given_back : (s : Storage) (len place : ℕ) (owner : Owner) → IsSound s → 0 < len → IsTaskPlace s len (Some place)
+pub given_back : (s : Storage) (len place : ℕ) (owner : Owner) → IsSoundStorage s → 0 < len → IsTaskPlace s len (Some place)
     → with_areas_kept (starts_elsewhere place) (with_area s (Some place) len owner) ≡ s
 given_back s len place owner ok some least =
     freed_put (starts_elsewhere place) s place len owner (rw (eq-eqb place place refl) refl)

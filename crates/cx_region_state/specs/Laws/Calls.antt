@@ -6,7 +6,7 @@ use Rattle.cx_base.specs.declared.legal.ListedCondition.{ListedCondition}
 use Rattle.cx_base.specs.Conditions.{entry_of}
 use Rattle.cx_base.specs.Commands.{row_of}
 use Rattle.cx_base.specs.Legal.{is_legal, is_legal_list, lists_conditions}
-use Rattle.cx_storage.specs.Storage.{Storage, span, IsSound}
+use Rattle.cx_storage.specs.Storage.{Storage, span, IsSoundStorage}
 use Rattle.cx_storage.specs.Address.{address_after}
 use Rattle.cx_storage.specs.Word.{word_at}
 use Rattle.cx_region_state.specs.Call.{Call, call_of, has_high_bit, has_label, has_resp, listed_in, place_of, resp_place}
@@ -51,7 +51,7 @@ pub record IsCallAt (s : Storage) (list : ℕ) (call : Call) : Type 0 where
 -- a call is read exactly where the list has all that
 abbrev pub CallIsRead : Type 0
 CallIsRead =
-    (s : Storage) (list : ℕ) (call : Call) → IsSound s → list < 2 ^ 24
+    (s : Storage) (list : ℕ) (call : Call) → IsSoundStorage s → list < 2 ^ 24
     → (call_of s list ≡ Ok call) ↔ IsCallAt s list call
 
 -- The k-th present option with an argument has the k-th address: that in word k + 1.

@@ -3,22 +3,22 @@
 use Rattle.std.specs.Prelude.{◌≡◌, ◌≢◌, ℕ, ◌<◌, ◌≤◌, ◌^◌, List, length, Option, Some, None, ⊤, is_some, IsTrue}
 use Rattle.cx_base.specs.declared.conditions.Condition.TheVariants.{Error}
 use Rattle.cx_storage.specs.Storage.{Storage, area_at, area_from}
-use Rattle.cx_service.specs.Queues.{delete_fault, item_len_of, read_fault, rewrite_fault, write_fault}
+use Rattle.cx_service.specs.Queues.{item_len_of, rewrite_fault, write_fault}
 use Rattle.cx_service.specs.Resources.{enq_fault}
 use Rattle.cx_region_state.specs.declared.inputs.StorageSpan.{StorageSpan}
 use Rattle.cx_region_state.specs.Inputs.{piece_bytes}
 use Rattle.cx_region_state.specs.declared.verdict.TaskChange.{TaskChange}
-use Rattle.cx_region_state.specs.declared.verdict.TaskChange.TheVariants.{Makes, Ends, Gets, Enters, Replaces, TaskEnds}
+use Rattle.cx_region_state.specs.declared.verdict.TaskChange.TheVariants.{Before, After, Gets, Enters, Replaces, TaskEnds}
 use Rattle.cx_region_state.specs.declared.verdict.Copying.{Copying}
-use Rattle.cx_region_state.specs.declared.verdict.Ended.{Ended}
-use Rattle.cx_region_state.specs.declared.verdict.Ended.TheVariants.{ReadOf, QueueGone, Frees}
+use Rattle.cx_region_state.specs.declared.verdict.AfterOutputs.{AfterOutputs}
+use Rattle.cx_region_state.specs.declared.verdict.AfterOutputs.TheVariants.{MarksRead, Frees}
 use Rattle.cx_region_state.specs.declared.verdict.Fill.{Fill}
 use Rattle.cx_region_state.specs.declared.verdict.Fill.TheVariants.{Byte, Item}
 use Rattle.cx_region_state.specs.declared.verdict.Got.{Got}
-use Rattle.cx_region_state.specs.declared.verdict.Made.{Made}
-use Rattle.cx_region_state.specs.declared.verdict.Made.TheVariants.{ItemLast, ItemAt, Enqueues, Shows, Handles}
+use Rattle.cx_region_state.specs.declared.verdict.BeforeOutputs.{BeforeOutputs}
+use Rattle.cx_region_state.specs.declared.verdict.BeforeOutputs.TheVariants.{ItemLast, ItemAt, Enqueues, Shows, Handles}
 use Rattle.cx_region_state.specs.declared.verdict.NewLevel.{NewLevel}
-use Rattle.cx_region_state.specs.declared.verdict.Next.{Next}
+use Rattle.cx_region_state.specs.declared.verdict.RequestedTransaction.{RequestedTransaction}
 use Rattle.cx_region_state.specs.declared.verdict.Request.{Request}
 use Rattle.cx_region_state.specs.declared.verdict.Request.TheVariants.{Push}
 use Rattle.cx_region_state.specs.declared.verdict.Verdict.{Verdict}
@@ -45,7 +45,7 @@ pub record FitsItemAt (name : List ℕ) (n : ℕ) (piece : StorageSpan) (r : Tas
   pub rewrites : rewrite_fault r.shared.queues name n piece.len ≡ None
   pub there : IsThere r.shared.storage piece
 
-abbrev pub FitsMade : Made → TaskContext → Type 0
+abbrev pub FitsMade : BeforeOutputs → TaskContext → Type 0
 FitsMade (ItemLast name piece) r = FitsItemLast name piece r
 FitsMade (ItemAt name n piece) r = FitsItemAt name n piece r
 FitsMade (Enqueues resource) r = enq_fault r.shared.resources r.terminal_entry.slot resource ≡ None
@@ -58,9 +58,8 @@ pub record IsGot (r : TaskContext) (place : ℕ) : Type 0 where
   pub len : ℕ
   pub area : area_at r.shared.storage place ≡ Some (area_from place len (got_owner r.terminal_entry.slot))
 
-abbrev pub FitsEnded : Ended → TaskContext → Type 0
-FitsEnded (ReadOf name n) r = read_fault r.shared.queues name n ≡ None
-FitsEnded (QueueGone name) r = delete_fault r.shared.queues name ≡ None
+abbrev pub FitsEnded : AfterOutputs → TaskContext → Type 0
+FitsEnded (MarksRead name reading) r = item_len_of r.shared.queues name reading.number ≡ Some reading.len
 FitsEnded (Frees place) r = IsGot r place
 FitsEnded _ r = ⊤
 
@@ -100,17 +99,17 @@ abbrev pub FitsPiece : Option StorageSpan → Storage → Type 0
 FitsPiece None storage = ⊤
 FitsPiece (Some piece) storage = IsThere storage piece
 
-abbrev pub FitsNext : Option Next → TaskContext → Type 0
-FitsNext None r = ⊤
-FitsNext (Some next) r = FitsPiece next.commarea r.shared.storage
+abbrev pub FitsTransaction : Option RequestedTransaction → TaskContext → Type 0
+FitsTransaction None r = ⊤
+FitsTransaction (Some next) r = FitsPiece next.commarea r.shared.storage
 
 abbrev pub FitsChange : TaskChange → TaskContext → Type 0
-FitsChange (Makes made) r = FitsMade made r
-FitsChange (Ends ended) r = FitsEnded ended r
+FitsChange (Before made) r = FitsMade made r
+FitsChange (After ended) r = FitsEnded ended r
 FitsChange (Gets got) r = FitsGot got r
 FitsChange (Enters level) r = FitsEnters level r
 FitsChange (Replaces copying level) r = FitsReplaces copying level r
-FitsChange (TaskEnds next) r = FitsNext next r
+FitsChange (TaskEnds next) r = FitsTransaction next r
 FitsChange _ r = ⊤
 
 -- a condition is met that isn't ERROR, and its change can be made

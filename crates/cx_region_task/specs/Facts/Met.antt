@@ -24,12 +24,12 @@ use Rattle.cx_region_task.specs.Abends.{Abends}
 use Rattle.cx_region_task.specs.Changes.{Commits}
 use Rattle.cx_region_task.specs.Continuations.{Goes, is_wait}
 use Rattle.cx_region_task.specs.Decisions.{continuation_at, decision_by, has_room, wait_for}
-use Rattle.cx_region_task.specs.Performing.{CarriesOut, Decides, DecidesCall, Does, LeavesAll, fault_abend, list_of}
+use Rattle.cx_region_task.specs.Performing.{CarriesOut, Decides, DecidesCall, Does, LeavesAll, fault_abend, argument_list}
 use Rattle.cx_region_task.specs.Turn.{PerformsCommand}
 
 -- ---- before it is done
 pub record IsToBeDone (act : Act) (r : TaskContext) : Type 0 where
-  pub reads : call_of r.shared.storage (list_of r.task) ≡ Ok act.call
+  pub reads : call_of r.shared.storage (argument_list r.task) ≡ Ok act.call
   pub inputs : are_inputs_there r.shared.storage act.call ≡ true
   pub judged : HasVerdict act.call r (Meets act.condition act.outputs act.change)
   pub room : has_room act.call act.outputs act.change r ≡ true
@@ -37,7 +37,7 @@ pub record IsToBeDone (act : Act) (r : TaskContext) : Type 0 where
   pub moves : is_wait (continuation_at act.call act.condition act.change r) ≡ false
 
 -- by its verdict
-by_verdict : (act : Act) (r : TaskContext) (call : Call) (verdict : Verdict) → call_of r.shared.storage (list_of r.task) ≡ Ok call → are_inputs_there r.shared.storage call ≡ true
+by_verdict : (act : Act) (r : TaskContext) (call : Call) (verdict : Verdict) → call_of r.shared.storage (argument_list r.task) ≡ Ok call → are_inputs_there r.shared.storage call ≡ true
     → HasVerdict call r verdict → decision.Act act ≡ decision_by call verdict r → IsToBeDone act r
 unfolding decision_by
 by_verdict act r call (Refuses refusal) reads there judged is = let no : decision.Act act ≡ decision.Refuse (Some call) refusal = is in cc
@@ -58,14 +58,14 @@ by_verdict act r call (Meets condition outputs change) reads there judged is =
 
 pub to_be_done : (act : Act) (r : TaskContext) → Decides r (decision.Act act) → IsToBeDone act r
 unfolding Decides
-to_be_done act r decides = by_call (call_of r.shared.storage (list_of r.task)) refl decides
+to_be_done act r decides = by_call (call_of r.shared.storage (argument_list r.task)) refl decides
   where
-    by_inputs : (call : Call) → call_of r.shared.storage (list_of r.task) ≡ Ok call → (b : Bool) → are_inputs_there r.shared.storage call ≡ b
+    by_inputs : (call : Call) → call_of r.shared.storage (argument_list r.task) ≡ Ok call → (b : Bool) → are_inputs_there r.shared.storage call ≡ b
         → MatchBool b (DecidesCall call r (decision.Act act)) (decision.Act act ≡ decision.Refuse (Some call) abend.Xarg) → IsToBeDone act r
     by_inputs call reads true there it = by_verdict act r call it.verdict reads there it.judged it.is
     by_inputs call reads false there is = cc
 
-    by_call : (read : Result Call CallFault) → call_of r.shared.storage (list_of r.task) ≡ read
+    by_call : (read : Result Call CallFault) → call_of r.shared.storage (argument_list r.task) ≡ read
         → MatchResult read (λ call. MatchBool (are_inputs_there r.shared.storage call) (DecidesCall call r (decision.Act act)) (decision.Act act ≡ decision.Refuse (Some call) abend.Xarg))
         (λ fault. decision.Act act ≡ decision.Refuse None (fault_abend fault))
         → IsToBeDone act r
@@ -75,7 +75,7 @@ to_be_done act r decides = by_call (call_of r.shared.storage (list_of r.task)) r
 -- ---- when it is done
 pub record IsMet (reply : TurnReply) (before after : TaskContext) : Type 0 where
   pub call : Call
-  pub reads : call_of before.shared.storage (list_of before.task) ≡ Ok call
+  pub reads : call_of before.shared.storage (argument_list before.task) ≡ Ok call
   pub inputs : are_inputs_there before.shared.storage call ≡ true
   pub condition : Condition
   pub outputs : List Output

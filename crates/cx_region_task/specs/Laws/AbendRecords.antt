@@ -2,7 +2,7 @@
 use Rattle.std.specs.Prelude.{◌≡◌, ℕ, Bool, true, false, List, Option, Some, None, ⊤}
 use Rattle.cx_base.specs.declared.abends.Abend.TheVariants as abend
 use Rattle.cx_base.specs.Abends.{abend_code}
-use Rattle.cx_program.specs.Handles.{abend_code as condition_code}
+use Rattle.cx_program.specs.Handles.{condition_abend_code as condition_code}
 use Rattle.cx_region_state.specs.declared.replies.TurnReply.{TurnReply}
 use Rattle.cx_region_state.specs.declared.replies.TurnReply.TheVariants as turn
 use Rattle.cx_region_state.specs.State.{TaskContext}

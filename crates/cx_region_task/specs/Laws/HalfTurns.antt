@@ -1,7 +1,7 @@
 -- What a half-turn of a task decides, leaves and keeps.
 use Rattle.std.specs.Prelude.{◌≡◌, ℕ, Bool, true, false, List}
 use Rattle.cx_storage.specs.declared.areas.Area.{Area}
-use Rattle.cx_storage.specs.Storage.{Storage, areas_of, is_of_other_slot, with_areas_kept, IsSound as IsSoundStorage}
+use Rattle.cx_storage.specs.Storage.{Storage, areas_of, is_of_other_slot, with_areas_kept, IsSoundStorage}
 use Rattle.cx_service.specs.Queues.{AreSoundQueues}
 use Rattle.cx_service.specs.Resources.{without_owner}
 use Rattle.cx_region_commands.specs.Common.{AreSoundPrograms}

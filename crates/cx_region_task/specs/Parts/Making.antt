@@ -3,13 +3,13 @@ use Rattle.std.specs.Prelude.{◌≡◌, ℕ, ◌+◌, ◌<◌, ◌≤◌, ◌^�
 use Rattle.std.specs.Option.{option_map_or}
 use Rattle.cx_storage.specs.Address.{address_after, distance}
 use Rattle.cx_storage.specs.Storage.{Storage, span, starts_elsewhere, with_areas_kept}
-use Rattle.cx_service.specs.Queues.{Queues, delete_fault, item_len_of, item_of, read_fault}
+use Rattle.cx_service.specs.Queues.{Queues, item_len_of, item_of}
 use Rattle.cx_region_state.specs.Inputs.{piece_bytes}
 use Rattle.cx_region_state.specs.declared.verdict.TaskChange.{TaskChange}
-use Rattle.cx_region_state.specs.declared.verdict.TaskChange.TheVariants.{Ends, Gets}
+use Rattle.cx_region_state.specs.declared.verdict.TaskChange.TheVariants.{After, Gets}
 use Rattle.cx_region_state.specs.declared.verdict.Copying.{Copying}
-use Rattle.cx_region_state.specs.declared.verdict.Ended.{Ended}
-use Rattle.cx_region_state.specs.declared.verdict.Ended.TheVariants.{Frees, QueueGone, ReadOf, TakesInput}
+use Rattle.cx_region_state.specs.declared.verdict.AfterOutputs.{AfterOutputs}
+use Rattle.cx_region_state.specs.declared.verdict.AfterOutputs.TheVariants.{Frees, MarksRead, TakesInput}
 use Rattle.cx_region_state.specs.declared.verdict.Fill.{Fill}
 use Rattle.cx_region_state.specs.declared.verdict.Fill.TheVariants.{Item}
 use Rattle.cx_program.specs.declared.level.Level.{Level}
@@ -52,26 +52,31 @@ MatchCopy None storage = ⊤
 MatchCopy (Some copying) storage = IsCopyable copying storage
 
 -- what an ended thing needs of the queues, and of the address of the area that is freed
-abbrev pub MatchEnded : Ended → Queues → Type 0
-MatchEnded (ReadOf name n) queues = read_fault queues name n ≡ None
-MatchEnded (QueueGone name) queues = delete_fault queues name ≡ None
+abbrev pub MatchEnded : AfterOutputs → Queues → Type 0
+MatchEnded (MarksRead name reading) queues = is_some (item_of queues name reading.number) ≡ true
 MatchEnded (Frees place) queues = place < 2 ^ 24
 MatchEnded _ queues = ⊤
 
 abbrev pub MatchFill : Fill → Queues → Type 0
-MatchFill (Item name n) queues = read_fault queues name n ≡ None
+MatchFill (Item name n) queues = is_some (item_of queues name n) ≡ true
 MatchFill _ queues = ⊤
 
 abbrev pub MatchFinished : TaskChange → Queues → Type 0
-MatchFinished (Ends it) queues = MatchEnded it queues
+MatchFinished (After it) queues = MatchEnded it queues
 MatchFinished (Gets got) queues = MatchFill got.fill queues
 MatchFinished _ queues = ⊤
 
 -- the text that a command hands over, of the input and the queues alone
 abbrev pub text_of : TaskChange → Option Input → Queues → List ℕ
-text_of (Ends TakesInput) input queues = option_map_or (λ held. held.bytes) input []
-text_of (Ends (ReadOf name n)) input queues = unwrap_or (item_of queues name n) []
+text_of (After TakesInput) input queues = option_map_or (λ held. held.bytes) input []
+text_of (After (MarksRead name reading)) input queues = unwrap_or (item_of queues name reading.number) []
 text_of _ input queues = []
+
+-- how many bytes it has, where its change can be made
+abbrev pub text_length : TaskChange → Option Input → ℕ
+text_length (After TakesInput) input = length (option_map_or (λ held. held.bytes) input [])
+text_length (After (MarksRead name reading)) input = reading.len
+text_length _ input = 0
 
 -- what a way needs: a level that begins has its entry at an address, and LINK fewer than sixteen levels
 abbrev pub MatchWay : Continuation → Levels → Type 0

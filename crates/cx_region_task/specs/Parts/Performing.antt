@@ -12,6 +12,6 @@ unfoldable pub FitsDecision : Decision → TaskContext → Type 0
 FitsDecision (decision.Act act) r = FitsChange act.change r × MatchWay act.continuation r.task.levels
 FitsDecision _ r = ⊤
 
-abbrev pub takes_memory : Decision → Bool
-takes_memory (decision.Act act) = change_takes_memory act.change
-takes_memory _ = false
+abbrev pub decision_takes_memory : Decision → Bool
+decision_takes_memory (decision.Act act) = change_takes_memory act.change
+decision_takes_memory _ = false

@@ -14,15 +14,15 @@ use Rattle.cx_script_io.specs.declared.input.Ending.{Ending}
 use Rattle.cx_script_io.specs.declared.input.Ending.TheVariants.{AtEnd}
 
 -- the place that a line leaves to the next one
-abbrev pub place_after : {A : Type 0} → Result (Step A) RunFault → Place
-place_after (Err fault) = first_place
-place_after (Ok step) = step.place
+abbrev pub place_after_line : {A : Type 0} → Result (Step A) RunFault → Place
+place_after_line (Err fault) = first_place
+place_after_line (Ok step) = step.place
 
 -- the place of the line after these lines; the first of them has this number, and is at this place
 unfoldable pub place_after_lines : {A : Type 0} → Language A → ℕ → Place → List (List ℕ) → Place
 place_after_lines language number place [] = place
 place_after_lines language number place (line ∷ lines) =
-    place_after_lines language (number + 1) (place_after (step_from language number place line)) lines
+    place_after_lines language (number + 1) (place_after_line (step_from language number place line)) lines
 
 -- A bad line at its place: it is too long; or it is no line of a script outside a block, and in one neither the
 -- block's end nor a line that the block may have.

@@ -2,7 +2,7 @@
 use Rattle.std.specs.Prelude.{◌≡◌, ℕ, List, [], ◌∷◌, ◌++◌, Option, Some, None}
 use Rattle.std.specs.List.{filter_map, flat_map}
 use Rattle.cx_code.specs.declared.image.Image.{Image}
-use Rattle.cx_load.specs.Fault.{fault_of}
+use Rattle.cx_load.specs.Fault.{image_fault}
 use Rattle.cx_load.specs.declared.fault.ImageFault.{ImageFault}
 use Rattle.cx_region.specs.declared.replies.Event.TheVariants as event
 use Rattle.cx_edf.specs.declared.answers.Answer.{Answer}
@@ -22,8 +22,8 @@ program_event None name image = Some (edf_event.Plain (event.Program name image)
 program_event (Some fault) name image = None
 
 abbrev pub event_of : Action → Option EdfEvent
-event_of (action.Image name image) = program_event (fault_of image) name image
-event_of (action.Source name before image) = program_event (fault_of image) name image
+event_of (action.Image name image) = program_event (image_fault image) name image
+event_of (action.Source name before image) = program_event (image_fault image) name image
 event_of (action.Event event) = Some event
 event_of (action.Screen name) = None
 event_of (action.Display name) = None

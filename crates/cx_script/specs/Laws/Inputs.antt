@@ -2,7 +2,7 @@
 use Rattle.std.specs.Prelude.{◌≡◌, ℕ, ◌<◌, Bool, true, false, List, length, take, Some, Result, Err}
 use Rattle.std.specs.Result.{result_err}
 use Rattle.cx_script_actions.specs.Language.{edf_language}
-use Rattle.cx_script_io.specs.Calls.{Call, given, taken}
+use Rattle.cx_script_io.specs.Calls.{DeviceCall, given, taken}
 use Rattle.cx_script_io.specs.Input.{IsEnding, IsReadOf, most_bytes}
 use Rattle.cx_script.specs.Session.{IsScriptSession}
 use Rattle.cx_script.specs.Script.{script_in}
@@ -21,31 +21,32 @@ was_stopped _ = false
 -- Two runs that were not stopped, of which the reads may be of one script, in whatever pieces: they have one answer and
 -- one transcript.
 abbrev pub InputsDecide : Type 0
-InputsDecide = (ending : Ending) (bytes : List ℕ) (calls others : List Call) (answer other : Result Summary RunFault)
+InputsDecide =
+    (ending : Ending) (bytes : List ℕ) (calls others : List DeviceCall) (answer other : Result Summary RunFault)
     → IsScriptSession calls answer → IsScriptSession others other
     → IsReadOf calls ending bytes → IsReadOf others ending bytes
     → was_stopped answer ≡ false → was_stopped other ≡ false
     → (answer ≡ other) × (taken calls ≡ taken others)
 
 -- the reads gave more than a script may have, and no fault came before
-pub record IsPastBound (calls : List Call) : Type 0 where
+pub record IsPastBound (calls : List DeviceCall) : Type 0 where
   pub longer : most_bytes < length (given calls)
   pub faultless : (script_in edf_language PastBound (take most_bytes (given calls))).fault ≡ Some ReadBound
 
 -- ReadBound comes exactly there
 abbrev pub ReadBoundIsPastTheBound : Type 0
-ReadBoundIsPastTheBound = (calls : List Call) → IsScriptSession calls (Err ReadBound) → IsPastBound calls
+ReadBoundIsPastTheBound = (calls : List DeviceCall) → IsScriptSession calls (Err ReadBound) → IsPastBound calls
 
 abbrev pub PastTheBoundIsReadBound : Type 0
-PastTheBoundIsReadBound = (calls : List Call) (answer : Result Summary RunFault) → IsScriptSession calls answer
+PastTheBoundIsReadBound = (calls : List DeviceCall) (answer : Result Summary RunFault) → IsScriptSession calls answer
     → IsPastBound calls → was_stopped answer ≡ false → answer ≡ Err ReadBound
 
 -- Read comes only where a read failed
 abbrev pub ReadIsAFailure : Type 0
-ReadIsAFailure = (calls : List Call) → IsScriptSession calls (Err Read) → IsEnding calls Failed
+ReadIsAFailure = (calls : List DeviceCall) → IsScriptSession calls (Err Read) → IsEnding calls Failed
 
 -- where a read failed, the answer is the first fault of the lines that were read, or Read where they have none
 abbrev pub FailuresAreReported : Type 0
-FailuresAreReported = (calls : List Call) (answer : Result Summary RunFault) → IsScriptSession calls answer
+FailuresAreReported = (calls : List DeviceCall) (answer : Result Summary RunFault) → IsScriptSession calls answer
     → IsEnding calls Failed → was_stopped answer ≡ false
     → result_err answer ≡ (script_in edf_language Failed (given calls)).fault

@@ -2,7 +2,7 @@
 use Rattle.std.specs.Prelude.{◌≡◌, ℕ, false, nat_lt, if◌then◌else◌, List, length, take, Option, Some, Result}
 use Rattle.std.specs.List.{FoldsTo}
 use Rattle.cx_script_actions.specs.Language.{Language}
-use Rattle.cx_script_io.specs.Calls.{Call, did, taken}
+use Rattle.cx_script_io.specs.Calls.{DeviceCall, did, taken}
 use Rattle.cx_script_io.specs.Input.{IsEnding, IsReadOf, most_bytes}
 use Rattle.cx_script_blocks.specs.Faults.{is_read}
 use Rattle.cx_script_blocks.specs.declared.faults.RunFault.{RunFault}
@@ -14,7 +14,7 @@ use Rattle.cx_script.specs.Laws.Inputs.{was_stopped}
 
 -- these calls were made of devices whose reader had these bytes before
 pub record AreCallsOver {D : Type 0} (reads writes : D → Option (List ℕ) → D → Type 0) (left : D → Option (List ℕ))
-    (bytes : List ℕ) (calls : List Call) : Type 0 where
+    (bytes : List ℕ) (calls : List DeviceCall) : Type 0 where
   pub before : D
   pub after : D
   pub made : FoldsTo (did reads writes) before calls after
@@ -27,17 +27,17 @@ ending_of bytes = if nat_lt most_bytes (length bytes) then PastBound else AtEnd
 -- A run over these bytes, where no read failed: the pieces that the reads gave are those of a script, which is these
 -- bytes, or as many of the first as a script may have.
 abbrev pub KnownBytesAreRead : {A S : Type 0} → Language A → (S → A → List ℕ → S → Type 0)
-    → (List ℕ → List Call → Type 0) → Type 0
+    → (List ℕ → List DeviceCall → Type 0) → Type 0
 KnownBytesAreRead {A} {S} language performs AreOver =
-    (start : S) (calls : List Call) (answer : Result Summary RunFault) (bytes : List ℕ)
+    (start : S) (calls : List DeviceCall) (answer : Result Summary RunFault) (bytes : List ℕ)
     → IsSession language performs start calls answer → AreOver bytes calls → (IsEnding calls Failed → ⊥)
     → IsReadOf calls (ending_of bytes) (take most_bytes bytes)
 
 -- Two runs over the same bytes that were not stopped, and whose answer isn't Read: they have one answer and one
 -- transcript.
-abbrev pub KnownBytesDecide : (List ℕ → List Call → Type 0) → (List ℕ → List Call → Type 0) → Type 0
+abbrev pub KnownBytesDecide : (List ℕ → List DeviceCall → Type 0) → (List ℕ → List DeviceCall → Type 0) → Type 0
 KnownBytesDecide AreOver AreOverToo =
-    (calls others : List Call) (answer other : Result Summary RunFault) (bytes : List ℕ)
+    (calls others : List DeviceCall) (answer other : Result Summary RunFault) (bytes : List ℕ)
     → IsScriptSession calls answer → IsScriptSession others other → AreOver bytes calls → AreOverToo bytes others
     → was_stopped answer ≡ false → was_stopped other ≡ false → is_read answer ≡ false → is_read other ≡ false
     → (answer ≡ other) × (taken calls ≡ taken others)

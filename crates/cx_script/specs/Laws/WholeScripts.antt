@@ -1,7 +1,7 @@
 -- Scripts that are done whole.
 use Rattle.std.specs.Prelude.{◌≡◌, ℕ, ◌≤◌, List, None, length, Ok}
 use Rattle.std.specs.Str.Lines.{lines}
-use Rattle.cx_script_io.specs.Calls.{Call, given, taken}
+use Rattle.cx_script_io.specs.Calls.{DeviceCall, given, taken}
 use Rattle.cx_script_io.specs.Input.{IsEnding, most_bytes}
 use Rattle.cx_script.specs.Session.{IsScriptSession}
 use Rattle.cx_script.specs.Script.{script_in}
@@ -20,5 +20,5 @@ pub record IsTranscribed (input : List ℕ) (counted : ℕ) (written : List ℕ)
 
 -- an Ok
 abbrev pub OkIsTheWholeScript : Type 0
-OkIsTheWholeScript = (calls : List Call) (summary : Summary) → IsScriptSession calls (Ok summary)
+OkIsTheWholeScript = (calls : List DeviceCall) (summary : Summary) → IsScriptSession calls (Ok summary)
     → IsEnding calls AtEnd × IsTranscribed (given calls) summary.lines (taken calls)

@@ -1,12 +1,12 @@
 -- A run of a script, line by line.
 use Rattle.std.specs.Prelude.{◌≡◌, ℕ, ◌+◌, ◌<◌, Option, Some, None, Result, Ok, Err, List, [], ◌∷◌, ◌++◌, length, map, take}
 use Rattle.std.specs.List.{FoldsTo}
-use Rattle.cx_script_io.specs.Calls.{Call, Reading, Writing, did, given, taken}
+use Rattle.cx_script_io.specs.Calls.{DeviceCall, Reading, Writing, did, given, taken}
 use Rattle.cx_script_io.specs.Input.{IsEnding}
 use Rattle.cx_script_io.specs.Devices.{Sends, SentFront, DeviceOutput, device_output}
 use Rattle.cx_script.specs.declared.run.Place.{Place}
 use Rattle.cx_script_io.specs.Lines.{lines_met}
-use Rattle.cx_script.specs.Script.{Script, Step, actions_of, first_place, script_from, with_actions_first}
+use Rattle.cx_script.specs.Script.{Step, actions_of, first_place, script_from, with_actions_first}
 use Rattle.cx_script_io.specs.declared.input.Ending.{Ending}
 use Rattle.cx_script_io.specs.declared.input.Ending.TheVariants.{Failed}
 use Rattle.cx_script_actions.specs.Language.{Language}
@@ -185,9 +185,9 @@ pub record Stopped {A S : Type 0} (language : Language A) (performs : S → A �
 
 -- before each read of these calls there was no reason to read no more, and the lines complete until then were done and
 -- written
-abbrev pub InTime : {A S : Type 0} → Language A → (S → A → List ℕ → S → Type 0) → S → List Call → Type 0
+abbrev pub InTime : {A S : Type 0} → Language A → (S → A → List ℕ → S → Type 0) → S → List DeviceCall → Type 0
 InTime language performs start calls =
-    (before after : List Call) (bytes : Option (List ℕ)) → calls ≡ before ++ Reading bytes ∷ after
+    (before after : List DeviceCall) (bytes : Option (List ℕ)) → calls ≡ before ++ Reading bytes ∷ after
     → ((why : Ending) → IsEnding before why → ⊥)
     × EndsScript language performs start Failed (given before) (Err Read) (taken before)
 
@@ -195,7 +195,7 @@ InTime language performs start calls =
 pub record SeenSoFar {A S D : Type 0} (language : Language A) (performs : S → A → List ℕ → S → Type 0) (start : S)
     (reads writes : D → Option (List ℕ) → D → Type 0) (before now : D) (read : ℕ) (new : S) (m : ℕ) (next : Place)
     (part : List ℕ) : Type 0 where
-  pub calls : List Call
+  pub calls : List DeviceCall
   pub made : FoldsTo (did reads writes) before calls now
   pub len : length (given calls) ≡ read
   pub unended : (why : Ending) → IsEnding calls why → ⊥

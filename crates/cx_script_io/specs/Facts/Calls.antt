@@ -2,20 +2,20 @@
 use Rattle.std.proofs.Common.{◌≡◌, ℕ, List, [], ◌∷◌, ◌++◌, None, Some, Option, map, refl, sym, ap, ◌∙◌, subst, append_assoc}
 use Rattle.std.specs.List.{FoldsTo}
 use Rattle.std.specs.Option.{option_or}
-use Rattle.cx_script_io.specs.Calls.{Call, Reading, Writing, did, given, last_read, taken}
+use Rattle.cx_script_io.specs.Calls.{DeviceCall, Reading, Writing, did, given, last_read, taken}
 
 pub folds_append : {P A : Type 0} (R : P → A → P → Type 0) (p q r : P) (xs ys : List A) → FoldsTo R p xs q → FoldsTo R q ys r → FoldsTo R p (xs ++ ys) r
 folds_append R p q r [] ys f h = subst (λ s. FoldsTo R s ys r) (sym f) h
 folds_append R p q r (x ∷ xs) ys f h = (f.0, f.1, folds_append R f.0 q r xs ys f.2 h)
 
 -- ---- two lists of calls
-pub given_append : (xs ys : List Call) → given (xs ++ ys) ≡ given xs ++ given ys
+pub given_append : (xs ys : List DeviceCall) → given (xs ++ ys) ≡ given xs ++ given ys
 given_append [] ys = refl
 given_append (Reading (Some bytes) ∷ xs) ys = ap (λ l. bytes ++ l) (given_append xs ys) ∙ sym (append_assoc bytes (given xs) (given ys))
 given_append (Reading None ∷ xs) ys = given_append xs ys
 given_append (Writing bytes ∷ xs) ys = given_append xs ys
 
-pub taken_append : (xs ys : List Call) → taken (xs ++ ys) ≡ taken xs ++ taken ys
+pub taken_append : (xs ys : List DeviceCall) → taken (xs ++ ys) ≡ taken xs ++ taken ys
 taken_append [] ys = refl
 taken_append (Writing (Some bytes) ∷ xs) ys = ap (λ l. bytes ++ l) (taken_append xs ys) ∙ sym (append_assoc bytes (taken xs) (taken ys))
 taken_append (Writing None ∷ xs) ys = taken_append xs ys
@@ -25,7 +25,7 @@ or_assoc : {A : Type 0} (a b c : Option A) → option_or (option_or a b) c ≡ o
 or_assoc None b c = refl
 or_assoc (Some x) b c = refl
 
-pub last_append : (xs ys : List Call) → last_read (xs ++ ys) ≡ option_or (last_read ys) (last_read xs)
+pub last_append : (xs ys : List DeviceCall) → last_read (xs ++ ys) ≡ option_or (last_read ys) (last_read xs)
 last_append [] ys = or_none (last_read ys)
   where
     or_none : {A : Type 0} (a : Option A) → a ≡ option_or a None

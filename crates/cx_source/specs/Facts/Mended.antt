@@ -2,7 +2,7 @@
 use Rattle.std.proofs.Common.{◌≡◌, ◌+◌, ℕ, Bool, true, false, cond, Option, Some, None, List, [], ◌∷◌, ◌++◌, map, slice_get, refl, sym, ◌∙◌, ap}
 use Rattle.std.specs.Prelude.{◌&&◌, not}
 use Rattle.std.specs.Option.{option_to_list}
-use Rattle.cx_source.specs.Faults.{fault_of, goes_on, line_faults, source_from}
+use Rattle.cx_source.specs.Faults.{source_fault, goes_on, line_faults, source_from}
 use Rattle.cx_source.specs.Lines.{text_of}
 use Rattle.cx_source.specs.Mended.{is_cut_off, source_read, text_kept, texts_read}
 use Rattle.cx_source.specs.Statements.{is_continued, is_last, up_to_end}
@@ -17,8 +17,8 @@ never : (fault : Option SourceFault) (rest : List SourceFault) → option_to_lis
 never None rest e = refl
 never (Some fault) rest e = cc
 
-sound_line : (continues : Bool) (number : ℕ) (line : List ℕ) (more : List (List ℕ)) → line_faults continues number (line ∷ more) ≡ [] → fault_of continues number line ≡ None
-sound_line continues number line more e = never (fault_of continues number line) _ e
+sound_line : (continues : Bool) (number : ℕ) (line : List ℕ) (more : List (List ℕ)) → line_faults continues number (line ∷ more) ≡ [] → source_fault continues number line ≡ None
+sound_line continues number line more e = never (source_fault continues number line) _ e
 
 goes_together : (continues : Bool) (number : ℕ) (all : List (List ℕ)) → line_faults continues number all ≡ [] → is_cut_off continues number (slice_get all 0) ≡ false
 goes_together continues number [] e = refl
@@ -40,7 +40,7 @@ pub texts_whole : (continues : Bool) (number : ℕ) (all : List (List ℕ)) → 
 texts_whole continues number [] e = cc
 texts_whole continues number (line ∷ more) e =
     let text = text_of line in
-    let sound : fault_of continues number line ≡ None = sound_line continues number line more e in
+    let sound : source_fault continues number line ≡ None = sound_line continues number line more e in
     let rest : cond (is_last continues text) [] (line_faults (is_continued continues text) (number + 1) more) ≡ [] =
     ap (λ fault. option_to_list fault ++ cond (is_last (goes_on continues fault) text) [] (line_faults (is_continued (goes_on continues fault) text) (number + 1) more)) (sym sound) ∙ e in
     ap (λ fault. cond (is_last (goes_on continues fault) text) (text ∷ [])

@@ -6,11 +6,11 @@ use Rattle.std.proofs.lemmas.List.{same_lists}
 use Rattle.std.proofs.lemmas.Option.{slice_get-get_or, same_Some}
 use Rattle.std.specs.List.{AllByRecursion, filter, list_any}
 use Rattle.std.specs.Prelude.{◌≡◌, ℕ, zero, suc, ◌+◌, ◌-◌, ◌<◌, ◌≤◌, Bool, true, false, cond, List, ◌∷◌, length, replicate, slice_get, Some, None, is_some, nat_lt, ◌==◌, [], ◌&&◌, nat_le, ◌%◌, ◌^◌}
-use Rattle.cx_storage.specs.Facts.Sound.{covers_cases, covers_from, IsSound-head, IsSound-tail, IsSound-apart, All-filter}
+use Rattle.cx_storage.specs.Facts.Sound.{covers_cases, covers_from, IsSoundStorage-head, IsSoundStorage-tail, IsSoundStorage-apart, All-filter}
 use Rattle.cx_storage.specs.Storage.{area_from, in_one_area, IsTogether, span}
 use Rattle.cx_storage.specs.Laws.Areas.{kept_only, IsPresentArea}
 use Rattle.cx_storage.specs.Place.{Misses, CanPlace}
-use Rattle.cx_storage.specs.Storage.{Held, Storage, end_of, covers, byte_at, area_at, areas_of, zeros, put_held, with_area, with_areas_kept, IsWhole, IsSound}
+use Rattle.cx_storage.specs.Storage.{Held, Storage, end_of, covers, byte_at, area_at, areas_of, zeros, put_held, with_area, with_areas_kept, IsWhole, IsSoundStorage}
 use Rattle.cx_storage.specs.declared.areas.Area.{Area}
 use Rattle.cx_storage.specs.declared.areas.Owner.{Owner}
 
@@ -29,14 +29,14 @@ area_before [] e x apart below = refl
 area_before (h ∷ hs) e x apart below = rw (ne_eqb h.area.start x (λ e. absurd (omega (arith, apart.0)))) (area_before hs e x apart.1 below)
 
 -- a byte is present exactly where an area has its address
-pub present_in_areas : (s : Storage) (x : ℕ) → IsSound s → is_some (byte_at s x) ≡ list_any (λ area. covers area x) (areas_of s)
+pub present_in_areas : (s : Storage) (x : ℕ) → IsSoundStorage s → is_some (byte_at s x) ≡ list_any (λ area. covers area x) (areas_of s)
 unfolding byte_at areas_of
 present_in_areas [] x ok = refl
 present_in_areas (h ∷ hs) x ok = elim (covers_cases h.area x) [
   | inl c ↦
-      let whole = IsSound-head h hs ok in
+      let whole = IsSoundStorage-head h hs ok in
       rw (c.0, slice_get-get_or h.bytes (x - h.area.start) 0 (omega (arith, whole.full, c.1, c.2))) refl
-  | inr c ↦ rw c.0 (present_in_areas hs x (IsSound-tail h hs ok))
+  | inr c ↦ rw c.0 (present_in_areas hs x (IsSoundStorage-tail h hs ok))
 ]
 
 -- an area put in: its own bytes, and all others as before
@@ -90,12 +90,12 @@ byte_after_get s first last len a owner x can =
       | inr c ↦ rw c.0 refl
     ]
 
-pub area_after_get : (s : Storage) (first last len a : ℕ) (owner : Owner) (x : ℕ) → IsSound s → 0 < len → CanPlace s first last len a
+pub area_after_get : (s : Storage) (first last len a : ℕ) (owner : Owner) (x : ℕ) → IsSoundStorage s → 0 < len → CanPlace s first last len a
     → area_at (with_area s (Some a) len owner) x ≡ cond (a == x) (Some (area_from a len owner)) (area_at s x)
-unfolding with_area CanPlace IsSound
+unfolding with_area CanPlace IsSoundStorage
 area_after_get s first last len a owner x ok some can = area_after_put (zeros a len owner) s x some ok.0 can.3
 
-pub area_after_free : (s : Storage) (keeps : Area → Bool) (x : ℕ) → IsSound s → area_at (with_areas_kept keeps s) x ≡ kept_only keeps (area_at s x)
+pub area_after_free : (s : Storage) (keeps : Area → Bool) (x : ℕ) → IsSoundStorage s → area_at (with_areas_kept keeps s) x ≡ kept_only keeps (area_at s x)
 unfolding area_at with_areas_kept
 area_after_free [] keeps x ok = refl
 area_after_free (h ∷ hs) keeps x ok = elim (cases_eq h.area.start x) [
@@ -104,13 +104,13 @@ area_after_free (h ∷ hs) keeps x ok = elim (cases_eq h.area.start x) [
       elim (cases_Bool (keeps h.area)) [
         | inl k ↦ rw (k, here, k) refl
         | inr k ↦
-            let apart = All-filter (λ later. end_of h.area ≤ later.area.start) (λ g. keeps g.area) hs (IsSound-apart h hs ok) in
-            let gone = area_before (filter (λ g. keeps g.area) hs) (end_of h.area) x apart (omega (arith, (IsSound-head h hs ok).nonempty)) in
+            let apart = All-filter (λ later. end_of h.area ≤ later.area.start) (λ g. keeps g.area) hs (IsSoundStorage-apart h hs ok) in
+            let gone = area_before (filter (λ g. keeps g.area) hs) (end_of h.area) x apart (omega (arith, (IsSoundStorage-head h hs ok).nonempty)) in
             rw (k, here, k) gone
       ]
   | inr c ↦
       let other = ne_eqb h.area.start x c in
-      let rest = area_after_free hs keeps x (IsSound-tail h hs ok) in
+      let rest = area_after_free hs keeps x (IsSoundStorage-tail h hs ok) in
       elim (cases_Bool (keeps h.area)) [
         | inl k ↦ rw (k, other) rest
         | inr k ↦ rw (k, other) rest
@@ -136,7 +136,7 @@ bytes_same : (xs ys : List ℕ) → length xs ≡ length ys → ((k : ℕ) → k
 bytes_same xs ys n same = same_lists xs ys n (λ k d h.
     same_Some _ _ (sym (slice_get-get_or xs k d h) ∙ same k h ∙ slice_get-get_or ys k d (omega arith)))
 
-pub same_storage : (s t : Storage) → IsSound s → IsSound t → areas_of s ≡ areas_of t → ((x : ℕ) → byte_at s x ≡ byte_at t x) → s ≡ t
+pub same_storage : (s t : Storage) → IsSoundStorage s → IsSoundStorage t → areas_of s ≡ areas_of t → ((x : ℕ) → byte_at s x ≡ byte_at t x) → s ≡ t
 unfolding areas_of byte_at
 same_storage [] [] ok also areas bytes = refl
 same_storage [] (g ∷ gs) ok also areas bytes = cc
@@ -144,8 +144,8 @@ same_storage (h ∷ hs) [] ok also areas bytes = cc
 same_storage (h ∷ hs) (g ∷ gs) ok also areas bytes =
     let first : h.area ≡ g.area = cc in
     let others : areas_of hs ≡ areas_of gs = cc in
-    let one = IsSound-head h hs ok in
-    let two = IsSound-head g gs also in
+    let one = IsSoundStorage-head h hs ok in
+    let two = IsSoundStorage-head g gs also in
     let lens : length h.bytes ≡ length g.bytes = one.full ∙ ap (λ area. area.len) first ∙ sym two.full in
     let contents : h.bytes ≡ g.bytes = bytes_same h.bytes g.bytes lens (λ k l.
     let inside = covers_from h.area (h.area.start + k) (omega arith) (omega (arith, one.full)) in
@@ -154,11 +154,11 @@ same_storage (h ∷ hs) (g ∷ gs) ok also areas bytes =
     let at' = subst (λ (area : Area). h.area.start + k - area.start ≡ k) first at in
     let here = rw (inside, inside', at, at') at (bytes (h.area.start + k)) in
     here) in
-    let rest : hs ≡ gs = same_storage hs gs (IsSound-tail h hs ok) (IsSound-tail g gs also) others (λ x.
+    let rest : hs ≡ gs = same_storage hs gs (IsSoundStorage-tail h hs ok) (IsSoundStorage-tail g gs also) others (λ x.
     elim (covers_cases h.area x) [
       | inl c ↦
           let low : x < end_of g.area = rw first at c.2 in
-          byte_before hs (end_of h.area) x (IsSound-apart h hs ok) c.2 ∙ sym (byte_before gs (end_of g.area) x (IsSound-apart g gs also) low)
+          byte_before hs (end_of h.area) x (IsSoundStorage-apart h hs ok) c.2 ∙ sym (byte_before gs (end_of g.area) x (IsSoundStorage-apart g gs also) low)
       | inr c ↦
           let out : covers g.area x ≡ false = rw first at c.0 in
           rw (c.0, out) at (bytes x)
@@ -166,14 +166,14 @@ same_storage (h ∷ hs) (g ∷ gs) ok also areas bytes =
     ap (λ k. k ∷ hs) (held_same h g first contents) ∙ ap (λ ks. g ∷ ks) rest
 
 -- a span inside one area ends below 2^24 and is there
-one_area_ends : (s : Storage) (a n : ℕ) → IsSound s → in_one_area s a n ≡ true → a + n ≤ 2 ^ 24
+one_area_ends : (s : Storage) (a n : ℕ) → IsSoundStorage s → in_one_area s a n ≡ true → a + n ≤ 2 ^ 24
 unfolding in_one_area
 one_area_ends [] a n ok one = cc
 one_area_ends (h ∷ hs) a n ok one = elim (or_cases (nat_le h.area.start a && nat_le (a + n) (end_of h.area)) (in_one_area hs a n) one) [
   | inl here ↦
       let fits : a + n ≤ end_of h.area = leb-true _ _ (and_parts (nat_le h.area.start a) _ here).1 in
-      omega (arith, (IsSound-head h hs ok).below)
-  | inr after ↦ one_area_ends hs a n (IsSound-tail h hs ok) after
+      omega (arith, (IsSoundStorage-head h hs ok).below)
+  | inr after ↦ one_area_ends hs a n (IsSoundStorage-tail h hs ok) after
 ]
 
 one_area_covers : (s : Storage) (a n x : ℕ) → in_one_area s a n ≡ true → a ≤ x → x < a + n → list_any (λ area. covers area x) (areas_of s) ≡ true
@@ -188,11 +188,11 @@ one_area_covers (h ∷ hs) a n x one low high = elim (or_cases (nat_le h.area.st
   | inr after ↦ or_right (covers h.area x) (list_any (λ area. covers area x) (areas_of hs)) (one_area_covers hs a n x after low high)
 ]
 
-pub one_area_span : (s : Storage) (a n : ℕ) → IsSound s → in_one_area s a n ≡ true → is_some (span s a n) ≡ true
+pub one_area_span : (s : Storage) (a n : ℕ) → IsSoundStorage s → in_one_area s a n ≡ true → is_some (span s a n) ≡ true
 one_area_span s a n ok one =
     span_inside s a n (one_area_ends s a n ok one) (λ x low high. present_in_areas s x ok ∙ one_area_covers s a n x one low high)
 
-pub together_present : (s : Storage) (a n : ℕ) → IsSound s → IsTogether s a n → (0 < n) × (a + n ≤ 2 ^ 24) × (is_some (span s a n) ≡ true)
+pub together_present : (s : Storage) (a n : ℕ) → IsSoundStorage s → IsTogether s a n → (0 < n) × (a + n ≤ 2 ^ 24) × (is_some (span s a n) ≡ true)
 unfolding IsTogether
 together_present s a n ok together = (together.0, one_area_ends s a n ok together.1, one_area_span s a n ok together.1)
 
@@ -218,22 +218,22 @@ unfolding IsTogether
 area_is_together s start area a n e low high some block = (some, area_in_one s start area a n e low high, block)
 
 -- an area that starts at an address is whole, and each span inside it is there
-pub area_bounds : (s : Storage) (start : ℕ) (area : Area) → IsSound s → area_at s start ≡ Some area → (area.start ≡ start) × (0 < area.len) × (end_of area ≤ 2 ^ 24)
+pub area_bounds : (s : Storage) (start : ℕ) (area : Area) → IsSoundStorage s → area_at s start ≡ Some area → (area.start ≡ start) × (0 < area.len) × (end_of area ≤ 2 ^ 24)
 unfolding area_at
 area_bounds [] start area ok e = cc
 area_bounds (h ∷ hs) start area ok e = elim (cases_eq h.area.start start) [
   | inl c ↦
       let found = rw (eq-eqb h.area.start start c) at e in
       let same : h.area ≡ area = cc in
-      let whole = IsSound-head h hs ok in
+      let whole = IsSoundStorage-head h hs ok in
       rw (← same) (c, whole.nonempty, whole.below)
-  | inr c ↦ area_bounds hs start area (IsSound-tail h hs ok) (rw (ne_eqb h.area.start start c) at e)
+  | inr c ↦ area_bounds hs start area (IsSoundStorage-tail h hs ok) (rw (ne_eqb h.area.start start c) at e)
 ]
 
-pub area_span : (s : Storage) (start : ℕ) (area : Area) (a n : ℕ) → IsSound s → area_at s start ≡ Some area → start ≤ a → a + n ≤ end_of area → is_some (span s a n) ≡ true
+pub area_span : (s : Storage) (start : ℕ) (area : Area) (a n : ℕ) → IsSoundStorage s → area_at s start ≡ Some area → start ≤ a → a + n ≤ end_of area → is_some (span s a n) ≡ true
 area_span s start area a n ok e low high = one_area_span s a n ok (area_in_one s start area a n e low high)
 
-pub area_is_present : (s : Storage) (start : ℕ) (area : Area) → IsSound s → area_at s start ≡ Some area → IsPresentArea s start area
+pub area_is_present : (s : Storage) (start : ℕ) (area : Area) → IsSoundStorage s → area_at s start ≡ Some area → IsPresentArea s start area
 area_is_present s start area ok e =
     let bounds = area_bounds s start area ok e in
     record { here = bounds.0; nonempty = bounds.1; below = bounds.2; spans = λ a n. area_span s start area a n ok e }

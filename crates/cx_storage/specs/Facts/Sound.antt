@@ -7,7 +7,7 @@ use Rattle.std.specs.List.{AllByRecursion, filter, AllByRecursion-prop}
 use Rattle.std.specs.Option.{option_and_then, option_map}
 use Rattle.std.specs.Prelude.{◌≡◌, ℕ, zero, suc, ◌-◌, ◌<◌, ◌≤◌, ◌⊎◌, Bool, true, false, List, ◌∷◌, length, replicate, slice_get, Option, Some, None, nat_lt, ◌^◌, slice_set, map, []}
 use Rattle.cx_storage.specs.Place.{Misses, CanPlace, IsLeastPlace}
-use Rattle.cx_storage.specs.Storage.{Held, Storage, end_of, covers, byte_at, zeros, put_held, with_area, with_areas_kept, IsWhole, IsSound, span, with_byte, put_byte, AreOrdered}
+use Rattle.cx_storage.specs.Storage.{Held, Storage, end_of, covers, byte_at, zeros, put_held, with_area, with_areas_kept, IsWhole, IsSoundStorage, span, with_byte, put_byte, AreOrdered}
 use Rattle.cx_storage.specs.Address.{address_after}
 use Rattle.cx_storage.specs.declared.areas.Area.{Area}
 use Rattle.cx_storage.specs.declared.areas.Owner.{Owner}
@@ -24,29 +24,29 @@ AreOrdered-prop (h ∷ hs) =
     ×_prop (AllByRecursion-prop (λ (later : Held). end_of h.area ≤ later.area.start) (λ _. le_prop) hs) (AreOrdered-prop hs)
 
 -- a store's ghost field may hold it
-pub IsSound-prop : (s : Storage) → IsProp (IsSound s)
-unfolding IsSound
-IsSound-prop s = ×_prop (AllByRecursion-prop IsWhole IsWhole-prop s) (AreOrdered-prop s)
+pub IsSoundStorage-prop : (s : Storage) → IsProp (IsSoundStorage s)
+unfolding IsSoundStorage
+IsSoundStorage-prop s = ×_prop (AllByRecursion-prop IsWhole IsWhole-prop s) (AreOrdered-prop s)
 
-pub sound_nil : IsSound []
-unfolding IsSound
+pub sound_nil : IsSoundStorage []
+unfolding IsSoundStorage
 sound_nil = (tt, tt)
 
-pub IsSound-tail : (h : Held) (hs : Storage) → IsSound (h ∷ hs) → IsSound hs
-unfolding IsSound
-IsSound-tail h hs ok = (ok.0.1, ok.1.1)
+pub IsSoundStorage-tail : (h : Held) (hs : Storage) → IsSoundStorage (h ∷ hs) → IsSoundStorage hs
+unfolding IsSoundStorage
+IsSoundStorage-tail h hs ok = (ok.0.1, ok.1.1)
 
-pub IsSound-head : (h : Held) (hs : Storage) → IsSound (h ∷ hs) → IsWhole h
-unfolding IsSound
-IsSound-head h hs ok = ok.0.0
+pub IsSoundStorage-head : (h : Held) (hs : Storage) → IsSoundStorage (h ∷ hs) → IsWhole h
+unfolding IsSoundStorage
+IsSoundStorage-head h hs ok = ok.0.0
 
-pub IsSound-apart : (h : Held) (hs : Storage) → IsSound (h ∷ hs) → AllByRecursion (λ later. end_of h.area ≤ later.area.start) hs
-unfolding IsSound
-IsSound-apart h hs ok = ok.1.0
+pub IsSoundStorage-apart : (h : Held) (hs : Storage) → IsSoundStorage (h ∷ hs) → AllByRecursion (λ later. end_of h.area ≤ later.area.start) hs
+unfolding IsSoundStorage
+IsSoundStorage-apart h hs ok = ok.1.0
 
-pub IsSound-cons : (h : Held) (hs : Storage) → IsWhole h → AllByRecursion (λ later. end_of h.area ≤ later.area.start) hs → IsSound hs → IsSound (h ∷ hs)
-unfolding IsSound
-IsSound-cons h hs whole apart ok = ((whole, ok.0), (apart, ok.1))
+pub IsSoundStorage-cons : (h : Held) (hs : Storage) → IsWhole h → AllByRecursion (λ later. end_of h.area ≤ later.area.start) hs → IsSoundStorage hs → IsSoundStorage (h ∷ hs)
+unfolding IsSoundStorage
+IsSoundStorage-cons h hs whole apart ok = ((whole, ok.0), (apart, ok.1))
 
 -- what the test whether an area covers an address says
 pub covers_cases : (area : Area) (x : ℕ) → ((covers area x ≡ true) × (area.start ≤ x) × (x < end_of area)) ⊎ ((covers area x ≡ false) × ((x < area.start) ⊎ (end_of area ≤ x)))
@@ -108,8 +108,8 @@ ordered-with_byte (h ∷ hs) a v ok =
     (rw (put_byte_area a v h) after, ordered-with_byte hs a v ok.1)
 
 -- a byte written
-pub sound_with_byte : (s : Storage) (a v : ℕ) → IsSound s → v < 256 → IsSound (with_byte s a v)
-unfolding IsSound with_byte
+pub sound_with_byte : (s : Storage) (a v : ℕ) → IsSoundStorage s → v < 256 → IsSoundStorage (with_byte s a v)
+unfolding IsSoundStorage with_byte
 sound_with_byte s a v ok small = (All-map IsWhole IsWhole (put_byte a v) s (λ h. put_byte-whole a v h small) ok.0, ordered-with_byte s a v ok.1)
 
 -- areas freed
@@ -120,27 +120,27 @@ ordered-filter test (h ∷ hs) ok = elim (cases_Bool (test h)) [
   | inr e ↦ rw e (ordered-filter test hs ok.1)
 ]
 
-pub sound_with_areas_kept : (s : Storage) (keeps : Area → Bool) → IsSound s → IsSound (with_areas_kept keeps s)
-unfolding IsSound with_areas_kept
+pub sound_with_areas_kept : (s : Storage) (keeps : Area → Bool) → IsSoundStorage s → IsSoundStorage (with_areas_kept keeps s)
+unfolding IsSoundStorage with_areas_kept
 sound_with_areas_kept s keeps ok = (All-filter IsWhole (λ h. keeps h.area) s ok.0, ordered-filter (λ h. keeps h.area) s ok.1)
 
 -- an area put in where it meets none
-pub sound_put_held : (h : Held) (s : Storage) → IsWhole h → AllByRecursion (Misses h.area.len h.area.start) s → IsSound s → IsSound (put_held h s)
+pub sound_put_held : (h : Held) (s : Storage) → IsWhole h → AllByRecursion (Misses h.area.len h.area.start) s → IsSoundStorage s → IsSoundStorage (put_held h s)
 unfolding put_held
-sound_put_held h [] whole misses ok = IsSound-cons h [] whole tt ok
+sound_put_held h [] whole misses ok = IsSoundStorage-cons h [] whole tt ok
 sound_put_held h (g ∷ gs) whole misses ok = elim (cases_Bool (nat_lt h.area.start g.area.start)) [
   | inl e ↦
       let first = ltb-true _ _ e in
-      let head = IsSound-head g gs ok in
+      let head = IsSoundStorage-head g gs ok in
       let apart : end_of h.area ≤ g.area.start = elim misses.0 [ inl before ↦ absurd (omega (arith, head.nonempty)) | inr beyond ↦ beyond ] in
-      let later = All-weaker (λ later. end_of g.area ≤ later.area.start) (λ later. end_of h.area ≤ later.area.start) gs (λ later le. omega (arith, head.nonempty)) (IsSound-apart g gs ok) in
-      rw e (IsSound-cons h (g ∷ gs) whole (apart, later) ok)
+      let later = All-weaker (λ later. end_of g.area ≤ later.area.start) (λ later. end_of h.area ≤ later.area.start) gs (λ later le. omega (arith, head.nonempty)) (IsSoundStorage-apart g gs ok) in
+      rw e (IsSoundStorage-cons h (g ∷ gs) whole (apart, later) ok)
   | inr e ↦
       let beyond = ltb-false _ _ e in
       let apart : end_of g.area ≤ h.area.start = elim misses.0 [ inl before ↦ before | inr after ↦ absurd (omega (arith, whole.nonempty)) ] in
-      rw e (IsSound-cons g (put_held h gs) (IsSound-head g gs ok)
-      (All-put_held (λ later. end_of g.area ≤ later.area.start) h gs apart (IsSound-apart g gs ok))
-      (sound_put_held h gs whole misses.1 (IsSound-tail g gs ok)))
+      rw e (IsSoundStorage-cons g (put_held h gs) (IsSoundStorage-head g gs ok)
+      (All-put_held (λ later. end_of g.area ≤ later.area.start) h gs apart (IsSoundStorage-apart g gs ok))
+      (sound_put_held h gs whole misses.1 (IsSoundStorage-tail g gs ok)))
 ]
 
 small_zeros : (n : ℕ) → AllByRecursion (λ b. b < 256) (replicate n 0)
@@ -148,7 +148,7 @@ small_zeros zero = tt
 small_zeros (suc n) = (omega arith, small_zeros n)
 
 -- a fresh area made at a place
-pub sound_with_area : (s : Storage) (first last len : ℕ) (start : Option ℕ) (owner : Owner) → IsSound s → last < 2 ^ 24 → 0 < len → IsLeastPlace s first last len start → IsSound (with_area s start len owner)
+pub sound_with_area : (s : Storage) (first last len : ℕ) (start : Option ℕ) (owner : Owner) → IsSoundStorage s → last < 2 ^ 24 → 0 < len → IsLeastPlace s first last len start → IsSoundStorage (with_area s start len owner)
 unfolding with_area IsLeastPlace CanPlace
 sound_with_area s first last len None owner ok below some placed = ok
 sound_with_area s first last len (Some a) owner ok below some placed =
@@ -162,23 +162,23 @@ small_at (b ∷ bs) zero v all e = let same : b ≡ v = cc in rw (← same) all.
 small_at (b ∷ bs) (suc k) v all e = small_at bs k v all.1 e
 
 -- a byte is one: below 256, at an address below 2^24
-pub byte_small : (s : Storage) (x v : ℕ) → IsSound s → byte_at s x ≡ Some v → v < 256
+pub byte_small : (s : Storage) (x v : ℕ) → IsSoundStorage s → byte_at s x ≡ Some v → v < 256
 unfolding byte_at
 byte_small [] x v ok e = cc
 byte_small (h ∷ hs) x v ok e = elim (covers_cases h.area x) [
-  | inl c ↦ small_at h.bytes (x - h.area.start) v (IsSound-head h hs ok).small (rw c.0 at e)
-  | inr c ↦ byte_small hs x v (IsSound-tail h hs ok) (rw c.0 at e)
+  | inl c ↦ small_at h.bytes (x - h.area.start) v (IsSoundStorage-head h hs ok).small (rw c.0 at e)
+  | inr c ↦ byte_small hs x v (IsSoundStorage-tail h hs ok) (rw c.0 at e)
 ]
 
-pub byte_beyond : (s : Storage) (x : ℕ) → IsSound s → 2 ^ 24 ≤ x → byte_at s x ≡ None
+pub byte_beyond : (s : Storage) (x : ℕ) → IsSoundStorage s → 2 ^ 24 ≤ x → byte_at s x ≡ None
 unfolding byte_at
 byte_beyond [] x ok past = refl
 byte_beyond (h ∷ hs) x ok past = elim (covers_cases h.area x) [
-  | inl c ↦ absurd (omega (arith, (IsSound-head h hs ok).below, c.2))
-  | inr c ↦ rw c.0 (byte_beyond hs x (IsSound-tail h hs ok) past)
+  | inl c ↦ absurd (omega (arith, (IsSoundStorage-head h hs ok).below, c.2))
+  | inr c ↦ rw c.0 (byte_beyond hs x (IsSoundStorage-tail h hs ok) past)
 ]
 
-pub span_small : (s : Storage) (a n : ℕ) (bytes : List ℕ) → IsSound s → span s a n ≡ Some bytes → AllByRecursion (λ b. b < 256) bytes
+pub span_small : (s : Storage) (a n : ℕ) (bytes : List ℕ) → IsSoundStorage s → span s a n ≡ Some bytes → AllByRecursion (λ b. b < 256) bytes
 unfolding span
 span_small s a zero bytes ok e = let nil : [] ≡ bytes = cc in rw (← nil) tt
 span_small s a (suc n) bytes ok e = go (byte_at s a) (span s (address_after a 1) n) (λ b f. byte_small s a b ok f) (λ bs f. span_small s (address_after a 1) n bs ok f) e

@@ -1,11 +1,11 @@
 -- The laws of places.
 use Rattle.std.specs.Prelude.{◌≡◌, ℕ, ◌+◌, ◌<◌, ◌≤◌, Option, None, ◌%◌, ◌↔◌}
 use Rattle.cx_storage.specs.Place.{CanPlace, IsLeastPlace}
-use Rattle.cx_storage.specs.Storage.{Storage, byte_at, areas_of, IsSound}
+use Rattle.cx_storage.specs.Storage.{Storage, byte_at, areas_of, IsSoundStorage}
 
 -- an area may be placed exactly where it is a multiple of 16, all of it lies in the range, and no byte is present
 abbrev pub PlaceIsFree : Type 0
-PlaceIsFree = (s : Storage) (first last len b : ℕ) → IsSound s → 0 < len
+PlaceIsFree = (s : Storage) (first last len b : ℕ) → IsSoundStorage s → 0 < len
     → CanPlace s first last len b
     ↔ ((b % 16 ≡ 0) × (first ≤ b) × (b + len ≤ last + 1) × ((x : ℕ) → b ≤ x → x < b + len → byte_at s x ≡ None))
 

@@ -5,7 +5,7 @@ use Rattle.std.specs.List.{list_any}
 use Rattle.std.specs.Option.{option_map_or}
 use Rattle.cx_source.specs.declared.source.Item.{Item}
 use Rattle.cx_source.specs.declared.source.Source.{Source}
-use Rattle.cx_translate.specs.Refusals.{fault_of}
+use Rattle.cx_translate.specs.Refusals.{refusal_of}
 use Rattle.cx_translate.specs.Sections.{begins_exec}
 use Rattle.cx_translate.specs.Translation.{fault_at, made_source, statement_faults, translation, translation_of}
 use Rattle.cx_translate.specs.Words.{words_of}
@@ -13,7 +13,7 @@ use Rattle.cx_translate.specs.declared.faults.TransFault.{TransFault}
 
 none_here : (item : Item) → begins_exec item ≡ false → fault_at item ≡ None
 unfolding fault_at
-none_here item e = ap (λ b. cond b (option_and_then (λ exec. fault_of item.line (words_of exec.operand)) item.stmt) None) e
+none_here item e = ap (λ b. cond b (option_and_then (λ exec. refusal_of item.line (words_of exec.operand)) item.stmt) None) e
 
 either : (a b : Bool) → a || b ≡ false → (a ≡ false) × (b ≡ false)
 either true b e = absurd (cc)

@@ -21,13 +21,13 @@ use Rattle.cx_translate.specs.DueArguments.{suits}
 use Rattle.cx_translate.specs.declared.faults.TransFault.TheVariants.{UnknownCommand}
 use Rattle.cx_translate.specs.declared.words.Word.{Word}
 use Rattle.cx_translate.specs.Expansion.{made_in, made_of, stmt}
-use Rattle.cx_translate.specs.Refusals.{fault_in, fault_of, is_given}
+use Rattle.cx_translate.specs.Refusals.{fault_in, refusal_of, is_given}
 use Rattle.cx_translate.specs.Sections.{bases, begins_section, field, lines, name_at, put_before, put_after, storage_fields}
 use Rattle.cx_translate.specs.Words.{words_of}
 
 -- ---- what is put in at a place, if there is one
-abbrev pub line_of : Option Item → ℕ
-line_of item = option_map_or (λ i. i.line) item 0
+abbrev pub listed_line : Option Item → ℕ
+listed_line item = option_map_or (λ i. i.line) item 0
 
 abbrev pub continued : Option Item → Bool
 continued item = option_map_or (λ i. is_continued false i.text) item false
@@ -76,4 +76,4 @@ fault_of_command line words found = option_map_or
     (λ f. fault_in line f.0 (take 1 words) (take f.1 (drop 1 words)) (drop f.1 (drop 1 words))) found (Some (UnknownCommand line))
 
 abbrev pub fault_in_stmt : ℕ → Option Stmt → Option TransFault
-fault_in_stmt line statement = option_and_then (λ exec. fault_of line (words_of exec.operand)) statement
+fault_in_stmt line statement = option_and_then (λ exec. refusal_of line (words_of exec.operand)) statement

@@ -33,8 +33,8 @@ returns c =
       read = c.accepted_lists_are_read.ensures;
     } in
     let addresses : OperandsAddress = operands_address near in
-    let texts : TextsAreMade = texts_are_made apart.short apart.size apart.lines in
-    let knows : Knows = record { addresses = addresses; size = apart.size; short = apart.short; apart = apart.lines } in
+    let texts : TextsAreMade = texts_are_made apart.within_section apart.size apart.lines in
+    let knows : Knows = record { addresses = addresses; size = apart.size; short = apart.within_section; apart = apart.lines } in
     let literals : LiteralsStand = literals_stand knows in
     let code : CodeIsLoaded = code_loaded c.what_is_resolved_is_well_formed.ensures c.every_spelling.ensures.length c.lines_are_loaded.ensures c.no_code_is_relocated.ensures in
     let laws : Laws = record {

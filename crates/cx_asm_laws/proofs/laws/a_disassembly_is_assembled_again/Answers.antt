@@ -7,5 +7,5 @@ returns c =
     assembles_again
     (record { named = c.one_name.ensures.machine; sizes = c.every_spelling.ensures.length })
     c.what_is_resolved_is_well_formed.ensures
-    (record { size = apart.size; short = apart.short; lines = apart.lines })
+    (record { size = apart.size; short = apart.within_section; lines = apart.lines })
     c.what_was_assembled_comes_back.ensures.resolved

@@ -18,5 +18,5 @@ returns-clause-refused c source made fault e lowest =
 pub returns-clause-length : goal.returns-clause-length
 returns-clause-length c source made e lowest =
     let size = c.an_assembly_stands_apart.ensures.size source made e in
-    let short = c.an_assembly_stands_apart.ensures.short source made e in
+    let short = c.an_assembly_stands_apart.ensures.within_section source made e in
     omega (arith, size, no_length made.section.image (omega (arith, size, short)) lowest)

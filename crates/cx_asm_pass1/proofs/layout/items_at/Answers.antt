@@ -1,5 +1,5 @@
 use Rattle.std.proofs.Common.{ℕ, ◌<◌, List, [], length, add-one, drop-cons, append_assoc, arith, Bor}
-use Rattle.cx_asm_pass1.proofs.FaultLemmas.{lower_in_turn}
+use Rattle.cx_asm_expressions.specs.Facts.Faults.{lower_in_turn}
 use Rattle.cx_asm_pass1.proofs.layout.items_at.Goals as goal
 
 pub loop-part-preserved : goal.loop-part-preserved

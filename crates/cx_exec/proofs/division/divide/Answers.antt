@@ -13,5 +13,5 @@ returns c storage =
     let second : FitsSigned w64 c.in-Some.found.1 = search rules in
     rw (← c.updated.view_is) (divided_written _ _ _ _ _ _ _ _ _ _
     (to_z-of_z w64 c.signed_double-dividend.result wide ∙ c.signed_double-dividend.ensures ∙ ap signed_double c.pair.ensures)
-    (to_z-of_z w64 c.signed.result narrow ∙ c.signed.ensures) c.in-Some.ensures.some
+    (to_z-of_z w64 c.signed.result narrow ∙ c.signed.ensures) c.in-Some.ensures.divides
     (c.word_of.ensures ∙ ap word_of (to_z-of_z w64 c.in-Some.found.1 second)) (c.word_of-2.ensures ∙ ap word_of (to_z-of_z w64 c.in-Some.found.0 first)))

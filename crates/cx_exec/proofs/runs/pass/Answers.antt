@@ -1,7 +1,7 @@
 use Rattle.std.proofs.Common.{arith, rules, ap}
 use Rattle.cx_exec.proofs.RunLemmas.{passes_start, apart_more, row_more, row_interrupt}
 use Rattle.cx_exec.specs.Machine.{machine}
-use Rattle.cx_code.specs.Table.{row_of}
+use Rattle.cx_code.specs.Table.{operation_row}
 use Rattle.cx_exec.proofs.runs.pass.Goals as goal
 
 pub loop-left-init : goal.loop-left-init
@@ -14,19 +14,19 @@ loop-left-preserved-in_default g c = (
 )
 
 pub register_rows-requires : goal.register_rows-requires
-unfolding row_of
+unfolding operation_row
 register_rows-requires g c = search rules
 
 pub register_storage_rows-requires : goal.register_storage_rows-requires
-unfolding row_of
+unfolding operation_row
 register_storage_rows-requires g c = search rules
 
 pub immediate_rows-requires : goal.immediate_rows-requires
-unfolding row_of
+unfolding operation_row
 immediate_rows-requires g c = search rules
 
 pub strings_effect-requires : goal.strings_effect-requires
-unfolding row_of
+unfolding operation_row
 strings_effect-requires g c = search rules
 
 pub loop-left-preserved-in-Ok : goal.loop-left-preserved-in-Ok

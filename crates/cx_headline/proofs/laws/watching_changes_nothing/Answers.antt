@@ -1,4 +1,3 @@
-use Rattle.cx_headline.specs.Laws.Runs.{OfEachRun}
 use Rattle.cx_headline.specs.Laws.Watching.{IsAsUnwatched}
 use Rattle.cx_headline.proofs.ScriptLemmas.{of_scripts}
 use Rattle.cx_headline.proofs.WatchLemmas.{WatchLaws, same_states, showing_changes_nothing}

@@ -1,7 +1,7 @@
 use Rattle.std.proofs.Common.{◌≡◌, ◌∙◌, ap, arith, length}
 use Rattle.cx_base.specs.Digits.{digits}
 use Rattle.cx_region_state.specs.State.{SharedState}
-use Rattle.cx_look_symbols.specs.Places.{address_word, place_of}
+use Rattle.cx_look_symbols.specs.Places.{address_word, place_at_address}
 use Rattle.cx_look_levels.specs.Levels.{cap_word, level_line}
 use Rattle.cx_look_levels.proofs.levels.level_line.Goals as goal
 
@@ -14,8 +14,8 @@ returns g c =
     let place =
     c.deref-2.ensures.value ∙ c.in_ok-place.ensures
     ∙ ap (λ place. address_word place)
-    (c.place_of-goes_on.ensures ∙ ap (λ p. place_of p c.address_in.result) programs
-    ∙ ap (λ next. place_of c.args.shared.now.programs next) c.address_in.ensures.value) in
+    (c.place_at_address-goes_on.ensures ∙ ap (λ p. place_at_address p c.address_in.result) programs
+    ∙ ap (λ next. place_at_address c.args.shared.now.programs next) c.address_in.ensures.value) in
     let cap = c.deref-3.ensures.value ∙ c.in_ok-cap.ensures ∙ ap (λ s. cap_word s c.args.level.now) storage in
     let calen : c.hexadecimal-calen.result ≡ digits 16 4 c.args.level.now.calen = c.hexadecimal-calen.ensures ∙ ap (λ n. digits 16 4 n) c.from.ensures in
     let pushed : c.decimal-pushed.result ≡ digits 10 2 (length c.args.level.now.handles.kept) =

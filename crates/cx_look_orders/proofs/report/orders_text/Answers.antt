@@ -59,7 +59,7 @@ returns-in_default g c =
     (λ report is. inl (record {
       states = whole.states;
       count = c.in_ok-whole.ensures.count;
-      few = omega (arith, c.in_ok-whole.ensures.many, c.in_ok-end.ensures.few);
+      few = omega (arith, c.in_ok-whole.ensures.many, c.in_ok-end.ensures.at_most_most);
       outcomes = whole.outcomes.items;
       are = c.in_ok-whole.ensures.outcomes;
       loop = whole.looping;
@@ -104,7 +104,7 @@ returns g c =
     (λ report is. inr (record {
       moves = moves;
       cut = cut_at keys (begun region) found.states.entries c.one_list_is_sooner.ensures finds most moves nearest
-          c.in_ok-end.ensures.few;
+          c.in_ok-end.ensures.at_most_most;
       outcomes = outcomes;
       are = c.in_ok-outcomes.ensures;
       is = subst (λ os. report ≡ cut_line most ++ outcomes_lines region keys edf 1 os) c.as_slice.ensures.value is;

@@ -48,7 +48,7 @@ pub loop-at-init : goal.loop-at-init
 loop-at-init g c = (
   c.in_ok-found.ensures.searched c.args.space.now,
   c.in_ok-found.ensures.begun,
-  omega (arith, c.in_ok-found.ensures.few, c.requires),
+  omega (arith, c.in_ok-found.ensures.one, c.requires),
   subst (λ xs. AreLinked (g.T.Space.goes c.args.space.now) c.in_ok-found.found.states.entries xs 0) (sym c.in_ok-found.ensures.unlinked)
       (no_links (g.T.Space.goes c.args.space.now) c.in_ok-found.found.states.entries),
 )
@@ -57,6 +57,6 @@ pub loop-at-preserved : goal.loop-at-preserved
 loop-at-preserved g c = (
   match_true c.in_ok-expand.field-0 _ _ c.in_ok-expand.ensures.searched c.if-not-branch.false,
   c.in_ok-expand.ensures.kept 0 c.args.start c.loop-at.invariant.1,
-  c.in_ok-expand.ensures.few c.loop-at.invariant.2,
+  c.in_ok-expand.ensures.at_most_most c.loop-at.invariant.2,
   match_true c.in_ok-expand.field-0 _ _ c.in_ok-expand.ensures.linked c.if-not-branch.false,
 )

@@ -1,6 +1,6 @@
 use Rattle.std.proofs.Common.{◌≡◌, ◌<◌, ◌≤◌, ℕ, true, Some, length, get_or, sym, ap, ◌∙◌, arith, inl, inr}
 use Rattle.std.proofs.lemmas.Bool.{some_since, false≢true}
-use Rattle.cx_storage.specs.Storage.{Held, Storage, covers, end_of, IsTogether, IsWhole, IsSound}
+use Rattle.cx_storage.specs.Storage.{Held, Storage, covers, end_of, IsTogether, IsWhole, IsSoundStorage}
 use Rattle.cx_storage.specs.Facts.Sound.{covers_cases}
 use Rattle.cx_storage.proofs.Walks.{full_found, span_found, together_skip, together_found, together_end, part_gives}
 use Rattle.cx_storage.proofs.flat.slice_in.Goals as goal
@@ -15,7 +15,7 @@ loop-block-preserved c = λ some.
 
 -- the area that the loop stopped at
 record IsFound (s : Storage) (i a : ℕ) (h : Held) : Type 0 where
-  ok : IsSound s
+  ok : IsSoundStorage s
   within : i < length s
   at : h ≡ get_or s i h
   there : covers h.area a ≡ true

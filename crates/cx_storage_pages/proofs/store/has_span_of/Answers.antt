@@ -14,7 +14,7 @@ returns-then-not-has_in c =
 pub loop-left-preserved : goal.loop-left-preserved
 loop-left-preserved c =
     let there : c.has_in.result ≡ true = cc in (
-      c.address_after-at.ensures.short,
+      c.address_after-at.ensures.below_2_24,
       rw c.address_after-at.ensures.value
           (skip_there c.args.areas.now.items c.args.pages.now.items c.loop-left.at c.loop-left.left c.min-step.result c.requires.shown c.loop-left.invariant.0 (omega arith) (omega arith) (c.has_in.ensures.all there)
           ∙ c.loop-left.invariant.1),

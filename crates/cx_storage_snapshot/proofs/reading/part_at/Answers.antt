@@ -4,8 +4,8 @@ use Rattle.cx_storage.specs.Facts.Spans.{span_length}
 use Rattle.cx_storage_snapshot.proofs.CopyLemmas.{some_gives}
 use Rattle.cx_storage_snapshot.proofs.reading.part_at.Goals as goal
 
-pub returns-clause-some : goal.returns-clause-some
-returns-clause-some g c =
+pub returns-clause-nonempty : goal.returns-clause-nonempty
+returns-clause-nonempty g c =
     let s = g.S.Store.storage c.args.store.now in
     let got : span s c.args.at c.piece.result ≡ Some c.unwrap.result.now = some_gives c.slice.result c.unwrap.result (λ part. span s c.args.at c.piece.result ≡ Some part.now) c.unwrap.ensures c.slice.ensures.bytes in
     let len = span_length s c.args.at c.piece.result c.unwrap.result.now got in

@@ -7,7 +7,7 @@ loop-k-preserved g c = (
   omega arith,
   λ others before is.
       rw (c.loop-k.invariant.1 others before is) at c.write.ensures.after
-      ∙ piece_written others c.args.area c.args.bytes.now c.loop-k.k c.piece-n.result before c.requires.size c.requires.below (omega arith) c.piece-n.ensures.some,
+      ∙ piece_written others c.args.area c.args.bytes.now c.loop-k.k c.piece-n.result before c.requires.size c.requires.below (omega arith) c.piece-n.ensures.above_0,
 )
 
 pub returns : goal.returns

@@ -1,5 +1,5 @@
 use Rattle.std.proofs.Common.{◌∙◌, ◌+◌, ◌++◌, [], ◌∷◌, ap, sym, arith, take}
-use Rattle.cx_storage.specs.Storage.{Held, IsSound}
+use Rattle.cx_storage.specs.Storage.{Held, IsSoundStorage}
 use Rattle.cx_base.specs.Shared.{values}
 use Rattle.cx_storage_snapshot.proofs.WriteLemmas.{sound_take, front_more, copy_aligned}
 use Rattle.cx_storage_snapshot.proofs.writing.put_areas.Goals as goal
@@ -9,7 +9,7 @@ put_area-requires-clause-sound g c =
     let copies = c.args.copies.now in
     let i = c.loop-copy.copy-index in
     let front = front_more copies i c.copy-item.result (omega arith) c.copy-item.is in
-    let ok : IsSound _ = rw front at (sound_take (i + 1) (values copies) c.requires.sound) in
+    let ok : IsSoundStorage _ = rw front at (sound_take (i + 1) (values copies) c.requires.sound) in
     rw (c.loop-copy.invariant, c.deref.ensures) ok
 
 pub put_area-requires-clause-aligned : goal.put_area-requires-clause-aligned

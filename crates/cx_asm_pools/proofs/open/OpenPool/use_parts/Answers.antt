@@ -2,7 +2,7 @@ use Rattle.std.proofs.Common.{◌≡◌, false, true, ◌∙◌, ap, subst, sym,
 use Rattle.std.specs.Prelude.{OnErr, Result, Ok, Err}
 use Rattle.std.specs.List.{take-map}
 use Rattle.cx_asm_pools.specs.Pools.{with_part, with_parts}
-use Rattle.cx_asm_pools.proofs.FaultLemmas.{lower_in_turn}
+use Rattle.cx_asm_expressions.specs.Facts.Faults.{lower_in_turn}
 use Rattle.cx_asm_pools.proofs.PartLemmas.{first_kept, one_more}
 use Rattle.cx_asm_pools.proofs.open.OpenPool.use_parts.Goals as goal
 
@@ -16,7 +16,7 @@ loop-part-preserved c =
           rw add-one
           (c.in_ok-use_part.ensures.used ∙ ap (λ p. with_part c.args.user p (get_or c.args.parts.now c.loop-part.part-index none).now) c.loop-part.invariant.used
           ∙ sym (one_more c.args.user c.args.self.now c.args.parts.now c.loop-part.part-index none within));
-      fault = rw (add-one, c.lower-fault.ensures, c.part_fault.ensures, lower_in_turn) (rw one at c.loop-part.invariant.fault);
+      fault = rw (add-one, c.lower-fault.ensures, c.literal_constant_fault.ensures, lower_in_turn) (rw one at c.loop-part.invariant.fault);
       known = λ old.
           let was = c.loop-part.invariant.known old in
           let part = (get_or c.args.parts.now c.loop-part.part-index none).now in

@@ -1,7 +1,9 @@
 use Rattle.std.proofs.Common.{Err, arith, subst, ◌≡◌, Result, Ok, IsOk}
+use Rattle.cx_region.specs.Facts.Stopped.{stopped_at, stopped_unbegun}
 use Rattle.cx_region.specs.Sound.{IsSound}
+use Rattle.cx_edf.specs.Runs.{EdfRun, MayTakeEdf}
 use Rattle.cx_edf.specs.State.{EdfState}
-use Rattle.cx_edf.proofs.RunLemmas.{run_more, run_none, run_stopped, run_unbegun}
+use Rattle.cx_edf.proofs.RunLemmas.{run_more, run_none}
 use Rattle.cx_edf.proofs.debugged.Debugged.run.Goals as goal
 
 not_ok : {A E : Type 0} (r : Result A E) (e : E) → r ≡ Err e → IsOk r → ⊥
@@ -10,7 +12,7 @@ not_ok (Err f) e is ok = cc
 
 pub returns-in_default-clause-stopped : goal.returns-in_default-clause-stopped
 returns-in_default-clause-stopped g c =
-    run_unbegun c.args.self.now c.args.events.now (λ none. not_ok c.with_capacity.result _ c.in_default.is (c.with_capacity.ensures.succeeds none))
+    stopped_unbegun EdfRun MayTakeEdf c.args.self.now c.args.events.now (run_none c.args.self.now c.args.events.now) (λ none. not_ok c.with_capacity.result _ c.in_default.is (c.with_capacity.ensures.succeeds none))
 
 pub loop-i-init : goal.loop-i-init
 loop-i-init g c =
@@ -27,5 +29,5 @@ loop-i-preserved g c = (
 
 pub returns-in_default-apply-clause-stopped : goal.returns-in_default-apply-clause-stopped
 returns-in_default-apply-clause-stopped g c =
-    run_stopped c.args.self.now c.loop-i.self c.apply.new.self c.args.events.now c.loop-i.i c.index-events-i.result _ c.loop-i-test.true c.index-events-i.is
+    stopped_at EdfRun MayTakeEdf c.args.self.now c.loop-i.self c.apply.new.self c.args.events.now c.loop-i.i c.index-events-i.result _ c.loop-i-test.true c.index-events-i.is
     c.loop-i.invariant.0 c.in_default-apply.ensures.done.err c.in_default-apply.ensures.done.memory

@@ -11,5 +11,5 @@ most_stays most lines block is enough = subst (λ n. 1 ≤ n) (sym (ap (λ (b : 
 pub returns-in_ok-block-in-Orders-clause-allowed : goal.returns-in_ok-block-in-Orders-clause-allowed
 returns-in_ok-block-in-Orders-clause-allowed c = (
   most_stays c.in-Orders.most c.as_slice.result.now c.in_ok-block-in-Orders.block c.in_ok-block-in-Orders.ensures.value (omega arith),
-  c.in_ok-block-in-Orders.ensures.few,
+  c.in_ok-block-in-Orders.ensures.keys_in_range,
 )

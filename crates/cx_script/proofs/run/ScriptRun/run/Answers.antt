@@ -73,7 +73,7 @@ pieces-preserved g c =
       c.in_default-serve.ensures.failure,
       c.in_default-serve.ensures.waits,
       c.in_default-serve.ensures.unbroken,
-      c.in_default-serve.ensures.short,
+      c.in_default-serve.ensures.not_too_long,
       omega (arith, c.in_default-serve.ensures.lines, c.pieces.invariant.5, len, same),
       omega (arith, c.pieces.invariant.6, some),
       omega (arith, least, same, c.pieces.invariant.7),

@@ -1,15 +1,8 @@
-use Rattle.std.proofs.Common.{◌≡◌, ◌∙◌, sym, true, false, Result, Ok, Err, OnOk, OnErr, is_err}
+use Rattle.std.proofs.Common.{◌≡◌, ◌∙◌, sym, true, false}
 use Rattle.cx_script_blocks.specs.Faults.{is_write}
+use Rattle.cx_script.proofs.ResultLemmas.{on_err, on_ok}
 use Rattle.cx_script.proofs.ServeLemmas.{serve_came, serve_failed, serve_front, serve_stopped}
 use Rattle.cx_script.proofs.run.ScriptRun.serve.Goals as goal
-
-on_err : {A E X : Type 0} (r : Result A E) → is_err r ≡ true → OnErr r X → X
-on_err (Ok a) e h = cc
-on_err (Err f) e h = h
-
-on_ok : {A E X : Type 0} (r : Result A E) → is_err r ≡ false → OnOk r X → X
-on_ok (Ok a) e h = h
-on_ok (Err f) e h = cc
 
 pub returns-then-failed-clause-err : goal.returns-then-failed-clause-err
 returns-then-failed-clause-err g c =

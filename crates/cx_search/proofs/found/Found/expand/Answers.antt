@@ -24,7 +24,7 @@ loop-number-preserved g c = record {
   so_far = match_true c.in_ok-try_move.field-0 _ _ c.in_ok-try_move.ensures.nexts c.if-not-branch.false;
   kept = λ place s it. c.in_ok-try_move.ensures.kept place s (c.loop-number.invariant.kept place s it);
   within = within_kept c.loop-number.self.states.entries c.try_move.new.self.states.entries c.args.at c.loop-number.invariant.within c.in_ok-try_move.ensures.kept;
-  few = λ few. c.in_ok-try_move.ensures.few (c.loop-number.invariant.few few);
+  few = λ few. c.in_ok-try_move.ensures.at_most_most (c.loop-number.invariant.few few);
   links = c.in_ok-try_move.ensures.links ∙ c.loop-number.invariant.links;
 }
 

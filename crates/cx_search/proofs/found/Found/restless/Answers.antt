@@ -13,4 +13,4 @@ returns g c = λ space start whole.
     rest_of Goes start es links whole c.as_slice.result.now c.len.result c.first_unmarked.result many
     (subst (λ xs. AreRight Goes es Any xs) (sym c.as_slice.ensures.value) (c.in_ok-marks.ensures.right space whole.done whole.linked))
     (subst (λ xs. AreStable links Any xs) (sym c.as_slice.ensures.value) c.in_ok-marks.ensures.stable)
-    c.first_unmarked.ensures.some c.first_unmarked.ensures.none c.first_unmarked.ensures.first
+    c.first_unmarked.ensures.unmarked c.first_unmarked.ensures.none c.first_unmarked.ensures.first

@@ -1,8 +1,0 @@
-use Rattle.std.proofs.Common.{◌≡◌, ◌-◌, length}
-use Rattle.std.specs.List.{find, range_with_len}
-use Rattle.cx_look_faults.specs.Marks.{place_in, stands_at}
-use Rattle.cx_look_faults.proofs.marks.place_in.Given as goal
-
-abbrev pub invariant-loop-at : goal.invariant-loop-at
-invariant-loop-at l =
-    find (stands_at l.text l.operand) (range_with_len l.at (length l.operand - l.at)) ≡ place_in l.text l.operand

@@ -1,6 +1,0 @@
-use Rattle.std.proofs.Common.{◌≡◌, ◌++◌}
-use Rattle.cx_look_storage.specs.Bytes.{first_rows}
-use Rattle.cx_look_storage.proofs.bytes.rows_text.Given as goal
-
-abbrev pub invariant-loop-k : goal.invariant-loop-k
-invariant-loop-k g l = l.report ≡ l.initial.report ++ first_rows l.region.shared.storage l.address l.n l.k
