@@ -20,7 +20,8 @@ ghost use Rattle.cx_asm.specs.declared.faults.AsmFault.TheVariants.{Memory};
 /// A copy of an item of a DC, or of a literal, has no more bytes than its length, which is at least a word's where it
 /// is relocated.
 pub fn a_constant_has_its_length()
-    ensures at_length { (whole : Whole) (counter : Option Value) (text : List ℕ) (item : Constant) (made : CopyOfConstant)
+    ensures at_length { (whole : Whole) (counter : Option Value) (text : List ℕ) (item : Constant)
+        (made : CopyOfConstant)
         → constant_in false text ≡ Ok item → item_made whole false counter text ≡ Ok made
         → length made.bytes ≤ length_of item }
     ensures word { (whole : Whole) (counter : Option Value) (text : List ℕ) (item : Constant) (made : CopyOfConstant)

@@ -103,7 +103,8 @@ impl ConstantKind {
 
     /// The greatest length modifier, in bytes, in DS (`is_ds`) or in DC and literals; 0 where it takes none.
     pub fn greatest_modifier(self, is_ds: bool) -> u128
-        ensures greatest { result ≡ (if is_ds then (row_of_kind self).greatest_in_ds else (row_of_kind self).greatest_in_dc) }
+        ensures greatest { result
+            ≡ (if is_ds then (row_of_kind self).greatest_in_ds else (row_of_kind self).greatest_in_dc) }
         ensures bound { result < 2 ^ 16 }
     {
         match self {

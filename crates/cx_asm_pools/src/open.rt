@@ -176,7 +176,8 @@ impl<'a> OpenPool<'a> {
         user: usize,
     ) -> Result<Option<FaultKind>, AllocError>
         ensures used { OnOk result (self.new ≡ with_parts user self.old (map (λ part. part.now) parts.now)) }
-        ensures fault { IfOk result (λ fault. fault ≡ lowest (map literal_constant_fault (map (λ part. part.now) parts.now))) }
+        ensures fault { IfOk result (λ fault.
+            fault ≡ lowest (map literal_constant_fault (map (λ part. part.now) parts.now))) }
         ensures err { OnErr result (UsesFirst user (map (λ part. part.now) parts.now) self.old self.new) }
         ensures known { with_parts user self.old (map (λ part. part.now) parts.now) ≡ self.old → IsOk result }
     {

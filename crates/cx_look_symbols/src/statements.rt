@@ -78,7 +78,8 @@ fn places_among(
     places: &Places<'_>,
     statements: &[Statement<'_>],
 ) -> Result<List<StatementPlace>, AllocError>
-    ensures { IfOk result (λ found. found ≡ filter_map (statement_place_of (whole_by places.now).control) statements.now) }
+    ensures { IfOk result (λ found.
+        found ≡ filter_map (statement_place_of (whole_by places.now).control) statements.now) }
 {
     let mut found = Vec::new(alloc);
     for statement in statements {

@@ -176,7 +176,8 @@ fn without_entry(condition: Condition, error: Handler) -> Choice
     requires exceptional { condition ≢ Condition.Normal }
     requires not_error { condition ≢ Condition.Error }
     ensures { result
-        ≡ (if condition_waits condition then Choice.Wait else choice_by_entry error (Choice.Abend (condition_abend_code condition))) }
+        ≡ (if condition_waits condition then Choice.Wait
+        else choice_by_entry error (Choice.Abend (condition_abend_code condition))) }
 {
     match (condition, error) {
         (Condition::Nospace | Condition::Nostg | Condition::Enqbusy, _) => Choice::Wait,

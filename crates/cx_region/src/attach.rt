@@ -581,8 +581,7 @@ impl<S: Store + Drop> Region<S> {
     /// With a task the input is held for it: Given; or AlreadyHeldInput. NoSuchTerminal where there is no such
     /// terminal. All answers but Attached and Given leave all as before.
     ///
-    /// An error comes only where an allocation failed; then no answer that names or held input give is due, the areas
-    /// of a task to be attached have their places, and all is as before.
+    /// An error comes only where an allocation failed, and only where Attached or Given is due. Then all is as before.
     #[tactic(auto, using(crate::proofs::KeyLemmas::keyed_answer, crate::proofs::EventLemmas::key_memory), unfolding(crate::specs::Attach::input_from))]
     pub fn key(&mut self, name: Name4, aid: Aid, bytes: &[u8]) -> Result<KeyReply, AllocError>
         requires { length bytes.now ≤ 1920 }

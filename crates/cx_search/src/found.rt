@@ -185,7 +185,8 @@ impl<T: Space> Found<T> {
             (AreLinked (T.goes space.now) self.new.states.entries self.new.links.items (at + 1)) ⊤) }
         ensures kept { OnOk result ((place : ℕ) (s : T.State)
             → IsAt self.old.states.entries place s → IsAt self.new.states.entries place s) }
-        ensures at_most_most { OnOk result (length self.old.states.entries ≤ most → length self.new.states.entries ≤ most) }
+        ensures at_most_most { OnOk result
+            (length self.old.states.entries ≤ most → length self.new.states.entries ≤ most) }
     {
         let mut nexts = Vec::new(self.alloc);
         for number in 0..self.count(space, at) {

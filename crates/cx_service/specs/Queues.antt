@@ -97,6 +97,7 @@ reading_of_queue asked queue =
     option_map (λ item. record { number = number; len = length item; count = length queue.items })
     (item_numbered number queue)
 
+-- what is read where a queue of that name is asked for: first it must be there, then such an item
 unfoldable pub reading_of : Queues → List ℕ → Option ℕ → Result Reading ServiceFault
 reading_of queues name asked =
     option_map_or (λ queue. ok_or (reading_of_queue asked queue) Itemerr) (queue_of queues name) (Err Qiderr)

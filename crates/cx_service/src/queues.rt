@@ -305,7 +305,7 @@ impl Queues {
         queue.reading(asked).ok_or(ServiceFault::Itemerr)
     }
 
-    /// Makes a queue's item n, counted from 1, the one last read (READQ TS).
+    /// Makes a queue's item n, counted from 1, the one last read (READQ TS). The queue must have such an item.
     pub fn mark_read(&mut self, name: Name8, n: usize)
         requires { is_some (item_of self.old name n) ≡ true }
         ensures marked { self.new ≡ with_last_read self.old name n }
@@ -335,7 +335,8 @@ impl Queues {
     /// Qiderr comes where there is no such queue, then Itemerr where no item is left; then all is as before.
     #[tactic(auto, using(crate::specs::Facts::Readings::reading_there))]
     pub fn read_next(&mut self, name: Name8) -> Result<usize, ServiceFault>
-        ensures number { result ≡ result_map_both (λ reading. reading.number) (λ fault. fault) (reading_of self.old name None) }
+        ensures number { result
+            ≡ result_map_both (λ reading. reading.number) (λ fault. fault) (reading_of self.old name None) }
         ensures read { IfOk result (λ n. self.new ≡ with_last_read self.old name n) }
         ensures err { OnErr result (self.new ≡ self.old) }
         ensures sound { AreSoundQueues self.new }
@@ -362,7 +363,8 @@ impl Queues {
     /// Qiderr comes where there is no such queue; then all is as before.
     pub fn delete(&mut self, name: Name8) -> Result<(), ServiceFault>
         ensures deleted { OnOk result (self.new ≡ without_queue self.old name) }
-        ensures conditions { result_err result ≡ (if is_none (queue_of self.old name) then Some ServiceFault.Qiderr else None) }
+        ensures conditions { result_err result
+            ≡ (if is_none (queue_of self.old name) then Some ServiceFault.Qiderr else None) }
         ensures err { OnErr result (self.new ≡ self.old) }
         ensures sound { AreSoundQueues self.new }
     {

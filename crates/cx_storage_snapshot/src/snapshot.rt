@@ -31,7 +31,8 @@ impl Model for StorageSnapshot {
 
     ghost view = { λ snapshot. values snapshot.areas.items };
 
-    ghost invariant = { λ snapshot. IsSoundStorage (values snapshot.areas.items) × AreAligned (values snapshot.areas.items) };
+    ghost invariant = { λ snapshot.
+        IsSoundStorage (values snapshot.areas.items) × AreAligned (values snapshot.areas.items) };
 }
 
 /// All areas of a store, each with a copy of its bytes.
