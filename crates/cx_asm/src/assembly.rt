@@ -27,7 +27,7 @@ use std::marker::Model;
 
 /// What a source is assembled to: its image, its listing, its spans and its resolved lines. `assemble` alone makes one,
 /// so text and spans give the resolved lines again.
-#[derive(Debug, Drop)]
+#[derive(Drop)]
 pub struct Assembly {
     section: Assembled,
     listing: Vec<Text>,

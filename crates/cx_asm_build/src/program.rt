@@ -15,7 +15,7 @@ use cx_translate::translate;
 use std::alloc::{AllocError, Global};
 
 /// A program that a source was made into, and what is written of it.
-#[derive(Debug, Drop)]
+#[derive(Drop)]
 pub struct Prepared {
     /// What is written of it: the listing and then the disassembly, where they are asked for, each line ended by LF;
     /// empty where neither is.

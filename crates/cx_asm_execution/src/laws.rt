@@ -10,7 +10,14 @@ ghost use Rattle.std.specs.Prelude.{◌≡◌, ℕ};
 
 /// The instructions made of an EXEC statement, where they are in storage at the next address, lead to the entry, with
 /// the argument list that is read as the statement's command with the addresses that its arguments had at the first
-/// instruction.
+/// instruction. Every register but 0, 1, 14 and 15, and every byte outside the list, is as before.
+///
+/// The premises: the machine has 16 registers, its next address is below 2^24, and its storage is sound. The option
+/// bytes and conditions are legal, and there are as many arguments as they ask. The instructions are at the next
+/// address, the block and the entry's word where they are addressed. The base registers of what is made around the
+/// arguments aren't 0, that of the entry's word isn't 1, and they reach each word of the list four bytes after the one
+/// before. The next address is even, and no instruction is at the entry. DFHEIPL is in storage, has room for the list,
+/// and no byte of the instructions, the block or the entry's word lies in it.
 pub fn reaches_entry()
     ensures { ReachesEntry }
 {
@@ -41,7 +48,7 @@ pub fn made_are_counted()
 {}
 
 /// L at the next address, as it is after a call for each pointer, gives its register the word that its operand
-/// addresses. All else is as before.
+/// addresses. All else is as before. The next address is even and not the entry, and the word is there.
 pub fn loads_give_words()
     ensures { LoadsGiveWords }
 {
@@ -50,7 +57,7 @@ pub fn loads_give_words()
 }
 
 /// Where the program of an accepted source is loaded, each resolved line that shares no byte with a relocated word is
-/// in storage at its place: its bytes are those of the span there.
+/// in storage at its place: its bytes are those of the span there. The image is fit.
 pub fn lines_are_loaded()
     ensures { LinesAreLoaded }
 {
@@ -68,13 +75,17 @@ pub fn no_code_is_relocated()
 }
 
 /// The assembler places each field of DFHEIBLK at the offset, and with the length, at which the region writes it, and
-/// the block is as long as the region's.
+/// the block is as long as the region's. So it is of a source that has an EXEC statement and is translated, where the
+/// translation has an END and no fault of the first pass, and the source puts nothing into the section DFHEIBLK before
+/// the translator's own lines.
 pub fn the_eib_is_laid_out()
     ensures { EibIsLaidOut }
 {}
 
 /// The assembler places the fields of DFHEISTG's head, DFHEIPL, DFHEITP and DFHEICAP, at the offsets at which the
-/// region has them, and the head is as long as the region takes it to be.
+/// region has them, and the head is as long as the region takes it to be. So it is of a source that has an EXEC
+/// statement and is translated, where the translation has no fault of the first pass and a control section or a
+/// DFHEISTG, and nothing is in DFHEISTG before.
 pub fn the_head_is_laid_out()
     ensures { HeadIsLaidOut }
 {}
@@ -89,19 +100,21 @@ pub fn a_statement_is_one()
 
 /// Each EXEC statement of an accepted translation arrives as its command, and gets its pointers back. The statements
 /// made of it are together, with its line. They are resolved lines, one right after the other, at an offset that the
-/// EXEC statement's name stands for: the instructions made of the statement with the command, the option bytes and the
+/// EXEC statement's name stands for: the instructions made of the statement (stores of the block's address and of each
+/// argument's into the list's words, the mark, the branch to the entry) with the command, the option bytes and the
 /// conditions that the translator has put into the block, and right after them the loads of its pointers. Each argument
-/// has the address that its own expression has.
+/// has the address that its own expression has, with any sections and registers, where the register that is taken for
+/// it holds the base of its USING; a base that is written is taken.
 ///
-/// Where the program is loaded, a machine is ready if its next address is that of the first instruction; storage still
-/// holds the instructions, the block and the entry's word as loaded; DFHEIPL is in storage, apart from them; and the
-/// base registers around the arguments hold their USINGs' bases, none of them is 0, and the entry's isn't 1. It comes
-/// to the entry with the argument list that is read as that command, with the addresses that its arguments had at the
-/// first instruction.
+/// Where the program, whose image is fit, is loaded, a machine of 16 registers and sound storage is ready if its next
+/// address is that of the first instruction; storage still holds the instructions, the block and the entry's word as
+/// loaded; DFHEIPL is in storage, apart from them; and the base registers around the arguments hold their USINGs'
+/// bases, none of them is 0, and the entry's isn't 1. It comes to the entry with the argument list that is read as that
+/// command, with the addresses that its arguments had at the first instruction.
 ///
-/// At a machine that is at a pointer's load, the register that the pointer names, if it is an operand by itself, gets
-/// the word at the address that was handed over for the pointer, and all else stays, where DFHEITP's base register
-/// holds its USING's base as it did when the call began.
+/// At such a machine that is at a pointer's load, whose bytes are as loaded, the register that the pointer names, if it
+/// is an operand by itself, gets the word at the address that was handed over for the pointer, and all else stays,
+/// where DFHEITP's base register holds its USING's base as it did when the call began.
 pub fn commands_arrive()
     ensures { CommandsArrive }
 {

@@ -35,7 +35,7 @@ const BLANK: u8 = 0x40;
 const COMMAND_ENTRY: [u8; 4] = [0, 0, 8, 0];
 
 /// The bytes of one copy of a constant, and whether they are a word to which the load address is added.
-#[derive(Debug, Drop)]
+#[derive(Drop)]
 pub struct ConstantBytes {
     bytes: Vec<u8>,
     is_relocated: bool,

@@ -18,7 +18,7 @@ use cx_ebcdic::Name8;
 use std::alloc::{AllocError, Global};
 
 /// The value of a term, with the sign before it: what is added, or subtracted, in an expression.
-#[derive(Clone, Copy, Debug, PartialEq, Eq)]
+#[derive(Clone, Copy)]
 pub struct Signed {
     /// The sign before the term.
     pub sign: Sign,

@@ -18,7 +18,7 @@ use std::marker::Model;
 
 /// One item of a DC, a DS or a literal: its duplication factor, type, length modifier and nominal value (GC33-4010, "DC
 /// -- Define Constant").
-#[derive(Debug, Drop)]
+#[derive(Drop)]
 pub struct Constant<'a> {
     duplication: u32,
     kind: ConstantKind,

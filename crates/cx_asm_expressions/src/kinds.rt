@@ -4,7 +4,7 @@ ghost use Rattle.std.specs.Prelude.{◌≡◌, ◌<◌, ◌≤◌, ◌^◌, ◌=
 ghost use Rattle.cx_asm_expressions.specs.Kinds.{kind_of, row_of_kind};
 
 /// A type of constant (GC33-4010, "DC -- Define Constant").
-#[derive(Clone, Copy, Debug, PartialEq, Eq)]
+#[derive(Clone, Copy, PartialEq, Eq)]
 pub enum ConstantKind {
     /// C: characters, a byte each, in EBCDIC.
     Character,
@@ -27,7 +27,7 @@ pub enum ConstantKind {
 }
 
 /// How the value of a constant is written after its letter and length modifier.
-#[derive(Clone, Copy, Debug, PartialEq, Eq)]
+#[derive(Clone, Copy, PartialEq, Eq)]
 pub enum Style {
     /// One text in apostrophes.
     Text,

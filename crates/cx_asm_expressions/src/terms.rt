@@ -12,7 +12,7 @@ use std::alloc::{AllocError, Global};
 use std::marker::Model;
 
 /// The sign before a term of an expression.
-#[derive(Clone, Copy, Debug, PartialEq, Eq)]
+#[derive(Clone, Copy, PartialEq, Eq)]
 pub enum Sign {
     /// The term is added.
     Plus,
@@ -21,7 +21,7 @@ pub enum Sign {
 }
 
 /// What a term is (GC33-4010, "Terms").
-#[derive(Clone, Copy, Debug, PartialEq, Eq)]
+#[derive(Clone, Copy, PartialEq, Eq)]
 pub enum TermKind {
     /// A symbol: its value.
     Symbol,
@@ -40,7 +40,7 @@ pub enum TermKind {
 }
 
 /// What is between two signs of an expression.
-#[derive(Debug, Drop)]
+#[derive(Drop)]
 pub struct Part<'a> {
     sign: Sign,
     text: &'a [u8],
@@ -55,7 +55,7 @@ impl<'a> Model for Part<'a> {
 }
 
 /// A term of an expression, with its sign.
-#[derive(Debug, Drop)]
+#[derive(Drop)]
 pub struct Term<'a> {
     sign: Sign,
     kind: TermKind,

@@ -11,7 +11,7 @@ use std::alloc::{AllocError, Global};
 use std::marker::Model;
 
 /// A section's resolved lines, spans and image. `new` alone makes one, so text and spans give the resolved lines again.
-#[derive(Debug, Drop)]
+#[derive(Drop)]
 pub struct Assembled {
     resolved: Vec<Line>,
     spans: Vec<Span>,

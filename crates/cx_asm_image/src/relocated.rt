@@ -8,7 +8,7 @@ use std::alloc::AllocError;
 /// Appends the offsets of `count` fullwords, in bytes: the first is `at`, each further one 4 more. They end at or
 /// before offset 65,536.
 ///
-/// An error comes only where an allocation failed.
+/// An error comes only where an allocation failed. Nothing is said of the list then: a caller drops it.
 pub fn push_words(relocs: &mut Vec<u32>, at: u32, count: u32) -> Result<(), AllocError>
     requires { at + 4 * count ≤ 65536 }
     ensures { OnOk result (relocs.new.items ≡ relocs.old.items ++ words_at at count) }

@@ -22,7 +22,7 @@ pub(crate) fn size_of(what: &LineContent) -> usize
 }
 
 /// Resolved lines in address order, no two of which share a byte.
-#[derive(Debug, Drop)]
+#[derive(Drop)]
 pub struct ResolvedLines {
     lines: Vec<Line>,
     end: u32,

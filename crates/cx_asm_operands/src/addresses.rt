@@ -11,7 +11,7 @@ use cx_ebcdic::Name8;
 const GREATEST: i128 = 4095;
 
 /// A base register, 0 to 15, and a displacement, 0 to 4,095. Register 0 stands for no base.
-#[derive(Clone, Copy, Debug, PartialEq, Eq)]
+#[derive(Clone, Copy)]
 pub struct Address {
     /// The base register, 0 to 15; 0 is none.
     pub base: u8,

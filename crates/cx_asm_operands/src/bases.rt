@@ -10,7 +10,7 @@ use std::marker::Model;
 const PAGE: i128 = 4096;
 
 /// What a base register holds: a place in a section.
-#[derive(Clone, Copy, Debug, PartialEq, Eq)]
+#[derive(Clone, Copy)]
 pub struct Base {
     /// The name of the section.
     pub section: Name8,
@@ -19,7 +19,7 @@ pub struct Base {
 }
 
 /// What a USING says: a place, and the registers that hold it.
-#[derive(Debug, Drop)]
+#[derive(Drop)]
 pub struct Using {
     section: Name8,
     number: i128,
@@ -38,7 +38,7 @@ impl Model for Using {
 }
 
 /// What a DROP says: the registers that it names, if it names any.
-#[derive(Debug, Drop)]
+#[derive(Drop)]
 pub struct Dropped {
     registers: Option<Vec<u8>>,
 }

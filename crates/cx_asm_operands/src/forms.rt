@@ -29,7 +29,7 @@ const ONE_LENGTH: u16 = 256;
 const TWO_LENGTHS: u16 = 16;
 
 /// How the operands of an instruction are arranged.
-#[derive(Clone, Copy, Debug, PartialEq, Eq)]
+#[derive(Clone, Copy)]
 pub enum Form {
     /// As the format says. RR: two registers. RX: a register and a storage operand with an index. RS: two registers and
     /// a storage operand. SI: a storage operand and a byte. SS: two storage operands, the first with a length, or each.

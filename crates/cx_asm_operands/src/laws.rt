@@ -27,7 +27,8 @@ pub fn being_nearest_decides()
         → IsNearest bases section number one → IsNearest bases section number other → one ≡ other }
 {}
 
-/// What a statement is resolved to is a well-formed instruction of its operation's row of the table.
+/// With sixteen bases, what a statement is resolved to is a well-formed instruction of its operation's row of the
+/// table.
 pub fn what_is_resolved_is_well_formed()
     ensures { (operation : Operation) (c : Context) (operand : List ℕ) (made : Instruction) → length c.bases ≡ 16
         → instruction_or_fault operation c operand ≡ Ok made → (base_row operation ≡ Some made.op) × IsWellFormed made }

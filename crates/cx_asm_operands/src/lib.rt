@@ -1,4 +1,5 @@
-//! What one assembler statement's operands make: instructions, bases, values.
+//! The second pass of one assembler statement: what its operands make (an instruction, bases in use, values), or their
+//! lowest fault.
 #![tactic(auto)]
 
 mod addresses;

@@ -8,7 +8,7 @@ ghost use Rattle.cx_asm_operations.specs.Operations.{base_row, branches, directi
 use cx_code::Op;
 
 /// The condition codes that a branch on condition goes on (GC33-4010, "Extended Mnemonic Codes").
-#[derive(Clone, Copy, Debug, PartialEq, Eq)]
+#[derive(Clone, Copy)]
 pub struct Mask {
     /// Whether it branches on condition code 0.
     pub on_0: bool,
@@ -21,7 +21,7 @@ pub struct Mask {
 }
 
 /// An operation that makes no instruction (GC33-4010, "Assembler Instructions").
-#[derive(Clone, Copy, Debug, PartialEq, Eq)]
+#[derive(Clone, Copy, PartialEq, Eq)]
 pub enum Directive {
     /// CSECT: begins or resumes the control section.
     Csect,
@@ -58,7 +58,7 @@ pub enum Directive {
 }
 
 /// An operation that a statement may have (GC33-4010).
-#[derive(Clone, Copy, Debug, PartialEq, Eq)]
+#[derive(Clone, Copy)]
 pub enum Operation {
     /// A machine instruction by its mnemonic in the table of `cx_code`.
     Machine(Op),
@@ -180,7 +180,8 @@ fn directive_named(name: &[u8]) -> Option<Directive>
 }
 
 impl Operation {
-    /// The operation of this name (ASCII, in capital letters); None where none has it. It takes no memory.
+    /// The operation, one of ninety, of this name (ASCII, in capital letters); None where none has it. It takes no
+    /// memory.
     #[tactic(auto, using(crate::proofs::NameLemmas::by_kinds))]
     pub fn from_name(name: &[u8]) -> Option<Operation>
         ensures { result ≡ operation_named name.now }

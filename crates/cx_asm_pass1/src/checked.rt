@@ -19,7 +19,7 @@ use cx_asm_expressions::{FaultKind, SymbolTable, TermFault, Value, value_of};
 use std::alloc::{AllocError, Global};
 
 /// What is known of a statement.
-#[derive(Debug, Drop)]
+#[derive(Drop)]
 pub(crate) struct Checked {
     /// What it takes in its section.
     pub(crate) extent: Extent,

@@ -13,7 +13,7 @@ use cx_asm_expressions::{FaultKind, lower, symbol_name};
 use cx_ebcdic::Name8;
 
 /// How a statement begins.
-#[derive(Clone, Copy, Debug, PartialEq, Eq)]
+#[derive(Clone, Copy)]
 pub(crate) struct Heading {
     /// What its operation does.
     pub(crate) role: Role,

@@ -71,7 +71,7 @@ pub fn statements_stand_apart()
 {}
 
 /// In an accepted source the statements of the control section end inside it, and the last pool is after them, at its
-/// end.
+/// end where that is within 2^100.
 pub fn the_last_pool_ends_the_control_section()
     ensures inside { (items : List Item) → let state = state_after items in
         state.fault ≡ None → EndWithin state (stretches_after items) }

@@ -17,7 +17,7 @@ use std::alloc::{AllocError, Global};
 const BOUND: u128 = 0x10_0000_0000_0000_0000_0000_0000;
 
 /// What a statement takes in its section.
-#[derive(Debug, Drop)]
+#[derive(Drop)]
 pub(crate) struct Extent {
     /// Where it is.
     pub(crate) offset: u128,

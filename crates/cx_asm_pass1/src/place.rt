@@ -5,7 +5,7 @@ use cx_base::List;
 use cx_ebcdic::Name8;
 
 /// Where a statement is; offsets are in bytes.
-#[derive(Debug, Drop)]
+#[derive(Drop)]
 pub struct Place {
     /// The section; None before the first.
     pub section: Option<Name8>,
@@ -28,7 +28,7 @@ pub struct LineFault {
 }
 
 /// The control section of a source, which its first CSECT or START begins.
-#[derive(Clone, Copy, Debug, PartialEq, Eq)]
+#[derive(Clone, Copy)]
 pub struct ControlSection {
     /// Its name; eight blanks where a source with faults names none.
     pub name: Name8,

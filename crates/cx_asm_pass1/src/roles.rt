@@ -8,7 +8,7 @@ use cx_asm_operations::{Directive, Operation};
 use cx_code::Op;
 
 /// What a statement's operation does in the first pass.
-#[derive(Clone, Copy, Debug, PartialEq, Eq)]
+#[derive(Clone, Copy, PartialEq, Eq)]
 pub enum Role {
     /// The table of operations has no such operation.
     Unknown,

@@ -18,7 +18,8 @@ use std::alloc::{AllocError, Global};
 /// Goes past a statement: a USING or a DROP without a fault changes the bases in use, and nothing else does. Its fault
 /// is answered, if it is a USING or a DROP that has one.
 ///
-/// An error comes only where an allocation failed; USING and DROP alone take memory.
+/// An error comes only where an allocation failed; USING and DROP alone take memory. Nothing is said of the bases then:
+/// a caller drops them.
 #[tactic(auto, unfolding(crate::specs::SecondFaults::bases_after))]
 pub fn pass_bases(
     alloc: Global,

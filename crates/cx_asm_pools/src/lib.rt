@@ -1,4 +1,4 @@
-//! The literal pools of an assembler source.
+//! The literal pools of an assembler source, while they are open and in their places.
 #![tactic(auto)]
 
 mod closed;

@@ -26,7 +26,7 @@ pub fn capped(number: u128) -> u128
 }
 
 /// What is known of a literal while its pool is open.
-#[derive(Clone, Copy, Debug, PartialEq, Eq)]
+#[derive(Clone, Copy)]
 pub struct Used {
     /// How many bytes it has: all its copies.
     pub size: u128,

@@ -7,7 +7,7 @@ use cx_ebcdic::Name4;
 /// An abend that the region itself makes, beside those that conditions lead to.
 ///
 /// ASRA, AICA and the question marks are CICS's customary ones; the codes with X are this product's own.
-#[derive(Clone, Copy, Debug, PartialEq, Eq)]
+#[derive(Clone, Copy, PartialEq, Eq)]
 pub enum Abend {
     /// ASRA: an instruction was interrupted.
     Asra,

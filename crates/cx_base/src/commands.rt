@@ -11,7 +11,7 @@ use crate::options::{ArgumentKind, CommandOption, OptionName, Rule};
 ///
 /// Application Programmer's Reference Manual, SC33-0077. The function values are CICS's customary
 /// ones; the bits of the options and their order are this product's own.
-#[derive(Clone, Copy, Debug, PartialEq, Eq)]
+#[derive(Clone, Copy, PartialEq, Eq)]
 pub enum Command {
     Address,
     HandleCondition,

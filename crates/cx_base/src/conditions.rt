@@ -13,7 +13,7 @@ pub const CONDITIONS: usize = 10;
 ///
 /// Application Programmer's Reference Manual, SC33-0077, "Exceptional conditions".
 /// The numbers and abend codes are CICS's customary ones.
-#[derive(Clone, Copy, Debug, PartialEq, Eq, Default)]
+#[derive(Clone, Copy, PartialEq, Eq, Default)]
 pub enum Condition {
     #[default]
     Normal,

@@ -6,7 +6,7 @@ ghost use Rattle.cx_base.specs.Layout.{field_end};
 /// A field of the EXEC interface block.
 ///
 /// Application Programmer's Reference Manual, SC33-0077, "EXEC Interface Block". The layout is this product's own.
-#[derive(Clone, Copy, Debug, PartialEq, Eq)]
+#[derive(Clone, Copy, PartialEq, Eq)]
 pub enum EibField {
     /// EIBTIME: the time of attach, hhmmss, packed decimal.
     Time,
@@ -33,7 +33,7 @@ pub enum EibField {
 }
 
 /// A field of the EXEC interface block, or a gap that no field names.
-#[derive(Clone, Copy, Debug, PartialEq, Eq)]
+#[derive(Clone, Copy, PartialEq, Eq)]
 pub struct EibPiece {
     /// The field, or None for a gap.
     pub field: Option<EibField>,

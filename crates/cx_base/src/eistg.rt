@@ -6,7 +6,7 @@ ghost use Rattle.cx_base.specs.Layout.{field_end};
 /// A field at the head of a program's DFHEISTG: of its first 80 bytes, which come before the program's fields.
 ///
 /// The layout is this product's.
-#[derive(Clone, Copy, Debug, PartialEq, Eq)]
+#[derive(Clone, Copy, PartialEq, Eq)]
 pub enum EistgField {
     /// DFHEIPL: the words of an argument list, at most eighteen.
     Eipl,

@@ -74,7 +74,7 @@ fn is_complete_set(options: &[CommandOption], byte: u8) -> bool
 }
 
 /// A condition that HANDLE or IGNORE CONDITION lists, as its two bytes after the argument list's block.
-#[derive(Clone, Copy, Debug, PartialEq, Eq, Default)]
+#[derive(Clone, Copy, PartialEq, Eq, Default)]
 pub struct ListedCondition {
     /// The condition's number.
     pub number: u8,

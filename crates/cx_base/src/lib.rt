@@ -1,10 +1,6 @@
-//! Texts: digits, bytes as they are shown, words and lines, and pages of 24 lines.
-//! Lists as values, and what holds of tables by name.
-//! A hash of numbers.
-//! Values which can be compared, and of which equal ones of their own can be made: lists and tables of them, and values
-//! that are shared.
-//! The table of CICS commands: function values, options, marks, legal sets and arguments; the exceptional conditions
-//! and abend codes; the layouts of the EIB and of DFHEISTG's head.
+//! Texts, pages and numbers as digits; lists, tables by name, hashes and shared values, which can be compared and of
+//! which equal ones can be made; the table of CICS commands with their options and legal sets; conditions and abends;
+//! the layouts of the EIB and of DFHEISTG's head.
 #![tactic(auto)]
 
 mod abends;

@@ -11,7 +11,7 @@ use crate::legal::has_bit;
 /// An option of a command that has a bit in option byte 1 of the argument list.
 ///
 /// Application Programmer's Reference Manual, SC33-0077, the syntax of each command.
-#[derive(Clone, Copy, Debug, PartialEq, Eq)]
+#[derive(Clone, Copy, PartialEq, Eq)]
 pub enum OptionName {
     Abcode,
     Auxiliary,
@@ -134,7 +134,7 @@ fn with_name(options: &[OptionName], name: &[u8]) -> Option<OptionName>
 /// An option that every command may have. It has a bit in option byte 2 of the argument list.
 ///
 /// Application Programmer's Reference Manual, SC33-0077, "Exceptional conditions". The bits are this product's own.
-#[derive(Clone, Copy, Debug, PartialEq, Eq)]
+#[derive(Clone, Copy, PartialEq, Eq)]
 pub enum CommonOption {
     /// NOHANDLE: what HANDLE and IGNORE CONDITION asked for isn't looked at. The program goes on after a condition, but
     /// waits at NOSPACE, NOSTG and ENQBUSY where NOSUSPEND isn't given.
@@ -193,7 +193,7 @@ impl CommonOption {
 }
 
 /// What an option's argument is, and how the command uses the storage at its address.
-#[derive(Clone, Copy, Debug, PartialEq, Eq)]
+#[derive(Clone, Copy, PartialEq, Eq)]
 pub enum ArgumentKind {
     /// No argument.
     Flag,
@@ -235,7 +235,7 @@ impl ArgumentKind {
 }
 
 /// An option in the row of a command.
-#[derive(Clone, Copy, Debug, PartialEq, Eq)]
+#[derive(Clone, Copy)]
 pub struct CommandOption {
     /// Its bit in option byte 1.
     pub bit: u8,
@@ -248,7 +248,7 @@ pub struct CommandOption {
 }
 
 /// A rule of a command's legal sets of options. Options are named by their bits in option byte 1.
-#[derive(Clone, Copy, Debug, PartialEq, Eq)]
+#[derive(Clone, Copy, PartialEq, Eq)]
 pub enum Rule {
     /// Both or neither.
     Together(u8, u8),

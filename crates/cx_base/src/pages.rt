@@ -16,7 +16,7 @@ pub const LINES: usize = 24;
 pub const COLUMNS: usize = 80;
 
 /// A page: 24 lines of 80 characters.
-#[derive(Clone, Copy, Debug, PartialEq, Eq)]
+#[derive(Clone, Copy)]
 pub struct Page {
     lines: [[u8; COLUMNS]; LINES],
 }

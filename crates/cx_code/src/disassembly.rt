@@ -10,7 +10,7 @@ use crate::spelling::{encode, reading};
 use std::alloc::{AllocError, Global};
 
 /// What a line of a disassembly stands for.
-#[derive(Debug, Drop)]
+#[derive(Drop)]
 pub enum LineContent {
     /// An instruction, which the bytes spell.
     Code(Inst),
@@ -21,7 +21,7 @@ pub enum LineContent {
 }
 
 /// A line of a disassembly: what begins at an offset. An instruction, bytes or space of any length is one line.
-#[derive(Debug, Drop)]
+#[derive(Drop)]
 pub struct Line {
     /// The offset of its first byte in the text.
     pub at: u32,

@@ -5,7 +5,7 @@ ghost use Rattle.std.specs.Prelude.{◌≡◌};
 use std::marker::Model;
 
 /// A list of bytes, as the text of a program or a part of it.
-#[derive(Debug, Drop)]
+#[derive(Drop)]
 pub struct Bytes {
     bytes: Vec<u8>,
 }
@@ -43,7 +43,7 @@ impl Bytes {
 }
 
 /// A list of offsets, in bytes.
-#[derive(Debug, Drop)]
+#[derive(Drop)]
 pub struct Offsets {
     offsets: Vec<u32>,
 }
@@ -81,7 +81,7 @@ impl Offsets {
 }
 
 /// A program as it is loaded: any values, which the loader checks.
-#[derive(Debug, Drop)]
+#[derive(Drop)]
 pub struct Image {
     /// The program's bytes: instructions, constants and space.
     pub text: Bytes,
@@ -94,7 +94,7 @@ pub struct Image {
 }
 
 /// What a span of a text holds.
-#[derive(Clone, Copy, Debug, PartialEq, Eq)]
+#[derive(Clone, Copy, PartialEq, Eq)]
 pub enum SpanKind {
     /// An instruction.
     Code,
@@ -105,7 +105,7 @@ pub enum SpanKind {
 }
 
 /// A part of a text. It may go past the text's end.
-#[derive(Clone, Copy, Debug, PartialEq, Eq)]
+#[derive(Clone, Copy)]
 pub struct Span {
     /// The offset of its first byte in the text.
     pub start: u32,

@@ -8,7 +8,7 @@ use std::marker::Model;
 
 /// The fields of an instruction, by its format, from left to right. A register or a mask is 0 to
 /// 15, a displacement 0 to 4,095.
-#[derive(Clone, Copy, Debug, PartialEq, Eq)]
+#[derive(Clone, Copy, PartialEq, Eq)]
 pub enum Fields {
     /// The first register, or the mask of a BCR, and the second register.
     Rr {
@@ -104,7 +104,7 @@ impl Fields {
 
 /// An instruction. Its fields are those of its row's format, each field is in its range, and a
 /// shift's third register, which the machine ignores, is zero.
-#[derive(Clone, Copy, Debug, PartialEq, Eq)]
+#[derive(Clone, Copy)]
 pub struct Inst {
     op: Op,
     fields: Fields,

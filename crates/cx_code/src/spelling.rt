@@ -13,7 +13,7 @@ use byteorder::{BigEndian, ByteOrder};
 use std::marker::Model;
 
 /// The bytes of an instruction, at most six.
-#[derive(Debug, Drop)]
+#[derive(Drop)]
 pub struct CodeBytes {
     bytes: ArrayVec<u8, 6>,
 }

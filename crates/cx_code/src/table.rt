@@ -10,7 +10,7 @@ use Op::{
 };
 
 /// How the fields of an instruction lie in its bytes (Principles of Operation, GA22-7000, "Instruction Formats").
-#[derive(Clone, Copy, Debug, PartialEq, Eq)]
+#[derive(Clone, Copy, PartialEq, Eq)]
 pub enum Format {
     /// Two registers: 2 bytes.
     Rr,
@@ -54,7 +54,7 @@ pub fn instruction_length(code: u8) -> usize
 
 /// An instruction of the table, by its mnemonic: its operation code, its format and what it does, in a few words
 /// (Principles of Operation, GA22-7000).
-#[derive(Clone, Copy, Debug, PartialEq, Eq)]
+#[derive(Clone, Copy, PartialEq, Eq)]
 pub enum Op {
     /// X'05', RR: branch and link.
     Balr,

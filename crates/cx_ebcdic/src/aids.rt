@@ -7,7 +7,7 @@ ghost use Rattle.cx_ebcdic.specs.Aids.{key_of};
 /// The key with which a terminal's input was sent: its attention identifier.
 ///
 /// Introduction to the 3270, GA27-2739, "Attention Identification".
-#[derive(Clone, Copy, Debug, PartialEq, Eq)]
+#[derive(Clone, Copy, PartialEq, Eq)]
 pub enum Aid {
     Enter,
     Clear,

@@ -6,7 +6,7 @@ use cx_ebcdic::Name4;
 use cx_region::{AlterReply, Event, KeyReply, Reply, TurnReply};
 
 /// What EDF ON or EDF OFF is answered.
-#[derive(Clone, Copy, Debug, PartialEq, Eq)]
+#[derive(Clone, Copy, PartialEq, Eq)]
 pub enum EdfReply {
     /// A session began.
     Started,
@@ -36,7 +36,7 @@ impl EdfReply {
 }
 
 /// What a key is answered under EDF.
-#[derive(Clone, Copy, Debug, PartialEq, Eq)]
+#[derive(Clone, Copy)]
 pub enum KeyAnswer {
     /// The key was the region's, which replied so.
     Region(KeyReply),
@@ -45,7 +45,7 @@ pub enum KeyAnswer {
 }
 
 /// What a turn is answered under EDF.
-#[derive(Clone, Copy, Debug, PartialEq, Eq)]
+#[derive(Clone, Copy)]
 pub enum TurnAnswer {
     /// The turn was the region's, which replied so.
     Region(TurnReply),
@@ -54,7 +54,7 @@ pub enum TurnAnswer {
 }
 
 /// What an alteration is answered under EDF.
-#[derive(Clone, Copy, Debug, PartialEq, Eq)]
+#[derive(Clone, Copy)]
 pub enum AlterAnswer {
     /// The alteration was the region's, which replied so.
     Region(AlterReply),
@@ -86,7 +86,7 @@ pub enum EdfEvent {
 }
 
 /// What an event is answered under EDF.
-#[derive(Clone, Copy, Debug, PartialEq, Eq)]
+#[derive(Clone, Copy, PartialEq, Eq)]
 pub enum Answer {
     /// The event was the region's, which replied so.
     Region(Reply),

@@ -24,7 +24,8 @@ pub fn what_is_left_is_a_run()
 {}
 
 /// The displays that are kept of each terminal after a run under EDF are the last ten of its session, each of the
-/// region as it was right after a half-turn of the terminal or its task's end by an alteration.
+/// region as it was right after a half-turn of the terminal or its task's end by an alteration. So it is where they
+/// were so before the run.
 #[tactic(auto, using(crate::proofs::TraceLemmas::last_displays_are_kept))]
 pub fn last_displays_are_kept()
     ensures { LastDisplaysAreKept }
@@ -58,7 +59,7 @@ pub fn a_plain_run_agrees()
 /// An event is dropped for that run exactly where its answer is EDF's (to EDF ON and EDF OFF, a key in Stopped, a turn
 /// that is held, an alteration outside Stopped) and it is no PF12 that ends a task, or where it is a refused
 /// alteration. Such an event leaves the region as it was. An event of the region that EDF doesn't take is passed to the
-/// region as it is.
+/// region as it is. Whether an event is EDF's own is fixed by the event and its terminal's mode.
 #[tactic(auto, using(crate::proofs::LawLemmas::own_answers, crate::proofs::LawLemmas::erased_events, crate::proofs::LawLemmas::erased_leave, crate::proofs::LawLemmas::others_are_passed))]
 pub fn what_is_erased_changes_nothing()
     ensures answers { OwnEventsHaveOwnAnswers }

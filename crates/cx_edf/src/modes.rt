@@ -3,7 +3,7 @@
 use cx_edf_display::StopPoint;
 
 /// The mode of a terminal under EDF.
-#[derive(Clone, Copy, Debug, PartialEq, Eq)]
+#[derive(Clone, Copy)]
 pub enum Mode {
     /// Its task runs, and stops before and after each command, at an exit, and at its end.
     Free,
@@ -14,7 +14,7 @@ pub enum Mode {
 }
 
 /// A page of a display: the main page, the storage page or the user page.
-#[derive(Clone, Copy, Debug, PartialEq, Eq)]
+#[derive(Clone, Copy, PartialEq, Eq)]
 pub enum PageName {
     Main,
     Storage,
@@ -22,7 +22,7 @@ pub enum PageName {
 }
 
 /// Which display is shown, and which page of it.
-#[derive(Clone, Copy, Debug, PartialEq, Eq)]
+#[derive(Clone, Copy)]
 pub struct View {
     /// How many displays before the newest it is; 0 is the newest.
     pub back: usize,

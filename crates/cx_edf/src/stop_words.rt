@@ -10,7 +10,7 @@ use cx_base::{CONDITIONS, Condition, shown_byte};
 use cx_edf_display::{Ending, StopPoint};
 
 /// A stop condition: what a task stops at under suppression.
-#[derive(Clone, Copy, Debug, PartialEq, Eq)]
+#[derive(Clone, Copy)]
 pub enum StopWord {
     /// ABEND: an abend, whether an exit takes it or the task ends by it.
     Abend,
@@ -34,7 +34,7 @@ impl StopWord {
 }
 
 /// The stop conditions of a session: each is on or off.
-#[derive(Clone, Copy, Debug, PartialEq, Eq)]
+#[derive(Clone, Copy)]
 pub struct Stops {
     /// ABEND is on.
     pub abend: bool,

@@ -12,7 +12,7 @@ use cx_region::Region;
 use cx_storage::Store;
 
 /// A display: what was seen of a task where it stopped.
-#[derive(Clone, Copy, Debug, PartialEq, Eq)]
+#[derive(Clone, Copy)]
 pub struct Display {
     /// Where the task stopped.
     pub kind: StopPoint,

@@ -4,7 +4,7 @@ use cx_base::Condition;
 use cx_ebcdic::Name4;
 
 /// How a task ended.
-#[derive(Clone, Copy, Debug, PartialEq, Eq)]
+#[derive(Clone, Copy)]
 pub enum Ending {
     /// By RETURN of its highest level.
     Ended,
@@ -13,7 +13,7 @@ pub enum Ending {
 }
 
 /// Where EDF stops a task.
-#[derive(Clone, Copy, Debug, PartialEq, Eq)]
+#[derive(Clone, Copy)]
 pub enum StopPoint {
     /// Before the command that is due.
     Before,

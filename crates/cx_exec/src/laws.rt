@@ -30,21 +30,22 @@ pub fn division_is_one()
 {}
 
 /// MVC and XC: where the first operand doesn't begin inside the second after its first byte, the second's bytes are
-/// those that were there before.
+/// those that were there before. The second operand's bytes are there, of XC the first's too. Operands are at
+/// addresses, and have at most 2^24 bytes.
 #[tactic(auto, using(crate::proofs::BlockLemmas::outside_is_moved, crate::proofs::BlockLemmas::outside_is_joined))]
 pub fn outside_is_before()
     ensures moved { OutsideIsMoved }
     ensures joined { OutsideIsJoined }
 {}
 
-/// MVC, XC, TR, PACK and UNPK: as many bytes are stored as are asked for, and each is what the rule makes of those
-/// before it.
+/// MVC, XC, TR, PACK and UNPK: as many bytes, one or more, are stored as are asked for, and each is what the rule makes
+/// of those before it.
 #[tactic(auto, using(crate::proofs::SequenceLemmas::each_is_stored))]
 pub fn each_is_stored()
     ensures { EachIsStored }
 {}
 
-/// STCM: a mask of four ones takes the whole word.
+/// STCM: a mask of four ones takes the whole word, of a register below 2^32.
 #[tactic(auto, unfolding(crate::specs::Masks::selected_bytes))]
 pub fn all_is_taken()
     ensures { AllIsTaken }

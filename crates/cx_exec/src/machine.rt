@@ -22,7 +22,7 @@ pub struct Cpu {
 
 /// A program interruption (Principles of Operation, GA22-7000, "Program Interruption"). Of several causes `step` says
 /// which is taken.
-#[derive(Clone, Copy, Debug, PartialEq, Eq)]
+#[derive(Clone, Copy, PartialEq, Eq)]
 pub enum Interruption {
     /// The operation code is in no row of the table of `cx_code`.
     Operation,
@@ -62,7 +62,7 @@ impl Interruption {
 pub(crate) type Performed = Result<(), Interruption>;
 
 /// How a step ended.
-#[derive(Clone, Copy, Debug, PartialEq, Eq)]
+#[derive(Clone, Copy, PartialEq, Eq)]
 pub enum Step {
     /// The instruction was performed.
     Done,
@@ -73,7 +73,7 @@ pub enum Step {
 }
 
 /// How a run of instructions ended.
-#[derive(Clone, Copy, Debug, PartialEq, Eq)]
+#[derive(Clone, Copy, PartialEq, Eq)]
 pub enum Halt {
     /// The next address is the entry.
     AtEntry,

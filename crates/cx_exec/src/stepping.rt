@@ -237,12 +237,13 @@ fn run<S: Store>(cpu: &mut Cpu, store: &mut S) -> Performed
 
 /// Performs the instruction at the next address, unless that is the entry.
 ///
-/// Done: its effect is that of its row. AtEntry: nothing was fetched, and nothing changed.
-/// Interrupt: nothing changed, except the register of a CVB whose number no word holds. Of several causes
-/// the first in this order is taken: an odd instruction address (6), a byte of the instruction absent (5),
-/// an unknown operation code (1); for EX the target's odd address (6), absent bytes (5), that it is an EX
-/// (3), its unknown code (1); then what the row tests: an odd register of a pair (6), operand bytes (5),
-/// decimal digits and sign (7), a quotient or a number that does not fit (9).
+/// Done: its effect is that of its row, one of 56, and the instruction is the one that storage holds at that moment; EX
+/// performs the changed copy of its target. AtEntry: nothing was fetched, and nothing changed. Interrupt: nothing
+/// changed, except the register of a CVB whose number no word holds. Of several causes the first in this order is
+/// taken: an odd instruction address (6), a byte of the instruction absent (5), an unknown operation code (1); for EX
+/// the target's odd address (6), absent bytes (5), that it is an EX (3), its unknown code (1); then what the row tests:
+/// an odd register of a pair (6), operand bytes (5), decimal digits and sign (7), a quotient or a number that does not
+/// fit (9).
 ///
 /// Principles of Operation, "Instruction Execution", "Execute", "Program Interruption".
 #[tactic(auto, unfolding(crate::specs::Step::Steps))]

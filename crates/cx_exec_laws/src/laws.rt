@@ -51,7 +51,8 @@ pub fn result_is_exact()
     ensures { ResultIsExact }
 {}
 
-/// The pair that a multiplication leaves is read as the exact product.
+/// The pair that a multiplication leaves is read as the exact product. The pair is among the registers, and the factors
+/// are below 2^32.
 #[tactic(auto, using(crate::proofs::LawLemmas::product_is_exact))]
 pub fn product_is_exact()
     ensures { ProductIsExact }
@@ -62,7 +63,7 @@ pub fn shifted_is_floor()
     ensures { ShiftedIsFloor }
 {}
 
-/// A word shifted left holds its exact number, where a word holds that.
+/// A word (below 2^32) shifted left holds its exact number, where a word holds that.
 #[tactic(auto, using(crate::proofs::LawLemmas::shifted_is_exact))]
 pub fn shifted_is_exact()
     ensures { ShiftedIsExact }
@@ -74,18 +75,20 @@ pub fn stored_words()
     ensures { StoredWords }
 {}
 
-/// LM: the register k places after the first one is loaded from the word at the place 4k on.
+/// LM: the register k places after the first one is loaded from the word at the place 4k on. The first register is
+/// below 16, and the words are there.
 #[tactic(auto, using(crate::proofs::LawLemmas::loaded_words))]
 pub fn loaded_words()
     ensures { LoadedWords }
 {}
 
-/// CVD and CVB: what is written of a number is read as that number.
+/// CVD and CVB: what is written of a number of less than 10^15 in size is read as that number.
 pub fn decimal_reads_back()
     ensures { DecimalReadsBack }
 {}
 
-/// MVC: a second operand that has no byte of the first is copied.
+/// MVC: a second operand that has no byte of the first is copied. Both are there, at addresses, with at most 2^24
+/// bytes.
 pub fn apart_is_copied()
     ensures { ApartIsCopied }
 {

@@ -64,6 +64,7 @@ module _ (off : TheRegionIsOff) (runs : StepsAreRuns) (scripts : ScriptsAskForSt
   all_of : (cut : Option ℕ) (outcomes : List Outcome) → AreOutcomes Shows keys start cut outcomes → AreAll Shows keys region cut outcomes
   all_of cut outcomes are = record {
     none_missed = are.all;
+    written = are.written;
     real = λ place one at. real one cut (are.each place one at);
     once = texts_stand_once sooner Shows keys start cut outcomes are;
   }

@@ -1,4 +1,4 @@
-//! What the program promises, as contracts over what it runs.
+//! The headline: what the programs promise, one law for each clause, over what they run.
 #![tactic(auto)]
 
 pub mod laws;

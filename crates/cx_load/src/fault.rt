@@ -49,7 +49,7 @@ impl Display for ImageFault {
 }
 
 /// An image without a fault: one that `load` takes. `check` alone makes one.
-#[derive(Debug, Drop)]
+#[derive(Drop)]
 pub struct CheckedImage {
     image: Image,
 }

@@ -32,8 +32,8 @@ pub fn words_in_order()
         → (fault ≢ RelocOutside) × (fault ≢ Overlap) }
 {}
 
-/// The load address is added to each relocated word modulo 2^32, every byte of no such word stays, and
-/// the text keeps its length.
+/// The load address is added to each relocated word modulo 2^32, every byte of no such word stays, and the text keeps
+/// its length. The words are inside the text; where the address is added, no two of them share a byte.
 pub fn relocation()
     ensures words { (at i : ℕ) (relocs text : List ℕ) → IsTrue (all_apart relocs)
         → IsTrue (are_inside (length text) relocs)

@@ -25,7 +25,7 @@ const PROGRAM_OWNER: Owner = Owner {
 };
 
 /// Where a program is, as `load` put it.
-#[derive(Clone, Copy, Debug, PartialEq, Eq)]
+#[derive(Clone, Copy, PartialEq, Eq)]
 pub struct Loaded {
     /// The address of its first byte: a multiple of 16 from X'010000' to X'1FFFFF'.
     pub at: u32,

@@ -10,7 +10,7 @@ use Rattle.cx_look.specs.Orders.{orders_block}
 abbrev pub IsAskedByItsLine : KeyLine → Type 0
 IsAskedByItsLine key = line_of key.line ≡ Some (event_line (event.Key key.name key.aid key.bytes))
 
--- so it is of each key of a block
+-- each key of a block is asked by its line
 abbrev pub KeysAreAskedByTheirLines : Type 0
 KeysAreAskedByTheirLines =
     (most : ℕ) (lines : List (List ℕ)) → AllByRecursion IsAskedByItsLine (orders_block most lines).keys

@@ -1,4 +1,4 @@
-//! What a line that looks at a region asks.
+//! What a line that looks at a region asks; and a block of ORDERS: which lines it may have, and what they ask.
 #![tactic(auto)]
 
 pub mod laws;

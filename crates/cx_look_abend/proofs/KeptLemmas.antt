@@ -17,15 +17,18 @@ use Rattle.cx_region.specs.declared.replies.Reply.{Reply}
 use Rattle.cx_region.specs.declared.replies.Reply.TheVariants as reply
 use Rattle.cx_edf.specs.Laws.Edf.{EdfEventsDecide}
 use Rattle.cx_edf.specs.State.{EdfState, holds}
-use Rattle.cx_edf.specs.Steps.{AppliesBy, DisplayMaker, DoorAnswers, EdfHasAbendRecord, Keeps, Passes, door_of}
+use Rattle.cx_edf.specs.Steps.{AppliesBy, DisplayMaker, DoorAnswers, EdfApplies, EdfHasAbendRecord, Keeps, Passes, door_of}
+use Rattle.cx_edf.specs.declared.answers.Answer.{Answer}
 use Rattle.cx_edf.specs.declared.answers.Answer.TheVariants as answer
 use Rattle.cx_edf.specs.declared.answers.EdfEvent.{EdfEvent}
 use Rattle.cx_edf.specs.declared.answers.EdfEvent.TheVariants as edf_event
-use Rattle.cx_look_abend.specs.Abends.{before_turn, last_of_turn, kept_task}
+use Rattle.cx_look_abend.specs.Abends.{before_turn, last_of_turn}
+use Rattle.cx_look_abend.specs.Dumps.{Dump, TurnHasDump}
+use Rattle.cx_look_abend.specs.Parts.Sources.{DumpSource, GivesDump, IsSourceAt}
 use Rattle.cx_look_abend.specs.declared.abends.TaskBefore.{TaskBefore}
-use Rattle.cx_look_abend.proofs.DumpLemmas.{RunsAreDecided, dumps_decide}
+use Rattle.cx_look_abend.proofs.DumpLemmas.{RunsAreDecided, event_dumps_decide, event_gives}
 use Rattle.cx_look_abend.specs.Laws.{AbendsAreKept, KeepsTurn, NotedDecide}
-use Rattle.cx_look_abend.specs.Noting.{KeptAbends, IsTaskBefore, with_last}
+use Rattle.cx_look_abend.specs.Noting.{AppliesWithAbends, EventHasDump, KeptAbends, is_ending_key, kept_after, task_before, with_last}
 
 turn_explains : AbendRecordsExplain → (old new : RegionState) (name : List ℕ) (given : TurnReply) (abend_record : Option AbendRecord)
     → TakesTurn old name given new → TurnHasAbendRecord old name abend_record → Explains abend_record given
@@ -63,36 +66,45 @@ event_explains law make old new name given abend_record applies recorded = by_he
         let same : reply.Turn given ≡ it.reply = cc in
         passed_explains law old.region new.region name given it.reply abend_record same it.applies that
 
-kept_by : (before : KeptAbends) (region : RegionState) (name : List ℕ) (task : TaskBefore) (given : TurnReply) (abend_record : Option AbendRecord) → Explains abend_record given
-    → KeepsTurn before name task.task given (option_map_or (with_last before name) (last_of_turn region name given task abend_record) before)
-kept_by before region name task turn.Idle None is = refl
-kept_by before region name task turn.NoSuchTerminal None is = refl
-kept_by before region name task turn.AtCommand None is = refl
-kept_by before region name task (turn.Performed condition) None is = refl
-kept_by before region name task turn.Entered None is = refl
-kept_by before region name task turn.Returned None is = refl
-kept_by before region name task turn.Waiting None is = refl
-kept_by before region name task (turn.TookLabel condition) None is = refl
-kept_by before region name task (turn.TookExit code) None is = absurd (let no : true ≡ false = is in cc)
-kept_by before region name task (turn.Abended code) None is = absurd (let no : true ≡ false = is in cc)
-kept_by before region name task turn.Ended None is = refl
-kept_by before region name task (turn.TookExit code) (Some abend_record) is = record { last = _; kept = refl; of_task = refl; with_code = refl; explained = refl }
-kept_by before region name task (turn.Abended code) (Some abend_record) is = record { last = _; kept = refl; of_task = refl; with_code = refl; explained = refl }
-kept_by before region name task turn.Idle (Some abend_record) is = absurd is
-kept_by before region name task turn.NoSuchTerminal (Some abend_record) is = absurd is
-kept_by before region name task turn.AtCommand (Some abend_record) is = absurd is
-kept_by before region name task (turn.Performed condition) (Some abend_record) is = absurd is
-kept_by before region name task turn.Entered (Some abend_record) is = absurd is
-kept_by before region name task turn.Returned (Some abend_record) is = absurd is
-kept_by before region name task turn.Waiting (Some abend_record) is = absurd is
-kept_by before region name task (turn.TookLabel condition) (Some abend_record) is = absurd is
-kept_by before region name task turn.Ended (Some abend_record) is = absurd is
+recorded_by : (old : RegionState) (name : List ℕ) (abend_record : Option AbendRecord) (held : Bool) → MatchBool held (abend_record ≡ None) (TurnHasAbendRecord old name abend_record)
+    → (it : AbendRecord) → abend_record ≡ Some it → TurnHasAbendRecord old name (Some it)
+recorded_by old name abend_record true none it e = cc
+recorded_by old name abend_record false recorded it e = subst (λ (r : Option AbendRecord). TurnHasAbendRecord old name r) e recorded
+
+kept_by : (before : KeptAbends) (old new : RegionState) (name : List ℕ) (given : TurnReply) (dump : Option Dump) (abend_record : Option AbendRecord) → Explains abend_record given
+    → ((it : AbendRecord) → abend_record ≡ Some it → TurnHasAbendRecord old name (Some it)) → MatchOption abend_record (dump ≡ None) (λ it. TurnHasDump old name dump)
+    → KeepsTurn before old new name given (option_map_or (with_last before name) (last_of_turn new name given (before_turn old name) dump abend_record) before)
+kept_by before old new name turn.Idle dump None is recorded dumped = refl
+kept_by before old new name turn.NoSuchTerminal dump None is recorded dumped = refl
+kept_by before old new name turn.AtCommand dump None is recorded dumped = refl
+kept_by before old new name (turn.Performed condition) dump None is recorded dumped = refl
+kept_by before old new name turn.Entered dump None is recorded dumped = refl
+kept_by before old new name turn.Returned dump None is recorded dumped = refl
+kept_by before old new name turn.Waiting dump None is recorded dumped = refl
+kept_by before old new name (turn.TookLabel condition) dump None is recorded dumped = refl
+kept_by before old new name turn.Ended dump None is recorded dumped = refl
+kept_by before old new name (turn.TookExit code) dump None is recorded dumped = absurd (let no : true ≡ false = is in cc)
+kept_by before old new name (turn.Abended code) dump None is recorded dumped = absurd (let no : true ≡ false = is in cc)
+kept_by before old new name (turn.TookExit code) dump (Some abend_record) is recorded dumped =
+    record { last = _; kept = refl; of_task = refl; with_code = refl; abend_record = abend_record; recorded = recorded abend_record refl; dump = dump; dumped = dumped; explained = refl }
+kept_by before old new name (turn.Abended code) dump (Some abend_record) is recorded dumped =
+    record { last = _; kept = refl; of_task = refl; with_code = refl; abend_record = abend_record; recorded = recorded abend_record refl; dump = dump; dumped = dumped; explained = refl }
+kept_by before old new name turn.Idle dump (Some abend_record) is recorded dumped = absurd is
+kept_by before old new name turn.NoSuchTerminal dump (Some abend_record) is recorded dumped = absurd is
+kept_by before old new name turn.AtCommand dump (Some abend_record) is recorded dumped = absurd is
+kept_by before old new name (turn.Performed condition) dump (Some abend_record) is recorded dumped = absurd is
+kept_by before old new name turn.Entered dump (Some abend_record) is recorded dumped = absurd is
+kept_by before old new name turn.Returned dump (Some abend_record) is recorded dumped = absurd is
+kept_by before old new name turn.Waiting dump (Some abend_record) is recorded dumped = absurd is
+kept_by before old new name (turn.TookLabel condition) dump (Some abend_record) is recorded dumped = absurd is
+kept_by before old new name turn.Ended dump (Some abend_record) is recorded dumped = absurd is
 
 pub abends_are_kept : AbendRecordsExplain → AbendsAreKept
-unfolding IsTaskBefore
+unfolding task_before EventHasDump EdfHasAbendRecord
 abends_are_kept law old new before after name given it =
-    let same : it.task.task ≡ kept_task old.region name = ap (λ (b : TaskBefore). b.task) it.taken.1 in
-    rw (it.kept, ← same) (kept_by before new.region name it.task given it.abend_record (event_explains law _ old new name given it.abend_record it.applies it.recorded))
+    rw (it.kept)
+    (kept_by before old.region new.region name given it.dump it.abend_record (event_explains law _ old new name given it.abend_record it.applies it.recorded)
+    (recorded_by old.region name it.abend_record (holds old name) it.recorded) it.dumped)
 
 -- ---- what is kept is decided
 turn_abend_records_decide : AbendRecordsDecide → (old : RegionState) (name : List ℕ) (one other : Option AbendRecord) → TurnHasAbendRecord old name one → TurnHasAbendRecord old name other → one ≡ other
@@ -126,23 +138,38 @@ abend_records_decide law old (edf_event.Plain (event.Alter name change)) one oth
 abend_records_decide law old (edf_event.On name) one other h k = h ∙ sym k
 abend_records_decide law old (edf_event.Off name) one other h k = h ∙ sym k
 
--- what is kept of a task before an event
-taken_decide : RunsAreDecided → (region : RegionState) (e : EdfEvent) (one other : TaskBefore) → IsTaskBefore region e one → IsTaskBefore region e other → one ≡ other
-unfolding IsTaskBefore
-taken_decide law region (edf_event.Plain (event.Turn name)) one other h k =
-    h.1 ∙ ap (before_turn region name) (dumps_decide law region name one.dump other.dump h.0 k.0) ∙ sym k.1
-taken_decide law region (edf_event.Plain (event.Program name image)) one other h k = h ∙ sym k
-taken_decide law region (edf_event.Plain (event.Transaction tran program)) one other h k = h ∙ sym k
-taken_decide law region (edf_event.Plain (event.Terminal name)) one other h k = h ∙ sym k
-taken_decide law region (edf_event.Plain (event.Clock time date)) one other h k = h ∙ sym k
-taken_decide law region (edf_event.Plain (event.Key name aid bytes)) one other h k = h ∙ sym k
-taken_decide law region (edf_event.Plain (event.Alter name change)) one other h k = h ∙ sym k
-taken_decide law region (edf_event.On name) one other h k = h ∙ sym k
-taken_decide law region (edf_event.Off name) one other h k = h ∙ sym k
+-- the DFHEISTG at an abend to which it leads
+same_dump : RunsAreDecided → (region : RegionState) (e : EdfEvent) (one other : Option Dump) (abend_record : Option AbendRecord)
+    → MatchOption abend_record (one ≡ None) (λ it. EventHasDump region e one) → MatchOption abend_record (other ≡ None) (λ it. EventHasDump region e other) → one ≡ other
+same_dump law region e one other None h k = h ∙ sym k
+same_dump law region e one other (Some abend_record) h k = event_dumps_decide law region e one other h k
 
 pub noted_decide : EdfEventsDecide → AbendRecordsDecide → RunsAreDecided → NotedDecide
 noted_decide events law runs old new later before after others e given other h k =
     let same : (given ≡ other) × (new ≡ later) = events old e given other new later h.applies k.applies in
     let abend_record : h.abend_record ≡ k.abend_record = abend_records_decide law old e h.abend_record k.abend_record h.recorded k.recorded in
-    let task : h.task ≡ k.task = taken_decide runs old.region e h.task k.task h.taken k.taken in
-    (same.0, same.1, h.kept ∙ (rw (same.0, same.1, abend_record, task) refl) ∙ sym k.kept)
+    let here = subst (λ (r : Option AbendRecord). MatchOption r (h.dump ≡ None) (λ it. EventHasDump old.region e h.dump)) abend_record h.dumped in
+    let dump : h.dump ≡ k.dump = same_dump runs old.region e h.dump k.dump k.abend_record here k.dumped in
+    (same.0, same.1, h.kept ∙ (rw (same.0, same.1, abend_record, dump) refl) ∙ sym k.kept)
+
+-- ---- what is kept after an event, by what its steps give
+pub noted_by : (old new : EdfState) (before kept after : KeptAbends) (e : EdfEvent) (given : Answer) (ends : Bool) (task : TaskBefore) (source : DumpSource)
+    (first second third : RegionState) (abend_record : Option AbendRecord) (dump : Option Dump)
+    → after ≡ kept_after kept ends task e given dump abend_record third → third ≡ new.region → kept ≡ before → ends ≡ is_ending_key old e
+    → task ≡ task_before first e → first ≡ old.region → EdfApplies old e given new → EdfHasAbendRecord old e abend_record
+    → MatchOption abend_record (dump ≡ None) (λ it. GivesDump source dump) → IsSourceAt second e source → second ≡ old.region
+    → AppliesWithAbends old before e given new after
+noted_by old new before kept after e given ends task source first second third abend_record dump is third_is same_kept ends_is task_is first_is applies recorded gives of second_is =
+    record {
+      abend_record = abend_record;
+      applies = applies;
+      recorded = recorded;
+      dump = dump;
+      dumped = event_gives old.region e source dump abend_record (subst (λ (r : RegionState). IsSourceAt r e source) second_is of) gives;
+      kept = is
+          ∙ ap (λ (k : KeptAbends). kept_after k ends task e given dump abend_record third) same_kept
+          ∙ ap (λ (b : Bool). kept_after before b task e given dump abend_record third) ends_is
+          ∙ ap (λ (t : TaskBefore). kept_after before (is_ending_key old e) t e given dump abend_record third)
+          (task_is ∙ ap (λ (r : RegionState). task_before r e) first_is)
+          ∙ ap (λ (r : RegionState). kept_after before (is_ending_key old e) (task_before old.region e) e given dump abend_record r) third_is;
+    }

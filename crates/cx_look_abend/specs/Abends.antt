@@ -56,14 +56,14 @@ exit_place region name _ = None
 
 -- why a turn led to an abend, where its program was, the arguments of its command, and its DFHEISTG; the byte before a
 -- place after a command is the last of the command's EXEC
-abbrev pub explanation_of : RegionState → TaskBefore → AbendRecord → Explanation
-explanation_of region before abend_record =
+abbrev pub explanation_of : RegionState → TaskBefore → Option Dump → AbendRecord → Explanation
+explanation_of region before dump abend_record =
     record {
       abend_record = abend_record;
       place = place_at_address region.shared.programs (abend_place abend_record);
       before = spot_before region.shared.programs (abend_place abend_record);
       arguments = before.arguments;
-      dump = before.dump;
+      dump = dump;
     }
 
 -- a level that has called another: its program, and bits 8 to 31 of the R14 that it kept, where it goes on
@@ -89,32 +89,32 @@ call_lines s (Err fault) = []
 unfoldable pub due_arguments : Storage → TaskState → Lines
 due_arguments s task = if task.due then call_lines s (call_of s (argument_list task)) else []
 
--- what is kept of a terminal's task before a turn, with the DFHEISTG as it is at an abend to which the turn leads
-abbrev pub before_turn : RegionState → List ℕ → Option Dump → TaskBefore
-before_turn region name dump =
+-- what is kept of a terminal's task before a turn
+abbrev pub before_turn : RegionState → List ℕ → TaskBefore
+before_turn region name =
     record {
       task = kept_task region name;
       arguments = option_map_or (due_arguments region.shared.storage) (task_of region name) [];
-      dump = dump;
     }
 
 -- and before what an operator does
 abbrev pub before_operator : RegionState → List ℕ → TaskBefore
-before_operator region name = record { task = kept_task region name; arguments = []; dump = None }
+before_operator region name = record { task = kept_task region name; arguments = [] }
 
--- the abend of a turn of this terminal's task with that reply and record, in the region after it
-abbrev pub last_with : RegionState → List ℕ → TurnReply → TaskBefore → AbendRecord → List ℕ → LastAbend
-last_with region name reply before abend_record code =
+-- the abend of a turn of this terminal's task with that reply and record, and that DFHEISTG, in the region after it
+abbrev pub last_with : RegionState → List ℕ → TurnReply → TaskBefore → Option Dump → AbendRecord → List ℕ → LastAbend
+last_with region name reply before dump abend_record code =
     record {
       code = code;
       task = before.task;
-      explanation = Some (explanation_of region before abend_record);
+      explanation = Some (explanation_of region before dump abend_record);
       exit = exit_place region name reply;
     }
 
-abbrev pub last_of_turn : RegionState → List ℕ → TurnReply → TaskBefore → Option AbendRecord → Option LastAbend
-last_of_turn region name reply before abend_record =
-    option_and_then (λ it. option_map (last_with region name reply before it) (abend_code_in reply)) abend_record
+abbrev pub last_of_turn :
+    RegionState → List ℕ → TurnReply → TaskBefore → Option Dump → Option AbendRecord → Option LastAbend
+last_of_turn region name reply before dump abend_record =
+    option_and_then (λ it. option_map (last_with region name reply before dump it) (abend_code_in reply)) abend_record
 
 -- an abend of a task that an operator asked for
 abbrev pub by_operator : TaskBefore → LastAbend

@@ -1,18 +1,18 @@
 -- The DFHEISTG of a level as it is at an abend (own).
-use Rattle.std.specs.Prelude.{◌≡◌, ℕ, zero, suc, ◌+◌, ◌*◌, ◌/◌, min, Bool, MatchBool, MatchOption, Option, None, is_some, List, [], ◌∷◌, ◌++◌, codes, drop, length, take}
+use Rattle.std.specs.Prelude.{◌≡◌, ℕ, zero, suc, ◌+◌, ◌*◌, ◌/◌, min, MatchBool, MatchOption, Option, None, List, [], ◌∷◌, ◌++◌, codes, drop, length, take}
 use Rattle.std.specs.Option.{option_map, option_map_or}
 use Rattle.cx_base.specs.Digits.{digits, hex_digits}
 use Rattle.cx_base.specs.Texts.{in_columns, join, shown_name, shown_text}
-use Rattle.cx_exec.specs.Advance.{Advances}
 use Rattle.cx_exec.specs.Machine.{Machine}
-use Rattle.cx_exec.specs.declared.machine.Halt.{Halt}
 use Rattle.cx_program.specs.declared.level.Level.{Level}
 use Rattle.cx_storage.specs.Address.{address_after, address_in}
-use Rattle.cx_storage.specs.Storage.{Storage, next_area, span}
+use Rattle.cx_storage.specs.Storage.{Storage, span}
 use Rattle.cx_region.specs.State.{RegionState}
 use Rattle.cx_region.specs.Tables.{task_of}
 use Rattle.cx_region_state.specs.State.{TaskState}
 use Rattle.cx_region_task.specs.Turn.{most_steps}
+use Rattle.cx_look_turn.specs.NextTurn.{task_machine}
+use Rattle.cx_look_turn.specs.Traces.{Leaves}
 use Rattle.cx_look_tables.specs.Words.{look_line, or_none, Lines}
 use Rattle.cx_look_symbols.specs.Sources.{Sources, source_lines}
 use Rattle.cx_look_levels.specs.KeptFields.{kept_fields}
@@ -23,35 +23,25 @@ pub record Dump : Type 0 where
   pub at : ℕ
   pub bytes : List ℕ
 
--- a level's DFHEISTG in a storage; no program has one of more than 65,520 bytes
+-- so many bytes from an address on, of a level of this program, where all of them are in storage
+abbrev pub dump_at : Storage → List ℕ → ℕ → ℕ → Option Dump
+dump_at s program at n = option_map (λ bytes. record { program = program; at = at; bytes = bytes }) (span s at n)
+
+-- a level's DFHEISTG; no program has one of more than 65,520 bytes
 unfoldable pub dump_in : Storage → Level → Option Dump
-dump_in s level =
-    let at = address_in level.stg in
-    option_map (λ bytes. record { program = level.program; at = at; bytes = bytes })
-    (span s at (min level.stg_len 65520))
+dump_in s level = dump_at s level.program (address_in level.stg) (min level.stg_len 65520)
 
 -- ---- at the abend
--- the machine that a task runs on
-abbrev pub task_machine : Storage → TaskState → Machine
-task_machine s task = record { regs = task.regs; cc = task.cc; next = task.next; storage = s }
+-- the machine at an abend to which a task's turn leads: as the command found it that is due, else as the instructions
+-- of the turn leave it
+unfoldable pub IsAtAbend : Storage → TaskState → Machine → Type 0
+IsAtAbend s task m = MatchBool task.due (m ≡ task_machine s task) (Leaves most_steps (task_machine s task) m)
 
--- as the instructions of a turn leave it
-pub record RunLeaves (s : Storage) (task : TaskState) (dump : Option Dump) : Type 0 where
-  pub how : Halt
+-- the DFHEISTG of the current level then
+pub record HasDump (s : Storage) (task : TaskState) (dump : Option Dump) : Type 0 where
   pub machine : Machine
-  pub advances : Advances most_steps (task_machine s task) how machine
+  pub reached : IsAtAbend s task machine
   pub is : dump ≡ dump_in machine.storage task.levels.current
-
--- areas go so far that storage isn't copied for it
-unfoldable pub is_wide : Storage → Bool
-is_wide s = is_some (next_area s 0x300000)
-
--- That of the current level at the abend, where the task's turn leads to one: as the command found it that is due, else
--- as the turn's instructions leave it, but none where storage isn't copied.
-unfoldable pub HasDump : Storage → TaskState → Option Dump → Type 0
-HasDump s task dump =
-    MatchBool task.due (dump ≡ dump_in s task.levels.current)
-    (MatchBool (is_wide s) (dump ≡ None) (RunLeaves s task dump))
 
 -- of a terminal's task, where there is one
 unfoldable pub TurnHasDump : RegionState → List ℕ → Option Dump → Type 0

@@ -1,5 +1,5 @@
 -- Which turns keep an abend; what is kept is decided.
-use Rattle.std.specs.Prelude.{◌≡◌, ◌≤◌, ◌+◌, ℕ, length, min, true, is_some, List, Option, Some}
+use Rattle.std.specs.Prelude.{◌≡◌, ◌≤◌, ◌+◌, ℕ, length, min, List, Option, Some}
 use Rattle.cx_base.specs.declared.commands.Command.{Command}
 use Rattle.cx_exec.specs.Machine.{Machine}
 use Rattle.cx_storage.specs.Storage.{Storage}
@@ -25,31 +25,35 @@ use Rattle.cx_look_levels.specs.FieldTexts.{field_line, typed}
 use Rattle.cx_look_levels.specs.KeptFields.{kept_field, kept_line}
 use Rattle.cx_look_levels.specs.declared.readings.NamedReading.{NamedReading}
 use Rattle.cx_look_abend.specs.Noting.{KeptAbends, AppliesWithAbends, with_last}
-use Rattle.cx_look_abend.specs.Abends.{kept_task}
-use Rattle.cx_look_abend.specs.Dumps.{Dump, TurnHasDump, dump_in}
+use Rattle.cx_look_abend.specs.Abends.{before_turn, explanation_of, kept_task}
+use Rattle.cx_look_abend.specs.Dumps.{Dump, IsAtAbend, TurnHasDump, dump_in}
 use Rattle.cx_look_abend.specs.declared.abends.LastAbend.{LastAbend}
-use Rattle.cx_look_abend.specs.declared.abends.KeptTask.{KeptTask}
 
--- an abend of this task with this code, to which a turn led, is the terminal's last one
-pub record IsLast (before : KeptAbends) (name : List ℕ) (task : Option KeptTask) (code : List ℕ) (after : KeptAbends)
-    : Type 0 where
+-- The last abend of a terminal is that to which a turn of its task led: with this code, the task's transaction, number
+-- and callers, the arguments of its command, and the record and the DFHEISTG of this turn's abend.
+pub record IsLast (before : KeptAbends) (old new : RegionState) (name code : List ℕ) (after : KeptAbends) : Type 0 where
   pub last : LastAbend
   pub kept : after ≡ with_last before name last
-  pub of_task : last.task ≡ task
+  pub of_task : last.task ≡ kept_task old name
   pub with_code : last.code ≡ code
-  pub explained : is_some last.explanation ≡ true
+  pub abend_record : AbendRecord
+  pub recorded : TurnHasAbendRecord old name (Some abend_record)
+  pub dump : Option Dump
+  pub dumped : TurnHasDump old name dump
+  pub explained : last.explanation ≡ Some (explanation_of new (before_turn old name) dump abend_record)
 
 -- a turn that was answered as an abend, whether an exit took it or not, is kept; any other leaves what is kept
-abbrev pub KeepsTurn : KeptAbends → List ℕ → Option KeptTask → TurnReply → KeptAbends → Type 0
-KeepsTurn before name task (turn.TookExit code) after = IsLast before name task code after
-KeepsTurn before name task (turn.Abended code) after = IsLast before name task code after
-KeepsTurn before name task _ after = after ≡ before
+abbrev pub KeepsTurn : KeptAbends → RegionState → RegionState → List ℕ → TurnReply → KeptAbends → Type 0
+KeepsTurn before old new name (turn.TookExit code) after = IsLast before old new name code after
+KeepsTurn before old new name (turn.Abended code) after = IsLast before old new name code after
+KeepsTurn before old new name _ after = after ≡ before
 
--- the DFHEISTG that is kept of a turn's abend is of the machine whose registers are kept
-pub record IsOfRecord (task : TaskState) (abend_record : AbendRecord) (dump : Dump) : Type 0 where
+-- the DFHEISTG that is kept of a turn's abend is of the machine at the abend, whose registers are kept
+pub record IsOfRecord (s : Storage) (task : TaskState) (abend_record : AbendRecord) (dump : Dump) : Type 0 where
   pub command : Option Command
   pub why : Cause
   pub machine : Machine
+  pub reached : IsAtAbend s task machine
   pub recorded : abend_record ≡ abend_record_with command machine why
   pub dumped : Some dump ≡ dump_in machine.storage task.levels.current
 
@@ -57,7 +61,7 @@ abbrev pub DumpsAreOfRecords : Type 0
 DumpsAreOfRecords = (region : RegionState) (name : List ℕ) (task : TaskState) (abend_record : AbendRecord) (dump : Dump)
     → task_of region name ≡ Some task → TurnHasAbendRecord region name (Some abend_record)
     → TurnHasDump region name (Some dump)
-    → IsOfRecord task abend_record dump
+    → IsOfRecord region.shared.storage task abend_record dump
 
 -- and what is written of a field of it that is all there is what FIELD writes of it in that machine's storage
 abbrev pub FieldsAreOfDumps : Type 0
@@ -69,7 +73,7 @@ FieldsAreOfDumps = (s : Storage) (level : Level) (dump : Dump) (term name : List
 abbrev pub AbendsAreKept : Type 0
 AbendsAreKept = (old new : EdfState) (before after : KeptAbends) (name : List ℕ) (given : TurnReply)
     → AppliesWithAbends old before (edf_event.Plain (event.Turn name)) (answer.Region (reply.Turn given)) new after
-    → KeepsTurn before name (kept_task old.region name) given after
+    → KeepsTurn before old.region new.region name given after
 
 -- the state and what is kept before an event decide its answer, the state after it, and what is kept then
 abbrev pub NotedDecide : Type 0

@@ -1,5 +1,5 @@
 -- How the last abend of each terminal is kept, by the events that are done (own).
-use Rattle.std.specs.Prelude.{◌≡◌, ℕ, Bool, true, false, is_some, ⊤, List, [], Option, Some, None, Ok, MatchBool, if◌then◌else◌}
+use Rattle.std.specs.Prelude.{◌≡◌, ℕ, Bool, true, false, is_some, ⊤, List, [], Option, Some, None, Ok, MatchBool, MatchOption, if◌then◌else◌}
 use Rattle.std.specs.Map.{set_value}
 use Rattle.std.specs.Option.{option_map_or}
 use Rattle.indexmap.specs.IndexMap.{insert_entry}
@@ -20,7 +20,7 @@ use Rattle.cx_edf.specs.declared.answers.Answer.TheVariants as answer
 use Rattle.cx_edf.specs.declared.answers.EdfEvent.{EdfEvent}
 use Rattle.cx_edf.specs.declared.answers.EdfEvent.TheVariants as edf_event
 use Rattle.cx_look_abend.specs.Abends.{before_operator, before_turn, by_operator, last_of_turn}
-use Rattle.cx_look_abend.specs.Dumps.{TurnHasDump}
+use Rattle.cx_look_abend.specs.Dumps.{Dump, TurnHasDump}
 use Rattle.cx_look_abend.specs.declared.abends.LastAbend.{LastAbend}
 use Rattle.cx_look_abend.specs.declared.abends.TaskBefore.{TaskBefore}
 
@@ -41,10 +41,11 @@ abbrev pub kept_terminal : KeptAbends → List ℕ → Answer → KeptAbends
 kept_terminal abends name given = if is_defined given then insert_entry is_name abends name None else abends
 
 -- an abend to which a turn led, in the region after it
-abbrev pub kept_turn : KeptAbends → List ℕ → TaskBefore → Answer → Option AbendRecord → RegionState → KeptAbends
-kept_turn abends name task (answer.Region (reply.Turn given)) abend_record region =
-    option_map_or (with_last abends name) (last_of_turn region name given task abend_record) abends
-kept_turn abends name task _ abend_record region = abends
+abbrev pub kept_turn :
+    KeptAbends → List ℕ → TaskBefore → Answer → Option Dump → Option AbendRecord → RegionState → KeptAbends
+kept_turn abends name task (answer.Region (reply.Turn given)) dump abend_record region =
+    option_map_or (with_last abends name) (last_of_turn region name given task dump abend_record) abends
+kept_turn abends name task _ dump abend_record region = abends
 
 -- an abend that an operator asked for, by ALTER, or by PF12 that ends a task
 abbrev pub kept_alter : KeptAbends → List ℕ → TaskBefore → Change → Answer → KeptAbends
@@ -56,40 +57,45 @@ abbrev pub kept_key : KeptAbends → List ℕ → TaskBefore → Bool → KeptAb
 kept_key abends name task ends = if ends then with_last abends name (by_operator task) else abends
 
 -- what is kept, before an event, of the task of the terminal that it names
-unfoldable pub IsTaskBefore : RegionState → EdfEvent → TaskBefore → Type 0
-IsTaskBefore region (edf_event.Plain (event.Turn name)) before =
-    TurnHasDump region name before.dump × (before ≡ before_turn region name before.dump)
-IsTaskBefore region (edf_event.Plain (event.Alter name c)) before = before ≡ before_operator region name
-IsTaskBefore region (edf_event.Plain (event.Key name aid bytes)) before = before ≡ before_operator region name
-IsTaskBefore region _ before = before ≡ record { task = None; arguments = []; dump = None }
+unfoldable pub task_before : RegionState → EdfEvent → TaskBefore
+task_before region (edf_event.Plain (event.Turn name)) = before_turn region name
+task_before region (edf_event.Plain (event.Alter name c)) = before_operator region name
+task_before region (edf_event.Plain (event.Key name aid bytes)) = before_operator region name
+task_before region _ = record { task = None; arguments = [] }
 
--- What is kept after an event with that task that was answered so, with that record of an abend, in the region after
--- it; the flag says that it was PF12 that ends a task.
-abbrev pub kept_after : KeptAbends → Bool → TaskBefore → EdfEvent → Answer → Option AbendRecord → RegionState
-    → KeptAbends
-kept_after abends ends task (edf_event.Plain (event.Terminal name)) given abend_record region =
+-- the DFHEISTG at an abend to which an event leads
+unfoldable pub EventHasDump : RegionState → EdfEvent → Option Dump → Type 0
+EventHasDump region (edf_event.Plain (event.Turn name)) dump = TurnHasDump region name dump
+EventHasDump region _ dump = dump ≡ None
+
+-- What is kept after an event with that task that was answered so, with that DFHEISTG and that record of an abend, in
+-- the region after it; the flag says that it was PF12 that ends a task.
+abbrev pub kept_after : KeptAbends → Bool → TaskBefore → EdfEvent → Answer → Option Dump → Option AbendRecord
+    → RegionState → KeptAbends
+kept_after abends ends task (edf_event.Plain (event.Terminal name)) given dump abend_record region =
     kept_terminal abends name given
-kept_after abends ends task (edf_event.Plain (event.Turn name)) given abend_record region =
-    kept_turn abends name task given abend_record region
-kept_after abends ends task (edf_event.Plain (event.Alter name c)) given abend_record region =
+kept_after abends ends task (edf_event.Plain (event.Turn name)) given dump abend_record region =
+    kept_turn abends name task given dump abend_record region
+kept_after abends ends task (edf_event.Plain (event.Alter name c)) given dump abend_record region =
     kept_alter abends name task c given
-kept_after abends ends task (edf_event.Plain (event.Key name aid bytes)) given abend_record region =
+kept_after abends ends task (edf_event.Plain (event.Key name aid bytes)) given dump abend_record region =
     kept_key abends name task ends
-kept_after abends ends task _ given abend_record region = abends
+kept_after abends ends task _ given dump abend_record region = abends
 
 abbrev pub is_ending_key : EdfState → EdfEvent → Bool
 is_ending_key old (edf_event.Plain (event.Key name aid bytes)) = ends_by_key old name aid
 is_ending_key old _ = false
 
--- an event, and what is kept after it
+-- an event, and what is kept after it; where it leads to an abend, with the DFHEISTG then
 pub record AppliesWithAbends (old : EdfState) (before : KeptAbends) (e : EdfEvent) (given : Answer) (new : EdfState)
     (after : KeptAbends) : Type 0 where
   pub abend_record : Option AbendRecord
   pub applies : EdfApplies old e given new
   pub recorded : EdfHasAbendRecord old e abend_record
-  pub task : TaskBefore
-  pub taken : IsTaskBefore old.region e task
-  pub kept : after ≡ kept_after before (is_ending_key old e) task e given abend_record new.region
+  pub dump : Option Dump
+  pub dumped : MatchOption abend_record (dump ≡ None) (λ it. EventHasDump old.region e dump)
+  pub kept : after
+      ≡ kept_after before (is_ending_key old e) (task_before old.region e) e given dump abend_record new.region
 
 -- A new terminal takes room for its last abend, and a turn of a task for what is kept of the task before it; any other
 -- event may take memory as it may without what is kept.

@@ -1,3 +1,4 @@
 -- The vocabulary of private functions.
 pub mod Callers
 pub mod Terminals
+pub mod Sources

@@ -108,8 +108,6 @@ pub struct TaskBefore {
     /// The arguments of the command that is due, as COMMAND shows them; no line where none is due, or its list can't be
     /// read.
     pub arguments: Report,
-    /// The DFHEISTG of its current level, as it is at an abend to which a turn leads.
-    pub dump: Option<StorageDump>,
 }
 
 /// A terminal's last abend: its code, with what is kept of the task that abended.
@@ -265,20 +263,17 @@ fn exit_place<S: Store + Drop>(region: &Region<S>, name: Name4, reply: &TurnRepl
     }
 }
 
-/// Why a turn led to an abend, where its program was, the arguments of its command, and its DFHEISTG, where the region
+/// Why a turn led to an abend, where its program was, the arguments of its command, and this DFHEISTG, where the region
 /// is as it was after the turn.
 fn explanation_of<S: Store + Drop>(
     region: &Region<S>,
     before: TaskBefore,
+    dump: Option<StorageDump>,
     abend_record: AbendRecord,
 ) -> (Option<KeptTask>, Explanation)
-    ensures { (result.0 ≡ before.task) × (result.1 ≡ explanation_of region.now before abend_record) }
+    ensures { (result.0 ≡ before.task) × (result.1 ≡ explanation_of region.now before dump abend_record) }
 {
-    let TaskBefore {
-        task,
-        arguments,
-        dump,
-    } = before;
+    let TaskBefore { task, arguments } = before;
     let programs = &region.shared().programs;
     let address = abend_place(&abend_record);
     let explanation = Explanation {
@@ -291,20 +286,21 @@ fn explanation_of<S: Store + Drop>(
     (task, explanation)
 }
 
-/// The abend of a turn of a task that was answered so, with that record of an abend, where the region is as it was
-/// after the turn.
+/// The abend of a turn of a task that was answered so, with that DFHEISTG and that record of an abend, where the region
+/// is as it was after the turn.
 pub(crate) fn last_of_turn<S: Store + Drop>(
     region: &Region<S>,
     name: Name4,
     reply: &TurnReply,
     before: TaskBefore,
+    dump: Option<StorageDump>,
     abend_record: &Option<AbendRecord>,
 ) -> Option<LastAbend>
-    ensures { result ≡ last_of_turn region.now name reply.now before abend_record.now }
+    ensures { result ≡ last_of_turn region.now name reply.now before dump abend_record.now }
 {
     let abend_record = (*abend_record)?;
     let code = abend_code_in(reply)?;
-    let (task, explanation) = explanation_of(region, before, abend_record);
+    let (task, explanation) = explanation_of(region, before, dump, abend_record);
     let exit = exit_place(region, name, reply);
     Some(LastAbend {
         code,

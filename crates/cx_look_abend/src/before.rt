@@ -1,13 +1,13 @@
 //! What is kept of a terminal's task before an event that may lead to an abend.
-ghost use Rattle.std.specs.Prelude.{◌≡◌, [], IfOk, OnErr, None, is_some, true};
+ghost use Rattle.std.specs.Prelude.{◌≡◌, [], IfOk, MatchOption, OnErr, None, is_some, true};
 ghost use Rattle.std.specs.Option.{option_copied};
 ghost use Rattle.cx_region.specs.Tables.{task_of};
 ghost use Rattle.cx_look_abend.specs.Abends.{before_operator, before_turn, call_lines, due_arguments};
-ghost use Rattle.cx_look_abend.specs.Dumps.{TurnHasDump};
-ghost use Rattle.cx_look_abend.specs.Noting.{IsTaskBefore, takes_room};
+ghost use Rattle.cx_look_abend.specs.Noting.{takes_room, task_before};
+ghost use Rattle.cx_look_abend.specs.Parts.Sources.{IsSourceAt, IsSourceOf, no_source};
 
 use crate::abends::{TaskBefore, kept_task};
-use crate::dumps::dump_of;
+use crate::dumps::DumpBefore;
 use cx_ebcdic::Name4;
 use cx_edf::EdfEvent;
 use cx_look_tables::Report;
@@ -40,27 +40,19 @@ fn due_arguments<S: Store>(alloc: Global, store: &S, task: &Task) -> Result<Repo
 }
 
 /// What is kept of a terminal's task before a turn.
-#[tactic(auto, unfolding(crate::specs::Dumps::TurnHasDump))]
 fn before_turn<S: Store + Drop>(region: &Region<S>, name: Name4) -> Result<TaskBefore, AllocError>
-    ensures dump { IfOk result (λ before. TurnHasDump region.now name before.dump) }
-    ensures value { IfOk result (λ before. before ≡ before_turn region.now name before.dump) }
+    ensures value { IfOk result (λ before. before ≡ before_turn region.now name) }
     ensures memory { OnErr result (is_some (task_of region.now name) ≡ true) }
 {
     let shared = region.shared();
     let kept = kept_task(region, name);
-    let Some(task) = task_of(region, name) else {
-        return Ok(TaskBefore {
-            task: kept,
-            arguments: Report::new(shared.alloc),
-            dump: None,
-        });
+    let arguments = match task_of(region, name) {
+        Some(task) => due_arguments(shared.alloc, &shared.store, task)?,
+        None => Report::new(shared.alloc),
     };
-    let arguments = due_arguments(shared.alloc, &shared.store, task)?;
-    let dump = dump_of(shared.alloc, &shared.store, task)?;
     Ok(TaskBefore {
         task: kept,
         arguments,
-        dump,
     })
 }
 
@@ -71,19 +63,18 @@ fn before_operator<S: Store + Drop>(region: &Region<S>, name: Name4) -> TaskBefo
     TaskBefore {
         task: kept_task(region, name),
         arguments: Report::new(region.shared().alloc),
-        dump: None,
     }
 }
 
 /// What is kept, before an event, of the task of the terminal that it names.
 ///
 /// An error comes only where memory for it was refused.
-#[tactic(auto, unfolding(crate::specs::Noting::IsTaskBefore))]
+#[tactic(auto, unfolding(crate::specs::Noting::task_before))]
 pub(crate) fn task_before<S: Store + Drop>(
     region: &Region<S>,
     event: &EdfEvent,
 ) -> Result<TaskBefore, AllocError>
-    ensures value { IfOk result (λ before. IsTaskBefore region.now event.now before) }
+    ensures value { IfOk result (λ before. before ≡ task_before region.now event.now) }
     ensures memory { OnErr result (takes_room region.now event.now ≡ true) }
 {
     match event {
@@ -94,7 +85,39 @@ pub(crate) fn task_before<S: Store + Drop>(
         _ => Ok(TaskBefore {
             task: None,
             arguments: Report::new(region.shared().alloc),
-            dump: None,
         }),
+    }
+}
+
+/// What is kept, before a turn, for the DFHEISTG at an abend to which it leads.
+fn dump_before_turn<S: Store + Drop>(
+    region: &Region<S>,
+    name: Name4,
+) -> Result<DumpBefore<S>, AllocError>
+    ensures value { IfOk result (λ source. MatchOption (task_of region.now name) (source ≡ no_source)
+        (λ task. IsSourceOf region.now.shared.storage task source)) }
+    ensures memory { OnErr result (is_some (task_of region.now name) ≡ true) }
+{
+    let shared = region.shared();
+    match task_of(region, name) {
+        Some(task) => DumpBefore::of_task(shared.alloc, &shared.store, task),
+        None => Ok(DumpBefore::none()),
+    }
+}
+
+/// What is kept, before an event, for the DFHEISTG at an abend to which it leads.
+///
+/// An error comes only where memory for it was refused.
+#[tactic(auto, unfolding(crate::specs::Parts::Sources::IsSourceAt))]
+pub(crate) fn dump_before<S: Store + Drop>(
+    region: &Region<S>,
+    event: &EdfEvent,
+) -> Result<DumpBefore<S>, AllocError>
+    ensures value { IfOk result (λ source. IsSourceAt region.now event.now source) }
+    ensures memory { OnErr result (takes_room region.now event.now ≡ true) }
+{
+    match event {
+        EdfEvent::Plain(Event::Turn(name)) => dump_before_turn(region, *name),
+        _ => Ok(DumpBefore::none()),
     }
 }

@@ -1,28 +1,23 @@
 //! The DFHEISTG of a level as it is at an abend.
 ghost use Rattle.std.specs.Prelude.{◌≡◌, ◌≤◌, ◌+◌, ◌*◌, ◌/◌, ◌<◌, ◌^◌, ◌++◌, IfOk, OnOk, drop, length, take};
-ghost use Rattle.cx_look_abend.specs.Dumps.{HasDump, RunLeaves, dump_in, dump_lines, field_lines, first_dump_rows, dump_group, if_dumped, if_fields, is_wide, dump_row_line, dump_row};
+ghost use Rattle.cx_look_abend.specs.Dumps.{dump_at, dump_in, dump_lines, field_lines, first_dump_rows, dump_group, if_dumped, if_fields, dump_row_line, dump_row};
+ghost use Rattle.cx_look_abend.specs.Parts.Sources.{GivesDump, IsSourceOf, RunGives, no_source, room_of};
+ghost use Rattle.cx_look_turn.specs.NextTurn.{task_machine};
 
 use cx_base::{hexadecimal, in_columns, shown};
 use cx_ebcdic::{Name4, Name8};
-use cx_exec::{Cpu, advance};
 use cx_look_levels::{fields_word, kept_fields};
 use cx_look_symbols::Sources;
 use cx_look_tables::{Report, spelled};
+use cx_look_turn::TurnMachine;
 use cx_program::Level;
 use cx_region_state::Task;
 use cx_storage::{Store, address_after, address_in};
-use cx_storage_snapshot::StorageSnapshot;
 use std::alloc::{AllocError, Global};
 use std::marker::Model;
 
 /// The most bytes of a DFHEISTG.
 const MOST_BYTES: u32 = 65_520;
-
-/// The most instructions of a half-turn.
-const MOST_STEPS: u32 = 65_536;
-
-/// Where an area begins, here or above, storage isn't copied.
-const NOT_COPIED: u32 = 0x30_0000;
 
 /// The bytes of a row.
 const ROW: u32 = 16;
@@ -58,6 +53,50 @@ fn zero_bytes(alloc: Global, count: usize) -> Result<Vec<u8>, AllocError>
     Ok(bytes)
 }
 
+/// Where a level's DFHEISTG is, and room for its bytes.
+#[derive(Drop)]
+struct DumpRoom {
+    program: Name8,
+    at: u32,
+    bytes: Vec<u8>,
+}
+
+impl Model for DumpRoom {
+    ghost use Rattle.std.specs.Prelude.{◌≤◌, ◌<◌, ◌^◌, length};
+    ghost use Rattle.cx_look_abend.specs.Parts.Sources.{Room};
+
+    ghost Value = { Room };
+
+    ghost view = { λ room. record { program = room.program; at = room.at; n = length room.bytes.items } };
+
+    ghost invariant = { λ room. (room.at < 2 ^ 24) × (length room.bytes.items ≤ 65520) };
+}
+
+impl DumpRoom {
+    /// That of a level.
+    fn of_level(alloc: Global, level: &Level) -> Result<DumpRoom, AllocError>
+        ensures { IfOk result (λ room. room ≡ room_of level.now) }
+    {
+        Ok(DumpRoom {
+            program: level.program,
+            at: address_in(level.stg),
+            bytes: zero_bytes(alloc, level.stg_len.min(MOST_BYTES) as usize)?,
+        })
+    }
+
+    /// The bytes that are there in a store; None where one of them is in no area. It takes no memory.
+    fn filled<S: Store>(self, store: &S) -> Option<StorageDump>
+        ensures { result ≡ dump_at (S.storage store.now) self.program self.at self.n }
+    {
+        let DumpRoom { program, at, bytes } = self;
+        let mut bytes = bytes;
+        if !store.read(at, &mut bytes) {
+            return None;
+        }
+        Some(StorageDump { program, at, bytes })
+    }
+}
+
 /// A level's DFHEISTG in a store.
 #[tactic(auto, unfolding(crate::specs::Dumps::dump_in))]
 fn dump_in<S: Store>(
@@ -67,76 +106,110 @@ fn dump_in<S: Store>(
 ) -> Result<Option<StorageDump>, AllocError>
     ensures { IfOk result (λ dump. dump ≡ dump_in (S.storage store.now) level.now) }
 {
-    let at = address_in(level.stg);
-    let mut bytes = zero_bytes(alloc, level.stg_len.min(MOST_BYTES) as usize)?;
-    if !store.read(at, &mut bytes) {
-        return Ok(None);
+    let room = DumpRoom::of_level(alloc, level)?;
+    Ok(room.filled(store))
+}
+
+/// The machine whose run leaves a level's DFHEISTG as it is at an abend, and room for the bytes.
+#[derive(Drop)]
+struct LevelRun<S: Store + Drop> {
+    machine: TurnMachine<S>,
+    room: DumpRoom,
+}
+
+impl<S: Store + Drop> Model for LevelRun<S> {
+    ghost use Rattle.cx_look_abend.specs.Parts.Sources.{LevelMachine};
+
+    ghost Value = { LevelMachine };
+
+    ghost view = { λ it. record { machine = it.machine; room = it.room } };
+}
+
+impl<S: Store + Drop> LevelRun<S> {
+    /// That of a task's current level.
+    fn of_task(alloc: Global, store: &S, task: &Task) -> Result<LevelRun<S>, AllocError>
+        ensures { IfOk result (λ it. it ≡ record {
+          machine = task_machine (S.storage store.now) task.now;
+          room = room_of task.now.levels.current;
+        }) }
+    {
+        Ok(LevelRun {
+            machine: TurnMachine::apart(alloc, &task.cpu, store)?,
+            room: DumpRoom::of_level(alloc, task.levels.current())?,
+        })
     }
-    Ok(Some(StorageDump {
-        program: level.program,
-        at,
-        bytes,
-    }))
-}
 
-/// The DFHEISTG of a task's current level as the instructions of its turn leave it, which run in this store.
-fn run_in<S: Store>(
-    alloc: Global,
-    store: &mut S,
-    task: &Task,
-) -> Result<Option<StorageDump>, AllocError>
-    ensures { IfOk result (λ dump. RunLeaves (S.storage store.old) task.now dump) }
-{
-    let mut cpu = Cpu {
-        regs: task.cpu.regs,
-        cc: task.cpu.cc,
-        next: task.cpu.next,
-    };
-    let _halt = advance(&mut cpu, store, MOST_STEPS);
-    let dump = dump_in(alloc, store, task.levels.current())?;
-    Ok(dump)
-}
-
-/// The DFHEISTG of a task's current level as the instructions of its turn leave it: they run in a copy of the store.
-fn run_leaves<S: Store + Drop>(
-    alloc: Global,
-    store: &S,
-    task: &Task,
-) -> Result<Option<StorageDump>, AllocError>
-    ensures { IfOk result (λ dump. RunLeaves (S.storage store.now) task.now dump) }
-{
-    let snapshot = StorageSnapshot::take(alloc, store, None)?;
-    let mut apart = snapshot.store_like(store)?;
-    run_in(alloc, &mut apart, task)
-}
-
-/// Whether areas go so far that storage isn't copied.
-#[tactic(auto, unfolding(crate::specs::Dumps::is_wide))]
-fn is_wide<S: Store>(store: &S) -> bool
-    ensures { result ≡ is_wide (S.storage store.now) }
-{
-    store.next_area(NOT_COPIED).is_some()
-}
-
-/// The DFHEISTG of a task's current level, as it is at an abend to which its turn leads; None where it isn't known.
-///
-/// An error comes only where memory for it, or for the copy of the store in which the turn's instructions run, was
-/// refused.
-#[tactic(auto, unfolding(crate::specs::Dumps::HasDump))]
-pub(crate) fn dump_of<S: Store + Drop>(
-    alloc: Global,
-    store: &S,
-    task: &Task,
-) -> Result<Option<StorageDump>, AllocError>
-    ensures { IfOk result (λ dump. HasDump (S.storage store.now) task.now dump) }
-{
-    if task.due {
-        return dump_in(alloc, store, task.levels.current());
+    /// The DFHEISTG as the run leaves it. It takes no memory.
+    fn dump(self) -> Option<StorageDump>
+        ensures { RunGives self result }
+    {
+        let LevelRun { machine, room } = self;
+        let mut machine = machine;
+        let _halt = machine.run();
+        room.filled(machine.store())
     }
-    if is_wide(store) {
-        return Ok(None);
+}
+
+/// What is kept before an event for the DFHEISTG at an abend to which it leads: the one that the command finds that is
+/// due, or what finds it where instructions run.
+#[derive(Drop)]
+pub(crate) struct DumpBefore<S: Store + Drop> {
+    found: Option<StorageDump>,
+    run: Option<LevelRun<S>>,
+}
+
+impl<S: Store + Drop> Model for DumpBefore<S> {
+    ghost use Rattle.cx_look_abend.specs.Parts.Sources.{DumpSource};
+
+    ghost Value = { DumpSource };
+
+    ghost view = { λ it. record { found = it.found; run = it.run } };
+}
+
+impl<S: Store + Drop> DumpBefore<S> {
+    /// Nothing is kept.
+    pub(crate) fn none() -> DumpBefore<S>
+        ensures { result ≡ no_source }
+    {
+        DumpBefore {
+            found: None,
+            run: None,
+        }
     }
-    run_leaves(alloc, store, task)
+
+    /// What is kept of a task's current level.
+    ///
+    /// An error comes only where memory for it, or for a store like this one, was refused.
+    #[tactic(auto, unfolding(crate::specs::Parts::Sources::IsSourceOf))]
+    pub(crate) fn of_task(
+        alloc: Global,
+        store: &S,
+        task: &Task,
+    ) -> Result<DumpBefore<S>, AllocError>
+        ensures { IfOk result (λ it. IsSourceOf (S.storage store.now) task.now it) }
+    {
+        if task.due {
+            return Ok(DumpBefore {
+                found: dump_in(alloc, store, task.levels.current())?,
+                run: None,
+            });
+        }
+        Ok(DumpBefore {
+            found: None,
+            run: Some(LevelRun::of_task(alloc, store, task)?),
+        })
+    }
+
+    /// The DFHEISTG at the abend. Instructions are run once more for it, which takes no memory.
+    pub(crate) fn dump(self) -> Option<StorageDump>
+        ensures { GivesDump self result }
+    {
+        let DumpBefore { found, run } = self;
+        match run {
+            Some(run) => run.dump(),
+            None => found,
+        }
+    }
 }
 
 /// The bytes from a place on; none where there are none.

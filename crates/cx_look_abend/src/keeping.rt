@@ -1,15 +1,17 @@
 //! Events, with the last abend of each terminal kept.
-ghost use Rattle.std.specs.Prelude.{◌≡◌, ◌≤◌, true, IfOk, OnErr, OnOk};
+ghost use Rattle.std.specs.Prelude.{◌≡◌, ◌≤◌, true, IfOk, MatchOption, None, OnErr, OnOk};
 ghost use Rattle.std.specs.Option.{option_map_or};
 ghost use Rattle.indexmap.specs.IndexMap.{spare};
 ghost use Rattle.cx_edf.specs.Runs.{IsAllowedEdf};
 ghost use Rattle.cx_edf.specs.State.{ends_by_key};
 ghost use Rattle.cx_look_abend.specs.Abends.{last_of_turn};
 ghost use Rattle.cx_look_abend.specs.Noting.{AppliesWithAbends, MayTakeNoted, is_ending_key, is_defined, kept_after, kept_alter, kept_key, kept_terminal, kept_turn, with_last};
+ghost use Rattle.cx_look_abend.specs.Parts.Sources.{GivesDump};
 ghost use Rattle.cx_look_abend.specs.Parts.Terminals.{defines_terminal};
 
 use crate::abends::{LastAbend, LastAbends, TaskBefore, by_operator, last_of_turn, put_none};
-use crate::before::task_before;
+use crate::before::{dump_before, task_before};
+use crate::dumps::{DumpBefore, StorageDump};
 use cx_ebcdic::{Aid, Name4};
 use cx_edf::{Answer, Debugged, EdfEvent};
 use cx_region::{AbendRecord, AlterReply, Change, Event, Region, Reply, TurnReply};
@@ -49,6 +51,8 @@ fn keep_terminal(abends: &mut LastAbends, name: Name4, answer: &Answer)
 #[derive(Drop)]
 struct EventOutcome<'a> {
     task: TaskBefore,
+    /// The DFHEISTG at an abend to which it led.
+    dump: Option<StorageDump>,
     /// Whether the event was a key that ended the task.
     ends: bool,
     answer: &'a Answer,
@@ -64,12 +68,18 @@ fn keep_turn<S: Store + Drop>(
 )
     ensures { let answer = outcome.entry.answer.now in let abend_record = outcome.entry.abend_record.now in
         abends.new.entries
-        ≡ kept_turn abends.old.entries name outcome.entry.task answer abend_record region.now }
+        ≡ kept_turn abends.old.entries name outcome.entry.task answer outcome.entry.dump abend_record region.now }
 {
     let Answer::Region(Reply::Turn(reply)) = outcome.answer else {
         return;
     };
-    let Some(last) = last_of_turn(region, name, reply, outcome.task, outcome.abend_record) else {
+    let EventOutcome {
+        task,
+        dump,
+        abend_record,
+        ..
+    } = outcome;
+    let Some(last) = last_of_turn(region, name, reply, task, dump, abend_record) else {
         return;
     };
     put(abends, name, last);
@@ -109,7 +119,7 @@ fn keep<S: Store + Drop>(
     requires { defines_terminal event.now ≡ true → 1 ≤ spare abends.old }
     ensures { let answer = outcome.entry.answer.now in let abend_record = outcome.entry.abend_record.now in
         let after = kept_after abends.old.entries outcome.entry.ends outcome.entry.task in
-        abends.new.entries ≡ after event.now answer abend_record region.now }
+        abends.new.entries ≡ after event.now answer outcome.entry.dump abend_record region.now }
 {
     let EdfEvent::Plain(plain) = event else {
         return;
@@ -157,8 +167,22 @@ fn make_room(abends: &mut LastAbends, event: &EdfEvent) -> Result<(), AllocError
     }
 }
 
+/// The DFHEISTG at an abend to which an event led; nothing is run where it led to none.
+fn dump_of<S: Store + Drop>(
+    source: DumpBefore<S>,
+    abend_record: &Option<AbendRecord>,
+) -> Option<StorageDump>
+    ensures { MatchOption abend_record.now (result ≡ None) (λ it. GivesDump source result) }
+{
+    if abend_record.is_none() {
+        return None;
+    }
+    source.dump()
+}
+
 /// Does an event of a region under EDF, and keeps its terminal's last abend, where the event led to one. Room for it is
-/// made with the terminal, and what is kept of a task is taken before its turn.
+/// made with the terminal, and what is kept of a task is taken before its turn. A turn's instructions are run once more
+/// only where they led to an abend, for the storage at the abend.
 ///
 /// An error comes only where an allocation failed: that of a new terminal's room, of what is kept of a task before its
 /// turn, or one that the event may take. Then all is as before.
@@ -176,9 +200,12 @@ pub fn apply_keeping_abends<S: Store + Drop>(
     make_room(abends, event)?;
     let ends = is_ending_key(state, event);
     let task = task_before(state.region(), event)?;
+    let source = dump_before(state.region(), event)?;
     let (answer, abend_record) = state.apply_with_cause(event)?;
+    let dump = dump_of(source, &abend_record);
     let outcome = EventOutcome {
         task,
+        dump,
         ends,
         answer: &answer,
         abend_record: &abend_record,

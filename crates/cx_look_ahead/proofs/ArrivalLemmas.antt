@@ -1,58 +1,21 @@
 -- The next turn comes to a line where the turn that is done does something of it.
-use Rattle.std.proofs.Common.{ap, sym, subst, refl, arith, ◌∙◌, zero, suc, ◌-◌, ◌≤◌, [], length, drop}
+use Rattle.std.proofs.Common.{ap, sym, subst, refl, ◌∙◌}
 use Rattle.std.specs.Prelude.{◌≡◌, ℕ, Bool, Option, Some, None, MatchOption, IsSomeAnd, List}
-use Rattle.circular_buffer.specs.Buffer.{keep_last}
 use Rattle.cx_exec.specs.Machine.{Machine}
-use Rattle.cx_exec.specs.declared.machine.Step.{Step}
-use Rattle.cx_exec.specs.declared.machine.Step.TheVariants.{Done, AtEntry, Interrupt}
 use Rattle.cx_region_state.specs.declared.replies.TurnReply.{TurnReply}
 use Rattle.cx_region_task.specs.Turn.{most_steps}
 use Rattle.cx_region.specs.State.{RegionState}
 use Rattle.cx_region.specs.Tables.{task_of}
 use Rattle.cx_look_symbols.specs.Lines.{SourcePlaces}
-use Rattle.cx_look_ahead.specs.Laws.{TracesDecide}
-use Rattle.cx_look_ahead.specs.Traces.{Follows, IsTrace, Visits, visit}
-use Rattle.cx_look_ahead.specs.declared.traces.Trace.{Trace}
-use Rattle.cx_look_ahead.specs.declared.traces.Visit.{Visit}
+use Rattle.cx_look_turn.specs.Laws.{TracesDecide, AreTraced, TurnsRunThem}
+use Rattle.cx_look_turn.specs.Traces.{IsTrace}
+use Rattle.cx_look_turn.specs.declared.traces.Trace.{Trace}
+use Rattle.cx_look_turn.specs.declared.traces.Visit.{Visit}
 use Rattle.cx_look_ahead.specs.Arrivals.{are_among, does_some, is_command_among, statements_on}
-use Rattle.cx_look_ahead.specs.Instructions.{IsAhead, machine_ahead}
-use Rattle.cx_look_ahead.specs.Laws.{AreTraced, TurnsRunThem}
+use Rattle.cx_look_turn.specs.NextTurn.{IsAhead, machine_ahead}
+use Rattle.cx_look_turn.specs.Facts.Visits.{traced_all}
 use Rattle.cx_look_ahead.specs.Laws.Arrivals.{ArrivalsDecide, RunsSome, TurnsDoSome}
 use Rattle.cx_look_ahead.specs.declared.arrivals.SourceLine.{SourceLine}
-
--- ---- all instructions of a turn are kept
-no_visits : (n : ℕ) (visits : List Visit) → visits ≡ [] → length visits ≤ n
-no_visits n visits none =
-    let whole = ap (λ (l : List Visit). length l) none in
-    omega (arith, whole)
-
-few_after : (n : ℕ) (one : Visit) (step : Step) (after : Machine) (visits : List Visit) → ((more : List Visit) → Visits n after more → length more ≤ n)
-    → Follows one step (Visits n after) visits → length visits ≤ suc n
-few_after n one Done after visits few (more, are, goes) =
-    let less = few more goes in
-    let whole = ap (λ (l : List Visit). length l) are in
-    omega (arith, less, whole)
-few_after n one (Interrupt cause) after visits few are =
-    let whole = ap (λ (l : List Visit). length l) are in
-    omega (arith, whole)
-few_after n one AtEntry after visits few none = no_visits (suc n) visits none
-
-pub few_visits : (n : ℕ) (m : Machine) (visits : List Visit) → Visits n m visits → length visits ≤ n
-unfolding Visits
-few_visits zero m visits none = no_visits zero visits none
-few_visits (suc n) m visits (step, after, steps, follows) = few_after n (visit m) step after visits (λ more are. few_visits n after more are) follows
-
-pub kept_all : (n : ℕ) (visits : List Visit) → length visits ≤ n → keep_last n visits ≡ visits
-kept_all n visits few =
-    let none : length visits - n ≡ 0 = omega (arith, few) in
-    ap (λ k. drop k visits) none
-
--- of a run of at most so many instructions
-pub traced_all : (n : ℕ) (m : Machine) (count : ℕ) (last visits : List Visit) → IsTrace n m n count last → count ≡ length visits → last ≡ keep_last n visits → last ≡ visits
-traced_all n m count last visits trace counted kept =
-    let few = few_visits n m trace.visits trace.are in
-    let same = trace.counted in
-    kept ∙ kept_all n visits (omega (arith, few, same, counted))
 
 -- ---- the turn runs them
 AreOf : Option Machine → Option Trace → Type 0

@@ -1,12 +1,10 @@
 -- The machine in front of the first instruction of a line.
-use Rattle.std.proofs.Common.{ap, sym, subst, refl, arith, ◌∙◌, zero, suc, ◌+◌, ◌<◌, length}
+use Rattle.std.proofs.Common.{ap, sym, subst, refl, ◌∙◌, ◌<◌, length}
 use Rattle.std.specs.Prelude.{◌≡◌, ℕ, Option, Some, None, MatchOption, IsSomeAnd, List, codes}
 use Rattle.std.specs.Option.{option_map_or}
 use Rattle.cx_exec.specs.Advance.{Passes}
 use Rattle.cx_exec.specs.Machine.{Machine}
 use Rattle.cx_exec.specs.Step.{Steps}
-use Rattle.cx_exec.specs.declared.machine.Step.{Step}
-use Rattle.cx_exec.specs.declared.machine.Step.TheVariants.{Done, AtEntry, Interrupt}
 use Rattle.cx_exec_laws.specs.Laws.Decide.{StepsDecide}
 use Rattle.cx_load.specs.declared.program.Loaded.{Loaded}
 use Rattle.cx_region_state.specs.declared.replies.TurnReply.{TurnReply}
@@ -16,63 +14,16 @@ use Rattle.cx_look_symbols.specs.Lines.{SourcePlaces}
 use Rattle.cx_look_symbols.specs.declared.statements.StatementPlace.{StatementPlace}
 use Rattle.cx_look_ahead.specs.Arrivals.{statements_on}
 use Rattle.cx_look_ahead.specs.At.{ArrivesAt, FirstOf, IsAfter, at_line, first_among, there_lines}
-use Rattle.cx_look_ahead.specs.Instructions.{IsAhead, machine_ahead}
-use Rattle.cx_look_ahead.specs.Laws.{TracesDecide, AreTraced, TurnsRunThem}
+use Rattle.cx_look_turn.specs.NextTurn.{IsAhead, machine_ahead}
+use Rattle.cx_look_turn.specs.Laws.{TracesDecide, AreTraced, TurnsRunThem}
 use Rattle.cx_look_ahead.specs.Laws.Ats.{AtDecides, ReachesThere, TurnsReachIt}
-use Rattle.cx_look_ahead.specs.Parts.Runs.{RunsPast}
-use Rattle.cx_look_ahead.specs.Traces.{Follows, IsTrace, Visits, visit}
+use Rattle.cx_look_turn.specs.Traces.{ComesPast, IsTrace}
 use Rattle.cx_look_ahead.specs.declared.arrivals.SourceLine.{SourceLine}
-use Rattle.cx_look_ahead.specs.declared.traces.Trace.{Trace}
-use Rattle.cx_look_ahead.specs.declared.traces.Visit.{Visit}
-use Rattle.cx_look_ahead.proofs.ArrivalLemmas.{few_visits, kept_all, traced_all}
-use Rattle.cx_look_ahead.proofs.LeftLemmas.{passes_more}
-
--- ---- a step after which more instructions come is done
-goes_on : (one : Visit) (step : Step) (GoesOn : List Visit → Type 0) (visits : List Visit) → Follows one step GoesOn visits → 1 < length visits → step ≡ Done
-goes_on one Done GoesOn visits follows longer = refl
-goes_on one (Interrupt cause) GoesOn visits are longer =
-    let whole = ap (λ (l : List Visit). length l) are in
-    absurd (omega (arith, longer, whole))
-goes_on one AtEntry GoesOn visits none longer =
-    let whole = ap (λ (l : List Visit). length l) none in
-    absurd (omega (arith, longer, whole))
-
-is_done : StepsDecide Steps → (limit k : ℕ) (m now after : Machine) (end : Step) (visits : List Visit) → Visits limit m visits → suc k < length visits
-    → Passes k m now → Steps now end after → end ≡ Done
-unfolding Visits Passes
-is_done decide zero k m now after end visits none longer passes steps =
-    let whole = ap (λ (l : List Visit). length l) none in
-    absurd (omega (arith, longer, whole))
-is_done decide (suc n) zero m now after end visits (step, left, first, follows) longer passes steps =
-    let same = decide m step end left after first (subst (λ (x : Machine). Steps x end after) passes steps) in
-    sym same.0 ∙ goes_on (visit m) step (Visits n left) visits follows (omega (arith, longer))
-is_done decide (suc n) (suc k) m now after end visits (step, left, first, follows) longer (mid, one, more) steps =
-    let same = decide m step Done left mid first one in
-    let rest = subst (λ (s : Step). Follows (visit m) s (Visits n left) visits) same.0 follows in
-    let whole = ap (λ (l : List Visit). length l) rest.1 in
-    is_done decide n k mid now after end rest.0 (subst (λ (x : Machine). Visits n x rest.0) same.1 rest.2) (omega (arith, longer, whole)) more steps
-
-pub one_more : StepsDecide Steps → (m now after : Machine) (end : Step) (count k : ℕ) → RunsPast m count → k < count → Passes k m now
-    → Steps now end after → Passes (k + 1) m after
-one_more decide m now after end count k past less passes steps =
-    let longer = past.longer in
-    let done = is_done decide past.limit k m now after end past.visits past.are (omega (arith, less, longer)) passes steps in
-    passes_more k m now after passes (subst (λ (s : Step). Steps now s after) done steps)
-
-pub runs_past : (m : Machine) (count n : ℕ) (last : List Visit) → IsTrace most_steps m most_steps count last → n < length last → RunsPast m n
-runs_past m count n last trace less =
-    let few = few_visits most_steps m trace.visits trace.are in
-    let same = ap (λ (l : List Visit). length l) (trace.kept ∙ kept_all most_steps trace.visits few) in
-    record { limit = most_steps; visits = trace.visits; are = trace.are; longer = omega (arith, less, same) }
+use Rattle.cx_look_turn.specs.declared.traces.Trace.{Trace}
+use Rattle.cx_look_turn.specs.declared.traces.Visit.{Visit}
+use Rattle.cx_look_turn.specs.Facts.Visits.{comes_past, passes_decide, traced_all}
 
 -- ---- there is one such machine, and one text
-passes_decide : StepsDecide Steps → (n : ℕ) (m one other : Machine) → Passes n m one → Passes n m other → one ≡ other
-unfolding Passes
-passes_decide decide zero m one other p q = p ∙ sym q
-passes_decide decide (suc n) m one other (mid, step, more) (left, first, rest) =
-    let same = decide m Done Done mid left step first in
-    passes_decide decide n left one other (subst (λ (x : Machine). Passes n x one) same.1 more) rest
-
 after_decides : StepsDecide Steps → (m : Machine) (n : Option ℕ) (one other : Option Machine) → IsAfter m n one → IsAfter m n other → one ≡ other
 after_decides decide m None one other p q = p ∙ sym q
 after_decides decide m (Some n) None other p q = absurd p
@@ -142,8 +93,8 @@ unfolding IsAhead
 ahead_trace region name it m ahead e = rw (sym e) at ahead
 
 pub past_of : (region : RegionState) (name : List ℕ) (it : Trace) (m : Machine) (n : ℕ) → IsAhead region name most_steps (Some it)
-    → Some m ≡ machine_ahead region name → n < length it.last.items → RunsPast m n
-past_of region name it m n ahead e within = runs_past m it.count n it.last.items (ahead_trace region name it m ahead e) within
+    → Some m ≡ machine_ahead region name → n < length it.last.items → ComesPast m n
+past_of region name it m n ahead e within = comes_past most_steps m it.count n it.last.items (ahead_trace region name it m ahead e) within
 
 pub arrives_with_no_run : (places : SourcePlaces) (region : RegionState) (name : List ℕ) (line : SourceLine) → IsAhead region name most_steps None
     → ArrivesAt places region name line None

@@ -1,15 +1,18 @@
 -- The digits of bytes tell them apart.
-use Rattle.std.proofs.Common.{◌≡◌, ◌<◌, ◌%◌, ◌/◌, ◌-◌, ℕ, zero, suc, Bool, true, false, MatchBool, Option, Some, None, List, [], ◌∷◌, ◌++◌, codes, length, refl, sym, ap, ◌∙◌, inl, inr, arith}
+use Rattle.std.proofs.Common.{◌≡◌, ◌<◌, ◌≤◌, ◌^◌, ◌%◌, ◌/◌, ◌-◌, ℕ, zero, suc, Bool, true, false, MatchBool, Option, Some, None, List, [], ◌∷◌, ◌++◌, codes, length, take, take_all, append_assoc, append-nil, refl, sym, ap, ◌∙◌, inl, inr, arith}
 use Rattle.std.specs.Prelude.{nat_lt, slice_index, if◌then◌else◌}
+use Rattle.std.specs.List.{AllByRecursion}
 use Rattle.std.specs.Option.{option_map_or}
 use Rattle.std.specs.Str.{bytes_eq}
 use Rattle.std.proofs.lemmas.Bool.{cases_lt}
 use Rattle.std.proofs.lemmas.List.{length-append}
 use Rattle.std.proofs.lemmas.Slice.Eq.{bytes_eq-Decides}
-use Rattle.cx_base.specs.Digits.{digits}
+use Rattle.cx_base.specs.Digits.{digits, hex_digits}
 use Rattle.cx_storage.specs.Address.{address_after}
-use Rattle.cx_storage.specs.Facts.Sound.{byte_small}
-use Rattle.cx_storage.specs.Storage.{Storage, IsSoundStorage, byte_at}
+use Rattle.cx_storage.specs.Facts.Sound.{byte_small, span_small}
+use Rattle.cx_storage.specs.Facts.Spans.{span_at, span_length}
+use Rattle.cx_storage.specs.Storage.{Storage, IsSoundStorage, byte_at, span}
+use Rattle.cx_look_ahead.specs.Parts.Seen.{AreBytes}
 use Rattle.cx_look_ahead.specs.Ahead.{bytes_word}
 use Rattle.cx_look_ahead.specs.declared.rows.Row.{Row}
 use Rattle.cx_look_tables.specs.Words.{Lines}
@@ -139,6 +142,60 @@ alike before after range ok sound same =
 pub written_alike : (before after : Storage) (range : Row) → IsUnchanged before after range → bytes_eq (shown_in before range) (shown_in after range) ≡ true
 written_alike before after range same =
     (bytes_eq-Decides (shown_in before range) (shown_in after range)).1 (same_words before after range.at range.length same)
+
+-- ---- bytes that are lent at once
+shown_first : (s : Storage) (at n : ℕ) (bytes : List ℕ) → at < 2 ^ 24 → span s at n ≡ Some bytes → (k : ℕ) → k ≤ n
+    → bytes_word s at k ≡ hex_digits (take k bytes)
+shown_first s at n bytes low e zero h = refl
+shown_first s at n bytes low e (suc k) h =
+    let front = shown_first s at n bytes low e k (omega (arith, h)) in
+    let here = ap byte_word (span_at s at n bytes k low e h) in
+    let many = span_length s at n bytes e in
+    rw (front, here) (sym (digits_next (take k bytes) (slice_index bytes k)) ∙ ap hex_digits (take_next bytes k (omega (arith, h, many))))
+  where
+    take_next : (xs : List ℕ) (k : ℕ) → k < length xs → take k xs ++ slice_index xs k ∷ [] ≡ take (suc k) xs
+    take_next [] k l = absurd (omega (arith, l))
+    take_next (x ∷ xs) zero l = refl
+    take_next (x ∷ xs) (suc k) l = ap (λ l. x ∷ l) (take_next xs k (omega (arith, l)))
+
+    digits_next : (xs : List ℕ) (x : ℕ) → hex_digits (xs ++ x ∷ []) ≡ hex_digits xs ++ digits 16 2 x
+    digits_next [] x = append-nil (digits 16 2 x)
+    digits_next (y ∷ xs) x = ap (λ l. digits 16 2 y ++ l) (digits_next xs x) ∙ sym (append_assoc (digits 16 2 y) (hex_digits xs) (digits 16 2 x))
+
+pub are_of_span : (s : Storage) (range : Row) (bytes : List ℕ) → IsSoundStorage s → range.at < 2 ^ 24 → span s range.at range.length ≡ Some bytes
+    → AreBytes (shown_in s range) bytes
+are_of_span s range bytes sound low e =
+    let many = span_length s range.at range.length bytes e in
+    let all : take range.length bytes ≡ bytes = take_all range.length bytes (omega (arith, many)) in
+    (shown_first s range.at range.length bytes low e range.length (omega arith) ∙ ap hex_digits all, span_small s range.at range.length bytes sound e)
+
+hex_same : (xs ys : List ℕ) → AllByRecursion (λ b. b < 256) xs → AllByRecursion (λ b. b < 256) ys → hex_digits xs ≡ hex_digits ys → xs ≡ ys
+hex_same [] [] h k e = refl
+hex_same [] (y ∷ ys) h k e =
+    let bad : ◌≡◌ {A = List ℕ} [] (glyph (y / 16 % 16) ∷ glyph (y % 16) ∷ hex_digits ys) = e ∙ ap (λ l. l ++ hex_digits ys) (two_digits y) in cc
+hex_same (x ∷ xs) [] h k e =
+    let bad : ◌≡◌ {A = List ℕ} (glyph (x / 16 % 16) ∷ glyph (x % 16) ∷ hex_digits xs) [] = ap (λ l. l ++ hex_digits xs) (sym (two_digits x)) ∙ e in cc
+hex_same (x ∷ xs) (y ∷ ys) (h, hs) (k, ks) e =
+    let both : glyph (x / 16 % 16) ∷ glyph (x % 16) ∷ hex_digits xs ≡ glyph (y / 16 % 16) ∷ glyph (y % 16) ∷ hex_digits ys =
+    ap (λ l. l ++ hex_digits xs) (sym (two_digits x)) ∙ e ∙ ap (λ l. l ++ hex_digits ys) (two_digits y) in
+    let rest : hex_digits xs ≡ hex_digits ys = cc in
+    let high : glyph (x / 16 % 16) ≡ glyph (y / 16 % 16) = cc in
+    let low : glyph (x % 16) ≡ glyph (y % 16) = cc in
+    let digits_are : digits 16 2 x ≡ digits 16 2 y = two_digits x ∙ rw (high, low) refl ∙ sym (two_digits y) in
+    let first = words_same (Some x) (Some y) (λ v is. let it : x ≡ v = cc in rw (← it) h) (λ v is. let it : y ≡ v = cc in rw (← it) k) digits_are in
+    let one : x ≡ y = cc in
+    rw (one, hex_same xs ys hs ks rest) refl
+
+bools_same : (a b : Bool) → (a ≡ true → b ≡ true) → (b ≡ true → a ≡ true) → a ≡ b
+bools_same true b f g = sym (f refl)
+bools_same false true f g = g refl
+bools_same false false f g = refl
+
+pub compared_alike : (shown other bytes part : List ℕ) → AreBytes shown bytes → AreBytes other part → bytes_eq bytes part ≡ bytes_eq shown other
+compared_alike shown other bytes part (first, small) (second, few) =
+    bools_same (bytes_eq bytes part) (bytes_eq shown other)
+    (λ e. (bytes_eq-Decides shown other).1 (first ∙ ap hex_digits ((bytes_eq-Decides bytes part).0 e) ∙ sym second))
+    (λ e. (bytes_eq-Decides bytes part).1 (hex_same bytes part small few (sym first ∙ (bytes_eq-Decides shown other).0 e ∙ second)))
 
 some_line : (effect : ActionEffect) (kept : Kept) (lines : Lines) (same : Bool) → MatchBool same (lines ≡ []) (IsChange effect kept lines) → lines ≡ [] → same ≡ true
 unfolding change_line

@@ -1,6 +1,3 @@
-pub mod LeftLemmas
-pub mod TraceLemmas
-pub mod RunLemmas
 pub mod GapLemmas
 pub mod RowLemmas
 pub mod AheadLemmas

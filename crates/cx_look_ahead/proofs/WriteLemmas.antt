@@ -1,5 +1,7 @@
 -- The last instruction that changes a byte.
-use Rattle.std.proofs.Common.{◌≡◌, ◌+◌, ◌<◌, ◌≤◌, ℕ, add-one, zero, suc, Bool, true, false, Option, Some, None, inl, inr, refl, sym, subst, ap, ◌∙◌, arith}
+use Rattle.std.proofs.Common.{◌≡◌, ◌+◌, ◌<◌, ◌≤◌, ℕ, add-one, zero, suc, Bool, true, false, Option, Some, None, List, [], ◌∷◌, ◌++◌, length, map, take, drop, get_or, slice_set, inl, inr, refl, sym, subst, ap, ◌∙◌, arith}
+use Rattle.std.proofs.lemmas.Slice.Eq.{bytes_eq-Decides}
+use Rattle.std.specs.List.{AllByRecursion}
 use Rattle.std.specs.Prelude.{◌↔◌, if◌then◌else◌}
 use Rattle.std.proofs.lemmas.Bool.{cases_lt}
 use Rattle.cx_exec.specs.Advance.{Advances, Passes}
@@ -13,24 +15,17 @@ use Rattle.cx_exec_laws.specs.Laws.Decide.{StepsDecide}
 use Rattle.cx_look_ahead.specs.declared.rows.Row.{Row}
 use Rattle.cx_look_ahead.specs.Laws.Watching.{WritersAreFound, WritersDecide}
 use Rattle.std.specs.Str.{bytes_eq}
-use Rattle.cx_storage.specs.Storage.{IsSoundStorage}
+use Rattle.cx_storage.specs.Storage.{Storage, IsSoundStorage}
+use Rattle.cx_look_ahead.specs.Parts.Seen.{IsLastSeen, SeenRange, noted, seen_in}
+use Rattle.cx_look_ahead.specs.declared.watching.Kept.{Kept}
 use Rattle.cx_look_ahead.proofs.ByteLemmas.{alike, written_alike}
 use Rattle.cx_look_ahead.specs.Watching.{shown_in}
+use Rattle.cx_look_turn.specs.Facts.Left.{left_at_entry, left_interrupted, passes_suc}
+use Rattle.cx_look_turn.specs.Facts.Visits.{passes_decide}
+use Rattle.cx_look_turn.specs.Traces.{Leaves}
 use Rattle.cx_look_ahead.specs.Writing.{IsLastWriter, IsUnchanged, LastWriter, NoneWrites, PerformsAfter}
 
 -- ---- the instructions of a run
-passes_same : StepsDecide Steps → (n : ℕ) (m a b : Machine) → Passes n m a → Passes n m b → a ≡ b
-unfolding Passes
-passes_same decide zero m a b p q = p ∙ sym q
-passes_same decide (suc n) m a b (mid, step, more) (other, second, rest) =
-    let same = decide m Done Done mid other step second in
-    passes_same decide n other a b (subst (λ (x : Machine). Passes n x a) same.1 more) rest
-
-pub one_passes : (n : ℕ) (m now next : Machine) → Passes n m now → Steps now Done next → Passes (suc n) m next
-unfolding Passes
-one_passes zero m now next is step = (next, subst (λ (x : Machine). Steps x Done next) is step, refl)
-one_passes (suc n) m now next (mid, first, more) step = (mid, first, one_passes n mid now next more step)
-
 -- after an instruction that isn't done there is none
 pub none_after : StepsDecide Steps → (n k : ℕ) (m now after : Machine) (end : Step) (b : Machine) → Passes n m now → Steps now end after → (end ≡ Done → ⊥) → n < k
     → Passes k m b → ⊥
@@ -46,7 +41,7 @@ none_after decide (suc n) (suc k) m now after end b (mid, one, more) step apart 
 unchanged_same : StepsDecide Steps → (n : ℕ) (m b a c d : Machine) (range : Row) → PerformsAfter n m b a → PerformsAfter n m c d → IsUnchanged b.storage a.storage range
     → IsUnchanged c.storage d.storage range
 unchanged_same decide n m b a c d range p q same =
-    let here = passes_same decide n m b c p.passes q.passes in
+    let here = passes_decide decide n m b c p.passes q.passes in
     let there = decide c p.step q.step a d (subst (λ (x : Machine). Steps x p.step a) here p.steps) q.steps in
     subst (λ (x : Machine). IsUnchanged c.storage x.storage range) there.1 (subst (λ (x : Machine). IsUnchanged x.storage a.storage range) here same)
 
@@ -109,43 +104,68 @@ ended n limit m range (Some last) small ends so_far =
       last = none_longer (suc so_far.n) n limit m range ends so_far.last;
     }
 
--- ---- with the bytes as they are written
--- so many instructions were done, and the last writer of them is known
-abbrev pub IsSoFar : ℕ → Machine → Machine → Row → ℕ → Option ℕ → Type 0
-IsSoFar limit m now range done last = (done ≤ limit) × Passes done m now × LastWriter done m range last
+-- ---- with the bytes as they are shown
+-- the last writer so far is known, and the bytes are those of now
+abbrev pub IsSeen : ℕ → Machine → Machine → SeenRange → Type 0
+IsSeen n m now seen = LastWriter n m seen.kept.range seen.last × (seen.shown ≡ shown_in now.storage seen.kept.range)
 
--- the address of one more instruction, where it is a writer; else that before
-abbrev IsNoted : Machine → Machine → Row → Option ℕ → Option ℕ → Type 0
-IsNoted now after range last newer =
-    newer ≡ (if bytes_eq (shown_in now.storage range) (shown_in after.storage range) then last else Some now.next)
+abbrev pub IsSoFar : ℕ → Machine → Machine → ℕ → List SeenRange → Type 0
+IsSoFar limit m now done seen = (done ≤ limit) × Passes done m now × AllByRecursion (IsSeen done m now) seen
 
-noted : StepsDecide Steps → (limit n : ℕ) (m now after : Machine) (range : Row) (end : Step) (last newer : Option ℕ)
-    → IsSoundStorage now.storage → IsSoundStorage after.storage → IsSoFar limit m now range n last → Steps now end after → IsNoted now after range last newer
-    → LastWriter (suc n) m range newer
-noted decide limit n m now after range end last newer sound stays so_far step is =
-    let same : Bool = bytes_eq (shown_in now.storage range) (shown_in after.storage range) in
-    subst (λ (at : Option ℕ). LastWriter (suc n) m range at) (sym is)
-    (one_more decide n m now after range last same now.next so_far.2 (record { passes = so_far.1; step = end; steps = step })
-    (λ e. alike now.storage after.storage range sound stays e, λ u. written_alike now.storage after.storage range u) refl)
+one_noted : StepsDecide Steps → (n : ℕ) (m now after : Machine) (end : Step) (seen : SeenRange) → IsSoundStorage now.storage → IsSoundStorage after.storage
+    → Passes n m now → Steps now end after → IsSeen n m now seen → IsSeen (suc n) m after (noted after.storage now.next seen)
+one_noted decide n m now after end seen sound stays passes step (last, shown) = by (bytes_eq seen.shown (shown_in after.storage seen.kept.range)) refl
+  where
+    unchanged : (same : Bool) → same ≡ bytes_eq seen.shown (shown_in after.storage seen.kept.range)
+        → (same ≡ true) ↔ IsUnchanged now.storage after.storage seen.kept.range
+    unchanged same is =
+        let written : same ≡ bytes_eq (shown_in now.storage seen.kept.range) (shown_in after.storage seen.kept.range) =
+        is ∙ ap (λ l. bytes_eq l (shown_in after.storage seen.kept.range)) shown in (
+          λ e. alike now.storage after.storage seen.kept.range sound stays (sym written ∙ e),
+          λ u. written ∙ written_alike now.storage after.storage seen.kept.range u,
+        )
 
-pub one_done : StepsDecide Steps → (limit n : ℕ) (m now after : Machine) (range : Row) (end : Step) (last newer : Option ℕ)
-    → IsSoundStorage now.storage → IsSoundStorage after.storage → IsSoFar limit m now range n last → n < limit → Steps now end after → end ≡ Done
-    → IsNoted now after range last newer → IsSoFar limit m after range (n + 1) newer
-one_done decide limit n m now after range end last newer sound stays so_far less step e is =
+    more : (same : Bool) → same ≡ bytes_eq seen.shown (shown_in after.storage seen.kept.range)
+        → LastWriter (suc n) m seen.kept.range (if same then seen.last else Some now.next)
+    more same is =
+        one_more decide n m now after seen.kept.range seen.last same now.next last (record { passes = passes; step = end; steps = step }) (unchanged same is) refl
+
+    by : (same : Bool) → same ≡ bytes_eq seen.shown (shown_in after.storage seen.kept.range)
+        → IsSeen (suc n) m after
+        (if same then seen else record { kept = seen.kept; shown = shown_in after.storage seen.kept.range; last = Some now.next })
+    by true is = (more true is, (bytes_eq-Decides seen.shown (shown_in after.storage seen.kept.range)).0 (sym is))
+    by false is = (more false is, refl)
+
+all_noted : StepsDecide Steps → (n : ℕ) (m now after : Machine) (end : Step) (seen : List SeenRange) → IsSoundStorage now.storage → IsSoundStorage after.storage
+    → Passes n m now → Steps now end after → AllByRecursion (IsSeen n m now) seen
+    → AllByRecursion (IsSeen (suc n) m after) (map (noted after.storage now.next) seen)
+all_noted decide n m now after end [] sound stays passes step all = tt
+all_noted decide n m now after end (it ∷ more) sound stays passes step (one, others) =
+    (one_noted decide n m now after end it sound stays passes step one, all_noted decide n m now after end more sound stays passes step others)
+
+each : {X : Type 0} (P Q : X → Type 0) → ((x : X) → P x → Q x) → (xs : List X) → AllByRecursion P xs → AllByRecursion Q xs
+each P Q f [] all = tt
+each P Q f (x ∷ xs) (one, others) = (f x one, each P Q f xs others)
+
+pub one_done : StepsDecide Steps → (limit n : ℕ) (m now after : Machine) (end : Step) (seen newer : List SeenRange)
+    → IsSoundStorage now.storage → IsSoundStorage after.storage → IsSoFar limit m now n seen → n < limit → Steps now end after → end ≡ Done
+    → newer ≡ map (noted after.storage now.next) seen → IsSoFar limit m after (n + 1) newer
+one_done decide limit n m now after end seen newer sound stays so_far less step e is =
     let done : Steps now Done after = subst (λ (s : Step). Steps now s after) e step in
-    rw add-one (
+    rw (add-one, is) (
       omega (arith, less),
-      one_passes n m now after so_far.1 done,
-      noted decide limit n m now after range end last newer sound stays so_far step is,
+      passes_suc n m now after so_far.1 done,
+      all_noted decide n m now after end seen sound stays so_far.1 step so_far.2,
     )
 
-pub ended_by : StepsDecide Steps → (limit n : ℕ) (m now after : Machine) (range : Row) (end : Step) (last newer : Option ℕ)
-    → IsSoundStorage now.storage → IsSoundStorage after.storage → IsSoFar limit m now range n last → n < limit → Steps now end after → (end ≡ Done → ⊥)
-    → IsNoted now after range last newer → LastWriter limit m range newer
-ended_by decide limit n m now after range end last newer sound stays so_far less step apart is =
-    ended (suc n) limit m range newer less
-    (λ k b above p. none_after decide n k m now after end b so_far.1 step apart (omega (arith, above)) p)
-    (noted decide limit n m now after range end last newer sound stays so_far step is)
+ended_by : StepsDecide Steps → (limit n : ℕ) (m now after : Machine) (end : Step) (seen newer : List SeenRange)
+    → IsSoundStorage now.storage → IsSoundStorage after.storage → IsSoFar limit m now n seen → n < limit → Steps now end after → (end ≡ Done → ⊥)
+    → newer ≡ map (noted after.storage now.next) seen → AllByRecursion (IsLastSeen limit m) newer
+ended_by decide limit n m now after end seen newer sound stays so_far less step apart is =
+    rw is (each (IsSeen (suc n) m after) (IsLastSeen limit m)
+    (λ it known. ended (suc n) limit m it.kept.range it.last less
+    (λ k b above p. none_after decide n k m now after end b so_far.1 step apart (omega (arith, above)) p) known.0)
+    (map (noted after.storage now.next) seen) (all_noted decide n m now after end seen sound stays so_far.1 step so_far.2))
 
 entry_apart : (end : Step) → end ≡ AtEntry → end ≡ Done → ⊥
 entry_apart end e done = let same : ◌≡◌ {A = Step} AtEntry Done = sym e ∙ done in cc
@@ -153,27 +173,73 @@ entry_apart end e done = let same : ◌≡◌ {A = Step} AtEntry Done = sym e �
 interrupt_apart : (end : Step) (cause : Interruption) → end ≡ Interrupt cause → end ≡ Done → ⊥
 interrupt_apart end cause e done = let same : ◌≡◌ {A = Step} (Interrupt cause) Done = sym e ∙ done in cc
 
-pub at_entry : StepsDecide Steps → (limit n : ℕ) (m now after : Machine) (range : Row) (end : Step) (last newer : Option ℕ) → IsSoundStorage now.storage
-    → IsSoundStorage after.storage → IsSoFar limit m now range n last → n < limit → Steps now end after → end ≡ AtEntry
-    → IsNoted now after range last newer → LastWriter limit m range newer
-at_entry decide limit n m now after range end last newer sound stays so_far less step e is =
-    ended_by decide limit n m now after range end last newer sound stays so_far less step (entry_apart end e) is
+pub at_entry : StepsDecide Steps → (limit n : ℕ) (m now after : Machine) (end : Step) (seen newer : List SeenRange) → IsSoundStorage now.storage
+    → IsSoundStorage after.storage → IsSoFar limit m now n seen → n < limit → Steps now end after → end ≡ AtEntry
+    → newer ≡ map (noted after.storage now.next) seen → AllByRecursion (IsLastSeen limit m) newer
+at_entry decide limit n m now after end seen newer sound stays so_far less step e is =
+    ended_by decide limit n m now after end seen newer sound stays so_far less step (entry_apart end e) is
 
-pub interrupted : StepsDecide Steps → (limit n : ℕ) (m now after : Machine) (range : Row) (end : Step) (cause : Interruption) (last newer : Option ℕ)
-    → IsSoundStorage now.storage → IsSoundStorage after.storage → IsSoFar limit m now range n last → n < limit → Steps now end after → end ≡ Interrupt cause
-    → IsNoted now after range last newer → LastWriter limit m range newer
-interrupted decide limit n m now after range end cause last newer sound stays so_far less step e is =
-    ended_by decide limit n m now after range end last newer sound stays so_far less step (interrupt_apart end cause e) is
+pub interrupted : StepsDecide Steps → (limit n : ℕ) (m now after : Machine) (end : Step) (cause : Interruption) (seen newer : List SeenRange)
+    → IsSoundStorage now.storage → IsSoundStorage after.storage → IsSoFar limit m now n seen → n < limit → Steps now end after → end ≡ Interrupt cause
+    → newer ≡ map (noted after.storage now.next) seen → AllByRecursion (IsLastSeen limit m) newer
+interrupted decide limit n m now after end cause seen newer sound stays so_far less step e is =
+    ended_by decide limit n m now after end seen newer sound stays so_far less step (interrupt_apart end cause e) is
 
-pub at_limit : (limit n : ℕ) (m now : Machine) (range : Row) (last : Option ℕ) → IsSoFar limit m now range n last → limit ≤ n
-    → LastWriter limit m range last
-at_limit limit n m now range last so_far all =
+pub at_limit : (limit n : ℕ) (m now : Machine) (seen : List SeenRange) → IsSoFar limit m now n seen → limit ≤ n → AllByRecursion (IsLastSeen limit m) seen
+at_limit limit n m now seen so_far all =
     let same : n ≡ limit = omega (arith, all, so_far.0) in
-    subst (λ k. LastWriter k m range last) same so_far.2
+    each (IsSeen n m now) (IsLastSeen limit m) (λ it known. subst (λ k. LastWriter k m it.kept.range it.last) same known.0) seen so_far.2
 
-pub at_first : (m : Machine) (range : Row) → LastWriter zero m range None
-unfolding LastWriter
-at_first m range k before after low high p = absurd (omega (arith, high))
+-- it is noted at one range more
+mixed : {X : Type 0} (f : X → X) (xs : List X) (k : ℕ) (old : X) → k < length xs
+    → slice_set (map f (take k xs) ++ drop k xs) k (f (get_or (map f (take k xs) ++ drop k xs) k old)) ≡ map f (take (suc k) xs) ++ drop (suc k) xs
+mixed f [] k old l = absurd (omega (arith, l))
+mixed f (x ∷ xs) zero old l = refl
+mixed f (x ∷ xs) (suc k) old l = ap (λ l. f x ∷ l) (mixed f xs k old (omega (arith, l)))
+
+pub noted_next : {X : Type 0} (f : X → X) (xs now : List X) (k : ℕ) (old new : X) → now ≡ map f (take k xs) ++ drop k xs → k < length xs
+    → new ≡ f (get_or now k old) → slice_set now k new ≡ map f (take (k + 1) xs) ++ drop (k + 1) xs
+noted_next f xs now k old new is l noted_is = rw (noted_is, is, add-one) (mixed f xs k old l)
+
+-- the ranges stay
+kept_noted : (s : Storage) (at : ℕ) (it : SeenRange) → (noted s at it).kept ≡ it.kept
+kept_noted s at it = by (bytes_eq it.shown (shown_in s it.kept.range))
+  where
+    by : (same : Bool) → (if same then it else record { kept = it.kept; shown = shown_in s it.kept.range; last = Some at }).kept ≡ it.kept
+    by true = refl
+    by false = refl
+
+pub kept_stay : (s : Storage) (at : ℕ) (seen newer : List SeenRange) (kept : List Kept) → newer ≡ map (noted s at) seen → map (λ it. it.kept) seen ≡ kept
+    → map (λ it. it.kept) newer ≡ kept
+kept_stay s at seen newer kept is before = ap (map (λ (it : SeenRange). it.kept)) is ∙ all seen ∙ before
+  where
+    all : (l : List SeenRange) → map (λ it. it.kept) (map (noted s at) l) ≡ map (λ it. it.kept) l
+    all [] = refl
+    all (it ∷ more) = rw (kept_noted s at it, all more) refl
+
+-- as they are first
+pub at_first : (limit : ℕ) (m : Machine) (kept : List Kept) (seen : List SeenRange) → seen ≡ map (seen_in m.storage) kept
+    → IsSoFar limit m m 0 seen × (map (λ it. it.kept) seen ≡ kept)
+unfolding LastWriter Passes
+at_first limit m kept seen is = rw is ((omega arith, refl, all kept), same kept)
+  where
+    all : (l : List Kept) → AllByRecursion (IsSeen 0 m m) (map (seen_in m.storage) l)
+    all [] = tt
+    all (it ∷ more) = ((λ k before after low high p. absurd (omega (arith, high)), refl), all more)
+
+    same : (l : List Kept) → map (λ it. it.kept) (map (seen_in m.storage) l) ≡ l
+    same [] = refl
+    same (it ∷ more) = ap (λ l. it ∷ l) (same more)
+
+-- what the run leaves
+pub left_entry : (limit n : ℕ) (m now after : Machine) (end : Step) → n < limit → Passes n m now → Steps now end after → end ≡ AtEntry → Leaves limit m after
+left_entry limit n m now after end below so_far step e =
+    left_at_entry limit n m now after below so_far (subst (λ (s : Step). Steps now s after) e step)
+
+pub left_by_cause : (limit n : ℕ) (m now after : Machine) (end : Step) (cause : Interruption) → n < limit → Passes n m now → Steps now end after
+    → end ≡ Interrupt cause → Leaves limit m after
+left_by_cause limit n m now after end cause below so_far step e =
+    left_interrupted limit n m now after cause below so_far (subst (λ (s : Step). Steps now s after) e step)
 
 -- ---- decided
 apart : (limit : ℕ) (m : Machine) (range : Row) (one other : ℕ) (p : IsLastWriter limit m range one) (q : IsLastWriter limit m range other) → p.n < q.n → ⊥
@@ -186,7 +252,7 @@ same_writer decide limit m range one other p q = elim (cases_lt p.n q.n) [
     | inl low ↦ absurd (apart limit m range other one q p low)
     | inr neither ↦
         let it : p.n ≡ q.n = omega (arith, not, neither) in
-        let here = passes_same decide q.n m p.before q.before (subst (λ (i : ℕ). Passes i m p.before) it p.performs.passes) q.performs.passes in
+        let here = passes_decide decide q.n m p.before q.before (subst (λ (i : ℕ). Passes i m p.before) it p.performs.passes) q.performs.passes in
         p.address ∙ ap (λ (x : Machine). x.next) here ∙ sym q.address
   ]
 ]

@@ -17,8 +17,9 @@ use Rattle.cx_look_symbols.specs.Sources.{Sources, led_by, source_lines}
 use Rattle.cx_look_levels.specs.FieldTexts.{standing_at}
 use Rattle.cx_look_levels.specs.Names.{LevelNames, names_at, nearest_by}
 use Rattle.cx_look_levels.specs.Wheres.{near_word}
-use Rattle.cx_look_ahead.specs.declared.traces.Trace.{Trace}
-use Rattle.cx_look_ahead.specs.Instructions.{IsAhead, trace_lines}
+use Rattle.cx_look_turn.specs.declared.traces.Trace.{Trace}
+use Rattle.cx_look_ahead.specs.Instructions.{trace_lines}
+use Rattle.cx_look_turn.specs.NextTurn.{IsAhead}
 use Rattle.cx_look_ahead.specs.Rows.{AreRows}
 use Rattle.cx_look_ahead.specs.declared.rows.Row.{Row}
 

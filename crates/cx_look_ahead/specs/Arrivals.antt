@@ -14,9 +14,9 @@ use Rattle.cx_look_symbols.specs.Lines.{SourcePlaces, has_offset}
 use Rattle.cx_look_symbols.specs.Places.{spot_before, spot_of}
 use Rattle.cx_look_symbols.specs.declared.places.Spot.{Spot}
 use Rattle.cx_look_symbols.specs.declared.statements.StatementPlace.{StatementPlace}
-use Rattle.cx_look_ahead.specs.declared.traces.Trace.{Trace}
-use Rattle.cx_look_ahead.specs.declared.traces.Visit.{Visit}
-use Rattle.cx_look_ahead.specs.Instructions.{IsAhead}
+use Rattle.cx_look_turn.specs.declared.traces.Trace.{Trace}
+use Rattle.cx_look_turn.specs.declared.traces.Visit.{Visit}
+use Rattle.cx_look_turn.specs.NextTurn.{IsAhead}
 use Rattle.cx_look_ahead.specs.declared.arrivals.SourceLine.{SourceLine}
 
 -- ---- the statements on a line

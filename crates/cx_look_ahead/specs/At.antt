@@ -21,11 +21,12 @@ use Rattle.cx_look_symbols.specs.declared.statements.StatementPlace.{StatementPl
 use Rattle.cx_look_xref.specs.References.{references_of}
 use Rattle.cx_look_levels.specs.Chosen.{chosen_fields}
 use Rattle.cx_look_ahead.specs.Arrivals.{is_among_statements, statements_on}
-use Rattle.cx_look_ahead.specs.Instructions.{IsAhead, machine_ahead, visit_line}
-use Rattle.cx_look_ahead.specs.Traces.{visit}
+use Rattle.cx_look_ahead.specs.Instructions.{visit_line}
+use Rattle.cx_look_turn.specs.NextTurn.{IsAhead, machine_ahead}
+use Rattle.cx_look_turn.specs.Traces.{visit}
 use Rattle.cx_look_ahead.specs.declared.arrivals.SourceLine.{SourceLine}
-use Rattle.cx_look_ahead.specs.declared.traces.Trace.{Trace}
-use Rattle.cx_look_ahead.specs.declared.traces.Visit.{Visit}
+use Rattle.cx_look_turn.specs.declared.traces.Trace.{Trace}
+use Rattle.cx_look_turn.specs.declared.traces.Visit.{Visit}
 
 -- ---- where the turn first comes to the line
 -- the number of the first instruction that is in some statements: how many are done before it

@@ -1,40 +1,18 @@
--- AHEAD: the instructions that a terminal's next turn will come to (own).
-use Rattle.std.specs.Prelude.{◌≡◌, ℕ, if◌then◌else◌, Option, Some, None, option_and_then, MatchOption, IsSomeAnd, List, [], ◌∷◌, ◌++◌, codes}
+-- AHEAD: how the instructions that a terminal's next turn will come to are written (own).
+use Rattle.std.specs.Prelude.{ℕ, Option, Some, None, List, [], ◌∷◌, ◌++◌, codes}
 use Rattle.std.specs.Fmt.{decimal}
 use Rattle.std.specs.List.{flat_map}
 use Rattle.std.specs.Option.{option_map_or}
 use Rattle.cx_base.specs.Digits.{hex_digits}
-use Rattle.cx_storage.specs.Storage.{Storage}
-use Rattle.cx_exec.specs.Machine.{Machine}
 use Rattle.cx_load.specs.declared.program.Loaded.{Loaded}
-use Rattle.cx_region_state.specs.State.{TaskState}
-use Rattle.cx_region_task.specs.Turn.{most_steps}
-use Rattle.cx_region.specs.State.{RegionState}
-use Rattle.cx_region.specs.Tables.{task_of}
 use Rattle.cx_look_tables.specs.Words.{Lines, look_line}
 use Rattle.cx_look_symbols.specs.Places.{address_word, place_at_address}
 use Rattle.cx_look_symbols.specs.Sources.{Sources, led_by, statement_at}
 use Rattle.cx_look_symbols.specs.declared.places.Place.{Place}
-use Rattle.cx_look_ahead.specs.Traces.{IsTrace}
-use Rattle.cx_look_ahead.specs.declared.traces.Trace.{Trace}
-use Rattle.cx_look_ahead.specs.declared.traces.Visit.{Visit}
+use Rattle.cx_look_turn.specs.declared.traces.Trace.{Trace}
+use Rattle.cx_look_turn.specs.declared.traces.Visit.{Visit}
 
--- the machine that the turn runs on; None where a command is due, or there is no task
-abbrev pub runs_on : Storage → TaskState → Option Machine
-runs_on storage task =
-    if task.due then None
-    else Some (record { regs = task.regs; cc = task.cc; next = task.next; storage = storage })
-
-abbrev pub machine_ahead : RegionState → List ℕ → Option Machine
-machine_ahead region name = option_and_then (runs_on region.shared.storage) (task_of region name)
-
--- how many instructions it comes to, and the last n of them
-unfoldable pub IsAhead : RegionState → List ℕ → ℕ → Option Trace → Type 0
-IsAhead region name n trace =
-    MatchOption (machine_ahead region name) (trace ≡ None)
-    (λ m. IsSomeAnd trace (λ it. IsTrace most_steps m n it.count it.last.items))
-
--- ---- how they are written: their number, and a line for each
+-- ---- their number, and a line for each
 -- its address and where it is, its bytes, and the statement
 unfoldable pub visit_word : Sources → Place → Option (List ℕ) → List ℕ
 visit_word sources place code =

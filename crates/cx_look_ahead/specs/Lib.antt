@@ -1,5 +1,4 @@
 -- The definitions, in reading order, then what the laws state.
-pub mod Traces
 pub mod Laws
 pub mod Parts
 pub mod Rows
@@ -8,6 +7,8 @@ pub mod Ahead
 pub mod Arrivals
 pub mod At
 pub use Rattle.cx_look_tables.specs.Words
+pub use Rattle.cx_look_turn.specs.Traces
+pub use Rattle.cx_look_turn.specs.NextTurn
 pub mod Writing
 pub mod Watching
 pub mod Facts

@@ -1,4 +1,3 @@
 -- Words of private functions.
-pub mod Runs
 pub mod Next
-pub mod Adding
+pub mod Seen

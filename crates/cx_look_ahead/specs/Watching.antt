@@ -17,6 +17,8 @@ use Rattle.cx_look_tables.specs.Words.{Lines, look_line}
 use Rattle.cx_look_symbols.specs.Places.{address_word, place_at_address, spot_before}
 use Rattle.cx_look_symbols.specs.Sources.{Sources, statement_at}
 use Rattle.cx_look_symbols.specs.declared.places.Place.{Place}
+use Rattle.cx_look_turn.specs.NextTurn.{task_machine}
+use Rattle.cx_look_turn.specs.Traces.{Leaves}
 use Rattle.cx_look_ahead.specs.Ahead.{bytes_word}
 use Rattle.cx_look_ahead.specs.Writing.{LastWriter}
 use Rattle.cx_look_ahead.specs.declared.rows.Row.{Row}
@@ -48,7 +50,7 @@ kept_in storage range = record { range = range; bytes = shown_in storage range }
 abbrev pub next_work : Storage → TaskState → Work
 next_work storage task =
     if task.due then work.Command (address_in (slice_index task.regs 14))
-    else work.Instructions (record { regs = task.regs; cc = task.cc; next = task.next; storage = storage })
+    else work.Instructions (task_machine storage task)
 
 -- what is done next at a region does so where it is the turn of a terminal with a task
 abbrev pub work_of : RegionState → Cause → Work
@@ -77,18 +79,23 @@ pub record ActionEffect : Type 0 where
   pub programs : List (List ℕ × Loaded)
   pub storage : Storage
 
--- the last of these instructions that changed a byte of a range; nothing where none did
-pub record IsOfRun (sources : Sources) (programs : List (List ℕ × Loaded)) (range : Row) (m : Machine) (word : List ℕ)
-    : Type 0 where
+-- the last of these instructions that changed a byte of a range, and nothing where none did; or the abend, where the
+-- instructions leave other bytes than are there after the turn
+pub record IsOfRun (sources : Sources) (programs : List (List ℕ × Loaded)) (range : Row) (m : Machine) (after : Storage)
+    (word : List ℕ) : Type 0 where
   pub at : Option ℕ
   pub last : LastWriter most_steps m range at
-  pub is : word ≡ option_map_or (instruction_word sources programs) at []
+  pub left : Machine
+  pub leaves : Leaves most_steps m left
+  pub is : word
+      ≡ (if bytes_eq (shown_in left.storage range) (shown_in after range)
+      then option_map_or (instruction_word sources programs) at [] else codes " ABEND")
 
--- the statement that changed a byte of a range last, after the words for the action
-unfoldable pub IsStatement : Sources → List (List ℕ × Loaded) → Row → Work → List ℕ → Type 0
-IsStatement sources programs range work.Nothing word = word ≡ []
-IsStatement sources programs range (work.Command back) word = word ≡ command_word sources programs back
-IsStatement sources programs range (work.Instructions m) word = IsOfRun sources programs range m word
+-- what changed a byte of a range last, after the words for the action
+unfoldable pub IsStatement : Sources → List (List ℕ × Loaded) → Row → Work → Storage → List ℕ → Type 0
+IsStatement sources programs range work.Nothing after word = word ≡ []
+IsStatement sources programs range (work.Command back) after word = word ≡ command_word sources programs back
+IsStatement sources programs range (work.Instructions m) after word = IsOfRun sources programs range m after word
 
 -- the line of a range whose bytes are no longer as they were
 unfoldable pub change_line : ActionEffect → Kept → List ℕ → Lines
@@ -99,7 +106,7 @@ change_line effect kept statement =
 
 pub record IsChange (effect : ActionEffect) (kept : Kept) (lines : Lines) : Type 0 where
   pub statement : List ℕ
-  pub last : IsStatement effect.sources effect.programs kept.range effect.done statement
+  pub last : IsStatement effect.sources effect.programs kept.range effect.done effect.storage statement
   pub are : lines ≡ change_line effect kept statement
 
 -- and of one whose bytes are as they were none

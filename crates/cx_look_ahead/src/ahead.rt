@@ -5,13 +5,14 @@ ghost use Rattle.cx_look_tables.specs.Words.{look_line};
 ghost use Rattle.cx_look_ahead.specs.Ahead.{AheadText, TurnText, turn_end_line, names_ahead, changed_row_line};
 
 use crate::bytes::changed_row_line;
-use crate::instructions::{trace_ahead, trace_lines};
+use crate::instructions::trace_lines;
 use crate::rows::{Row, rows_between};
 use cx_base::{shown, shown_name};
 use cx_ebcdic::Name4;
 use cx_look_levels::{LevelNames, level_names, standing_at};
 use cx_look_symbols::Sources;
 use cx_look_tables::Report;
+use cx_look_turn::trace_ahead;
 use cx_region::{Region, TurnReply};
 use cx_region_snapshot::turn_apart;
 use cx_storage::Store;

@@ -5,13 +5,12 @@ ghost use Rattle.cx_look_symbols.specs.Lines.{has_offset};
 ghost use Rattle.cx_region.specs.Tables.{task_of};
 ghost use Rattle.cx_look_ahead.specs.Arrivals.{ComesTo, are_among, does_some, has_statement, is_among_statements, is_command_among, program_places, statements_on};
 
-use crate::Trace;
-use crate::instructions::{MOST_STEPS, trace_ahead};
 use cx_ebcdic::{Name4, Name8};
 use cx_load::Loaded;
 use cx_look_symbols::{
     SourcePlaces, Sources, Spot, StatementPlace, has_offset, place_at_address, spot_before,
 };
+use cx_look_turn::{MOST_STEPS, Trace, trace_ahead};
 use cx_region::Region;
 use cx_storage::{Store, address_in};
 use indexmap::IndexMap;

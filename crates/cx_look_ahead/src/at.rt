@@ -1,27 +1,23 @@
 //! AHEAD AT.
 ghost use Rattle.std.specs.Prelude.{◌≡◌, ◌<◌, ◌++◌, [], IfOk, IfSome, OnOk, codes, length};
-ghost use Rattle.std.specs.Option.{option_map, option_map_or};
-ghost use Rattle.cx_exec.specs.Advance.{Passes};
+ghost use Rattle.std.specs.Option.{option_map_or};
 ghost use Rattle.cx_exec.specs.Machine.{machine};
 ghost use Rattle.cx_look_ahead.specs.At.{ArrivesAt, AtText, at_line, fields_at_line, fields_on, first_among, names_on, there_lines};
-ghost use Rattle.cx_look_ahead.specs.Parts.Runs.{RunsPast};
 
-use crate::Trace;
 use crate::arrivals::{SourceLine, is_among_statements, statements_on};
-use crate::instructions::{MOST_STEPS, cpu_ahead, trace_ahead, visit_line};
-use crate::traces::instruction_at;
+use crate::instructions::visit_line;
 use cx_base::{decimal, shown_name};
 use cx_ebcdic::{Name4, Name8};
-use cx_exec::{Cpu, step};
+use cx_exec::Cpu;
 use cx_load::Loaded;
 use cx_look_levels::{LevelFields, SourcePoint};
 use cx_look_symbols::{Sources, Spot, StatementPlace, place_at_address, translated_in};
 use cx_look_tables::{Report, register_lines};
+use cx_look_turn::{MOST_STEPS, Trace, TurnMachine, instruction_at, machine_ahead, trace_ahead};
 use cx_look_xref::references_of;
 use cx_region::Region;
 use cx_source::Source;
 use cx_storage::Store;
-use cx_storage_snapshot::StorageSnapshot;
 use indexmap::IndexMap;
 use std::alloc::{AllocError, Global};
 
@@ -42,37 +38,6 @@ fn first_among(
     ))
 }
 
-/// Performs so many instructions.
-#[tactic(auto, using(crate::proofs::LeftLemmas::passes_none))]
-fn run_to<S: Store>(cpu: &mut Cpu, store: &mut S, count: usize)
-    requires { RunsPast (machine cpu.old (S.storage store.old)) count }
-    ensures { Passes count (machine cpu.old (S.storage store.old)) (machine cpu.new (S.storage store.new)) }
-{
-    cx_exec_laws::laws::steps_decide();
-    let mut done = 0;
-    while done < count {
-        let _end = step(cpu, store);
-        done += 1;
-    }
-}
-
-/// What a run over a store like this one has after so many instructions; the store stays as it is.
-fn run_apart<S: Store + Drop>(
-    alloc: Global,
-    store: &S,
-    cpu: Cpu,
-    count: usize,
-) -> Result<(Cpu, S), AllocError>
-    requires { RunsPast (machine cpu (S.storage store.now)) count }
-    ensures { IfOk result (λ it. Passes count (machine cpu (S.storage store.now)) (machine it.0 (S.storage it.1))) }
-{
-    let snapshot = StorageSnapshot::take(alloc, store, None)?;
-    let mut apart = snapshot.store_like(store)?;
-    let mut cpu = cpu;
-    run_to(&mut cpu, &mut apart, count);
-    Ok((cpu, apart))
-}
-
 /// What a terminal's task will have where its next turn first comes to a line of a source; None where the turn runs no
 /// instruction of it.
 #[tactic(auto, using(crate::proofs::AtLemmas::past_of, crate::proofs::AtLemmas::arrives_with_no_run, crate::proofs::AtLemmas::arrives_with_no_machine, crate::proofs::AtLemmas::arrives_nowhere, crate::proofs::AtLemmas::arrives_there))]
@@ -82,23 +47,22 @@ fn arrival<S: Store + Drop>(
     region: &Region<S>,
     name: Name4,
     line: &SourceLine,
-) -> Result<Option<(Cpu, S)>, AllocError>
-    ensures { IfOk result (λ there. let m = option_map (λ it. machine it.0 (S.storage it.1)) there in
-        ArrivesAt sources.now.places region.now name line.now m) }
+) -> Result<Option<TurnMachine<S>>, AllocError>
+    ensures { IfOk result (λ there. ArrivesAt sources.now.places region.now name line.now there) }
 {
     let statements = statements_on(alloc, sources.places(), line)?;
     let Some(trace) = trace_ahead(alloc, region, name, MOST_STEPS as usize)? else {
         return Ok(None);
     };
-    let Some(cpu) = cpu_ahead(region, name) else {
+    let Some(mut machine) = machine_ahead(alloc, region, name)? else {
         return Ok(None);
     };
-    let shared = region.shared();
-    let Some(count) = first_among(&shared.programs, line.program, &statements, &trace) else {
+    let programs = &region.shared().programs;
+    let Some(count) = first_among(programs, line.program, &statements, &trace) else {
         return Ok(None);
     };
-    let there = run_apart(alloc, &shared.store, cpu, count)?;
-    Ok(Some(there))
+    machine.pass(count);
+    Ok(Some(machine))
 }
 
 /// Adds the first line of a look ahead to a line of a source, which ends with a word.
@@ -241,12 +205,12 @@ pub fn at_text<S: Store + Drop>(
     ensures { IfOk result (λ report. AtText sources.now region.now name line report) }
 {
     let there = arrival(alloc, sources, region, name, &line)?;
-    let Some((cpu, store)) = there else {
+    let Some(machine) = there else {
         return none_report(alloc, name, &line);
     };
     let task = TaskThere {
-        cpu: &cpu,
-        store: &store,
+        cpu: machine.cpu(),
+        store: machine.store(),
         name,
         line: &line,
     };

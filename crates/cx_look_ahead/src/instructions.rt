@@ -1,76 +1,17 @@
 //! The instructions of the next turn.
 ghost use Rattle.std.specs.Prelude.{◌≡◌, ◌++◌, codes, IfOk, OnOk};
 ghost use Rattle.std.specs.List.{flat_map};
-ghost use Rattle.std.specs.Option.{option_map, option_map_or};
+ghost use Rattle.std.specs.Option.{option_map_or};
 ghost use Rattle.cx_base.specs.Digits.{hex_digits};
-ghost use Rattle.cx_exec.specs.Machine.{machine};
-ghost use Rattle.cx_region_task.specs.Turn.{most_steps};
-ghost use Rattle.cx_look_ahead.specs.Traces.{IsTrace};
-ghost use Rattle.cx_look_ahead.specs.Instructions.{IsAhead, count_line, machine_ahead, trace_lines, visit_line, visit_word};
+ghost use Rattle.cx_look_ahead.specs.Instructions.{count_line, trace_lines, visit_line, visit_word};
 
-use crate::{Code, Trace, Visit, trace_run};
-use cx_ebcdic::{Name4, Name8};
-use cx_exec::Cpu;
+use cx_ebcdic::Name8;
 use cx_load::Loaded;
 use cx_look_symbols::{Place, Sources, address_word, place_at_address, push_led_by, statement_at};
 use cx_look_tables::{Report, decimal, spelled};
-use cx_region::Region;
-use cx_storage::Store;
-use cx_storage_snapshot::StorageSnapshot;
+use cx_look_turn::{Code, Trace, Visit};
 use indexmap::IndexMap;
 use std::alloc::{AllocError, Global};
-
-/// The most instructions of a turn.
-pub(crate) const MOST_STEPS: u32 = 65_536;
-
-/// The processor that a terminal's next turn runs; None where a command is due, or there is no task.
-pub(crate) fn cpu_ahead<S: Store + Drop>(region: &Region<S>, name: Name4) -> Option<Cpu>
-    ensures { option_map (λ cpu. machine cpu region.now.shared.storage) result ≡ machine_ahead region.now name }
-{
-    let terminal = region.terminals().get(&name)?;
-    let task = terminal.task()?;
-    if task.due {
-        return None;
-    }
-    Some(Cpu {
-        regs: task.cpu.regs,
-        cc: task.cpu.cc,
-        next: task.cpu.next,
-    })
-}
-
-/// The instructions that a processor comes to over a store like this one, which stays as it is.
-fn trace_apart<S: Store + Drop>(
-    alloc: Global,
-    store: &S,
-    cpu: Cpu,
-    most: usize,
-) -> Result<Trace, AllocError>
-    ensures { let m = machine cpu (S.storage store.now) in
-        IfOk result (λ trace. IsTrace most_steps m most trace.count trace.last.items) }
-{
-    let snapshot = StorageSnapshot::take(alloc, store, None)?;
-    let mut apart = snapshot.store_like(store)?;
-    let mut cpu = cpu;
-    trace_run(alloc, &mut cpu, &mut apart, MOST_STEPS, most)
-}
-
-/// The instructions that a terminal's next turn will come to, where it runs some.
-#[tactic(auto, unfolding(crate::specs::Instructions::IsAhead))]
-pub(crate) fn trace_ahead<S: Store + Drop>(
-    alloc: Global,
-    region: &Region<S>,
-    name: Name4,
-    most: usize,
-) -> Result<Option<Trace>, AllocError>
-    ensures { IfOk result (λ trace. IsAhead region.now name most trace) }
-{
-    let Some(cpu) = cpu_ahead(region, name) else {
-        return Ok(None);
-    };
-    let trace = trace_apart(alloc, &region.shared().store, cpu, most)?;
-    Ok(Some(trace))
-}
 
 /// The bytes of an instruction.
 fn code_word(alloc: Global, code: &Option<Code>) -> Result<Vec<u8>, AllocError>

@@ -1,25 +1,9 @@
-//! What follows from the definitions of the instructions that a run comes to, of looks ahead, and of watched ranges.
+//! What follows from the definitions of looks ahead and of watched ranges.
 
-ghost use Rattle.cx_look_ahead.specs.Laws.{TracesDecide, VisitsAreOfRuns, AheadDecides, NamesAreOfWhere, NextTurnIsShown, RowsAreTheDifference, RowsDecide, TurnsRunThem};
+ghost use Rattle.cx_look_ahead.specs.Laws.{AheadDecides, NamesAreOfWhere, NextTurnIsShown, RowsAreTheDifference, RowsDecide};
 ghost use Rattle.cx_look_ahead.specs.Laws.Arrivals.{ArrivalsDecide, TurnsDoSome};
 ghost use Rattle.cx_look_ahead.specs.Laws.Watching.{WorkIsDone, ChangesAreWritten, ChangesDecide, WritersAreFound, WritersDecide};
 ghost use Rattle.cx_look_ahead.specs.Laws.Ats.{AtDecides, TurnsReachIt};
-
-/// A machine and a limit have one trace: one number of instructions that the run comes to, and one list of the last of
-/// them.
-pub fn traces_decide()
-    ensures { TracesDecide }
-{
-    cx_exec_laws::laws::steps_decide();
-}
-
-/// The instructions that a machine comes to are those of its run: as many as the run performs, and the one that is
-/// interrupted, where it ends so.
-pub fn visits_are_of_runs()
-    ensures { VisitsAreOfRuns }
-{
-    cx_exec_laws::laws::runs_decide();
-}
 
 /// What AHEAD writes is that of the region's next turn, when it is done: the words of its reply, its instructions, and
 /// the rows of bytes that it changes. There is one such text.
@@ -28,15 +12,7 @@ pub fn the_next_turn_is_shown()
     ensures decides { AheadDecides }
 {
     cx_region_laws::laws::calls_decide();
-    crate::laws::traces_decide();
-}
-
-/// The instructions that AHEAD writes of are those of the turn's run, when it is done: as many as the run performs, and
-/// the one that is interrupted, where it ends so.
-pub fn turns_run_them()
-    ensures { TurnsRunThem }
-{
-    crate::laws::visits_are_of_runs();
+    cx_look_turn::laws::traces_decide();
 }
 
 /// Of the rows between two storages a byte is in one exactly where it differs, and there is one list of them.
@@ -57,8 +33,8 @@ pub fn turns_do_some()
     ensures done { TurnsDoSome }
     ensures decides { ArrivalsDecide }
 {
-    turns_run_them();
-    crate::laws::traces_decide();
+    cx_look_turn::laws::turns_run_them();
+    cx_look_turn::laws::traces_decide();
 }
 
 /// What AHEAD AT shows is the machine of the run of the turn that is then done, after as many of its instructions as
@@ -67,8 +43,8 @@ pub fn turns_reach_it()
     ensures reached { TurnsReachIt }
     ensures decides { AtDecides }
 {
-    turns_run_them();
-    crate::laws::traces_decide();
+    cx_look_turn::laws::turns_run_them();
+    cx_look_turn::laws::traces_decide();
     cx_exec_laws::laws::steps_decide();
 }
 
@@ -86,6 +62,7 @@ pub fn writers_decide()
     ensures found { WritersAreFound }
 {
     cx_exec_laws::laws::steps_decide();
+    cx_exec_laws::laws::runs_decide();
 }
 
 /// What a turn is taken to do for WATCH is what the region's turn does: it performs the command of the terminal's task,

@@ -1,4 +1,3 @@
-//! The instructions that a run of the machine comes to, one after another.
 //! AHEAD: what the next turn of a terminal will do.
 //! WATCH: ranges of bytes of which each change is written.
 #![tactic(auto)]
@@ -7,11 +6,9 @@ mod ahead;
 mod arrivals;
 mod at;
 mod bytes;
-mod code;
 mod instructions;
 pub mod laws;
 mod rows;
-mod traces;
 mod watching;
 mod writing;
 
@@ -19,8 +16,6 @@ pub use ahead::ahead_text;
 pub use arrivals::{SourceLine, comes_to, has_statement};
 pub use at::at_text;
 pub use bytes::bytes_word;
-pub use code::Code;
 pub use rows::{Row, rows_between};
-pub use traces::{Trace, Visit, trace_run};
 pub use watching::{Cause, Done, Kept, Watches, change_lines};
-pub use writing::{KeptMachine, Work, work_of};
+pub use writing::{Work, work_of};

@@ -1,17 +1,20 @@
 //! Ranges of bytes that are watched.
 ghost use Rattle.std.specs.Prelude.{◌≡◌, ◌↔◌, [], ◌++◌, IfOk, IsTrue, OnErr, OnOk, length, map};
+ghost use Rattle.std.specs.List.{flat_map};
 ghost use Rattle.std.specs.Option.{option_map_or};
 ghost use Rattle.std.specs.Str.{bytes_eq};
-ghost use Rattle.cx_look_ahead.specs.Watching.{AreOfRanges, IsOfRun, IsStatement, begun_watch, begun_line, cause_word, change_line, command_word, instruction_word, is_full, kept_in, line_or, refused_line, with_range};
-ghost use Rattle.cx_look_ahead.specs.Parts.Adding.{AddsChange, AddsLines};
+ghost use Rattle.cx_look_ahead.specs.Watching.{AreOfRanges, begun_watch, begun_line, cause_word, change_line, command_word, instruction_word, is_full, kept_in, line_or, refused_line, with_range};
+ghost use Rattle.cx_look_ahead.specs.Parts.Seen.{IsOfChanged, if_changed, run_word, seen_line, statement_lines};
+ghost use Rattle.cx_look_ahead.specs.declared.writing.Work.TheVariants as work;
 
-use crate::writing::writer_of;
-use crate::{KeptMachine, Row, Work, bytes_word};
+use crate::writing::{Seen, last_writers};
+use crate::{Row, Work, bytes_word};
 use cx_base::{List, hexadecimal, shown_name};
 use cx_ebcdic::{Name4, Name8};
 use cx_load::Loaded;
 use cx_look_symbols::{Place, Sources, address_word, place_at_address, spot_before, statement_at};
 use cx_look_tables::{Report, decimal};
+use cx_look_turn::KeptMachine;
 use cx_storage::Store;
 use indexmap::IndexMap;
 use std::alloc::{AllocError, Global};
@@ -87,6 +90,16 @@ fn kept_in<S: Store>(alloc: Global, store: &S, range: Row) -> Result<Kept, Alloc
     Ok(Kept {
         range,
         bytes: List::from_vec(bytes),
+    })
+}
+
+/// A copy of a range with its bytes.
+pub(crate) fn copy_of(alloc: Global, kept: &Kept) -> Result<Kept, AllocError>
+    ensures { IfOk result (λ copy. copy ≡ kept.now) }
+{
+    Ok(Kept {
+        range: kept.range,
+        bytes: List::from_vec(kept.bytes.as_slice().to_vec(alloc)?),
     })
 }
 
@@ -166,7 +179,7 @@ fn command_word(
 }
 
 /// Whether two texts are the same.
-fn are_same(one: &[u8], other: &[u8]) -> bool
+pub(crate) fn are_same(one: &[u8], other: &[u8]) -> bool
     ensures { result ≡ bytes_eq one.now other.now }
 {
     one == other
@@ -184,30 +197,18 @@ impl<'a, S: Store + Drop> Done<'a, S> {
         }
     }
 
-    /// The statement of the last instruction that changed a byte of a range.
-    fn run_word(
-        &self,
-        alloc: Global,
-        machine: &KeptMachine,
-        range: Row,
-    ) -> Result<Vec<u8>, AllocError>
-        ensures { IfOk result (λ word. IsOfRun self.now.sources self.now.programs range machine.now word.items) }
+    /// The statement of the last instruction of a run that changed a byte of a range; or that the abend did, where the
+    /// run leaves other bytes than are there after it.
+    fn run_word(&self, alloc: Global, left: &S, seen: &Seen) -> Result<Vec<u8>, AllocError>
+        ensures { IfOk result (λ word. word.items ≡ run_word self.now (S.storage left.now) seen.now) }
     {
-        let at = writer_of(alloc, self.store, machine, range)?;
-        self.written_by(alloc, at)
-    }
-
-    /// The statement that changed a byte of a range last.
-    #[tactic(auto, unfolding(crate::specs::Watching::IsStatement))]
-    fn statement(&self, alloc: Global, range: Row) -> Result<Vec<u8>, AllocError>
-        ensures { IfOk result (λ word.
-            IsStatement self.now.sources self.now.programs range self.now.done word.items) }
-    {
-        match self.work {
-            Work::Nothing => Ok(Vec::new(alloc)),
-            Work::Command(back) => command_word(alloc, self.sources, self.programs, *back),
-            Work::Instructions(machine) => self.run_word(alloc, machine, range),
+        let range = seen.kept().range;
+        let before = bytes_word(alloc, left, range.at, range.length)?;
+        let after = bytes_word(alloc, self.store, range.at, range.length)?;
+        if are_same(&before, &after) {
+            return self.written_by(alloc, seen.last());
         }
+        b" ABEND".to_vec(alloc)
     }
 
     /// What was done, in the words of its line, with the statement that did it.
@@ -240,25 +241,115 @@ impl<'a, S: Store + Drop> Done<'a, S> {
         ])
     }
 
-    /// Adds the line of a range that was changed.
-    fn changed_line(&self, report: &mut Report, kept: &Kept) -> Result<(), AllocError>
-        ensures { OnOk result (AddsChange self.now kept.now report.old report.new) }
-    {
-        let statement = self.statement(report.alloc(), kept.range)?;
-        self.change_line(report, kept, &statement)
-    }
-
-    /// Adds the line of a range, where its bytes aren't as they were kept.
-    #[tactic(auto, unfolding(crate::specs::Watching::AreOfRange))]
-    fn range_lines(&self, report: &mut Report, kept: &Kept) -> Result<(), AllocError>
-        ensures { OnOk result (AddsLines self.now kept.now report.old report.new) }
+    /// Adds a range, where its bytes aren't as they were kept.
+    fn add_changed(
+        &self,
+        alloc: Global,
+        changed: &mut Vec<Kept>,
+        kept: &Kept,
+    ) -> Result<(), AllocError>
+        ensures { OnOk result (changed.new.items ≡ changed.old.items ++ if_changed self.now.storage kept.now) }
     {
         let range = kept.range;
-        let now = bytes_word(report.alloc(), self.store, range.at, range.length)?;
+        let now = bytes_word(alloc, self.store, range.at, range.length)?;
         if are_same(kept.bytes.as_slice(), &now) {
             return Ok(());
         }
-        self.changed_line(report, kept)
+        changed.push(copy_of(alloc, kept)?)?;
+        Ok(())
+    }
+
+    /// The ranges whose bytes aren't as they were kept.
+    fn changed(&self, alloc: Global, kept: &[Kept]) -> Result<Vec<Kept>, AllocError>
+        ensures { IfOk result (λ changed. changed.items ≡ flat_map (if_changed self.now.storage) kept.now) }
+    {
+        let mut changed = Vec::new(alloc);
+        for it in kept {
+            self.add_changed(alloc, &mut changed, it)?;
+        }
+        Ok(changed)
+    }
+
+    /// The lines of ranges that one statement changed, or none.
+    #[tactic(auto, unfolding(crate::specs::Parts::Seen::statement_lines))]
+    fn statement_lines(
+        &self,
+        alloc: Global,
+        changed: &[Kept],
+        statement: &[u8],
+    ) -> Result<Report, AllocError>
+        ensures { IfOk result (λ report. report ≡ statement_lines self.now statement.now changed.now) }
+    {
+        let mut report = Report::new(alloc);
+        for kept in changed {
+            self.change_line(&mut report, kept, statement)?;
+        }
+        Ok(report)
+    }
+
+    /// The lines of ranges that a command changed which leads back to that address.
+    fn command_lines(
+        &self,
+        alloc: Global,
+        changed: &[Kept],
+        back: u32,
+    ) -> Result<Report, AllocError>
+        requires { self.now.done ≡ work.Command back }
+        ensures { IfOk result (IsOfChanged self.now changed.now) }
+    {
+        let statement = command_word(alloc, self.sources, self.programs, back)?;
+        let report = self.statement_lines(alloc, changed, statement.as_slice())?;
+        Ok(report)
+    }
+
+    /// Adds the line of a range that a run changed which leaves that store.
+    fn seen_line(&self, report: &mut Report, left: &S, seen: &Seen) -> Result<(), AllocError>
+        ensures { OnOk result (report.new ≡ report.old ++ seen_line self.now (S.storage left.now) seen.now) }
+    {
+        let statement = self.run_word(report.alloc(), left, seen)?;
+        self.change_line(report, seen.kept(), &statement)
+    }
+
+    /// The lines of ranges that a run changed which leaves that store.
+    fn seen_lines(&self, alloc: Global, left: &S, seen: &[Seen]) -> Result<Report, AllocError>
+        ensures { IfOk result (λ report.
+            report ≡ flat_map (seen_line self.now (S.storage left.now)) seen.now) }
+    {
+        let mut report = Report::new(alloc);
+        for it in seen {
+            self.seen_line(&mut report, left, it)?;
+        }
+        Ok(report)
+    }
+
+    /// The lines of ranges that the instructions of a turn changed, or its abend: they are performed once more, from
+    /// the machine as it was before.
+    #[tactic(auto, using(crate::proofs::LineLemmas::lines_of_run))]
+    fn run_lines(
+        &self,
+        alloc: Global,
+        machine: &KeptMachine,
+        changed: &[Kept],
+    ) -> Result<Report, AllocError>
+        requires { self.now.done ≡ work.Instructions machine.now }
+        ensures { IfOk result (IsOfChanged self.now changed.now) }
+    {
+        let mut apart = machine.over(self.store)?;
+        let seen = last_writers(alloc, &mut apart, changed)?;
+        let report = self.seen_lines(alloc, apart.store(), &seen)?;
+        Ok(report)
+    }
+
+    /// The lines of ranges that were changed.
+    #[tactic(auto, using(crate::proofs::LineLemmas::lines_of_nothing))]
+    fn lines(&self, alloc: Global, changed: &[Kept]) -> Result<Report, AllocError>
+        ensures { IfOk result (IsOfChanged self.now changed.now) }
+    {
+        match self.work {
+            Work::Nothing => self.statement_lines(alloc, changed, b""),
+            Work::Command(back) => self.command_lines(alloc, changed, *back),
+            Work::Instructions(machine) => self.run_lines(alloc, machine, changed),
+        }
     }
 }
 
@@ -351,11 +442,11 @@ impl Watches {
 }
 
 /// A line for each range whose bytes aren't as they were kept, with what was done and the statement that changed one of
-/// them last. Of a turn's instructions that is the last one that changed one: they are performed once more, from the
-/// machine as it was before, over a store like this one.
+/// them last. Of a turn's instructions that is the last one that changed one: they are performed once more for all of
+/// these ranges, from the machine as it was before, over a store like this one.
 ///
 /// An error comes only where memory for the lines, or for that store, was refused.
-#[tactic(auto, using(crate::proofs::LineLemmas::no_lines))]
+#[tactic(auto, using(crate::proofs::LineLemmas::no_lines, crate::proofs::LineLemmas::changed_lines))]
 pub fn change_lines<S: Store + Drop>(
     alloc: Global,
     done: &Done<'_, S>,
@@ -363,9 +454,10 @@ pub fn change_lines<S: Store + Drop>(
 ) -> Result<Report, AllocError>
     ensures { IfOk result (λ report. AreOfRanges done.now kept.now report) }
 {
-    let mut report = Report::new(alloc);
-    for range in kept {
-        done.range_lines(&mut report, range)?;
+    let changed = done.changed(alloc, kept)?;
+    if changed.is_empty() {
+        return Ok(Report::new(alloc));
     }
+    let report = done.lines(alloc, &changed)?;
     Ok(report)
 }

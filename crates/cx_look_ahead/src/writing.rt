@@ -1,41 +1,27 @@
-//! What a turn does, and which instruction of a run changed a byte of a range last.
-ghost use Rattle.std.specs.Prelude.{◌≡◌, Some, IfOk, if◌then◌else◌};
+//! What a turn does, and which instructions of a run changed bytes of ranges last.
+ghost use Rattle.std.specs.Prelude.{◌≡◌, IfOk, IfSome, OnOk, MatchOption, map};
+ghost use Rattle.std.specs.List.{AllByRecursion};
 ghost use Rattle.std.specs.Str.{bytes_eq};
-ghost use Rattle.cx_exec.specs.Machine.{machine};
 ghost use Rattle.cx_exec.specs.Step.{Steps};
 ghost use Rattle.cx_region_task.specs.Turn.{most_steps};
 ghost use Rattle.cx_storage.specs.Storage.{IsSoundStorage};
-ghost use Rattle.cx_look_ahead.specs.Writing.{LastWriter};
+ghost use Rattle.cx_look_turn.specs.Traces.{Leaves};
 ghost use Rattle.cx_look_ahead.specs.declared.watching.Cause.TheVariants as cause_kind;
+ghost use Rattle.cx_look_ahead.specs.Parts.Seen.{AreBytes, IsLastSeen, noted, seen_in};
 ghost use Rattle.cx_look_ahead.specs.Watching.{work_of, next_work, shown_in};
 
-use crate::instructions::MOST_STEPS;
-use crate::{Cause, Row, bytes_word};
+use crate::watching::{are_same, copy_of};
+use crate::{Cause, Kept, Row, bytes_word};
 use cx_ebcdic::Name4;
-use cx_exec::{Cpu, Step, step};
+use cx_exec::Step;
 use cx_exec_laws::laws::steps_decide;
+use cx_look_turn::{KeptMachine, MOST_STEPS, TurnMachine};
 use cx_region::Region;
 use cx_region_state::Task;
 use cx_storage::laws::store_is_sound;
 use cx_storage::{Store, address_in};
-use cx_storage_snapshot::StorageSnapshot;
 use std::alloc::{AllocError, Global};
 use std::marker::Model;
-
-/// A machine as it was: its processor, and its storage.
-#[derive(Drop)]
-pub struct KeptMachine {
-    cpu: Cpu,
-    storage: StorageSnapshot,
-}
-
-impl Model for KeptMachine {
-    ghost use Rattle.cx_exec.specs.Machine.{Machine, machine};
-
-    ghost Value = { Machine };
-
-    ghost view = { λ it. machine it.cpu it.storage };
-}
 
 /// What is done of a program next at a terminal.
 #[derive(Drop)]
@@ -48,19 +34,6 @@ pub enum Work {
     Instructions(KeptMachine),
 }
 
-/// A processor like another.
-fn cpu_like(cpu: &Cpu) -> Cpu
-    ensures regs { result.regs ≡ cpu.now.regs }
-    ensures cc { result.cc ≡ cpu.now.cc }
-    ensures next { result.next ≡ cpu.now.next }
-{
-    Cpu {
-        regs: cpu.regs,
-        cc: cpu.cc,
-        next: cpu.next,
-    }
-}
-
 /// What a task's next turn does.
 fn next_work<S: Store>(alloc: Global, store: &S, task: &Task) -> Result<Work, AllocError>
     ensures { IfOk result (λ work. work ≡ next_work (S.storage store.now) task.now) }
@@ -68,10 +41,7 @@ fn next_work<S: Store>(alloc: Global, store: &S, task: &Task) -> Result<Work, Al
     if task.due {
         return Ok(Work::Command(address_in(task.cpu.regs[14])));
     }
-    Ok(Work::Instructions(KeptMachine {
-        cpu: cpu_like(&task.cpu),
-        storage: StorageSnapshot::take(alloc, store, None)?,
-    }))
+    Ok(Work::Instructions(KeptMachine::take(alloc, &task.cpu, store)?))
 }
 
 /// What a terminal's next turn does.
@@ -107,82 +77,194 @@ pub fn work_of<S: Store + Drop>(
     }
 }
 
-/// The address of an instruction, where it changed one of the bytes that were so; else that of the last one before.
-fn writer_after(last: Option<u32>, at: u32, before: &[u8], after: &[u8]) -> Option<u32>
-    ensures { result ≡ (if bytes_eq before.now after.now then last else Some at) }
+/// The bytes of a range, where the store lends them at once.
+fn part_of<S: Store>(store: &S, range: Row) -> Option<&[u8]>
+    ensures { IfSome result (λ part. AreBytes (shown_in (S.storage store.now) range) part.now) }
 {
-    if before == after { last } else { Some(at) }
+    if range.at >= 0x100_0000 || range.length > 65_536 {
+        return None;
+    }
+    store_is_sound(store);
+    let part = store.slice_fast(range.at, range.length as usize)?;
+    Some(part)
 }
 
-/// Performs an instruction, and notes its address where it changes a byte of a range.
-fn pass<S: Store>(
+/// A copy of those bytes.
+fn copy_of_part<S: Store>(
     alloc: Global,
-    cpu: &mut Cpu,
-    store: &mut S,
+    store: &S,
     range: Row,
-    last: &mut Option<u32>,
-) -> Result<Step, AllocError>
-    ensures steps { let before = machine cpu.old (S.storage store.old) in
-        IfOk result (λ end. Steps before end (machine cpu.new (S.storage store.new))) }
-    ensures last { let same = bytes_eq (shown_in (S.storage store.old) range) (shown_in (S.storage store.new) range) in
-        IfOk result (λ end. last.new ≡ (if same then last.old else Some cpu.old.next)) }
-    ensures sound { IsSoundStorage (S.storage store.old) }
-    ensures stays_sound { IsSoundStorage (S.storage store.new) }
+) -> Result<Option<Vec<u8>>, AllocError>
+    ensures { let shown = shown_in (S.storage store.now) range in
+        IfOk result (λ copy. IfSome copy (λ bytes. AreBytes shown bytes.items)) }
 {
-    store_is_sound(store);
-    let at = cpu.next;
-    let before = bytes_word(alloc, store, range.at, range.length)?;
-    let end = step(cpu, store);
-    store_is_sound(store);
-    let after = bytes_word(alloc, store, range.at, range.length)?;
-    *last = writer_after(*last, at, &before, &after);
+    match part_of(store, range) {
+        Some(part) => Ok(Some(part.to_vec(alloc)?)),
+        None => Ok(None),
+    }
+}
+
+/// A range that was changed, on the way through a run: its bytes there, as they are shown, and the address of the last
+/// instruction so far that changed one of them.
+#[derive(Drop)]
+pub(crate) struct Seen {
+    kept: Kept,
+    shown: Vec<u8>,
+    /// The bytes themselves, where they were lent at once: they are compared sooner.
+    bytes: Option<Vec<u8>>,
+    last: Option<u32>,
+}
+
+impl Model for Seen {
+    ghost use Rattle.std.specs.Prelude.{IfSome};
+    ghost use Rattle.cx_look_ahead.specs.Parts.Seen.{AreBytes, SeenRange};
+
+    ghost Value = { SeenRange };
+
+    ghost view = { λ seen. record { kept = seen.kept; shown = seen.shown.items; last = seen.last } };
+
+    ghost invariant = { λ seen. IfSome seen.bytes (λ bytes. AreBytes seen.shown.items bytes.items) };
+}
+
+impl Seen {
+    /// A range, as no instruction has changed it so far.
+    fn of<S: Store>(alloc: Global, store: &S, kept: &Kept) -> Result<Seen, AllocError>
+        ensures { IfOk result (λ seen. seen ≡ seen_in (S.storage store.now) kept.now) }
+    {
+        let range = kept.range;
+        Ok(Seen {
+            kept: copy_of(alloc, kept)?,
+            shown: bytes_word(alloc, store, range.at, range.length)?,
+            bytes: copy_of_part(alloc, store, range)?,
+            last: None,
+        })
+    }
+
+    /// The range, with its bytes as they were kept.
+    pub(crate) fn kept(&self) -> &Kept
+        ensures { result.now ≡ self.now.kept }
+    {
+        &self.kept
+    }
+
+    /// The address of the last instruction that changed one of its bytes.
+    pub(crate) fn last(&self) -> Option<u32>
+        ensures { result ≡ self.now.last }
+    {
+        self.last
+    }
+
+    /// Whether the bytes are as they were seen last, where they are lent at once.
+    #[tactic(auto, using(crate::proofs::ByteLemmas::compared_alike))]
+    fn is_same_lent<S: Store>(&self, store: &S) -> Option<bool>
+        ensures { let now = shown_in (S.storage store.now) self.now.kept.range in
+            IfSome result (λ same. same ≡ bytes_eq self.now.shown now) }
+    {
+        let bytes = self.bytes.as_ref()?;
+        let part = part_of(store, self.kept.range)?;
+        Some(are_same(bytes.as_slice(), part))
+    }
+
+    /// Whether the bytes are as they were seen last.
+    fn is_same<S: Store>(&self, alloc: Global, store: &S) -> Result<bool, AllocError>
+        ensures { let now = shown_in (S.storage store.now) self.now.kept.range in
+            IfOk result (λ same. same ≡ bytes_eq self.now.shown now) }
+    {
+        if let Some(same) = self.is_same_lent(store) {
+            return Ok(same);
+        }
+        let range = self.kept.range;
+        let now = bytes_word(alloc, store, range.at, range.length)?;
+        Ok(are_same(self.shown.as_slice(), &now))
+    }
+
+    /// Notes an instruction, where the bytes aren't as they were before it.
+    fn note<S: Store>(&mut self, alloc: Global, store: &S, at: u32) -> Result<(), AllocError>
+        ensures { OnOk result (self.new ≡ noted (S.storage store.now) at self.old) }
+    {
+        if self.is_same(alloc, store)? {
+            return Ok(());
+        }
+        let range = self.kept.range;
+        let shown = bytes_word(alloc, store, range.at, range.length)?;
+        let bytes = copy_of_part(alloc, store, range)?;
+        self.shown = shown;
+        self.bytes = bytes;
+        self.last = Some(at);
+        Ok(())
+    }
+}
+
+/// Ranges, as no instruction has changed them so far.
+fn all_seen<S: Store>(alloc: Global, store: &S, kept: &[Kept]) -> Result<Vec<Seen>, AllocError>
+    ensures { IfOk result (λ seen. seen.items ≡ map (seen_in (S.storage store.now)) kept.now) }
+{
+    let mut seen = Vec::new(alloc);
+    for it in kept {
+        seen.push(Seen::of(alloc, store, it)?)?;
+    }
+    Ok(seen)
+}
+
+/// Notes an instruction at each range whose bytes aren't as they were before it.
+fn note_all<S: Store>(
+    alloc: Global,
+    store: &S,
+    at: u32,
+    seen: &mut Vec<Seen>,
+) -> Result<(), AllocError>
+    ensures { OnOk result (seen.new.items ≡ map (noted (S.storage store.now) at) seen.old.items) }
+{
+    for it in seen.iter_mut() {
+        it.note(alloc, store, at)?;
+    }
+    Ok(())
+}
+
+/// Performs an instruction, and notes it at each range of which it changes a byte.
+fn pass<S: Store + Drop>(
+    alloc: Global,
+    machine: &mut TurnMachine<S>,
+    seen: &mut Vec<Seen>,
+) -> Result<Step, AllocError>
+    ensures steps { IfOk result (λ end. Steps machine.old end machine.new) }
+    ensures seen { OnOk result
+        (seen.new.items ≡ map (noted machine.new.storage machine.old.next) seen.old.items) }
+    ensures sound { IsSoundStorage machine.old.storage }
+    ensures stays_sound { IsSoundStorage machine.new.storage }
+{
+    store_is_sound(machine.store());
+    let at = machine.cpu().next;
+    let end = machine.step();
+    store_is_sound(machine.store());
+    note_all(alloc, machine.store(), at, seen)?;
     Ok(end)
 }
 
-/// The address of the last instruction that changes a byte of a range, of those that a processor performs over a store
-/// until the entry is the next address, one is interrupted, or it has performed as many as the limit; None where none
-/// does.
+/// Runs a machine as a turn does, and gives ranges, each with the address of the last instruction that changes one of
+/// its bytes; None where none does.
 ///
-/// An error comes only where memory for the bytes of the range was refused.
-#[tactic(auto, using(crate::proofs::LeftLemmas::passes_none, crate::proofs::WriteLemmas::at_first))]
-fn last_writer<S: Store>(
+/// An error comes only where memory for the bytes of the ranges was refused.
+pub(crate) fn last_writers<S: Store + Drop>(
     alloc: Global,
-    cpu: &mut Cpu,
-    store: &mut S,
-    limit: u32,
-    range: Row,
-) -> Result<Option<u32>, AllocError>
-    ensures { let m = machine cpu.old (S.storage store.old) in
-        IfOk result (λ at. LastWriter limit m range at) }
+    machine: &mut TurnMachine<S>,
+    kept: &[Kept],
+) -> Result<Vec<Seen>, AllocError>
+    ensures writers { IfOk result (λ seen. AllByRecursion (IsLastSeen most_steps machine.old) seen.items) }
+    ensures kept { IfOk result (λ seen. map (λ it. it.kept) seen.items ≡ kept.now) }
+    ensures leaves { OnOk result (Leaves most_steps machine.old machine.new) }
 {
     steps_decide();
-    let mut last = None;
+    let mut seen = all_seen(alloc, machine.store(), kept)?;
     let mut done = 0;
-    while done < limit {
-        let end = pass(alloc, cpu, store, range, &mut last)?;
+    while done < MOST_STEPS {
+        let end = pass(alloc, machine, &mut seen)?;
         match end {
             Step::Done => {}
-            Step::AtEntry => return Ok(last),
-            Step::Interrupt(_) => return Ok(last),
+            Step::AtEntry => return Ok(seen),
+            Step::Interrupt(_) => return Ok(seen),
         }
         done += 1;
     }
-    Ok(last)
-}
-
-/// The address of the last instruction of a turn that changed a byte of a range; None where none did. They run from the
-/// machine as it was, over a store like this one.
-///
-/// An error comes only where memory for that store, or for the bytes, was refused.
-pub(crate) fn writer_of<S: Store + Drop>(
-    alloc: Global,
-    store: &S,
-    machine: &KeptMachine,
-    range: Row,
-) -> Result<Option<u32>, AllocError>
-    ensures { IfOk result (λ at. LastWriter most_steps machine.now range at) }
-{
-    let mut apart = machine.storage.store_like(store)?;
-    let mut cpu = cpu_like(&machine.cpu);
-    last_writer(alloc, &mut cpu, &mut apart, MOST_STEPS, range)
+    Ok(seen)
 }

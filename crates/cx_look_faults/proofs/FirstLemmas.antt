@@ -1,8 +1,8 @@
 -- What a source is refused for is the fault of one of its faulty lines.
-use Rattle.std.proofs.Common.{◌≡◌, ◌≢◌, inl, inr, ℕ, Bool, true, false, cond, Option, Some, None, List, [], ◌∷◌, ◌++◌, append-nil, map, slice_get, Result, Ok, Err, refl, sym, ◌∙◌, ap, subst}
-use Rattle.std.specs.Prelude.{◌&&◌, is_some, fold, option_map}
+use Rattle.std.proofs.Common.{arith, ◌≡◌, ◌≢◌, inl, inr, ℕ, Bool, true, false, cond, Option, Some, None, List, [], ◌∷◌, ◌++◌, append-nil, map, slice_get, Result, Ok, Err, refl, sym, ◌∙◌, ap, ap₂, subst}
+use Rattle.std.specs.Prelude.{◌&&◌, ◌||◌, ◌==◌, ◌-◌, IfSome, drop, filter, is_some, fold, not, option_map}
 use Rattle.std.specs.BTreeMap.{insert_entry, is_at}
-use Rattle.std.specs.List.{cons_option}
+use Rattle.std.specs.List.{cons_option, list_any}
 use Rattle.std.specs.Map.{lookup}
 use Rattle.std.specs.Option.{option_map_or}
 use Rattle.std.specs.Ordering.{is_eq, match_ordering, nat_cmp}
@@ -32,7 +32,7 @@ use Rattle.cx_asm_build.specs.declared.faults.PrepareFault.{PrepareFault}
 use Rattle.cx_asm_build.specs.declared.faults.PrepareFault.TheVariants.{At, Memory}
 use Rattle.cx_asm_build.specs.declared.faults.SourceKind.{SourceKind}
 use Rattle.cx_asm_build.specs.declared.program.Prepared.{Prepared}
-use Rattle.cx_look_faults.specs.Faults.{base_lines, by_number, faults_of, faulty, faulty_line, faulty_lines, follows, has_section, is_adrift, is_bad_operand, is_unaddressed, lines_by_stages, lost_from, of_pass, put_line, unknown_after, without_adrift, without_following}
+use Rattle.cx_look_faults.specs.Faults.{base_lines, by_number, continuations, faults_of, faulty, faulty_line, faulty_lines, follows, has_section, instead, is_adrift, is_bad_operand, is_cut, is_due, is_shown, is_unaddressed, is_unread, kind_beside, lines_by_stages, lost_from, of_pass, put_line, stage_lines, unknown_after, without_adrift, without_following}
 use Rattle.cx_look_faults.specs.Laws.First.{Has, IsAmong, prepare_fault_of}
 use Rattle.cx_look_faults.specs.declared.faults.FaultyLine.{FaultyLine}
 
@@ -99,19 +99,19 @@ no_memory : (fault : PrepareFault) (due : Result Prepared PrepareFault) → due 
 no_memory fault due e h = λ m. h (e ∙ ap (λ f. Err f) m)
 
 -- the first pass: its first fault is never adrift
-not_adrift : (items : List Item) (fault : FaultyLine) → is_adrift items None fault ≡ false
+not_adrift : (items : List Item) (fault : FaultyLine) → is_due items false None fault ≡ false
 unfolding is_adrift
 not_adrift items fault = go (is_bad_operand fault.kind)
   where
-    go : (b : Bool) → (b && false) ≡ false
+    go : (b : Bool) → ((b && false) || false) ≡ false
     go true = refl
     go false = refl
 
 placed_first : (items : List Item) (fault : PrepareFault) (rest more : List FaultyLine) → fault ≢ Memory
-    → Some fault ≡ first_of (without_adrift items None (cons_option (faulty_line fault) rest) ++ more)
+    → Some fault ≡ first_of (without_adrift items false None (cons_option (faulty_line fault) rest) ++ more)
 placed_first items (At line kind) rest more h =
     let one = faulty line kind in
-    sym (ap (λ (b : Bool). first_of ((cond b [] (one ∷ []) ++ without_adrift items (unknown_after None line kind) rest) ++ more)) (not_adrift items one))
+    sym (ap (λ (b : Bool). first_of ((cond b [] (one ∷ []) ++ without_adrift items true (unknown_after None line kind) rest) ++ more)) (not_adrift items one))
 placed_first items Memory rest more h = absurd (h refl)
 
 -- the second pass: its first fault follows from nothing
@@ -123,14 +123,15 @@ not_following fault = go (is_unaddressed fault.kind)
     go true = refl
     go false = refl
 
-kept_first : (has : Bool) (lines : List ℕ) (faults : List FaultyLine) → first_of (without_following has lines None faults) ≡ first_of faults
-kept_first has lines [] = refl
-kept_first has lines (one ∷ more) =
-    ap (λ b. first_of ((cond b [] (one ∷ [])) ++ without_following has lines (lost_from has lines None one) more)) (not_following one)
+kept_first : (has : Bool) (lines : List ℕ) (beside : ℕ → Option SourceKind) (faults : List FaultyLine)
+    → first_of (without_following has lines beside None faults) ≡ first_of faults
+kept_first has lines beside [] = refl
+kept_first has lines beside (one ∷ more) =
+    ap (λ (b : Bool). first_of ((cond b (instead one (beside one.line)) (one ∷ [])) ++ without_following has lines beside (lost_from has lines None one) more)) (not_following one)
 
 later_reported : (listing disassembly : Bool) (made : Source) (due : Result AssemblyParts AsmFault) (later : List LineFault)
     → result_err due ≡ option_map fault_at (slice_get later 0) → prepared.by_assembly listing disassembly due ≢ Err Memory
-    → Tells (prepared.by_assembly listing disassembly due) (without_following (has_section made.items) (base_lines made.items) None (faulty_lines of_pass later))
+    → Tells (prepared.by_assembly listing disassembly due) (without_following (has_section made.items) (base_lines made.items) (kind_beside made) None (faulty_lines of_pass later))
 later_reported listing disassembly made (Ok parts) [] e h = refl
 later_reported listing disassembly made (Ok parts) (f ∷ more) e h = absurd (cc)
 later_reported listing disassembly made (Err fault) [] e h = absurd (cc)
@@ -139,15 +140,9 @@ later_reported listing disassembly made (Err fault) (f ∷ more) e h =
     ap (λ x. Some (of_assembly x)) same
     ∙ first_line (of_pass f) (faulty_lines of_pass more) [] (no_memory (of_pass f) (Err (of_assembly fault)) (ap (λ x. Err (of_assembly x)) same) h)
     ∙ ap first_of (append-nil (faulty_lines of_pass (f ∷ more)))
-    ∙ sym (kept_first (has_section made.items) (base_lines made.items) (faulty_lines of_pass (f ∷ more)))
+    ∙ sym (kept_first (has_section made.items) (base_lines made.items) (kind_beside made) (faulty_lines of_pass (f ∷ more)))
 
 -- ---- all stages, by what each finds
-abbrev stages : List SourceFault → List TransFault → Source → List FaultyLine
-stages unread untranslated made =
-    let earlier = faulty_lines of_source unread ++ (faulty_lines of_translation untranslated
-    ++ without_adrift made.items None (faulty_lines of_pass (place_faults made))) in
-    earlier ++ without_following (has_section made.items) (base_lines made.items) (fold (lost_from (has_section made.items) (base_lines made.items)) None earlier) (faulty_lines of_pass (later_faults made))
-
 first_lines : (fault : PrepareFault) (rest more last : List FaultyLine) → fault ≢ Memory → Some fault ≡ first_of ((cons_option (faulty_line fault) rest ++ more) ++ last)
 first_lines (At line kind) rest more last h = refl
 first_lines Memory rest more last h = absurd (h refl)
@@ -155,8 +150,8 @@ first_lines Memory rest more last h = absurd (h refl)
 -- the assembly
 passes_reported : (listing disassembly : Bool) (made : Source) (due : Result AssemblyParts AsmFault) (first : List LineFault) (more : List FaultyLine)
     → result_err due ≡ option_map fault_at (slice_get (first_found first (later_faults made)) 0) → prepared.by_assembly listing disassembly due ≢ Err Memory
-    → (first ≡ [] → more ≡ without_following (has_section made.items) (base_lines made.items) None (faulty_lines of_pass (later_faults made)))
-    → Tells (prepared.by_assembly listing disassembly due) (without_adrift made.items None (faulty_lines of_pass first) ++ more)
+    → (first ≡ [] → more ≡ without_following (has_section made.items) (base_lines made.items) (kind_beside made) None (faulty_lines of_pass (later_faults made)))
+    → Tells (prepared.by_assembly listing disassembly due) (without_adrift made.items false None (faulty_lines of_pass first) ++ more)
 passes_reported listing disassembly made due [] more e h is =
     subst (Tells (prepared.by_assembly listing disassembly due)) (sym (is refl)) (later_reported listing disassembly made due (later_faults made) e h)
 passes_reported listing disassembly made (Ok parts) (f ∷ first) more e h is = absurd (cc)
@@ -166,26 +161,26 @@ passes_reported listing disassembly made (Err fault) (f ∷ first) more e h is =
     ∙ placed_first made.items (of_pass f) (faulty_lines of_pass first) more (no_memory (of_pass f) (Err (of_assembly fault)) (ap (λ x. Err (of_assembly x)) same) h)
 
 assembled_reported : (listing disassembly : Bool) (made : Source) → prepared.by_assembly listing disassembly (assembly_of made) ≢ Err Memory
-    → Tells (prepared.by_assembly listing disassembly (assembly_of made)) (stages [] [] made)
+    → Tells (prepared.by_assembly listing disassembly (assembly_of made)) (stage_lines [] [] made)
 unfolding assembly_faults
 assembled_reported listing disassembly made h =
     passes_reported listing disassembly made (assembly_of made) (place_faults made) _ (assembly.first_is_reported made) h
-    (λ none. ap (λ first. without_following (has_section made.items) (base_lines made.items)
-    (fold (lost_from (has_section made.items) (base_lines made.items)) None (without_adrift made.items None (faulty_lines of_pass first)))
+    (λ none. ap (λ (first : List LineFault). without_following (has_section made.items) (base_lines made.items) (kind_beside made)
+    (fold (lost_from (has_section made.items) (base_lines made.items)) None (faulty_lines of_pass first))
     (faulty_lines of_pass (later_faults made))) none)
 
 -- the translation
 translated_reported : (listing disassembly : Bool) (whole made : Source) (faults : List TransFault) → (faults ≡ [] → made ≡ whole)
     → prepared.by_translation listing disassembly (option_map_or (λ fault. Err fault) (slice_get faults 0) (Ok whole)) ≢ Err Memory
-    → Tells (prepared.by_translation listing disassembly (option_map_or (λ fault. Err fault) (slice_get faults 0) (Ok whole))) (stages [] faults made)
+    → Tells (prepared.by_translation listing disassembly (option_map_or (λ fault. Err fault) (slice_get faults 0) (Ok whole))) (stage_lines [] faults made)
 translated_reported listing disassembly whole made [] is h =
-    subst (λ (due : Source). Tells (prepared.by_assembly listing disassembly (assembly_of due)) (stages [] [] made)) (is refl)
+    subst (λ (due : Source). Tells (prepared.by_assembly listing disassembly (assembly_of due)) (stage_lines [] [] made)) (is refl)
     (assembled_reported listing disassembly made (subst (λ (due : Source). prepared.by_assembly listing disassembly (assembly_of due) ≢ Err Memory) (sym (is refl)) h))
 translated_reported listing disassembly whole made (f ∷ faults) is h =
     first_lines (of_translation f) _ _ _ (no_memory (of_translation f) (Err (of_translation f)) refl h)
 
 by_translation_reported : (listing disassembly : Bool) (read : Source) → prepared.by_translation listing disassembly (translation.translation_of read) ≢ Err Memory
-    → Tells (prepared.by_translation listing disassembly (translation.translation_of read)) (stages [] (translation.statement_faults read.items) (translation.mended_source read))
+    → Tells (prepared.by_translation listing disassembly (translation.translation_of read)) (stage_lines [] (translation.statement_faults read.items) (translation.mended_source read))
 unfolding translation.translation_of
 by_translation_reported listing disassembly read h =
     translated_reported listing disassembly (translation.made_source read) (translation.mended_source read) (translation.statement_faults read.items) (translation_whole read) h
@@ -194,9 +189,9 @@ by_translation_reported listing disassembly read h =
 read_reported : (listing disassembly : Bool) (whole read : Source) (faults : List SourceFault) → (faults ≡ [] → read ≡ whole)
     → prepared.by_source listing disassembly (option_map_or Err (slice_get faults 0) (Ok whole)) ≢ Err Memory
     → Tells (prepared.by_source listing disassembly (option_map_or Err (slice_get faults 0) (Ok whole)))
-    (stages faults (translation.statement_faults read.items) (translation.mended_source read))
+    (stage_lines faults (translation.statement_faults read.items) (translation.mended_source read))
 read_reported listing disassembly whole read [] is h =
-    subst (λ (due : Source). Tells (prepared.by_translation listing disassembly (translation.translation_of due)) (stages [] (translation.statement_faults read.items) (translation.mended_source read)))
+    subst (λ (due : Source). Tells (prepared.by_translation listing disassembly (translation.translation_of due)) (stage_lines [] (translation.statement_faults read.items) (translation.mended_source read)))
     (is refl)
     (by_translation_reported listing disassembly read
     (subst (λ (due : Source). prepared.by_translation listing disassembly (translation.translation_of due) ≢ Err Memory) (sym (is refl)) h))
@@ -209,7 +204,69 @@ stages_reported listing disassembly all =
     read_reported listing disassembly (source_from (up_to_end false (map text_of all))) (source_read all) (line_faults false 1 all) (source_whole all)
     (prepared_not_memory listing disassembly all)
 
+-- ---- the lines that are shown
+has_line : (f : FaultyLine) (number : ℕ) (kind : SourceKind) → prepare_fault_of f ≡ At number kind → f.line ≡ number
+has_line f number kind e = cc
+
+has_kind : (f : FaultyLine) (number : ℕ) (kind : SourceKind) → prepare_fault_of f ≡ At number kind → f.kind ≡ kind
+has_kind f number kind e = cc
+
+-- a fault of a line that is shown stays
+pub has_shown : (p : FaultyLine → Bool) (number : ℕ) (kind : SourceKind) (faults : List FaultyLine) → p (faulty number kind) ≡ true
+    → Has (At number kind) faults → Has (At number kind) (filter p faults)
+has_shown p number kind [] is h = absurd h
+has_shown p number kind (f ∷ more) is (inl e) =
+    let same : f ≡ faulty number kind = ap₂ faulty (has_line f number kind e) (has_kind f number kind e) in
+    subst (λ (b : Bool). Has (At number kind) (cond b (f ∷ filter p more) (filter p more))) (sym (ap p same ∙ is)) (inl e)
+has_shown p number kind (f ∷ more) is (inr h) = go (p f) (has_shown p number kind more is h)
+  where
+    go : (b : Bool) → Has (At number kind) (filter p more) → Has (At number kind) (cond b (f ∷ filter p more) (filter p more))
+    go true m = inr m
+    go false m = m
+
+among_shown : (p : FaultyLine → Bool) (first : Option FaultyLine) (faults : List FaultyLine) → IfSome first (λ one. p one ≡ true)
+    → IsAmong (option_map prepare_fault_of first) faults → IsAmong (option_map prepare_fault_of first) (filter p faults)
+among_shown p None faults is h = ap (filter p) h
+among_shown p (Some one) faults is h = has_shown p one.line one.kind faults is h
+
+-- no line is cut where all can be read
+none_unread : (items : List Item) → list_any (is_unread []) items ≡ false
+none_unread [] = refl
+none_unread (item ∷ items) = none_unread items
+
+none_cut : (items : List Item) (number : ℕ) → is_cut items [] number ≡ false
+none_cut items number = go (slice_get items (number - 1))
+  where
+    go : (item : Option Item) → option_map_or (λ (it : Item). list_any (is_unread []) (continuations it (drop it.line items))) item false ≡ false
+    go None = refl
+    go (Some it) = none_unread (continuations it (drop it.line items))
+
+shown_whole : (items : List Item) (fault : FaultyLine) → is_shown items [] fault ≡ true
+unfolding is_shown
+shown_whole items fault = ap (λ (b : Bool). not b) (none_cut items fault.line)
+
+own_line : (n : ℕ) → (n == n) ≡ true
+own_line n = grind arith
+
+-- the first fault is shown: it is of a line that can't be read, or all can
+shown_itself : (items : List Item) (one : FaultyLine) (rest : List FaultyLine) → is_shown items (one ∷ rest) one ≡ true
+unfolding is_shown
+shown_itself items one rest =
+    ap (λ (b : Bool). (b || list_any (λ (it : FaultyLine). it.line == one.line) rest) || not (is_cut items (one ∷ rest) one.line)) (own_line one.line)
+
+first_shown : (items : List Item) (unread middle last : List FaultyLine) → IfSome (slice_get ((unread ++ middle) ++ last) 0) (λ one. is_shown items unread one ≡ true)
+first_shown items (one ∷ rest) middle last = shown_itself items one rest
+first_shown items [] middle last = go (slice_get (middle ++ last) 0)
+  where
+    go : (first : Option FaultyLine) → IfSome first (λ one. is_shown items [] one ≡ true)
+    go None = tt
+    go (Some one) = shown_whole items one
+
 pub is_among : (listing disassembly : Bool) (all : List (List ℕ)) → IsAmong (result_err (prepared.prepared_of listing disassembly all)) (faults_of all)
 unfolding faults_of
 is_among listing disassembly all =
-    subst (λ (fault : Option PrepareFault). IsAmong fault (by_number (lines_by_stages all))) (sym (stages_reported listing disassembly all)) (first_there (lines_by_stages all))
+    let unread = faulty_lines of_source (line_faults false 1 all) in
+    let p = is_shown (source_read all).items unread in
+    subst (λ (fault : Option PrepareFault). IsAmong fault (filter p (by_number (lines_by_stages all)))) (sym (stages_reported listing disassembly all))
+    (among_shown p (slice_get (lines_by_stages all) 0) (by_number (lines_by_stages all))
+    (first_shown (source_read all).items unread _ _) (first_there (lines_by_stages all)))

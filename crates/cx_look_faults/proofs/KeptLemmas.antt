@@ -1,6 +1,6 @@
 -- What a source is refused for is on one of its first 10,001 lines.
 use Rattle.std.proofs.Common.{◌≡◌, ◌≤◌, inl, inr, ℕ, zero, suc, ◌+◌, ◌-◌, ◌==◌, Bool, true, false, cond, Option, Some, None, List, [], ◌∷◌, ◌++◌, length, map, take, drop, reverse, slice_get, refl, sym, ◌∙◌, ap, subst, arith}
-use Rattle.std.specs.Prelude.{◌||◌, codes, filter, is_some, nat_lt, option_and_then, option_map}
+use Rattle.std.specs.Prelude.{◌||◌, IfSome, codes, filter, is_some, nat_lt, option_and_then, option_map}
 use Rattle.std.specs.List.{AllByRecursion, cons_option, filter_map, find, list_any, position}
 use Rattle.std.specs.Option.{option_map_or, option_or, option_to_list}
 use Rattle.std.specs.Result.{result_err}
@@ -44,8 +44,8 @@ use Rattle.cx_translate.specs.Words.{words_of}
 use Rattle.cx_translate.specs.declared.faults.TransFault.{TransFault}
 use Rattle.cx_translate.specs.declared.faults.TransFault.TheVariants as trans
 use Rattle.cx_translate.specs.declared.words.Word.{Word}
-use Rattle.cx_look_faults.proofs.FirstLemmas.{first_of, first_there, stages_reported}
-use Rattle.cx_look_faults.specs.Faults.{by_number, faults_of, faulty_line, faulty_lines, follows, is_adrift, lines_by_stages, lost_from, of_pass, unknown_after, without_adrift, without_following}
+use Rattle.cx_look_faults.proofs.FirstLemmas.{has_shown, is_among, stages_reported}
+use Rattle.cx_look_faults.specs.Faults.{faults_of, faulty_line, faulty_lines, follows, instead, is_due, lines_by_stages, lost_from, of_pass, unknown_after, without_adrift, without_following}
 use Rattle.cx_look_faults.specs.Kept.{is_kept, kept_faults}
 use Rattle.cx_look_faults.specs.Laws.First.{Has, IsAmong, prepare_fault_of as fault_of_line}
 use Rattle.cx_look_faults.specs.declared.faults.FaultyLine.{FaultyLine}
@@ -246,13 +246,21 @@ without_low : (b : Bool) (one : FaultyLine) (more : List FaultyLine) → one.lin
 without_low true one more h k = k
 without_low false one more h k = (h, k)
 
-adrift_low : (items : List Item) (unknown : Option ℕ) (faults : List FaultyLine) → LinesLow faults → LinesLow (without_adrift items unknown faults)
-adrift_low items unknown [] h = tt
-adrift_low items unknown (one ∷ more) h = without_low (is_adrift items unknown one) one _ h.0 (adrift_low items (unknown_after unknown one.line one.kind) more h.1)
+adrift_low : (items : List Item) (met : Bool) (unknown : Option ℕ) (faults : List FaultyLine) → LinesLow faults → LinesLow (without_adrift items met unknown faults)
+adrift_low items met unknown [] h = tt
+adrift_low items met unknown (one ∷ more) h = without_low (is_due items met unknown one) one _ h.0 (adrift_low items true (unknown_after unknown one.line one.kind) more h.1)
 
-following_low : (has : Bool) (numbers : List ℕ) (from : Option ℕ) (faults : List FaultyLine) → LinesLow faults → LinesLow (without_following has numbers from faults)
-following_low has numbers from [] h = tt
-following_low has numbers from (one ∷ more) h = without_low (follows from one) one _ h.0 (following_low has numbers (lost_from has numbers from one) more h.1)
+instead_low : (b : Bool) (one : FaultyLine) (kind : Option SourceKind) (more : List FaultyLine) → one.line ≤ 10001 → LinesLow more
+    → LinesLow (cond b (instead one kind) (one ∷ []) ++ more)
+instead_low true one None more h k = k
+instead_low true one (Some kind) more h k = (h, k)
+instead_low false one kind more h k = (h, k)
+
+following_low : (has : Bool) (numbers : List ℕ) (beside : ℕ → Option SourceKind) (from : Option ℕ) (faults : List FaultyLine) → LinesLow faults
+    → LinesLow (without_following has numbers beside from faults)
+following_low has numbers beside from [] h = tt
+following_low has numbers beside from (one ∷ more) h =
+    instead_low (follows from one) one (beside one.line) _ h.0 (following_low has numbers beside (lost_from has numbers from one) more h.1)
 
 -- of EXEC statements
 abbrev IsLow : Option FaultyLine → Type 0
@@ -405,33 +413,26 @@ stages_low all =
     let low = source_low (source_read all) read in
     let latest = all_reverse IsLowItem made.items low in (
       all_both (λ (f : FaultyLine). f.line ≤ 10001) _ _ (trans_low (source_read all).items read)
-          (adrift_low made.items None _ (passes_low _ (placed_low (reverse made.items) latest))),
-      following_low _ _ _ _ (passes_low _ (later_low made low)),
+          (adrift_low made.items false None _ (passes_low _ (placed_low (reverse made.items) latest))),
+      following_low _ _ _ _ _ (passes_low _ (later_low made low)),
     ))
 
 -- ---- it is kept
-is_at : (f : FaultyLine) (number : ℕ) (kind : SourceKind) → fault_of_line f ≡ At number kind → f.line ≡ number
-is_at f number kind e = cc
-
 within : (n : ℕ) → n ≤ 10001 → nat_lt n 10002 ≡ true
 within n h = grind (arith, nat_tests)
 
-has_kept : (number : ℕ) (kind : SourceKind) (faults : List FaultyLine) → number ≤ 10001 → Has (At number kind) faults → Has (At number kind) (filter is_kept faults)
-has_kept number kind [] low h = absurd h
-has_kept number kind (f ∷ more) low (inl e) =
-    subst (λ (b : Bool). Has (At number kind) (cond b (f ∷ filter is_kept more) (filter is_kept more))) (sym (within f.line (omega (arith, is_at f number kind e, low)))) (inl e)
-has_kept number kind (f ∷ more) low (inr h) = go (is_kept f) (has_kept number kind more low h)
-  where
-    go : (b : Bool) → Has (At number kind) (filter is_kept more) → Has (At number kind) (cond b (f ∷ filter is_kept more) (filter is_kept more))
-    go true m = inr m
-    go false m = m
+among_kept : (first : Option FaultyLine) (faults : List FaultyLine) → IfSome first (λ one. one.line ≤ 10001)
+    → IsAmong (option_map fault_of_line first) faults → IsAmong (option_map fault_of_line first) (filter is_kept faults)
+among_kept None faults low h = ap (filter is_kept) h
+among_kept (Some one) faults low h = has_shown is_kept one.line one.kind faults (within one.line low) h
 
-kept_first : (faults : List FaultyLine) → FirstLow faults → IsAmong (first_of faults) (filter is_kept (by_number faults))
-kept_first [] low = refl
-kept_first (one ∷ more) low = has_kept one.line one.kind (by_number (one ∷ more)) low (first_there (one ∷ more))
+low_first : (faults : List FaultyLine) → FirstLow faults → IfSome (slice_get faults 0) (λ one. one.line ≤ 10001)
+low_first [] low = tt
+low_first (one ∷ more) low = low
 
 pub is_among_kept : (listing disassembly : Bool) (all : List (List ℕ)) → IsAmong (result_err (prepared_of listing disassembly all)) (kept_faults all)
-unfolding faults_of
 is_among_kept listing disassembly all =
-    subst (λ (fault : Option PrepareFault). IsAmong fault (filter is_kept (by_number (lines_by_stages all)))) (sym (stages_reported listing disassembly all))
-    (kept_first (lines_by_stages all) (stages_low all))
+    let told = stages_reported listing disassembly all in
+    let there = subst (λ (fault : Option PrepareFault). IsAmong fault (faults_of all)) told (is_among listing disassembly all) in
+    subst (λ (fault : Option PrepareFault). IsAmong fault (kept_faults all)) (sym told)
+    (among_kept (slice_get (lines_by_stages all) 0) (faults_of all) (low_first (lines_by_stages all) (stages_low all)) there)

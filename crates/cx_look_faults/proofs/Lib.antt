@@ -1,3 +1,4 @@
 pub mod FirstLemmas
 pub mod KeptLemmas
 pub mod MarkLemmas
+pub mod CauseLemmas

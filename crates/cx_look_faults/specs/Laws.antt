@@ -1,2 +1,3 @@
 -- Statements of laws.
 pub mod First
+pub mod Marks

@@ -1,9 +1,10 @@
 -- The definitions, in reading order, and what the law states.
-pub mod Faults
-pub mod Kept
 pub mod Spans
 pub mod Judging
 pub mod Operands
+pub mod Beside
+pub mod Faults
+pub mod Kept
 pub mod Commands
 pub mod Marks
 pub mod Notes

@@ -1,12 +1,11 @@
 -- Where on its line the part is that is at fault (own; the columns are those of GC33-4010, "Assembler Language Coding
 -- Conventions").
 use Rattle.std.specs.Prelude.{ℕ, ◌+◌, ◌-◌, Bool, true, ◌&&◌, ◌||◌, not, ◌==◌, count_by, nat_lt, if◌then◌else◌, is_none, Option, Some, option_and_then, option_map, List, [], ◌∷◌, ◌++◌, drop, length, map, slice_get, take, unwrap_or}
-use Rattle.std.specs.List.{enumerate_from, find, flat_map, position, prefix_len, range_with_len}
+use Rattle.std.specs.List.{enumerate_from, find, flat_map, position, range_with_len}
 use Rattle.std.specs.Option.{option_map_or}
 use Rattle.std.specs.Str.{byte, bytes_eq}
 use Rattle.cx_ebcdic.specs.Characters.{code_of}
 use Rattle.cx_source.specs.Lines.{columns, is_blank, is_symbol_name_character, is_written, skip_blanks, trim_blanks}
-use Rattle.cx_source.specs.Statements.{is_continued}
 use Rattle.cx_source.specs.Mended.{source_read}
 use Rattle.cx_source.specs.declared.source.Item.{Item}
 use Rattle.cx_source.specs.declared.source.Source.{Source}
@@ -17,7 +16,7 @@ use Rattle.cx_asm_pass2.specs.Whole.{whole_of}
 use Rattle.cx_asm_build.specs.declared.faults.SourceKind.{SourceKind}
 use Rattle.cx_asm_build.specs.declared.faults.SourceKind.TheVariants as kind
 use Rattle.cx_look_faults.specs.Commands.{missing, word_at_fault}
-use Rattle.cx_look_faults.specs.Faults.{kind_at, kinds_of}
+use Rattle.cx_look_faults.specs.Faults.{continuations, kind_at, kinds_of}
 use Rattle.cx_look_faults.specs.Operands.{operand_parts_in}
 use Rattle.cx_look_faults.specs.Spans.{is_bracket, span, span_text}
 use Rattle.cx_look_faults.specs.declared.faults.FaultyLine.{FaultyLine}
@@ -55,13 +54,6 @@ position_of line character = record { line = line; column = character.0; byte = 
 
 unfoldable pub positions_written_on : ℕ → Item → List Position
 positions_written_on column item = map (position_of item.line) (enumerate_from column (columns column 71 item.text))
-
--- the lines that continue a line, of those after it
-abbrev pub is_continued_on : Item → Bool
-is_continued_on item = is_continued true item.text
-
-abbrev pub continuations : Item → List Item → List Item
-continuations item after = take (prefix_len is_continued_on (item ∷ after)) after
 
 abbrev pub name_spot : Item → Stmt → Spot
 name_spot item stmt = spot item.line 1 (length stmt.name)

@@ -1,6 +1,7 @@
 -- Texts cut into parts, and what a part is by itself (own; the marks are those of GC33-4010, "Operand Fields and
 -- Subfields", and of SC33-0077, "EXEC CICS" command format).
 use Rattle.std.specs.Prelude.{ℕ, ◌+◌, Bool, true, false, ◌&&◌, ◌||◌, not, ◌==◌, nat_le, nat_lt, if◌then◌else◌, List, [], ◌∷◌, ◌++◌, drop, slice_get, take, unwrap_or}
+use Rattle.std.specs.List.{list_any}
 use Rattle.std.specs.Str.{byte}
 use Rattle.cx_source.specs.Marks.{outside_apostrophes}
 use Rattle.cx_translate.specs.Pieces.{depth_after}
@@ -50,15 +51,18 @@ spans_from start at (c ∷ cs) =
 abbrev pub spans_of : List Cell → List Span
 spans_of cells = spans_from 0 0 cells
 
--- a text with 0 in place of each of its parts but one
+-- a text with 0 in place of each of its parts but some
 abbrev pub span_covers : Span → ℕ → Bool
 span_covers part at = nat_le part.start at && nat_lt at part.end
 
-abbrev pub zeros_from : Span → Bool → ℕ → List Cell → List ℕ
+abbrev pub is_covered : List Span → ℕ → Bool
+is_covered kept at = list_any (λ part. span_covers part at) kept
+
+abbrev pub zeros_from : List Span → Bool → ℕ → List Cell → List ℕ
 zeros_from kept is_new at [] = []
 zeros_from kept is_new at (c ∷ cs) =
-    (if c.separates || span_covers kept at then c.byte ∷ [] else (if is_new then byte "0" ∷ [] else []))
+    (if c.separates || is_covered kept at then c.byte ∷ [] else (if is_new then byte "0" ∷ [] else []))
     ++ zeros_from kept c.separates (at + 1) cs
 
-abbrev pub with_zeros : Span → List Cell → List ℕ
+abbrev pub with_zeros : List Span → List Cell → List ℕ
 with_zeros kept cells = zeros_from kept true 0 cells

@@ -1,30 +1,46 @@
 //! The faulty lines of a source.
 
-ghost use Rattle.std.specs.Prelude.{◌≡◌, ◌++◌, [], IfOk, OnOk, fold, map, None};
+ghost use Rattle.std.specs.Prelude.{◌≡◌, ◌==◌, ◌++◌, [], IfOk, OnOk, drop, filter, fold, map, None};
+ghost use Rattle.std.specs.List.{list_any};
 ghost use Rattle.std.specs.Option.{option_to_list};
+ghost use Rattle.cx_asm.specs.Assembly.{later_faults};
+ghost use Rattle.cx_asm_pass1.specs.Locations.{IsPlaced, final_state};
+ghost use Rattle.cx_asm_pass2.specs.Statements.{statements_of};
+ghost use Rattle.cx_asm_pass2.specs.Whole.{whole_by};
+ghost use Rattle.cx_look_faults.specs.Beside.{faults_beside};
 ghost use Rattle.cx_asm_build.specs.Kinds.{of_source, of_translation};
 ghost use Rattle.cx_look_faults.specs.Faults.{
   by_number,
-  faults_of,
+  continuations,
   faulty,
   faulty_line,
   faulty_lines,
   follows,
+  instead,
+  is_anew,
+  is_cut,
+  is_shown,
+  is_unread,
   kind_at,
+  kinds_beside,
   kinds_of,
   lost_from,
   of_pass,
   put_line,
+  stage_lines,
   without_following,
 };
 
 use crate::bases::BaseLines;
+use crate::beside::faults_beside;
+use crate::positions::continuations;
 use crate::sections::push_unadrift;
 use cx_asm::{fault_at, pass_faults};
 use cx_asm_build::{PrepareFault, SourceKind};
-use cx_asm_pass1::LineFault;
-use cx_source::{SourceFault, Text, source_with_faults};
-use cx_translate::{TransFault, translate_with_faults};
+use cx_asm_pass1::{LineFault, Places};
+use cx_asm_pass2::Statement;
+use cx_source::{Item, Source, SourceFault};
+use cx_translate::TransFault;
 use std::alloc::{AllocError, Global};
 use std::collections::BTreeMap;
 
@@ -91,30 +107,51 @@ fn follows(from: Option<usize>, fault: FaultyLine) -> bool
     }
 }
 
-/// The first of some lines by whose fault bases are lost.
-fn first_lost(bases: &BaseLines, lines: &[FaultyLine]) -> Option<usize>
-    ensures { result ≡ fold (lost_from bases.now.has_section bases.now.lines.items) None lines.now }
+/// The first line by whose fault bases are lost, after some more.
+fn lost_after(bases: &BaseLines, first: Option<usize>, lines: &[FaultyLine]) -> Option<usize>
+    ensures { result ≡ fold (lost_from bases.now.has_section bases.now.lines.items) first lines.now }
 {
-    let mut from = None;
+    let mut from = first;
     for fault in lines {
         from = bases.lost_from(from, *fault);
     }
     from
 }
 
-/// Puts lines at the end of others, without those whose fault follows from lost bases.
+/// Puts a line at the end of others with what else is wrong with it, if anything is.
+fn push_instead(
+    lines: &mut Vec<FaultyLine>,
+    fault: FaultyLine,
+    beside: Option<SourceKind>,
+) -> Result<(), AllocError>
+    ensures { OnOk result (lines.new.items ≡ lines.old.items ++ instead fault beside) }
+{
+    if let Some(kind) = beside {
+        lines.push(FaultyLine {
+            line: fault.line,
+            kind,
+        })?;
+    }
+    Ok(())
+}
+
+/// Puts lines at the end of others; those whose fault follows from lost bases with what else is wrong with them.
 fn push_others(
     lines: &mut Vec<FaultyLine>,
     bases: &BaseLines,
+    beside: &Kinds,
     first: Option<usize>,
     later: &[FaultyLine],
 ) -> Result<(), AllocError>
-    ensures { let rest = without_following bases.now.has_section bases.now.lines.items first later.now in
+    ensures { let kind_of = kind_at beside.now.entries in
+        let rest = without_following bases.now.has_section bases.now.lines.items kind_of first later.now in
         OnOk result (lines.new.items ≡ lines.old.items ++ rest) }
 {
     let mut from = first;
     for fault in later {
-        if !follows(from, *fault) {
+        if follows(from, *fault) {
+            push_instead(lines, *fault, kind_at(beside, fault.line))?;
+        } else {
             lines.push(*fault)?;
         }
         from = bases.lost_from(from, *fault);
@@ -176,36 +213,171 @@ fn by_number(alloc: Global, lines: &[FaultyLine]) -> Result<Vec<FaultyLine>, All
     listed(alloc, &sorted)
 }
 
-/// The faulty lines of the source that lines make, given without their ends: of each the number and one fault, in the
-/// order of the numbers. A source that can be prepared has none.
-///
-/// Four stages find them: of the lines themselves, of the EXEC statements, of the assembler's first pass, and of its
-/// second pass with the size of the text (TooLarge, at END's line alone, where the second pass finds nothing else).
-/// Each goes on after a fault, and the next one takes what it gives in spite of its faults: a line that continues a
-/// statement wrongly begins anew, DS 0H stands for an EXEC statement at fault, a faulty statement of the first pass
-/// defines and takes what is known of it in spite of its fault. Of a line that several stages find at fault the first
-/// one's fault comes, and of that stage the lowest. After an unknown operation outside the control section, which may
-/// have been meant to begin a section, the first BadOperand of the first pass isn't reported, where no section begins
-/// between. After a line with a USING or the beginning of a section that is at fault, and after any faulty line where
-/// no control section begins, NoAddressability isn't reported. The fault that `cx_asm_build::prepare` refuses the
-/// source for is one of them. An error comes only where an allocation failed.
-#[tactic(auto, unfolding(crate::specs::Faults::faults_of))]
-pub fn faults_of(alloc: Global, lines: &[Text]) -> Result<Vec<FaultyLine>, AllocError>
-    ensures { IfOk result (λ all. all.items ≡ faults_of lines.now) }
+/// Whether a line begins anew, since it doesn't continue the one before it.
+fn is_anew(kind: SourceKind) -> bool
+    ensures { result ≡ is_anew kind }
 {
-    let (read, unread) = source_with_faults(alloc, lines)?;
-    let (made, untranslated) = translate_with_faults(alloc, &read)?;
-    let (first, second) = pass_faults(alloc, &made)?;
+    matches!(kind, SourceKind::BadContinuation)
+}
+
+/// Whether a line can't be read.
+fn is_unread(unread: &[FaultyLine], item: &Item) -> bool
+    ensures { result ≡ is_unread unread.now item.now }
+{
+    unread
+        .iter()
+        .any(|fault| fault.line == item.line && !is_anew(fault.kind))
+}
+
+/// Whether one of some lines can't be read.
+fn are_cut(unread: &[FaultyLine], lines: &[Item]) -> bool
+    ensures { result ≡ list_any (is_unread unread.now) lines.now }
+{
+    lines.iter().any(|line| is_unread(unread, line))
+}
+
+/// The lines that continue one of these.
+fn continuing<'a>(items: &'a [Item], item: &Item) -> &'a [Item]
+    ensures { result.now ≡ continuations item.now (drop item.now.line items.now) }
+{
+    let (_, after) = items.split_at(items.len().min(item.line));
+    continuations(item, after)
+}
+
+/// Whether a line that continues the one of this number can't be read.
+fn is_cut(items: &[Item], unread: &[FaultyLine], number: usize) -> bool
+    ensures { result ≡ is_cut items.now unread.now number }
+{
+    match items.get(number.saturating_sub(1)) {
+        Some(item) => are_cut(unread, continuing(items, item)),
+        None => false,
+    }
+}
+
+/// Whether a line has a fault of its own.
+fn has_own(unread: &[FaultyLine], number: usize) -> bool
+    ensures { result ≡ list_any (λ one. one.line == number) unread.now }
+{
+    unread.iter().any(|one| one.line == number)
+}
+
+/// Whether a fault is reported where these lines can't be read.
+#[tactic(auto, unfolding(crate::specs::Faults::is_shown))]
+fn is_shown(items: &[Item], unread: &[FaultyLine], fault: FaultyLine) -> bool
+    ensures { result ≡ is_shown items.now unread.now fault }
+{
+    has_own(unread, fault.line) || !is_cut(items, unread, fault.line)
+}
+
+/// Those of some faults that are reported where these lines can't be read.
+fn shown_of(
+    alloc: Global,
+    items: &[Item],
+    unread: &[FaultyLine],
+    all: &[FaultyLine],
+) -> Result<Vec<FaultyLine>, AllocError>
+    ensures { IfOk result (λ found. found.items ≡ filter (is_shown items.now unread.now) all.now) }
+{
+    let mut found = Vec::new(alloc);
+    for fault in all {
+        if is_shown(items, unread, *fault) {
+            found.push(*fault)?;
+        }
+    }
+    Ok(found)
+}
+
+/// A source that was read, translated and placed, each in spite of its faults.
+#[derive(Clone, Copy)]
+pub(crate) struct Placed<'a, 'p, 's> {
+    /// What its lines are made into.
+    pub(crate) made: &'a Source,
+    /// Where everything of that is.
+    pub(crate) places: &'a Places<'p>,
+    /// Its statements with their places.
+    pub(crate) statements: &'a [Statement<'s>],
+}
+
+/// What else is wrong with lines that have NoAddressability; `later` are those that the second pass finds.
+#[tactic(auto, using(cx_asm_pass2::specs::Facts::Whole::whole_is), unfolding(crate::specs::Faults::kinds_beside))]
+fn kinds_beside(
+    alloc: Global,
+    placed: &Placed<'_, '_, '_>,
+    later: &[FaultyLine],
+) -> Result<Kinds, AllocError>
+    requires places { IsPlaced (final_state placed.now.made.now) placed.now.places.now }
+    requires statements { placed.now.statements.now ≡ statements_of placed.now.made.now }
+    requires later { later.now ≡ faulty_lines of_pass (later_faults placed.now.made.now) }
+    ensures { IfOk result (λ kinds. kinds.entries ≡ kinds_beside placed.now.made.now) }
+{
+    let kinds = kinds_of(alloc, later)?;
+    let faults = faults_beside(alloc, placed.places, &kinds, placed.statements)?;
+    let mut lines = Vec::new(alloc);
+    push_unassembled(&mut lines, &faults)?;
+    kinds_of(alloc, &lines)
+}
+
+/// The lines that the stages find at fault.
+fn stage_lines(
+    alloc: Global,
+    unread: &[SourceFault],
+    untranslated: &[TransFault],
+    placed: &Placed<'_, '_, '_>,
+) -> Result<Vec<FaultyLine>, AllocError>
+    requires places { IsPlaced (final_state placed.now.made.now) placed.now.places.now }
+    requires statements { placed.now.statements.now ≡ statements_of placed.now.made.now }
+    ensures { IfOk result (λ all. all.items ≡ stage_lines unread.now untranslated.now placed.now.made.now) }
+{
+    let items = placed.made.items.as_slice();
+    let (first, second) = pass_faults(alloc, placed.made)?;
+    let bases = BaseLines::of(alloc, items)?;
     let mut all = Vec::new(alloc);
-    push_unread(&mut all, unread.as_slice())?;
-    push_untranslated(&mut all, untranslated.as_slice())?;
-    let mut placed = Vec::new(alloc);
-    push_unassembled(&mut placed, first.as_slice())?;
-    push_unadrift(&mut all, made.items.as_slice(), placed.as_slice())?;
+    push_unread(&mut all, unread)?;
+    push_untranslated(&mut all, untranslated)?;
+    let early = lost_after(&bases, None, &all);
+    let mut outside = Vec::new(alloc);
+    push_unassembled(&mut outside, first.as_slice())?;
+    let from = lost_after(&bases, early, &outside);
+    push_unadrift(&mut all, items, &outside)?;
     let mut later = Vec::new(alloc);
     push_unassembled(&mut later, second.as_slice())?;
-    let bases = BaseLines::of(alloc, made.items.as_slice())?;
-    let from = first_lost(&bases, all.as_slice());
-    push_others(&mut all, &bases, from, later.as_slice())?;
-    by_number(alloc, all.as_slice())
+    let beside = kinds_beside(alloc, placed, &later)?;
+    push_others(&mut all, &bases, &beside, from, &later)?;
+    Ok(all)
+}
+
+/// The lines that the stages find at fault, by their numbers.
+fn lines_by_number(
+    alloc: Global,
+    unread: &[SourceFault],
+    untranslated: &[TransFault],
+    placed: &Placed<'_, '_, '_>,
+) -> Result<Vec<FaultyLine>, AllocError>
+    requires places { IsPlaced (final_state placed.now.made.now) placed.now.places.now }
+    requires statements { placed.now.statements.now ≡ statements_of placed.now.made.now }
+    ensures { IfOk result (λ all. all.items ≡ by_number (stage_lines unread.now untranslated.now placed.now.made.now)) }
+{
+    let all = stage_lines(alloc, unread, untranslated, placed)?;
+    by_number(alloc, &all)
+}
+
+/// The faulty lines of a source that was read and placed; `unread` and `untranslated` are the faults of its lines and of
+/// its EXEC statements.
+pub(crate) fn faults_placed(
+    alloc: Global,
+    read: &Source,
+    unread: &[SourceFault],
+    untranslated: &[TransFault],
+    placed: &Placed<'_, '_, '_>,
+) -> Result<Vec<FaultyLine>, AllocError>
+    requires places { IsPlaced (final_state placed.now.made.now) placed.now.places.now }
+    requires statements { placed.now.statements.now ≡ statements_of placed.now.made.now }
+    ensures { let all = by_number (stage_lines unread.now untranslated.now placed.now.made.now) in
+        let shown = is_shown read.now.items (faulty_lines of_source unread.now) in
+        IfOk result (λ found. found.items ≡ filter shown all) }
+{
+    let all = lines_by_number(alloc, unread, untranslated, placed)?;
+    let mut own = Vec::new(alloc);
+    push_unread(&mut own, unread)?;
+    shown_of(alloc, read.items.as_slice(), &own, &all)
 }

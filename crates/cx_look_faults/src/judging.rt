@@ -49,7 +49,7 @@ fn fault_in<T: Drop>(answer: Result<T, TermFault>) -> Result<Option<FaultKind>, 
 
 /// A statement, where these bases are in use: a fault of a kind is sought in what might be its operand.
 #[derive(Clone, Copy)]
-pub(crate) struct Case<'a, 'p, 's> {
+pub(crate) struct Case<'a, 'p, 's, 't> {
     /// Where everything of the source is.
     pub(crate) places: &'a Places<'p>,
     /// The bases in use.
@@ -58,9 +58,13 @@ pub(crate) struct Case<'a, 'p, 's> {
     pub(crate) statement: &'a Statement<'s>,
     /// The fault.
     pub(crate) kind: SourceKind,
+    /// All statements of the source.
+    pub(crate) statements: &'a [Statement<'t>],
+    /// The statement's place among them.
+    pub(crate) at: usize,
 }
 
-impl Case<'_, '_, '_> {
+impl Case<'_, '_, '_, '_> {
     /// What is wrong with an operand that is a literal, if the last one is.
     fn made_literal_fault(
         &self,
@@ -80,7 +84,7 @@ impl Case<'_, '_, '_> {
     }
 
     /// What is wrong with the operand of an instruction.
-    fn instruction_fault(
+    pub(crate) fn instruction_fault(
         &self,
         alloc: Global,
         operation: Operation,

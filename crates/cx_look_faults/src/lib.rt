@@ -3,10 +3,13 @@
 #![tactic(auto)]
 
 mod bases;
+mod beside;
 mod commands;
 mod faults;
+mod findings;
 mod judging;
 pub mod laws;
+mod lists;
 mod marks;
 mod notes;
 mod operands;
@@ -15,9 +18,10 @@ mod sections;
 mod spans;
 
 pub use commands::Phrase;
-pub use faults::{FaultyLine, faults_of};
-pub use marks::{Mark, marks_of};
-pub use notes::{Note, notes_of};
+pub use faults::FaultyLine;
+pub use findings::{Findings, findings_of};
+pub use marks::Mark;
+pub use notes::Note;
 pub use operands::OperandPart;
 pub use positions::{Position, Spot};
 pub use spans::{Cell, Cut, Span};

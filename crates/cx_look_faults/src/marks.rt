@@ -4,6 +4,9 @@ ghost use Rattle.std.specs.Prelude.{◌≡◌, ◌<◌, ◌==◌, ◌-◌, [], I
 ghost use Rattle.std.specs.List.{find, position};
 ghost use Rattle.cx_ebcdic.specs.Characters.{code_of};
 ghost use Rattle.cx_source.specs.Lines.{is_blank, is_written};
+ghost use Rattle.cx_asm_pass1.specs.Locations.{IsPlaced, final_state};
+ghost use Rattle.cx_asm_pass2.specs.Statements.{statements_of};
+ghost use Rattle.cx_look_faults.specs.Faults.{kinds_of};
 ghost use Rattle.cx_look_faults.specs.Marks.{
   assembler_spot,
   bad_character,
@@ -12,11 +15,11 @@ ghost use Rattle.cx_look_faults.specs.Marks.{
   byte_at,
   is_border,
   mark_of,
-  marks_of,
   missing_by_kind,
   missing_in_stmt,
   part_found,
   part_in,
+  parts_at_fault,
   place_in_operand,
   spot_by,
   stands_at,
@@ -26,14 +29,13 @@ ghost use Rattle.cx_look_faults.specs.Marks.{
 };
 
 use crate::commands::{missing, word_at_fault};
-use crate::faults::FaultyLine;
-use crate::operands::{OperandPart, operand_parts};
+use crate::faults::{FaultyLine, Kinds, Placed};
+use crate::operands::{OperandPart, operand_parts_in};
 use crate::positions::{SourceStmt, Spot, columns};
 use crate::spans::{Span, span_text};
 use cx_asm_build::SourceKind;
 use cx_ebcdic::to_ebcdic;
-use cx_source::{Item, Text, is_symbol_name_character, source_with_faults, trim_blanks};
-use cx_translate::translate_with_faults;
+use cx_source::{Item, Source, Text, is_symbol_name_character, trim_blanks};
 use std::alloc::{AllocError, Global};
 
 /// How many columns a line may have.
@@ -371,25 +373,22 @@ fn marks_in(
     Ok(marks)
 }
 
-/// Where on its line the part is that is at fault, for each faulty line of the source that lines make, given without
-/// their ends; and the names of what is missing there.
-///
-/// Of a line that can't be read it is the character without a code, what is in the margin of a continuation line, what
-/// begins in column 1, what is past column 80, or all of a line that comes after too many. Of an EXEC statement it is
-/// the word by which it has the fault, of BadArgument with its argument, and of MissingOption mostly the command's. Of
-/// other statements it is the smallest of these that has the fault by itself: a term, a subfield, an operand; where
-/// none has, all of the operand; else the operation, or of DuplicateSymbol the name. A part that goes on over several
-/// lines counts as far as its first. An error comes only where an allocation failed.
-#[tactic(auto, unfolding(crate::specs::Marks::marks_of))]
-pub fn marks_of(
+/// Where on its line the part is that is at fault, for each faulty line of a source that was read and placed.
+#[tactic(auto, using(cx_asm_pass2::specs::Facts::Whole::whole_is))]
+pub(crate) fn marks_placed(
     alloc: Global,
     lines: &[Text],
+    read: &Source,
+    placed: &Placed<'_, '_, '_>,
+    kinds: &Kinds,
     faults: &[FaultyLine],
 ) -> Result<Vec<Mark>, AllocError>
-    ensures { IfOk result (λ marks. marks.items ≡ marks_of lines.now faults.now) }
+    requires places { IsPlaced (final_state placed.now.made.now) placed.now.places.now }
+    requires statements { placed.now.statements.now ≡ statements_of placed.now.made.now }
+    requires kinds { kinds.now.entries ≡ kinds_of faults.now }
+    ensures { let parts = parts_at_fault placed.now.made.now faults.now in
+        IfOk result (λ marks. marks.items ≡ map (mark_of lines.now read.now.items parts) faults.now) }
 {
-    let (read, _) = source_with_faults(alloc, lines)?;
-    let (made, _) = translate_with_faults(alloc, &read)?;
-    let parts = operand_parts(alloc, &made, faults)?;
+    let parts = operand_parts_in(alloc, placed.places, kinds, placed.statements)?;
     marks_in(alloc, lines, read.items.as_slice(), &parts, faults)
 }

@@ -2,7 +2,7 @@
 
 ghost use Rattle.std.specs.Prelude.{◌≡◌, ◌++◌, [], IfOk, OnOk, None, codes, false, option_map};
 ghost use Rattle.std.specs.List.{filter_map, find, list_all, list_any};
-ghost use Rattle.std.specs.Option.{option_map_or, option_to_list};
+ghost use Rattle.std.specs.Option.{option_map_or};
 ghost use Rattle.std.specs.Result.{result_ok};
 ghost use Rattle.std.specs.Str.{bytes_eq};
 ghost use Rattle.cx_asm_expressions.specs.Items.{Constant as ConstantValue, constant_in};
@@ -22,7 +22,6 @@ ghost use Rattle.cx_look_faults.specs.Notes.{
   note_of_item,
   note_of_phrase,
   note_on,
-  notes_of,
   notes_of_stmt,
   notes_of_words,
   notes_in,
@@ -32,20 +31,20 @@ ghost use Rattle.cx_look_faults.specs.Notes.{
   remark,
   remark_on,
 };
-ghost use Rattle.cx_look_faults.specs.Faults.{kind_at, kinds_of};
+ghost use Rattle.cx_look_faults.specs.Faults.{kind_at};
 ghost use Rattle.cx_look_faults.specs.Spans.{span_text};
 
 use crate::commands::{
     Phrase, command_in_words, operand_has_word, phrases, word_spans, words_after, written_phrase,
 };
-use crate::faults::{FaultyLine, Kinds, kind_at, kinds_of};
+use crate::faults::{Kinds, Placed, kind_at};
+use crate::lists::push_some;
 use crate::positions::{SourceStmt, Spot};
 use crate::spans::{Cut, Span, cells_of, span_text, spans_of};
 use cx_asm_expressions::{Constant, TermFault, parenthesized_body, value_of};
-use cx_asm_pass1::{Places, place_with_faults};
+use cx_asm_pass1::Places;
 use cx_base::{ArgumentKind, CommandOption};
-use cx_source::{Item, Source, Text, skip_blanks, source_with_faults, trim_blanks};
-use cx_translate::translate_with_faults;
+use cx_source::{Item, Source, Text, skip_blanks, trim_blanks};
 use std::alloc::{AllocError, Global};
 
 /// What is said of an item of several copies with `*`.
@@ -280,16 +279,6 @@ fn note_of_phrase(
     Ok(Some(note))
 }
 
-/// Adds a note, if there is one.
-fn push_note(notes: &mut Vec<Note>, note: Option<Note>) -> Result<(), AllocError>
-    ensures { OnOk result (notes.new.items ≡ notes.old.items ++ option_to_list note) }
-{
-    if let Some(note) = note {
-        notes.push(note)?;
-    }
-    Ok(())
-}
-
 /// Adds the notes on some words of a command.
 fn notes_of_phrases(
     alloc: Global,
@@ -305,7 +294,7 @@ fn notes_of_phrases(
 {
     for phrase in phrases {
         let note = note_of_phrase(alloc, arguments, found, *phrase)?;
-        push_note(notes, note)?;
+        push_some(notes, note)?;
     }
     Ok(())
 }
@@ -398,7 +387,7 @@ fn notes_of_items(
 {
     for part in parts {
         let note = note_of_item(alloc, found, *part)?;
-        push_note(notes, note)?;
+        push_some(notes, note)?;
     }
     Ok(())
 }
@@ -465,53 +454,17 @@ fn notes_in(
     Ok(notes)
 }
 
-/// The notes on lines without a fault, where what they are made into is placed.
+/// What is most likely not meant on those lines of a source without a fault that was read and placed.
 #[tactic(auto, using(cx_asm_pass2::specs::Facts::Whole::whole_is))]
-fn notes_placed(
+pub(crate) fn notes_placed(
     alloc: Global,
-    made: &Source,
-    places: &Places<'_>,
+    read: &Source,
+    placed: &Placed<'_, '_, '_>,
     kinds: &Kinds,
-    items: &[Item],
 ) -> Result<Vec<Note>, AllocError>
-    requires { IsPlaced (final_state made.now) places.now }
+    requires { IsPlaced (final_state placed.now.made.now) placed.now.places.now }
     ensures { IfOk result (λ notes. notes.items
-        ≡ notes_in (whole_of made.now) (kind_at kinds.now.entries) items.now) }
+        ≡ notes_in (whole_of placed.now.made.now) (kind_at kinds.now.entries) read.now.items) }
 {
-    notes_in(alloc, places, kinds, items)
-}
-
-/// The notes on lines without a fault, which are made into a source.
-fn notes_made(
-    alloc: Global,
-    made: &Source,
-    faults: &[FaultyLine],
-    items: &[Item],
-) -> Result<Vec<Note>, AllocError>
-    ensures { IfOk result (λ notes. notes.items
-        ≡ notes_in (whole_of made.now) (kind_at (kinds_of faults.now)) items.now) }
-{
-    let kinds = kinds_of(alloc, faults)?;
-    let (places, _) = place_with_faults(alloc, made)?;
-    notes_placed(alloc, made, &places, &kinds, items)
-}
-
-/// What is most likely not meant on those lines of the source that lines make, given without their ends, that have no
-/// fault; `faults` are its faulty lines.
-///
-/// In an EXEC statement each argument is an address. So there is a note where a halfword or a byte is due and the
-/// argument is a number, a length attribute or another absolute expression, and where the command writes and it is a
-/// literal. In a DC there is one on an item of several copies with `*`, which is the same in each. The notes are in the
-/// order of the lines. An error comes only where an allocation failed.
-#[tactic(auto, unfolding(crate::specs::Notes::notes_of))]
-pub fn notes_of(
-    alloc: Global,
-    lines: &[Text],
-    faults: &[FaultyLine],
-) -> Result<Vec<Note>, AllocError>
-    ensures { IfOk result (λ notes. notes.items ≡ notes_of lines.now faults.now) }
-{
-    let (read, _) = source_with_faults(alloc, lines)?;
-    let (made, _) = translate_with_faults(alloc, &read)?;
-    notes_made(alloc, &made, faults, read.items.as_slice())
+    notes_in(alloc, placed.places, kinds, read.items.as_slice())
 }

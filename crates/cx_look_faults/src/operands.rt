@@ -1,26 +1,25 @@
 //! The part of a statement's operand that is at fault.
 
 ghost use Rattle.std.specs.Prelude.{◌≡◌, ◌++◌, ◌-◌, IfOk, OnOk, length, option_and_then, option_map, slice_get, unwrap_or};
-ghost use Rattle.std.specs.List.{find};
+ghost use Rattle.std.specs.List.{find, list_any};
 ghost use Rattle.cx_asm_operands.specs.Forms.{literal_in};
-ghost use Rattle.cx_asm_pass1.specs.Locations.{IsPlaced, final_state};
-ghost use Rattle.cx_asm_pass2.specs.Statements.{statements_of};
-ghost use Rattle.cx_asm_pass2.specs.Whole.{whole_by, whole_of};
-ghost use Rattle.cx_look_faults.specs.Operands.{alone_in, begins_term, constant_part, is_term, last_part, operand_part, part_on, operand_parts_in, smallest_part, whole_part};
-ghost use Rattle.std.specs.Option.{option_or, option_to_list};
-ghost use Rattle.cx_look_faults.specs.Faults.{kind_at, kinds_of};
+ghost use Rattle.cx_asm_pass2.specs.Whole.{whole_by};
+ghost use Rattle.cx_look_faults.specs.Operands.{alone_in, begins_term, constant_part, has_name, is_later, is_term, last_part, later_part, operand_part, part_on, operand_parts_in, smallest_part, whole_part};
+ghost use Rattle.std.specs.Option.{option_or};
+ghost use Rattle.cx_look_faults.specs.Faults.{kind_at};
 ghost use Rattle.cx_look_faults.specs.Parts.Tests.{passes};
-ghost use Rattle.cx_look_faults.specs.Spans.{cells_of, span, spans_of};
+ghost use Rattle.cx_look_faults.specs.Spans.{cells_of, span, span_text, spans_of};
 
-use crate::faults::{FaultyLine, Kinds, kind_at, kinds_of};
+use crate::faults::{Kinds, kind_at};
 use crate::judging::{Case, is_kind};
+use crate::lists::push_some;
 use crate::spans::{Cell, Cut, Span, cells_of, span_text, spans_of, with_zeros};
 use cx_asm_build::SourceKind;
 use cx_asm_operands::{Bases, literal_in};
 use cx_asm_operations::{Directive, Operation};
-use cx_asm_pass1::{Places, place_with_faults};
-use cx_asm_pass2::{Statement, pass_bases, placed_lines, stated};
-use cx_source::{Source, Text};
+use cx_asm_pass1::Places;
+use cx_asm_pass2::{Statement, pass_bases};
+use cx_source::Text;
 use std::alloc::{AllocError, Global};
 
 /// A part of an operand that is at fault.
@@ -34,9 +33,48 @@ pub struct OperandPart {
     pub part: Span,
 }
 
+/// Whether a statement has a name.
+fn has_name(statement: &Statement<'_>, name: &[u8]) -> bool
+    ensures { result ≡ has_name name.now statement.now }
+{
+    statement.stmt().name.as_slice() == name
+}
+
+/// Whether one of some statements has a name.
+fn any_has_name(statements: &[Statement<'_>], name: &[u8]) -> bool
+    ensures { result ≡ list_any (has_name name.now) statements.now }
+{
+    statements.iter().any(|statement| has_name(statement, name))
+}
+
+/// Whether a symbol isn't known yet at a place: a statement from there on defines it, and none before.
+fn is_later(statements: &[Statement<'_>], at: usize, name: &[u8]) -> bool
+    ensures { result ≡ is_later statements.now at name.now }
+{
+    let (before, after) = statements.split_at(statements.len().min(at));
+    any_has_name(after, name) && !any_has_name(before, name)
+}
+
+/// The first of some parts of an operand that is such a symbol.
+fn first_later(
+    statements: &[Statement<'_>],
+    at: usize,
+    operand: &[u8],
+    parts: &[Span],
+) -> Option<Span>
+    ensures { result ≡ find (λ part. is_later statements.now at (span_text part operand.now)) parts.now }
+{
+    for part in parts {
+        if is_later(statements, at, span_text(*part, operand)) {
+            return Some(*part);
+        }
+    }
+    None
+}
+
 /// What is asked of a part.
 #[derive(Clone, Copy)]
-enum Test<'a> {
+pub(crate) enum Test<'a> {
     /// Whether the operand, of which these are the characters, has the fault where all its parts but this are 0.
     Alone(&'a [Cell]),
     /// Whether as an item it has the fault.
@@ -76,9 +114,9 @@ fn literal_part(alloc: Global, operand: &[u8]) -> Result<Option<Span>, AllocErro
     }
 }
 
-impl Case<'_, '_, '_> {
+impl Case<'_, '_, '_, '_> {
     /// The operand.
-    fn operand(&self) -> &[u8]
+    pub(crate) fn operand(&self) -> &[u8]
         ensures { result.now ≡ self.now.statement.now.stmt.operand }
     {
         self.statement.stmt().operand.as_slice()
@@ -98,12 +136,17 @@ impl Case<'_, '_, '_> {
     }
 
     /// Whether a part passes a test.
-    fn passes(&self, alloc: Global, test: Test<'_>, part: Span) -> Result<bool, AllocError>
+    pub(crate) fn passes(
+        &self,
+        alloc: Global,
+        test: Test<'_>,
+        part: Span,
+    ) -> Result<bool, AllocError>
         ensures { let c = self.now in let whole = whole_by c.places.now in
             IfOk result (λ is. is ≡ passes whole c.bases.now c.statement.now c.kind test.entry part) }
     {
         match test {
-            Test::Alone(cells) => self.has_fault(alloc, &with_zeros(alloc, part, cells)?),
+            Test::Alone(cells) => self.has_fault(alloc, &with_zeros(alloc, &[part], cells)?),
             Test::Item => self.has_fault(alloc, span_text(part, self.operand())),
             Test::Term => self.is_term(alloc, part),
         }
@@ -177,6 +220,24 @@ impl Case<'_, '_, '_> {
         self.whole_part(alloc)
     }
 
+    /// The first term that is a symbol which isn't known yet, or else all of the operand.
+    fn later_part(&self, alloc: Global) -> Result<Option<Span>, AllocError>
+        ensures { let c = self.now in
+            let part = later_part c.statements.now c.at c.statement.now.stmt.operand in
+            IfOk result (λ found. found ≡ part) }
+    {
+        let operand = self.operand();
+        let cells = cells_of(alloc, Cut::Terms, operand)?;
+        let parts = spans_of(alloc, &cells)?;
+        match first_later(self.statements, self.at, operand, &parts) {
+            Some(part) => Ok(Some(part)),
+            None => Ok(Some(Span {
+                start: 0,
+                end: operand.len(),
+            })),
+        }
+    }
+
     /// The part that has the fault where none has it alone, in a statement of this operation.
     fn last_part(
         &self,
@@ -184,16 +245,13 @@ impl Case<'_, '_, '_> {
         operation: Option<Operation>,
     ) -> Result<Option<Span>, AllocError>
         ensures { let c = self.now in
-            IfOk result (λ found. found ≡ last_part c.statement.now operation c.kind) }
+            IfOk result (λ found. found ≡ last_part c.statements.now c.at c.statement.now operation c.kind) }
     {
         let operand = self.operand();
         match (operation, self.kind) {
             (_, SourceKind::NoAddressability) => literal_part(alloc, operand),
             (Some(Operation::Directive(Directive::Equ)), SourceKind::UndefinedSymbol) => {
-                Ok(Some(Span {
-                    start: 0,
-                    end: operand.len(),
-                }))
+                self.later_part(alloc)
             }
             _ => Ok(None),
         }
@@ -221,7 +279,8 @@ impl Case<'_, '_, '_> {
     ) -> Result<Option<Span>, AllocError>
         ensures { let c = self.now in
             let smallest = smallest_part (whole_by c.places.now) c.bases.now c.statement.now c.kind in
-            IfOk result (λ found. found ≡ option_or smallest (last_part c.statement.now operation c.kind)) }
+            let last = last_part c.statements.now c.at c.statement.now operation c.kind in
+            IfOk result (λ found. found ≡ option_or smallest last) }
     {
         if let Some(part) = self.smallest_part(alloc)? {
             return Ok(Some(part));
@@ -233,7 +292,7 @@ impl Case<'_, '_, '_> {
     #[tactic(auto, unfolding(crate::specs::Operands::operand_part))]
     fn part(&self, alloc: Global) -> Result<Option<Span>, AllocError>
         ensures { let c = self.now in
-            let part = operand_part (whole_by c.places.now) c.bases.now c.statement.now c.kind in
+            let part = operand_part (whole_by c.places.now) c.bases.now c.statements.now c.at c.statement.now c.kind in
             IfOk result (λ found. found ≡ part) }
     {
         match self.statement.operation() {
@@ -245,7 +304,7 @@ impl Case<'_, '_, '_> {
     /// The part of the operand that has the fault, with the operand and the line's number.
     fn found_part(&self, alloc: Global) -> Result<Option<OperandPart>, AllocError>
         ensures { let c = self.now in
-            let part = part_on (whole_by c.places.now) c.bases.now c.statement.now c.kind in
+            let part = part_on (whole_by c.places.now) c.bases.now c.statements.now c.at c.statement.now c.kind in
             IfOk result (λ found. found ≡ part) }
     {
         let Some(part) = self.part(alloc)? else {
@@ -259,16 +318,18 @@ impl Case<'_, '_, '_> {
     }
 }
 
-/// The part of a statement that is at fault, if its line has a fault.
+/// The part of a statement that is at fault, if its line has a fault. It is the one at this place among all.
 fn part_of(
     alloc: Global,
     places: &Places<'_>,
     bases: &Bases,
+    statements: &[Statement<'_>],
+    at: usize,
     statement: &Statement<'_>,
     kind: Option<SourceKind>,
 ) -> Result<Option<OperandPart>, AllocError>
-    ensures { let part = option_and_then (part_on (whole_by places.now) bases.now statement.now) kind in
-        IfOk result (λ found. found ≡ part) }
+    ensures { let part_on = part_on (whole_by places.now) bases.now statements.now at statement.now in
+        IfOk result (λ found. found ≡ option_and_then part_on kind) }
 {
     let Some(kind) = kind else {
         return Ok(None);
@@ -278,23 +339,15 @@ fn part_of(
         bases,
         statement,
         kind,
+        statements,
+        at,
     };
     case.found_part(alloc)
 }
 
-/// Adds a part, if there is one.
-fn push_part(found: &mut Vec<OperandPart>, part: Option<OperandPart>) -> Result<(), AllocError>
-    ensures { OnOk result (found.new.items ≡ found.old.items ++ option_to_list part) }
-{
-    if let Some(part) = part {
-        found.push(part)?;
-    }
-    Ok(())
-}
-
 /// The parts of statements that are at fault.
 #[tactic(auto, using(std::proofs::lemmas::List::Sums::fold_more), unfolding(crate::specs::Operands::operand_parts_in))]
-fn operand_parts_in(
+pub(crate) fn operand_parts_in(
     alloc: Global,
     places: &Places<'_>,
     kinds: &Kinds,
@@ -307,40 +360,9 @@ fn operand_parts_in(
     let mut found = Vec::new(alloc);
     for (i, statement) in statements.iter().enumerate() {
         let kind = kind_at(kinds, statement.line());
-        let part = part_of(alloc, places, &bases, statement, kind)?;
-        push_part(&mut found, part)?;
+        let part = part_of(alloc, places, &bases, statements, i, statement, kind)?;
+        push_some(&mut found, part)?;
         pass_bases(alloc, places, &mut bases, statement)?;
     }
     Ok(found)
-}
-
-/// The parts of a source's statements that are at fault, where it is placed.
-#[tactic(auto, using(cx_asm_pass2::specs::Facts::Whole::whole_is))]
-fn parts_placed(
-    alloc: Global,
-    source: &Source,
-    places: &Places<'_>,
-    kinds: &Kinds,
-) -> Result<Vec<OperandPart>, AllocError>
-    requires { IsPlaced (final_state source.now) places.now }
-    ensures { let kind_of = kind_at kinds.now.entries in let statements = statements_of source.now in
-        IfOk result (λ found. found.items ≡ operand_parts_in (whole_of source.now) kind_of statements) }
-{
-    let placed = placed_lines(alloc, source, places.statements.as_slice())?;
-    let statements = stated(alloc, placed.as_slice())?;
-    operand_parts_in(alloc, places, kinds, statements.as_slice())
-}
-
-/// The parts of the statements on a source's faulty lines that are at fault.
-pub(crate) fn operand_parts(
-    alloc: Global,
-    source: &Source,
-    faults: &[FaultyLine],
-) -> Result<Vec<OperandPart>, AllocError>
-    ensures { IfOk result (λ found. found.items
-        ≡ operand_parts_in (whole_of source.now) (kind_at (kinds_of faults.now)) (statements_of source.now)) }
-{
-    let kinds = kinds_of(alloc, faults)?;
-    let (places, _) = place_with_faults(alloc, source)?;
-    parts_placed(alloc, source, &places, &kinds)
 }

@@ -3,7 +3,8 @@
 ghost use Rattle.std.specs.Prelude.{◌≡◌, ◌≤◌, ◌+◌, ◌-◌, ◌++◌, IfOk, OnOk, drop, length, take};
 ghost use Rattle.std.specs.List.{flat_map, position, prefix_len};
 ghost use Rattle.cx_source.specs.Lines.{columns, is_written};
-ghost use Rattle.cx_look_faults.specs.Marks.{continuations, is_continued_on, name_spot, operand_positions, operation_column, operation_spot, part_or_operation, part_spot, positions_after, spot, spot_at, positions_written_on};
+ghost use Rattle.cx_look_faults.specs.Faults.{continuations, is_continued_on};
+ghost use Rattle.cx_look_faults.specs.Marks.{name_spot, operand_positions, operation_column, operation_spot, part_or_operation, part_spot, positions_after, spot, spot_at, positions_written_on};
 
 use crate::spans::Span;
 use cx_source::{Item, Stmt, is_continued, skip_blanks};
@@ -80,7 +81,7 @@ fn continued_count(items: &[Item]) -> usize
 }
 
 /// The lines that continue a line, of those after it.
-fn continuations<'a>(item: &Item, after: &'a [Item]) -> &'a [Item]
+pub(crate) fn continuations<'a>(item: &Item, after: &'a [Item]) -> &'a [Item]
     ensures { result.now ≡ continuations item.now after.now }
 {
     let count = if is_continued(true, item.text.as_slice()) {

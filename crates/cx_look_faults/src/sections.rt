@@ -1,8 +1,9 @@
 //! What stands outside the control section since a section may not be known.
 
-ghost use Rattle.std.specs.Prelude.{◌≡◌, ◌++◌, ◌&&◌, nat_lt, None, OnOk, option_map, reverse};
-ghost use Rattle.std.specs.List.{find};
-ghost use Rattle.cx_look_faults.specs.Faults.{begins_any, is_adrift, is_outside, section_before, unknown_after, without_adrift};
+ghost use Rattle.std.specs.Prelude.{◌≡◌, ◌++◌, ◌&&◌, ◌==◌, false, length, nat_lt, None, not, OnOk, option_map, reverse};
+ghost use Rattle.std.specs.List.{find, list_any};
+ghost use Rattle.std.specs.Option.{option_map_or};
+ghost use Rattle.cx_look_faults.specs.Faults.{begins_any, begins_before, begins_named, begins_on, is_adrift, is_due, is_late, is_outside, section_before, unknown_after, without_adrift};
 
 use crate::bases::{begins_any, begins_section};
 use crate::faults::FaultyLine;
@@ -41,6 +42,54 @@ fn is_adrift(items: &[Item], unknown: Option<usize>, fault: FaultyLine) -> bool
     }
 }
 
+/// Whether the control section begins on a line, with a name.
+fn begins_named(item: &Item) -> bool
+    ensures { result ≡ begins_named item.now }
+{
+    match &item.stmt {
+        Some(stmt) => begins_section(item) && !stmt.name.as_slice().is_empty(),
+        None => false,
+    }
+}
+
+/// Whether the control section begins before a line.
+fn begins_before(items: &[Item], number: usize) -> bool
+    ensures { result ≡ begins_before items.now number }
+{
+    items
+        .iter()
+        .any(|item| item.line < number && begins_section(item))
+}
+
+/// Whether the control section begins on a line, with a name.
+fn begins_on(items: &[Item], number: usize) -> bool
+    ensures { result ≡ begins_on items.now number }
+{
+    items
+        .iter()
+        .any(|item| item.line == number && begins_named(item))
+}
+
+/// Whether a fault is BadOperand of the first CSECT or START.
+#[tactic(auto, unfolding(crate::specs::Faults::is_late))]
+fn is_late(items: &[Item], fault: FaultyLine) -> bool
+    ensures { result ≡ is_late items.now fault }
+{
+    match fault.kind {
+        SourceKind::BadOperand => {
+            begins_on(items, fault.line) && !begins_before(items, fault.line)
+        }
+        _ => false,
+    }
+}
+
+/// Whether a fault is due to a line before, where there is one with a fault.
+fn is_due(items: &[Item], met: bool, unknown: Option<usize>, fault: FaultyLine) -> bool
+    ensures { result ≡ is_due items.now met unknown fault }
+{
+    is_adrift(items, unknown, fault) || (met && is_late(items, fault))
+}
+
 /// The line of an unknown operation after which there was no BadOperand, after one more fault.
 fn unknown_after(before: Option<usize>, fault: FaultyLine) -> Option<usize>
     ensures { result ≡ unknown_after before fault.line fault.kind }
@@ -52,19 +101,21 @@ fn unknown_after(before: Option<usize>, fault: FaultyLine) -> Option<usize>
     }
 }
 
-/// Puts lines at the end of others, without those whose fault follows from a section that may not be known.
+/// Puts lines at the end of others, without those whose fault is due to a line before.
 pub(crate) fn push_unadrift(
     lines: &mut Vec<FaultyLine>,
     items: &[Item],
     more: &[FaultyLine],
 ) -> Result<(), AllocError>
-    ensures { OnOk result (lines.new.items ≡ lines.old.items ++ without_adrift items.now None more.now) }
+    ensures { OnOk result (lines.new.items ≡ lines.old.items ++ without_adrift items.now false None more.now) }
 {
+    let mut met = false;
     let mut unknown = None;
     for fault in more {
-        if !is_adrift(items, unknown, *fault) {
+        if !is_due(items, met, unknown, *fault) {
             lines.push(*fault)?;
         }
+        met = true;
         unknown = unknown_after(unknown, *fault);
     }
     Ok(())

@@ -1,9 +1,10 @@
 //! Texts cut into parts, and what a part is by itself.
 
 ghost use Rattle.std.specs.Prelude.{◌≡◌, ◌≤◌, ◌<◌, ◌+◌, ◌++◌, ◌^◌, IfOk, OnOk, drop, false, option_map, slice_get, take, true, unwrap_or};
+ghost use Rattle.std.specs.List.{list_any};
 ghost use Rattle.cx_source.specs.Marks.{outside_apostrophes};
 ghost use Rattle.cx_translate.specs.Pieces.{depth_after};
-ghost use Rattle.cx_look_faults.specs.Spans.{cell, cells_from, cells_of, span_covers, separates, span, spans_from, spans_of, span_text, with_zeros, nonempty_span, zeros_from};
+ghost use Rattle.cx_look_faults.specs.Spans.{cell, cells_from, cells_of, is_covered, span_covers, separates, span, spans_from, spans_of, span_text, with_zeros, nonempty_span, zeros_from};
 
 use cx_source::outside;
 use std::alloc::{AllocError, Global};
@@ -127,14 +128,25 @@ fn span_covers(span: Span, at: usize) -> bool
     span.start <= at && at < span.end
 }
 
-/// A text with 0 in place of each of its parts but one.
-pub(crate) fn with_zeros(alloc: Global, kept: Span, cells: &[Cell]) -> Result<Vec<u8>, AllocError>
-    ensures { IfOk result (λ text. text.items ≡ with_zeros kept cells.now) }
+/// Whether a place is in one of some parts.
+fn is_covered(kept: &[Span], at: usize) -> bool
+    ensures { result ≡ is_covered kept.now at }
+{
+    kept.iter().any(|part| span_covers(*part, at))
+}
+
+/// A text with 0 in place of each of its parts but some.
+pub(crate) fn with_zeros(
+    alloc: Global,
+    kept: &[Span],
+    cells: &[Cell],
+) -> Result<Vec<u8>, AllocError>
+    ensures { IfOk result (λ text. text.items ≡ with_zeros kept.now cells.now) }
 {
     let mut text = Vec::new(alloc);
     let mut is_new = true;
     for (i, cell) in cells.iter().enumerate() {
-        if cell.separates || span_covers(kept, i) {
+        if cell.separates || is_covered(kept, i) {
             text.push(cell.byte)?;
         } else if is_new {
             text.push(b'0')?;

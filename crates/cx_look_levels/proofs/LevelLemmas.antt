@@ -2,7 +2,7 @@
 use Rattle.std.proofs.Common.{◌≡◌, ℕ, zero, suc, ◌+◌, ◌≤◌, List, [], ◌∷◌, ◌++◌, length, drop, slice_get, refl, subst, sym, ap, ◌∙◌, arith, append_assoc, append-nil}
 use Rattle.cx_program.specs.declared.level.Level.{Level}
 use Rattle.cx_region_state.specs.State.{SharedState}
-use Rattle.cx_look_tables.specs.Words.{Lines}
+use Rattle.cx_look_lines.specs.Words.{Lines}
 use Rattle.cx_look_symbols.specs.Sources.{Sources}
 use Rattle.cx_look_levels.specs.Parts.Levels.{level_at}
 use Rattle.cx_look_levels.specs.Levels.{levels_text}

@@ -5,7 +5,7 @@ use Rattle.cx_storage.specs.Storage.{Storage}
 use Rattle.cx_ebcdic.specs.Names.{is_name}
 use Rattle.cx_source.specs.declared.source.Source.{Source}
 use Rattle.cx_asm_operands.specs.Bases.{Bases}
-use Rattle.cx_look_tables.specs.Words.{Lines}
+use Rattle.cx_look_lines.specs.Words.{Lines}
 use Rattle.cx_look_symbols.specs.Symbols.{SourceSymbols, named_of}
 use Rattle.cx_look_symbols.specs.declared.rows.Symbol.{Symbol}
 use Rattle.cx_look_levels.specs.Readings.{readings_of}

@@ -10,7 +10,7 @@ use Rattle.cx_region.specs.State.{RegionState}
 use Rattle.cx_region.specs.Tables.{task_of}
 use Rattle.cx_source.specs.declared.source.Source.{Source}
 use Rattle.cx_asm_operands.specs.Bases.{Bases}
-use Rattle.cx_look_tables.specs.Words.{in_apostrophes, look_line, or_none, written_name, Lines}
+use Rattle.cx_look_lines.specs.Words.{in_apostrophes, look_line, or_none, written_name, Lines}
 use Rattle.cx_look_symbols.specs.Symbols.{SourceSymbols, named_of, translated_in}
 use Rattle.cx_look_symbols.specs.declared.rows.Symbol.{Symbol}
 use Rattle.cx_look_levels.specs.Readings.{reading_named, readings_of}

@@ -6,7 +6,7 @@ use Rattle.cx_storage.specs.Address.{address_after}
 use Rattle.cx_asm_expressions.specs.Names.{symbol_name}
 use Rattle.cx_asm_expressions.specs.declared.values.Value.{Value}
 use Rattle.cx_asm_pass1.specs.PassState.{is_control}
-use Rattle.cx_look_tables.specs.Words.{Lines}
+use Rattle.cx_look_lines.specs.Words.{Lines}
 use Rattle.cx_look_symbols.specs.Symbols.{named_of, translated_in}
 use Rattle.cx_look_symbols.specs.declared.rows.Symbol.{Symbol}
 use Rattle.cx_look_levels.specs.Readings.{reading_named, readings_of}

@@ -84,6 +84,7 @@ pub record FieldHasByte (source : Source) (regs : List ℕ) (offset : ℕ) (cont
   pub place : distance field.address address ≡ n
   pub within : n < field.length
 
+-- of the fields that have a byte the one that begins last is reported, and of several such the first that is defined
 abbrev pub NearestFieldIs : Type 0
 NearestFieldIs = (lines : List (List ℕ)) (standing : Standing) (offset : ℕ) (source : Source) (named : SourceSymbols)
     → (address : ℕ)
@@ -95,6 +96,7 @@ NearestFieldIs = (lines : List (List ℕ)) (standing : Standing) (offset : ℕ) 
 abbrev pub IsLabel : ℕ → Option (List ℕ) → List ℕ × Symbol → ℕ → Type 0
 IsLabel offset control row n = near_label offset control row ≡ Some (record { name = row.0; distance = n })
 
+-- of the labels at a byte or before it the last one is reported, and of several such the first that is defined
 abbrev pub NearestLabelIs : Type 0
 NearestLabelIs = (lines : List (List ℕ)) (offset : ℕ) (named : SourceSymbols) → named_in lines ≡ Some named
     → MatchNearest (IsLabel offset named.control) named.rows (nearest_label offset lines)

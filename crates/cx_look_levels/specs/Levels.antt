@@ -21,7 +21,7 @@ use Rattle.cx_program.specs.declared.level.Level.{Level}
 use Rattle.cx_region_state.specs.State.{SharedState}
 use Rattle.cx_base.specs.Digits.{digits}
 use Rattle.cx_base.specs.Texts.{shown_name}
-use Rattle.cx_look_tables.specs.Words.{look_line, Lines}
+use Rattle.cx_look_lines.specs.Words.{look_line, Lines}
 use Rattle.cx_look_symbols.specs.Lines.{SourcePlaces}
 use Rattle.cx_look_symbols.specs.Places.{address_word, place_at_address, place_word, spot_before}
 use Rattle.cx_look_symbols.specs.Sources.{Sources, statement_at}

@@ -12,8 +12,8 @@ use Rattle.cx_region.specs.State.{RegionState}
 use Rattle.cx_region.specs.Tables.{task_of}
 use Rattle.cx_base.specs.Digits.{digits}
 use Rattle.cx_base.specs.Texts.{shown_name}
-use Rattle.cx_look_tables.specs.Registers.{register_lines}
-use Rattle.cx_look_tables.specs.Words.{look_line, Lines}
+use Rattle.cx_look_lines.specs.Registers.{register_lines}
+use Rattle.cx_look_lines.specs.Words.{look_line, Lines}
 use Rattle.cx_look_symbols.specs.Lines.{SourcePlaces}
 use Rattle.cx_look_symbols.specs.Places.{place_at_address, place_word}
 use Rattle.cx_look_symbols.specs.Sources.{Sources}

@@ -9,7 +9,7 @@ use Rattle.cx_region_state.specs.State.{TaskState}
 use Rattle.cx_region.specs.State.{RegionState, TerminalState}
 use Rattle.cx_base.specs.Digits.{digits}
 use Rattle.cx_base.specs.Texts.{shown_name}
-use Rattle.cx_look_tables.specs.Words.{look_line, written_name, Lines}
+use Rattle.cx_look_lines.specs.Words.{look_line, written_name, Lines}
 use Rattle.cx_look_symbols.specs.Places.{address_word, place_at_address}
 use Rattle.cx_look_symbols.specs.Sources.{Sources, led_by, source_lines, statement_at}
 use Rattle.cx_look_symbols.specs.declared.places.Place.{Place}

@@ -17,14 +17,14 @@ use cx_source::Source;
 use std::alloc::{AllocError, Global};
 
 /// A field: the address of its first byte, and its length attribute, in bytes.
-#[derive(Clone, Copy, Debug, PartialEq, Eq)]
+#[derive(Clone, Copy)]
 pub struct Field {
     pub address: u32,
     pub length: u128,
 }
 
 /// A field, and how its bytes are read as a number, if they may be one.
-#[derive(Clone, Copy, Debug, PartialEq, Eq)]
+#[derive(Clone, Copy)]
 pub struct TypedField {
     pub field: Field,
     pub reading: Option<Reading>,

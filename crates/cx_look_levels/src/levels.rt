@@ -8,10 +8,10 @@ ghost use Rattle.cx_look_levels.specs.declared.levels.Handles.TheVariants as han
 use cx_base::{Condition, EistgField, List, decimal, hexadecimal, shown_name};
 use cx_ebcdic::Name8;
 use cx_load::Loaded;
+use cx_look_lines::Report;
 use cx_look_symbols::{
     SourcePlaces, Sources, address_word, place_at_address, place_word, spot_before, statement_at,
 };
-use cx_look_tables::Report;
 use cx_program::{Entries, Exit, Handler, Handling, Level, LevelStack};
 use cx_region_state::Shared;
 use cx_storage::{Store, address_after, address_in, word_at};
@@ -105,7 +105,7 @@ fn last_command_line(
 }
 
 /// Which handles of the level of a number: those in force, or what its PUSH HANDLE of a number keeps.
-#[derive(Clone, Copy, Debug, PartialEq, Eq)]
+#[derive(Clone, Copy)]
 pub(crate) enum Handles {
     InForce(u32),
     Pushed(u32, u32),

@@ -6,7 +6,7 @@ ghost use Rattle.cx_look_levels.specs.Nearest.{nearer_symbol, nearest};
 use cx_ebcdic::Name8;
 
 /// A name, and how many bytes an address is after its first byte.
-#[derive(Clone, Copy, Debug, PartialEq, Eq)]
+#[derive(Clone, Copy)]
 pub struct Near {
     pub name: Name8,
     pub distance: u32,

@@ -14,7 +14,7 @@ use cx_source::{Delimiter, Item, Source, Stmt, cut};
 use std::alloc::{AllocError, Global};
 
 /// How bytes are read as a number.
-#[derive(Clone, Copy, Debug, PartialEq, Eq)]
+#[derive(Clone, Copy, PartialEq, Eq)]
 pub enum Reading {
     /// As a binary number, in two's complement.
     Binary,
@@ -25,7 +25,7 @@ pub enum Reading {
 }
 
 /// How the bytes of a name are read.
-#[derive(Clone, Copy, Debug, PartialEq, Eq)]
+#[derive(Clone, Copy)]
 pub struct NamedReading {
     /// The name of the DS or DC.
     pub name: Name8,

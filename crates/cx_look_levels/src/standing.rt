@@ -13,7 +13,7 @@ use indexmap::IndexMap;
 
 /// Where a level stands: its program, its registers, and a byte of the statement that it is at, if a program has that
 /// byte.
-#[derive(Clone, Copy, Debug, PartialEq, Eq)]
+#[derive(Clone, Copy)]
 pub struct Standing {
     pub program: Name8,
     pub regs: [u32; 16],

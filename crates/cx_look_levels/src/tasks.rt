@@ -7,8 +7,8 @@ ghost use Rattle.cx_look_levels.specs.Tasks.{due_word, no_task_line, cc_next_lin
 use crate::levels::levels_text;
 use cx_base::{decimal, shown_name};
 use cx_ebcdic::Name4;
+use cx_look_lines::{Report, register_lines};
 use cx_look_symbols::{SourcePlaces, Sources, place_at_address, place_word};
-use cx_look_tables::{Report, register_lines};
 use cx_region::Region;
 use cx_region_state::{Shared, Task, read_call};
 use cx_storage::{Store, address_in};

@@ -10,11 +10,11 @@ use crate::{Standing, standing_in};
 use cx_base::{decimal, hexadecimal, shown_name};
 use cx_ebcdic::{Name4, Name8};
 use cx_load::Loaded;
+use cx_look_lines::{Report, written_name};
 use cx_look_storage::met_lines;
 use cx_look_symbols::{
     Place, Sources, Spot, address_word, place_at_address, push_led_by, statement_at,
 };
-use cx_look_tables::{Report, written_name};
 use cx_region::{Region, Task, Terminal};
 use cx_storage::Store;
 use indexmap::IndexMap;

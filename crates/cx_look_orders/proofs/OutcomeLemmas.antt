@@ -8,15 +8,15 @@ use Rattle.cx_search.specs.Finds.{Finds}
 use Rattle.cx_search.specs.Forever.{AtRest}
 use Rattle.cx_search.specs.Found.{IsAt}
 use Rattle.cx_search.specs.Laws.{FirstIsOne, SoonerOrders}
-use Rattle.cx_search.specs.Moves.{IsSooner}
+use Rattle.cx_search.specs.Moves.{IsSooner, Leads}
 use Rattle.cx_search.specs.Rest.{AreResting, IsNear}
 use Rattle.cx_look_tasks.specs.Laws.{WaitsTextsDecide}
-use Rattle.cx_look_tables.specs.Words.{Lines}
+use Rattle.cx_look_lines.specs.Words.{Lines}
 use Rattle.cx_region.specs.State.{RegionState}
 use Rattle.cx_orders.specs.Moves.{Moves}
 use Rattle.cx_orders.specs.declared.states.KeyLine.{KeyLine}
 use Rattle.cx_orders.specs.declared.states.OrdersState.{OrdersState}
-use Rattle.cx_look_orders.specs.Outcomes.{AreOutcomes, EndsWith, HasText, NoLater}
+use Rattle.cx_look_orders.specs.Outcomes.{AreOutcomes, EndsWith, HasText, IsWritten, NoLater}
 use Rattle.cx_look_orders.specs.Parts.Ways.{AreFirstSteps, AreOfFirst, AreSorted, IsOfFirst, IsTextAt, Reaches}
 use Rattle.cx_look_orders.specs.Rest.{RestText, incident_line, keys_text}
 use Rattle.cx_look_orders.specs.Steps.{moves_of}
@@ -61,6 +61,7 @@ module _ (Shows : RegionState → Lines → Type 0) (keys : List KeyLine) (start
   first_none = record {
     each = λ k one is. absurd (none-some one is);
     all = λ index text l is. absurd (omega (arith, l));
+    written = λ index place state l there is. absurd (omega (arith, l));
     ordered = λ j k one other l is it. absurd (none-some one is);
   }
 
@@ -69,6 +70,27 @@ module _ (Shows : RegionState → Lines → Type 0) (keys : List KeyLine) (start
 
   kept_text : (outcomes more : List Outcome) (text : Lines) → HasText outcomes text → HasText (outcomes ++ more) text
   kept_text outcomes more text h = record { place = h.place; one = h.one; at = item_kept outcomes more h.place h.one h.at; same = h.same }
+
+  kept_written : (outcomes more : List Outcome) (state : OrdersState) → IsWritten Shows keys outcomes state → IsWritten Shows keys (outcomes ++ more) state
+  kept_written outcomes more state w = record { place = w.place; one = w.one; at = item_kept outcomes more w.place w.one w.at; shows = w.shows }
+
+  -- where an outcome has its text, the state at the place is written
+  abbrev AllWritten : ℕ → List Outcome → Type 0
+  AllWritten many outcomes = (index place : ℕ) (state : OrdersState) → index < many → slice_get places index ≡ Some place → IsAt found place state
+      → IsWritten Shows keys outcomes state
+
+  written_at : (many : ℕ) (outcomes : List Outcome) (text : Lines) → TextAt many text → HasText outcomes text → (place : ℕ) (state : OrdersState)
+      → slice_get places many ≡ Some place → IsAt found place state → IsWritten Shows keys outcomes state
+  written_at many outcomes text at has place state there is =
+      let same = one_state keys start found place at.state state (subst (λ k. IsAt found k at.state) (same_Some at.place place (sym at.there ∙ there)) at.at) is in
+      record { place = has.place; one = has.one; at = has.at; shows = subst (RestText Shows keys state) (sym has.same) (subst (λ s. RestText Shows keys s text) same at.shows) }
+
+  all_written : (many : ℕ) (outcomes : List Outcome) (known : Lines) → AllWritten many outcomes → TextAt many known → HasText outcomes known
+      → AllWritten (many + 1) outcomes
+  all_written many outcomes known all at has index place state l there is = elim (below_next index many l) [
+    | inl m ↦ all index place state m there is
+    | inr e ↦ written_at many outcomes known at has place state (subst (λ k. slice_get places k ≡ Some place) e there) is
+  ]
 
   -- the text of one place more
   all_known : (many : ℕ) (outcomes : List Outcome) (known : Lines) → ((index : ℕ) (text : Lines) → index < many → TextAt index text → HasText outcomes text)
@@ -82,16 +104,22 @@ module _ (Shows : RegionState → Lines → Type 0) (keys : List KeyLine) (start
   first_known many outcomes text are at has = record {
     each = λ k one is. one_more many one (are.each k one is);
     all = all_known many outcomes text are.all at has;
+    written = all_written many outcomes text are.written at has;
     ordered = are.ordered;
   }
 
   -- where there is no such place, or none of a state
-  pub first_past : (many : ℕ) (outcomes : List Outcome) → First many outcomes → ((text : Lines) → TextAt many text → ⊥) → First (many + 1) outcomes
+  pub first_past : (many : ℕ) (outcomes : List Outcome) → First many outcomes
+      → ((place : ℕ) (state : OrdersState) → slice_get places many ≡ Some place → IsAt found place state → ⊥) → First (many + 1) outcomes
   first_past many outcomes are none = record {
     each = λ k one is. one_more many one (are.each k one is);
     all = λ index text l is. elim (below_next index many l) [
       | inl m ↦ are.all index text m is
-      | inr e ↦ absurd (none text (subst (λ k. TextAt k text) e is))
+      | inr e ↦ absurd (none is.place is.state (subst (λ k. slice_get places k ≡ Some is.place) e is.there) is.at)
+    ];
+    written = λ index place state l there is. elim (below_next index many l) [
+      | inl m ↦ are.written index place state m there is
+      | inr e ↦ absurd (none place state (subst (λ k. slice_get places k ≡ Some place) e there) is)
     ];
     ordered = are.ordered;
   }
@@ -103,6 +131,7 @@ module _ (Shows : RegionState → Lines → Type 0) (keys : List KeyLine) (start
         let o = are.each k one is in
         record { index = o.index; below = slice_get_within places o.index o.text.place o.text.there; text = o.text; steps = o.steps; new = o.new };
     all = λ index text l is. are.all index text (omega (arith, l, enough)) is;
+    written = λ index place state l there is. are.written index place state (omega (arith, l, enough)) there is;
     ordered = are.ordered;
   }
 
@@ -124,13 +153,16 @@ module _ (Shows : RegionState → Lines → Type 0) (keys : List KeyLine) (start
           steps = steps;
           new = λ other l is. never (are.all other new.text l is);
         } in
+        let has_new : HasText (outcomes ++ new ∷ []) new.text = record { place = length outcomes; one = new; at = item_last outcomes new; same = refl } in
         record {
           each = λ k one is. elim (item_appended outcomes new one k is) [
             | inl old ↦ one_more many one (are.each k one old)
             | inr e ↦ subst (IsOfFirst Shows keys start found places (many + 1)) e.1 of_new
           ];
           all = all_known many (outcomes ++ new ∷ []) new.text (λ index text l is. kept_text outcomes (new ∷ []) text (are.all index text l is)) at
-              (record { place = length outcomes; one = new; at = item_last outcomes new; same = refl });
+              has_new;
+          written = all_written many (outcomes ++ new ∷ []) new.text (λ index place state l there is. kept_written outcomes (new ∷ []) state (are.written index place state l there is)) at
+              has_new;
           ordered = λ j k one other l is it. elim (item_appended outcomes new other k it) [
             | inl old ↦ elim (item_appended outcomes new one j is) [
               | inl first ↦ are.ordered j k one other l first old
@@ -154,14 +186,21 @@ module _ (Shows : RegionState → Lines → Type 0) (keys : List KeyLine) (start
           let same = one_state keys start found at.place r.state at.state (record { origin = r.origin; there = r.there }) at.at in
           (r.origin, (subst (λ s. slice_get found at.place ≡ Some (s, r.origin)) same r.there, (r.near, subst (AtRest (Moves keys)) same r.rest)))
 
-      -- a list of few moves that ends at rest ends with the state at one of the places
+      -- a list of few moves that leads to rest leads to the state at one of the places
+      listed_rest : (moves : List ℕ) (to : OrdersState) → Leads (Moves keys) start moves to → AtRest (Moves keys) to → IsNear cut (length moves)
+          → (index : ℕ) × ((place : ℕ) × ((slice_get places index ≡ Some place) × (IsAt found place to)))
+      listed_rest moves to leads at_rest near =
+          let it = reaches moves to leads near in
+          let least = kept_least keys start found sooner f it.place to it.is.origin moves it.is.there leads in
+          let listed = rest.all it.place (record { state = to; origin = it.is.origin; there = it.is.there; near = near_less cut it.is.origin.moves (length moves) least near; rest = at_rest }) in
+          (listed.index, (it.place, (listed.at, it.is)))
+
+      -- and so with its text
       listed_end : (moves : List ℕ) (text : Lines) (e : EndsWith Shows keys start moves text) → IsNear cut (length moves)
           → (index : ℕ) × ((at : TextAt index text) × ((at.state ≡ e.to) × (index < length places)))
       listed_end moves text e near =
-          let it = reaches moves e.to e.leads near in
-          let least = kept_least keys start found sooner f it.place e.to it.is.origin moves it.is.there e.leads in
-          let listed = rest.all it.place (record { state = e.to; origin = it.is.origin; there = it.is.there; near = near_less cut it.is.origin.moves (length moves) least near; rest = e.rest }) in
-          (listed.index, (record { place = it.place; there = listed.at; state = e.to; at = it.is; shows = e.shows }, (refl, slice_get_within places listed.index it.place listed.at)))
+          let it = listed_rest moves e.to e.leads e.rest near in
+          (it.0, (record { place = it.1.0; there = it.1.1.0; state = e.to; at = it.1.1.1; shows = e.shows }, (refl, slice_get_within places it.0 it.1.0 it.1.1.0)))
 
       place_order : (one other p q : ℕ) → one ≤ other → slice_get places one ≡ Some p → slice_get places other ≡ Some q → p ≤ q
       place_order one other p q l is it = elim (cases_order one other) [
@@ -218,5 +257,8 @@ module _ (Shows : RegionState → Lines → Type 0) (keys : List KeyLine) (start
         all = λ moves text e near.
             let end = listed_end moves text e near in
             are.all end.0 text end.1.1.1 end.1.0;
+        written = λ moves to leads at_rest near.
+            let it = listed_rest moves to leads at_rest near in
+            are.written it.0 it.1.0 to (slice_get_within places it.0 it.1.0 it.1.1.0) it.1.1.0 it.1.1.1;
         ordered = are.ordered;
       }

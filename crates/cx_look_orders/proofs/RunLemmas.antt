@@ -14,7 +14,7 @@ use Rattle.cx_orders.specs.Laws.{IsOrder}
 use Rattle.cx_orders.specs.Moves.{KeyMoves, TurnMoves, keys_of}
 use Rattle.cx_orders.specs.declared.states.KeyLine.{KeyLine}
 use Rattle.cx_orders.specs.declared.states.OrdersState.{OrdersState}
-use Rattle.cx_look_orders.specs.Laws.{IsRunOf, StepsAreRuns, event_at, event_of_step}
+use Rattle.cx_look_orders.specs.Laws.{IsMoveReply, IsRunOf, StepsAreRuns, event_at, event_of_step}
 use Rattle.cx_look_orders.specs.Steps.{AreSteps}
 use Rattle.cx_look_orders.specs.declared.steps.Step.{Step}
 use Rattle.cx_look_orders.proofs.ListLemmas.{mapped_item}
@@ -29,6 +29,7 @@ module _ (turned : TurnsKeepToTheirTask) (keyed : KeysKeepToTheirTerminal) (keys
     answer : Reply
     is : event_of_step (names from) keys step ≡ Some what
     order : IsOrder what
+    move : IsMoveReply answer
     applies : Applies from.region what answer to.region
     same : names to ≡ names from
 
@@ -46,6 +47,7 @@ module _ (turned : TurnsKeepToTheirTask) (keyed : KeysKeepToTheirTerminal) (keys
     answer = reply.Turn t.reply;
     is = ap (λ o. option_and_then (λ (n : List ℕ). event_at keys n None) o) (name_there from number name terminal at);
     order = tt;
+    move = t.moves;
     applies = t.takes;
     same = (turned from.region name t.reply to.region t.takes).names;
   }
@@ -55,6 +57,7 @@ module _ (turned : TurnsKeepToTheirTask) (keyed : KeysKeepToTheirTerminal) (keys
     is = ap (λ o. option_and_then (λ (n : List ℕ). event_at keys n (Some before)) o) (name_there from number name terminal at)
         ∙ ap (λ (o : Option KeyLine). option_map (λ (key : KeyLine). event.Key name key.aid key.bytes) o) (ap (λ n. slice_get (keys_of keys name) n) k.0 ∙ k.1.next);
     order = tt;
+    move = tt;
     applies = k.1.comes.takes;
     same = (keyed from.region name _ k.1.comes.reply to.region k.1.comes.takes).names;
   }
@@ -67,12 +70,13 @@ module _ (turned : TurnsKeepToTheirTask) (keyed : KeysKeepToTheirTerminal) (keys
     are = ap (λ e. e ∷ map (event_of_step (names from) keys) steps) one.is
         ∙ ap (λ es. Some one.what ∷ es) (ap (λ ns. map (event_of_step ns keys) steps) (sym one.same) ∙ rest.are);
     orders = (one.order, rest.orders);
+    moves = (one.move, rest.moves);
     run = (between.region, one.applies, rest.run);
   }
 
   runs : (from to : OrdersState) (steps : List Step) → AreSteps keys from steps to → IsRunOf keys from steps to
   unfolding AreSteps Run
-  runs from to [] are = record { events = []; replies = []; are = refl; orders = tt; run = ap (λ (s : OrdersState). s.region) are }
+  runs from to [] are = record { events = []; replies = []; are = refl; orders = tt; moves = tt; run = ap (λ (s : OrdersState). s.region) are }
   runs from to (step ∷ steps) are =
       run_on from are.between to step steps
       (does_by from are.between step.number are.is.name are.is.terminal are.is.came step.key are.is.at are.is.move)

@@ -1,18 +1,19 @@
 -- What follows of the report of every order.
-use Rattle.std.specs.Prelude.{◌≡◌, ℕ, ◌≤◌, if◌then◌else◌, List, Option, Some, None, is_none, map, option_map, replicate, slice_get}
+use Rattle.std.specs.Prelude.{◌≡◌, ℕ, ◌≤◌, true, if◌then◌else◌, List, Option, Some, None, is_none, map, option_map, replicate, slice_get}
 use Rattle.std.specs.Option.{option_and_then, option_map_or}
 use Rattle.std.specs.List.{AllByRecursion, IsDistinct, flat_map}
 use Rattle.std.specs.Map.{keys_of as names_of}
 use Rattle.cx_ebcdic.specs.Names.{is_name}
 use Rattle.cx_search.specs.Forever.{IsLong}
-use Rattle.cx_look_tables.specs.Words.{Lines}
+use Rattle.cx_look_lines.specs.Words.{Lines}
 use Rattle.cx_region.specs.Events.{Run}
 use Rattle.cx_region.specs.State.{RegionState}
 use Rattle.cx_region.specs.declared.replies.Event.{Event}
 use Rattle.cx_region.specs.declared.replies.Event.TheVariants as event
 use Rattle.cx_region.specs.declared.replies.Reply.{Reply}
+use Rattle.cx_region.specs.declared.replies.Reply.TheVariants as reply
 use Rattle.cx_orders.specs.Laws.{IsOrder}
-use Rattle.cx_orders.specs.Moves.{Moves, keys_of}
+use Rattle.cx_orders.specs.Moves.{Moves, is_move, keys_of}
 use Rattle.cx_orders.specs.declared.states.KeyLine.{KeyLine}
 use Rattle.cx_orders.specs.declared.states.OrdersState.{OrdersState}
 use Rattle.cx_look_orders.specs.Outcomes.{AreOutcomes, MayLoop}
@@ -44,12 +45,18 @@ event_at keys name (Some came) =
 abbrev pub event_of_step : List (List ℕ) → List KeyLine → Step → Option Event
 event_of_step names keys step = option_and_then (λ name. event_at keys name step.key) (slice_get names step.number)
 
--- a run of the events that steps are, each a turn or a key
+-- a turn is answered as that of a move
+abbrev pub IsMoveReply : Reply → Type 0
+IsMoveReply (reply.Turn given) = is_move given ≡ true
+IsMoveReply _ = Unit {0}
+
+-- a run of the events that steps are, each a key, or a turn that is a move
 pub record IsRunOf (keys : List KeyLine) (from : OrdersState) (steps : List Step) (to : OrdersState) : Type 0 where
   pub events : List Event
   pub replies : List Reply
   pub are : map (event_of_step (names_of from.region.terminals) keys) steps ≡ map Some events
   pub orders : AllByRecursion IsOrder events
+  pub moves : AllByRecursion IsMoveReply replies
   pub run : Run from.region events replies to.region
 
 -- where steps lead, the run of their turns and keys leads the region, without EDF

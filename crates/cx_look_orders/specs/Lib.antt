@@ -6,5 +6,5 @@ pub mod Script
 pub mod Report
 pub mod Laws
 pub mod Facts
-pub use Rattle.cx_look_tables.specs.Words
+pub use Rattle.cx_look_lines.specs.Words
 pub mod Parts

@@ -4,7 +4,7 @@ use Rattle.cx_search.specs.Forever.{AtRest, CanRest, IsBounded, Loops}
 use Rattle.cx_search.specs.Moves.{IsSooner, Leads}
 use Rattle.cx_search.specs.Rest.{IsNear}
 use Rattle.cx_region.specs.State.{RegionState}
-use Rattle.cx_look_tables.specs.Words.{Lines}
+use Rattle.cx_look_lines.specs.Words.{Lines}
 use Rattle.cx_orders.specs.Moves.{Moves}
 use Rattle.cx_orders.specs.declared.states.KeyLine.{KeyLine}
 use Rattle.cx_orders.specs.declared.states.OrdersState.{OrdersState}
@@ -23,6 +23,14 @@ pub record HasText (outcomes : List Outcome) (text : Lines) : Type 0 where
   pub one : Outcome
   pub at : slice_get outcomes place ≡ Some one
   pub same : one.text ≡ text
+
+-- one of the outcomes has the text that is written of the state
+pub record IsWritten (Shows : RegionState → Lines → Type 0) (keys : List KeyLine) (outcomes : List Outcome)
+    (state : OrdersState) : Type 0 where
+  pub place : ℕ
+  pub one : Outcome
+  pub at : slice_get outcomes place ≡ Some one
+  pub shows : RestText Shows keys state one.text
 
 -- ---- what lists of moves end with
 module _ (Shows : RegionState → Lines → Type 0) (keys : List KeyLine) (start : OrdersState) where
@@ -43,11 +51,13 @@ module _ (Shows : RegionState → Lines → Type 0) (keys : List KeyLine) (start
     pub near : IsNear cut (length one.steps)
     pub soonest : (moves : List ℕ) → EndsWith moves one.text → NoLater (moves_of one.steps) moves
 
-  -- All outcomes of lists of at most so many moves, where they are limited: none is missed, in the order of their
-  -- lists.
+  -- All outcomes of lists of at most so many moves, where they are limited: none is missed, and each state at rest has
+  -- one; in the order of their lists.
   pub record AreOutcomes (cut : Option ℕ) (outcomes : List Outcome) : Type 0 where
     pub each : (place : ℕ) (one : Outcome) → slice_get outcomes place ≡ Some one → IsOutcome cut one
     pub all : (moves : List ℕ) (text : Lines) → EndsWith moves text → IsNear cut (length moves) → HasText outcomes text
+    pub written : (moves : List ℕ) (to : OrdersState) → Leads (Moves keys) start moves to → AtRest (Moves keys) to
+        → IsNear cut (length moves) → IsWritten Shows keys outcomes to
     pub ordered : (j k : ℕ) (one other : Outcome) → j < k → slice_get outcomes j ≡ Some one
         → slice_get outcomes k ≡ Some other
         → IsSooner (moves_of one.steps) (moves_of other.steps)

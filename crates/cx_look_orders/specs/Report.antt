@@ -2,7 +2,7 @@
 use Rattle.std.specs.Prelude.{◌≡◌, ◌⊎◌, ℕ, ◌+◌, ◌≤◌, Bool, if◌then◌else◌, List, [], ◌∷◌, ◌++◌, Option, None, Some, MatchBool, codes, length}
 use Rattle.std.specs.Fmt.{decimal}
 use Rattle.std.specs.Option.{option_map_or}
-use Rattle.cx_look_tables.specs.Words.{Lines, look_line}
+use Rattle.cx_look_lines.specs.Words.{Lines, look_line}
 use Rattle.cx_region.specs.State.{RegionState}
 use Rattle.cx_orders.specs.Moves.{begun}
 use Rattle.cx_orders.specs.declared.states.KeyLine.{KeyLine}
@@ -15,8 +15,10 @@ abbrev pub whole_line : ℕ → ℕ → Lines
 whole_line states outcomes =
     look_line (codes "ORDERS STATES" ∷ decimal states ∷ codes "OUTCOMES" ∷ decimal outcomes ∷ [])
 
-abbrev pub cut_line : ℕ → Lines
-cut_line most = look_line (codes "ORDERS MORE THAN" ∷ decimal most ∷ codes "STATES" ∷ [])
+abbrev pub cut_line : ℕ → ℕ → Lines
+cut_line most moves =
+    look_line
+    (codes "ORDERS MORE THAN" ∷ decimal most ∷ codes "STATES, ALL OF" ∷ decimal moves ∷ codes "MOVES" ∷ [])
 
 unfoldable pub number_line : ℕ → Lines
 number_line number = look_line (codes "OUTCOME" ∷ decimal number ∷ [])
@@ -63,7 +65,7 @@ module _ (Shows : RegionState → Lines → Type 0) (keys : List KeyLine) (regio
     pub cut : IsCutAt keys (begun region) most moves
     pub outcomes : List Outcome
     pub are : AreOutcomes Shows keys (begun region) (Some moves) outcomes
-    pub is : lines ≡ cut_line most ++ outcomes_lines region keys edf 1 outcomes
+    pub is : lines ≡ cut_line most moves ++ outcomes_lines region keys edf 1 outcomes
 
   -- What is written of every order of a region's turns and these keys, where EDF is on at these terminals.
   abbrev pub OrdersText : Lines → Type 0

@@ -8,7 +8,7 @@ use Rattle.std.specs.Option.{option_and_then, option_map_or}
 use Rattle.cx_base.specs.Texts.{shown_name}
 use Rattle.cx_ebcdic.specs.Names.{is_name}
 use Rattle.cx_look_tasks.specs.Tasks.{WaitsText}
-use Rattle.cx_look_tables.specs.Words.{Lines, look_line}
+use Rattle.cx_look_lines.specs.Words.{Lines, look_line}
 use Rattle.cx_orders.specs.Moves.{keys_of}
 use Rattle.cx_orders.specs.declared.states.Incident.{Incident}
 use Rattle.cx_orders.specs.declared.states.Incident.TheVariants as incident

@@ -10,7 +10,7 @@ use crate::rest::rest_text;
 use crate::seen::Seen;
 use crate::steps::{Step, steps_to};
 use cx_base::{List, are_same_items};
-use cx_look_tables::Report;
+use cx_look_lines::Report;
 use cx_look_tasks::laws::texts_decide;
 use cx_orders::Orders;
 use cx_region::Region;

@@ -13,7 +13,7 @@ use crate::seen::Seen;
 use crate::steps::{Step, steps_to};
 use cx_base::List;
 use cx_ebcdic::Name4;
-use cx_look_tables::{Report, decimal};
+use cx_look_lines::{Report, decimal};
 use cx_orders::{KeyLine, Orders};
 use cx_region::Region;
 use cx_region_snapshot::RegionSnapshot;
@@ -36,12 +36,19 @@ fn whole_line(report: &mut Report, states: usize, outcomes: usize) -> Result<(),
     ])
 }
 
-/// Adds the line that says that there are more states.
-fn cut_line(report: &mut Report, most: usize) -> Result<(), AllocError>
-    ensures { OnOk result (report.new ≡ report.old ++ cut_line most) }
+/// Adds the line that says that there are more states, and which lists of moves were tried: all of at most so many.
+fn cut_line(report: &mut Report, most: usize, moves: usize) -> Result<(), AllocError>
+    ensures { OnOk result (report.new ≡ report.old ++ cut_line most moves) }
 {
     let most = decimal(report.alloc(), most)?;
-    report.line(&[b"ORDERS MORE THAN", most.as_slice(), b"STATES"])
+    let moves = decimal(report.alloc(), moves)?;
+    report.line(&[
+        b"ORDERS MORE THAN",
+        most.as_slice(),
+        b"STATES, ALL OF",
+        moves.as_slice(),
+        b"MOVES",
+    ])
 }
 
 /// Adds the line of an outcome's number.
@@ -225,7 +232,7 @@ fn whole_report<S: Store + Drop>(
     Ok(report)
 }
 
-/// The report where more states can be come to.
+/// The report where more states can be come to, of the lists of at most `moves` moves.
 ///
 /// An error comes only where memory was refused.
 fn cut_report<S: Store + Drop>(
@@ -233,14 +240,15 @@ fn cut_report<S: Store + Drop>(
     orders: &Orders<S>,
     edf: &[Name4],
     most: usize,
+    moves: usize,
     outcomes: &[Outcome],
 ) -> Result<Report, AllocError>
     ensures { IfOk result (λ report. report
-        ≡ cut_line most ++ outcomes_lines region.now orders.now.keys.items edf.now 1 outcomes.now) }
+        ≡ cut_line most moves ++ outcomes_lines region.now orders.now.keys.items edf.now 1 outcomes.now) }
 {
     let keys = orders.keys.as_slice();
     let mut report = Report::new(orders.alloc);
-    cut_line(&mut report, most)?;
+    cut_line(&mut report, most, moves)?;
     outcomes_lines(&mut report, region, keys, edf, outcomes)?;
     Ok(report)
 }
@@ -276,5 +284,5 @@ pub fn orders_text<S: Store + Drop, V: Seen<S>>(
         return whole_report(region, orders, edf, &whole);
     };
     let outcomes = outcomes_of(&searched, &mut work, Some(moves))?;
-    cut_report(region, orders, edf, most, outcomes.as_slice())
+    cut_report(region, orders, edf, most, moves, outcomes.as_slice())
 }

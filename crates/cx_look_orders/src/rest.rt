@@ -9,7 +9,7 @@ ghost use Rattle.cx_orders.specs.Moves.{keys_of};
 use crate::seen::Seen;
 use cx_base::shown_name;
 use cx_ebcdic::Name4;
-use cx_look_tables::{Report, decimal};
+use cx_look_lines::{Report, decimal};
 use cx_look_tasks::waits_text;
 use cx_orders::{Incident, IncidentAt, KeyLine, OrdersState};
 use cx_region::Region;

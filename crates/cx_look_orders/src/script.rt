@@ -9,14 +9,14 @@ use crate::rest::terminal_name_at;
 use crate::steps::Step;
 use cx_base::shown_name;
 use cx_ebcdic::Name4;
-use cx_look_tables::{Report, decimal};
+use cx_look_lines::{Report, decimal};
 use cx_orders::{KeyLine, key_of};
 use cx_region::Region;
 use cx_storage::Store;
 use std::alloc::AllocError;
 
 /// Turns in a row of one terminal: its number, from 0, in the order of their definition, and how many there are.
-#[derive(Clone, Copy, Debug)]
+#[derive(Clone, Copy)]
 pub struct Row {
     pub number: usize,
     pub many: usize,

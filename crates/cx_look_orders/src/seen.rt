@@ -1,10 +1,10 @@
 //! What is to be seen of an outcome.
 
 ghost use Rattle.std.specs.Prelude.{◌≡◌, IfOk};
-ghost use Rattle.cx_look_tables.specs.Words.{Lines};
+ghost use Rattle.cx_look_lines.specs.Words.{Lines};
 ghost use Rattle.cx_region.specs.State.{RegionState};
 
-use cx_look_tables::Report;
+use cx_look_lines::Report;
 use cx_region::Region;
 use cx_storage::Store;
 use std::alloc::{AllocError, Global};

@@ -18,7 +18,7 @@ use std::alloc::{AllocError, Global};
 
 /// A move of a terminal: its number, from 0, in the order of their definition, and of a key how many of its keys came
 /// before; None of a turn.
-#[derive(Clone, Copy, Debug)]
+#[derive(Clone, Copy)]
 pub struct Step {
     pub number: usize,
     pub key: Option<usize>,

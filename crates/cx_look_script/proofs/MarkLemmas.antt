@@ -2,7 +2,7 @@
 use Rattle.std.proofs.Common.{◌≡◌, ap, sym, subst, ◌∙◌}
 use Rattle.cx_look.specs.declared.look.Look.{Look}
 use Rattle.cx_look.specs.declared.look.Look.TheVariants as look
-use Rattle.cx_look_tables.specs.Facts.Marked.{marked_is_of_looks}
+use Rattle.cx_look_lines.specs.Facts.Marked.{marked_is_of_looks}
 use Rattle.cx_look_tables.specs.Marked.{IsOfLooks}
 use Rattle.cx_look_tables.specs.Words.{Lines, marked}
 use Rattle.cx_look_ahead.specs.Laws.{AheadDecides}

@@ -23,10 +23,10 @@ unfolding faults_text
 notes_refuse_nothing among listing disassembly source accepted =
     let none : kept_faults source.lines ≡ [] =
     subst (λ (fault : Option PrepareFault). IsAmong fault (kept_faults source.lines)) accepted (among listing disassembly source.lines) in
-    ap (λ (faults : List FaultyLine). fault_lines source faults ++ flat_map (note_line source) (notes_of source.lines faults)) none
+    ap (λ (faults : List FaultyLine). fault_lines source faults (marks_of source.lines faults) ++ flat_map (note_line source) (notes_of source.lines faults)) none
 
 not_none : (source : SourceLines) (fault : PrepareFault) (faults : List FaultyLine) (notes : Lines) → Has fault faults
-    → fault_lines source faults ++ notes ≡ flat_map (mark_line source) (marks_of source.lines faults) ++ notes
+    → fault_lines source faults (marks_of source.lines faults) ++ notes ≡ flat_map (mark_line source) (marks_of source.lines faults) ++ notes
 not_none source fault [] notes h = absurd h
 not_none source fault (f ∷ faults) notes h = refl
 

@@ -40,9 +40,9 @@ mark_line source mark =
     look_line (line_and_column source mark.spot ∷ fault_word mark ∷ with_marks mark.spot text ∷ [])
 
 -- a line for each of some faulty lines, or the words that there is none
-abbrev pub fault_lines : SourceLines → List FaultyLine → Lines
-fault_lines source [] = look_line (codes "FAULTS" ∷ shown_name source.name ∷ codes "NONE" ∷ [])
-fault_lines source (fault ∷ faults) = flat_map (mark_line source) (marks_of source.lines (fault ∷ faults))
+abbrev pub fault_lines : SourceLines → List FaultyLine → List Mark → Lines
+fault_lines source [] marks = look_line (codes "FAULTS" ∷ shown_name source.name ∷ codes "NONE" ∷ [])
+fault_lines source (fault ∷ faults) marks = flat_map (mark_line source) marks
 
 -- a note: the place of what it is about, and what it says
 abbrev pub note_line : SourceLines → Note → Lines
@@ -52,4 +52,5 @@ note_line source note = look_line (line_and_column source note.spot ∷ codes "N
 unfoldable pub faults_text : SourceLines → Lines
 faults_text source =
     let faults = kept_faults source.lines in
-    fault_lines source faults ++ flat_map (note_line source) (notes_of source.lines faults)
+    fault_lines source faults (marks_of source.lines faults)
+    ++ flat_map (note_line source) (notes_of source.lines faults)

@@ -1,13 +1,12 @@
 //! FAULTS: the faulty lines of a source in a script.
 ghost use Rattle.std.specs.Prelude.{◌≡◌, ◌+◌, ◌++◌, IfOk, OnOk, map};
 ghost use Rattle.std.specs.List.{flat_map};
-ghost use Rattle.cx_look_faults.specs.Kept.{kept_faults};
 ghost use Rattle.cx_script_blocks.specs.Shown.{printable_byte};
 ghost use Rattle.cx_look_script.specs.Faults.{mark_line, fault_lines, fault_word, faults_text, note_line, line_and_column, source_text_at, with_marks};
 
 use cx_base::shown_name;
 use cx_look::SourceLines;
-use cx_look_faults::{FaultyLine, Mark, Note, Spot, faults_of, marks_of, notes_of};
+use cx_look_faults::{Findings, Mark, Note, Spot, findings_of};
 use cx_look_tables::{Report, decimal};
 use cx_script_blocks::printable_byte;
 use cx_source::Text;
@@ -105,31 +104,17 @@ fn lines_of_faults(
 }
 
 /// A line for each of some faulty lines, or the words that there is none.
-fn fault_lines(
-    alloc: Global,
-    source: &SourceLines,
-    faults: &[FaultyLine],
-) -> Result<Report, AllocError>
-    ensures { IfOk result (λ report. report ≡ fault_lines source.now faults.now) }
+fn fault_lines(alloc: Global, source: &SourceLines, found: &Findings) -> Result<Report, AllocError>
+    ensures { IfOk result (λ report. report ≡ fault_lines source.now found.now.faults.items found.now.marks.items) }
 {
     let mut report = Report::new(alloc);
-    if faults.is_empty() {
+    if found.faults.is_empty() {
         let name = shown_name(alloc, source.name)?;
         report.line(&[b"FAULTS", &name, b"NONE"])?;
         return Ok(report);
     }
-    let marks = marks_of(alloc, source.lines.as_slice(), faults)?;
-    lines_of_faults(&mut report, source, &marks)?;
+    lines_of_faults(&mut report, source, &found.marks)?;
     Ok(report)
-}
-
-/// The faulty lines of a source, of whose lines the first 10,001 are kept.
-fn kept_faults(alloc: Global, source: &SourceLines) -> Result<Vec<FaultyLine>, AllocError>
-    ensures { IfOk result (λ faults. faults.items ≡ kept_faults source.now.lines) }
-{
-    let mut faults = faults_of(alloc, source.lines.as_slice())?;
-    faults.retain(|fault| fault.line < 10_002);
-    Ok(faults)
 }
 
 /// Adds the line of a note.
@@ -156,9 +141,8 @@ fn note_lines(report: &mut Report, source: &SourceLines, notes: &[Note]) -> Resu
 pub(crate) fn faults_text(alloc: Global, source: &SourceLines) -> Result<Report, AllocError>
     ensures { IfOk result (λ report. report ≡ faults_text source.now) }
 {
-    let faults = kept_faults(alloc, source)?;
-    let notes = notes_of(alloc, source.lines.as_slice(), &faults)?;
-    let mut report = fault_lines(alloc, source, &faults)?;
-    note_lines(&mut report, source, &notes)?;
+    let found = findings_of(alloc, source.lines.as_slice())?;
+    let mut report = fault_lines(alloc, source, &found)?;
+    note_lines(&mut report, source, &found.notes)?;
     Ok(report)
 }

@@ -6,7 +6,7 @@ use Rattle.cx_storage.specs.declared.areas.Area.{Area}
 use Rattle.cx_base.specs.Texts.{shown_name}
 use Rattle.cx_region.specs.State.{RegionState, TerminalState}
 use Rattle.cx_region.specs.Tables.{terminal_of}
-use Rattle.cx_look_tables.specs.Words.{look_line, Lines}
+use Rattle.cx_look_lines.specs.Words.{look_line, Lines}
 use Rattle.cx_look_storage.specs.Uses.{area_line}
 
 -- a line for each of some areas, or the words that there is none

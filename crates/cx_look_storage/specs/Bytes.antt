@@ -8,7 +8,7 @@ use Rattle.cx_base.specs.Texts.{in_columns, join}
 use Rattle.cx_edf_display.specs.Displays.{quarters}
 use Rattle.cx_edf_display.specs.Texts.{character_group, hex_group}
 use Rattle.cx_region.specs.State.{RegionState}
-use Rattle.cx_look_tables.specs.Words.{look_line, Lines}
+use Rattle.cx_look_lines.specs.Words.{look_line, Lines}
 use Rattle.cx_look_storage.specs.Uses.{is_met, met_line}
 
 -- a row of sixteen bytes, or of as many as are left: its address, its bytes in digits, and in characters, as on a

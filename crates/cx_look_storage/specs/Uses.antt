@@ -15,8 +15,8 @@ use Rattle.cx_program.specs.declared.level.Level.{Level}
 use Rattle.cx_program.specs.Levels.{Levels, all_levels}
 use Rattle.cx_region_state.specs.State.{TaskState}
 use Rattle.cx_region.specs.State.{RegionState, TerminalState}
-use Rattle.cx_look_tables.specs.Owners.{terminal_at}
-use Rattle.cx_look_tables.specs.Words.{look_line, Lines}
+use Rattle.cx_region.specs.Looking.{terminal_at}
+use Rattle.cx_look_lines.specs.Words.{look_line, Lines}
 
 -- ---- whose
 -- the region's, or that of a terminal's task

@@ -9,7 +9,7 @@ ghost use Rattle.cx_look_storage.specs.Uses.{area_line};
 use crate::uses::area_line;
 use cx_base::shown_name;
 use cx_ebcdic::Name4;
-use cx_look_tables::Report;
+use cx_look_lines::Report;
 use cx_region::Region;
 use cx_storage::laws::store_is_sound;
 use cx_storage::{Area, Store};

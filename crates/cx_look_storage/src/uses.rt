@@ -7,9 +7,9 @@ ghost use Rattle.cx_look_storage.specs.Uses.{area_line, area_owner, area_use, fi
 use cx_base::{hexadecimal, shown_name};
 use cx_ebcdic::{Name4, Name8};
 use cx_load::Loaded;
-use cx_look_tables::{Report, terminal_at};
+use cx_look_lines::Report;
 use cx_program::LevelStack;
-use cx_region::{Region, Task, Terminal};
+use cx_region::{Region, Task, Terminal, terminal_at};
 use cx_storage::{Area, Kind, Store, address_after};
 use indexmap::IndexMap;
 use std::alloc::{AllocError, Global};

@@ -9,4 +9,4 @@ pub mod Sources
 -- Statements of laws.
 pub mod Laws
 pub mod Parts
-pub use Rattle.cx_look_tables.specs.Words
+pub use Rattle.cx_look_lines.specs.Words

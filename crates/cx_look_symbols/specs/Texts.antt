@@ -13,7 +13,7 @@ use Rattle.cx_asm_expressions.specs.Names.{is_same}
 use Rattle.cx_asm_expressions.specs.declared.values.Value.{Value}
 use Rattle.cx_asm_pass1.specs.Given.{is_in_range}
 use Rattle.cx_asm_pass1.specs.PassState.{is_control}
-use Rattle.cx_look_tables.specs.Words.{look_line, or_none, written_name, Lines}
+use Rattle.cx_look_lines.specs.Words.{look_line, or_none, written_name, Lines}
 use Rattle.cx_look_symbols.specs.Symbols.{SourceSymbols, Rows, named_in}
 use Rattle.cx_look_symbols.specs.declared.rows.Symbol.{Symbol}
 

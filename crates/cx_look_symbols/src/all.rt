@@ -9,7 +9,7 @@ use crate::symbols::names_in;
 use crate::texts::symbol_line;
 use cx_ebcdic::Name8;
 use cx_load::Loaded;
-use cx_look_tables::Report;
+use cx_look_lines::Report;
 use cx_source::Text;
 use indexmap::IndexMap;
 use std::alloc::{AllocError, Global};

@@ -2,7 +2,7 @@
 ghost use Rattle.std.specs.Prelude.{◌≡◌, ◌++◌, IfOk, OnOk, None, Some, codes};
 ghost use Rattle.cx_region.specs.Tables.{program_of};
 ghost use Rattle.cx_look_symbols.specs.Texts.{symbol_among, symbol_found, symbol_text, symbols_text};
-ghost use Rattle.cx_look_tables.specs.Words.{written_name};
+ghost use Rattle.cx_look_lines.specs.Words.{written_name};
 ghost use Rattle.cx_look_symbols.specs.Names.{symbols_named};
 
 use crate::all::symbols_among;
@@ -10,7 +10,7 @@ use crate::symbols::{Names, names_in};
 use crate::texts::symbol_line;
 use cx_ebcdic::Name8;
 use cx_load::Loaded;
-use cx_look_tables::{Report, written_name};
+use cx_look_lines::{Report, written_name};
 use cx_region::Region;
 use cx_source::Text;
 use cx_storage::Store;

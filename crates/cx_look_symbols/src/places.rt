@@ -12,14 +12,14 @@ use indexmap::IndexMap;
 use std::alloc::{AllocError, Global};
 
 /// Where a byte is: in which program, and how many bytes of that come before it.
-#[derive(Clone, Copy, Debug, PartialEq, Eq)]
+#[derive(Clone, Copy)]
 pub struct Spot {
     pub program: Name8,
     pub offset: u32,
 }
 
 /// An address, and where it is, if a program has it.
-#[derive(Clone, Copy, Debug, PartialEq, Eq)]
+#[derive(Clone, Copy)]
 pub struct Place {
     pub address: u32,
     pub spot: Option<Spot>,

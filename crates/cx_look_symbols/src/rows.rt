@@ -24,7 +24,7 @@ const AIDS: [&str; 16] = [
 ];
 
 /// What a name of a source is: its value, and where it is defined.
-#[derive(Clone, Copy, Debug, PartialEq, Eq)]
+#[derive(Clone, Copy)]
 pub struct Symbol {
     /// Its value, as the assembler has it.
     pub value: Value,

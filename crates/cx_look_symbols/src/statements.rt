@@ -18,7 +18,7 @@ use cx_source::{Source, Text};
 use std::alloc::{AllocError, Global};
 
 /// Where a statement's bytes are in the control section, and the line that it is on.
-#[derive(Clone, Copy, Debug, PartialEq, Eq)]
+#[derive(Clone, Copy)]
 pub struct StatementPlace {
     /// The offset of its first byte in the control section, in bytes.
     pub start: u128,

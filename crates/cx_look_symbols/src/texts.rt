@@ -9,7 +9,7 @@ use cx_asm_expressions::Value;
 use cx_base::hexadecimal;
 use cx_ebcdic::Name8;
 use cx_load::Loaded;
-use cx_look_tables::{Report, decimal, written_name};
+use cx_look_lines::{Report, decimal, written_name};
 use std::alloc::{AllocError, Global};
 
 /// A value in hexadecimal digits.

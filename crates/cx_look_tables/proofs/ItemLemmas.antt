@@ -9,7 +9,7 @@ use Rattle.cx_base.specs.Facts.Tables.{found_meets}
 use Rattle.cx_ebcdic.specs.Names.{is_name}
 use Rattle.cx_service.specs.Queues.{Queue, Queues, item_numbered, queue_of, is_item_length, IsSoundQueue, AreSoundQueues}
 use Rattle.cx_look_tables.specs.Queues.{item_line, items_text}
-use Rattle.cx_look_tables.specs.Words.{Lines}
+use Rattle.cx_look_lines.specs.Words.{Lines}
 
 item_there : (n i : ℕ) (items : List (List ℕ)) → i < length items → unwrap_or (option_map (item_line n) (slice_get items i)) [] ++ items_text (n + 1) (drop (suc i) items) ≡ items_text n (drop i items)
 item_there n i [] h = absurd (omega (arith, h))

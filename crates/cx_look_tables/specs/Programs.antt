@@ -6,7 +6,7 @@ use Rattle.cx_ebcdic.specs.Names.{is_name}
 use Rattle.cx_base.specs.Digits.{digits}
 use Rattle.cx_base.specs.Texts.{shown_name}
 use Rattle.cx_load.specs.declared.program.Loaded.{Loaded}
-use Rattle.cx_look_tables.specs.Words.{look_line, none_line, Lines}
+use Rattle.cx_look_lines.specs.Words.{look_line, none_line, Lines}
 
 -- a transaction after a blank, where it begins with the program
 abbrev pub transaction_word : List ℕ → List ℕ × List ℕ → List ℕ

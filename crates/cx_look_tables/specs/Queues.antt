@@ -5,7 +5,7 @@ use Rattle.std.specs.List.{flat_map}
 use Rattle.cx_base.specs.Digits.{digits, hex_digits}
 use Rattle.cx_base.specs.Texts.{in_columns, join, shown_text}
 use Rattle.cx_service.specs.Queues.{Queue, Queues, item_of, queue_of, size_of}
-use Rattle.cx_look_tables.specs.Words.{in_apostrophes, look_line, none_line, written_name, Lines}
+use Rattle.cx_look_lines.specs.Words.{in_apostrophes, look_line, none_line, written_name, Lines}
 
 -- ---- all queues
 -- a queue: its name, its items, their bytes together, the number of the item last read

@@ -16,7 +16,7 @@ use Rattle.cx_edf.specs.Stops.{names}
 use Rattle.cx_edf.specs.declared.modes.Mode.{Mode}
 use Rattle.cx_edf.specs.declared.modes.Mode.TheVariants as mode
 use Rattle.cx_edf.specs.declared.stop_words.Stops.{Stops}
-use Rattle.cx_look_tables.specs.Words.{look_line, none_line, written_bytes, written_name, Lines}
+use Rattle.cx_look_lines.specs.Words.{look_line, none_line, written_bytes, written_name, Lines}
 
 -- the time and the date that tasks attached later find
 unfoldable pub clock_line : ℕ → ℕ → Lines

@@ -3,8 +3,9 @@ ghost use Rattle.std.specs.Prelude.{◌≡◌, IfOk};
 ghost use Rattle.cx_look_tables.specs.Programs.{programs_text};
 ghost use Rattle.cx_look_tables.specs.Queues.{item_text, queue_text, queues_text};
 
-use crate::{Report, programs, queues};
+use crate::{programs, queues};
 use cx_ebcdic::Name8;
+use cx_look_lines::Report;
 use cx_region::Region;
 use cx_storage::Store;
 use std::alloc::{AllocError, Global};

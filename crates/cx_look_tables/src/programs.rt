@@ -3,10 +3,10 @@ ghost use Rattle.std.specs.Prelude.{◌≡◌, ◌++◌, IfOk, OnOk};
 ghost use Rattle.std.specs.List.{flat_map};
 ghost use Rattle.cx_look_tables.specs.Programs.{transaction_word, program_line, programs_text, transactions_of};
 
-use crate::Report;
 use cx_base::{hexadecimal, shown_name};
 use cx_ebcdic::{Name4, Name8};
 use cx_load::Loaded;
+use cx_look_lines::Report;
 use indexmap::IndexMap;
 use std::alloc::{AllocError, Global};
 

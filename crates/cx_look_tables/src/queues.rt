@@ -5,12 +5,12 @@ ghost use Rattle.std.specs.List.{flat_map};
 ghost use Rattle.std.specs.Option.{option_copied, option_map};
 ghost use Rattle.cx_service.specs.Queues.{AreSoundQueues, item_of, item_numbered, size_of};
 ghost use Rattle.cx_look_tables.specs.Queues.{item_found, item_line, items_text, item_text, queue_found, queue_line, queue_text, queues_text, rows_text};
-ghost use Rattle.cx_look_tables.specs.Words.{look_line};
+ghost use Rattle.cx_look_lines.specs.Words.{look_line};
 
 use crate::rows::{first_bytes, rows_text};
-use crate::{Report, decimal, in_apostrophes, written_name};
 use cx_base::shown;
 use cx_ebcdic::Name8;
+use cx_look_lines::{Report, decimal, in_apostrophes, written_name};
 use cx_service::{Queue, Queues};
 use indexmap::IndexMap;
 use std::alloc::AllocError;

@@ -3,8 +3,8 @@ ghost use Rattle.std.specs.Prelude.{◌≡◌, ◌*◌, ◌<◌, ◌≤◌, ◌^
 ghost use Rattle.cx_base.specs.Digits.{hex_digits};
 ghost use Rattle.cx_look_tables.specs.Queues.{hex_column, row_line, row_line_at, rows_text};
 
-use crate::{Report, in_apostrophes, spelled};
 use cx_base::{hexadecimal, in_columns, shown};
+use cx_look_lines::{Report, in_apostrophes, spelled};
 use std::alloc::{AllocError, Global};
 
 /// The bytes of a row.

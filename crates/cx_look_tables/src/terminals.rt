@@ -6,10 +6,10 @@ ghost use Rattle.cx_edf.specs.State.{EdfState};
 ghost use Rattle.cx_look_tables.specs.Terminals.{length_and_bytes, clock_line, commarea_word, stop_condition_word, edf_word, held_word, mode_name, next_word, stops_word, terminal_line, terminal_lines, terminals_text};
 
 use crate::rows::first_bytes;
-use crate::{Report, decimal, push_word, written_bytes, written_name};
 use cx_base::{Condition, shown_name};
 use cx_ebcdic::Name4;
 use cx_edf::{Debugged, Mode, Session, Stops};
+use cx_look_lines::{Report, decimal, push_word, written_bytes, written_name};
 use cx_region::{Region, Terminal};
 use cx_region_state::{Input, NextTransaction};
 use cx_storage::Store;

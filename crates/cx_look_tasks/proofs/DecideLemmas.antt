@@ -2,7 +2,7 @@
 use Rattle.std.proofs.Common.{◌≡◌, ℕ, List, [], ◌∷◌, codes, refl, sym, ap, ◌∙◌}
 use Rattle.std.specs.List.{flat_map}
 use Rattle.cx_region.specs.State.{RegionState, TerminalState}
-use Rattle.cx_look_tables.specs.Words.{or_none}
+use Rattle.cx_look_lines.specs.Words.{or_none}
 use Rattle.cx_look_tasks.specs.Activities.{AreActivities}
 use Rattle.cx_look_tasks.specs.Laws.{ActivitiesDecide, ResourcesTextsDecide, TasksTextsDecide, WaitsTextsDecide}
 use Rattle.cx_look_tasks.specs.Tasks.{of_each, resource_lines, task_line, waiting_line}

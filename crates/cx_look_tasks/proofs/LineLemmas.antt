@@ -6,7 +6,7 @@ use Rattle.cx_base.specs.declared.options.CommandOption.{CommandOption}
 use Rattle.cx_storage.specs.Storage.{Storage}
 use Rattle.cx_region_state.specs.Call.{Call}
 use Rattle.cx_look_tasks.specs.Commands.{input_line, input_lines, is_input, option_word, option_words}
-use Rattle.cx_look_tables.specs.Words.{with_blanks}
+use Rattle.cx_look_lines.specs.Words.{with_blanks}
 
 -- what is written of a list, an item at a time
 pub each_step : {A B : Type 0} (f : List A → List B) → ((x : A) (xs : List A) → f (x ∷ xs) ≡ f (x ∷ []) ++ f xs)

@@ -2,7 +2,7 @@
 use Rattle.std.proofs.Common.{◌≡◌, ℕ, zero, suc, ◌+◌, ◌<◌, ◌≤◌, List, [], ◌∷◌, ◌++◌, length, take, drop, slice_get, Some, refl, sym, ap, ◌∙◌, arith, append_assoc, append-nil}
 use Rattle.std.specs.List.{flat_map}
 use Rattle.cx_region.specs.State.{RegionState, TerminalState}
-use Rattle.cx_look_tables.specs.Words.{Lines}
+use Rattle.cx_look_lines.specs.Words.{Lines}
 use Rattle.cx_look_tasks.specs.Activities.{AreActivities, IsActivity}
 use Rattle.cx_look_tasks.specs.Parts.Words.{of_one}
 use Rattle.cx_look_tasks.specs.Tasks.{of_each}

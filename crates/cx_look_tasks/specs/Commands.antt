@@ -18,7 +18,7 @@ use Rattle.cx_region_state.specs.Inputs.{bytes_of, halfword_of}
 use Rattle.cx_region_state.specs.Listed.{listed_of}
 use Rattle.cx_region_state.specs.declared.listed.Listed.{Listed}
 use Rattle.cx_base.specs.Digits.{digits}
-use Rattle.cx_look_tables.specs.Words.{look_line, written_bytes, written_name, Lines}
+use Rattle.cx_look_lines.specs.Words.{look_line, written_bytes, written_name, Lines}
 
 -- ---- values, with hyphens where the bytes aren't in storage
 abbrev pub name_value : Option (List ℕ) → List ℕ

@@ -5,7 +5,7 @@ use Rattle.cx_region_task.specs.Laws.Decisions.{is_wait_reply}
 use Rattle.cx_region.specs.State.{RegionState, TerminalState}
 use Rattle.cx_region.specs.Tables.{terminal_of}
 use Rattle.cx_region.specs.Turn.{TakesTurn}
-use Rattle.cx_look_tables.specs.Words.{Lines}
+use Rattle.cx_look_lines.specs.Words.{Lines}
 use Rattle.cx_look_tasks.specs.Activities.{IsActivity, is_waiting}
 use Rattle.cx_look_tasks.specs.Tasks.{ResourcesText, TasksText, WaitsText}
 use Rattle.cx_look_tasks.specs.declared.activities.Activity.{Activity}
@@ -22,16 +22,17 @@ abbrev pub ActivitiesDecide : Type 0
 ActivitiesDecide = (region : RegionState) (terminal : TerminalState) (one other : Activity)
     → IsActivity region terminal one → IsActivity region terminal other → one ≡ other
 
--- so are the texts of TASKS and of RESOURCES, each as a whole
+-- the text of TASKS is determined as a whole
 abbrev pub TasksTextsDecide : Type 0
 TasksTextsDecide = (region : RegionState) (one other : Lines)
     → TasksText region one → TasksText region other → one ≡ other
 
+-- the text of RESOURCES is determined as a whole
 abbrev pub ResourcesTextsDecide : Type 0
 ResourcesTextsDecide = (region : RegionState) (one other : Lines)
     → ResourcesText region one → ResourcesText region other → one ≡ other
 
--- and what is written of the tasks that wait
+-- what is written of the tasks that wait is determined as a whole
 abbrev pub WaitsTextsDecide : Type 0
 WaitsTextsDecide = (region : RegionState) (one other : Lines)
     → WaitsText region one → WaitsText region other → one ≡ other

@@ -9,7 +9,7 @@ use Rattle.cx_region_task.specs.Performing.{argument_list}
 use Rattle.cx_region.specs.State.{RegionState}
 use Rattle.cx_region.specs.Tables.{task_of}
 use Rattle.cx_base.specs.Texts.{shown_name}
-use Rattle.cx_look_tables.specs.Words.{look_line, Lines}
+use Rattle.cx_look_lines.specs.Words.{look_line, Lines}
 use Rattle.cx_look_tasks.specs.Commands.{call_text}
 
 -- a terminal, and one word of it

@@ -12,8 +12,8 @@ use Rattle.cx_region_state.specs.State.{TaskState}
 use Rattle.cx_region.specs.State.{RegionState, TerminalState}
 use Rattle.cx_base.specs.Digits.{digits}
 use Rattle.cx_base.specs.Texts.{shown_name}
-use Rattle.cx_look_tables.specs.Owners.{terminal_at}
-use Rattle.cx_look_tables.specs.Words.{look_line, or_none, written_bytes, written_name, Lines}
+use Rattle.cx_region.specs.Looking.{terminal_at}
+use Rattle.cx_look_lines.specs.Words.{look_line, or_none, written_bytes, written_name, Lines}
 use Rattle.cx_look_tasks.specs.Activities.{AreActivities, is_waiting}
 use Rattle.cx_look_tasks.specs.declared.activities.Activity.{Activity}
 use Rattle.cx_look_tasks.specs.declared.activities.Activity.TheVariants.{Due, NoTask, Running, Waiting}

@@ -4,7 +4,7 @@ use cx_base::Command;
 pub use cx_region_task::Wait;
 
 /// What the task of a terminal is doing, by what its next turn would do.
-#[derive(Clone, Copy, Debug)]
+#[derive(Clone, Copy)]
 pub enum Activity {
     /// The terminal has no task.
     NoTask,

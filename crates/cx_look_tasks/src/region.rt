@@ -7,7 +7,7 @@ ghost use Rattle.cx_look_tasks.specs.Looks.{command_text, due_text, command_look
 use crate::words::call_text;
 use cx_base::shown_name;
 use cx_ebcdic::Name4;
-use cx_look_tables::Report;
+use cx_look_lines::Report;
 use cx_region::Region;
 use cx_region_state::{Task, read_call};
 use cx_storage::{Store, address_in};

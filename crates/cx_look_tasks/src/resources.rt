@@ -10,7 +10,7 @@ use crate::activities::{Activity, Wait};
 use crate::tasks::{activities_in, owner_name, resource_value};
 use cx_base::{decimal, shown_name};
 use cx_ebcdic::Name4;
-use cx_look_tables::Report;
+use cx_look_lines::Report;
 use cx_region::Region;
 use cx_service::{Hold, ResourceName};
 use cx_storage::Store;

@@ -7,14 +7,14 @@ ghost use Rattle.cx_region.specs.State.{TerminalState};
 ghost use Rattle.cx_look_tasks.specs.Activities.{AreActivities, IsActivity};
 ghost use Rattle.cx_look_tasks.specs.Tasks.{TasksText, activity_words, command_word, of_each, owner_name, owner_of, owner_word, queue_word, resource_value, resource_word, task_line, task_words, wait_words};
 ghost use Rattle.cx_look_tasks.specs.Parts.Words.{of_one};
-ghost use Rattle.cx_look_tables.specs.Words.{with_blanks};
+ghost use Rattle.cx_look_lines.specs.Words.{with_blanks};
 
 use crate::activities::{Activity, Wait};
 use crate::judging::activity;
 use cx_base::{Command, decimal, hexadecimal, shown_name};
 use cx_ebcdic::{Name4, Name8};
-use cx_look_tables::{Report, push_words, terminal_at, written_bytes, written_name};
-use cx_region::{Region, Terminal};
+use cx_look_lines::{Report, push_words, written_bytes, written_name};
+use cx_region::{Region, Terminal, terminal_at};
 use cx_region_state::Task;
 use cx_service::{Hold, ResourceName};
 use cx_storage::Store;
@@ -148,7 +148,7 @@ fn push_wait<S: Store + Drop>(
 }
 
 /// Adds what a task is doing.
-#[tactic(auto, using(cx_look_tables::specs::Facts::Spaced::spaced_first))]
+#[tactic(auto, using(cx_look_lines::specs::Facts::Spaced::spaced_first))]
 pub(crate) fn push_activity<S: Store + Drop>(
     text: &mut Vec<u8>,
     alloc: Global,
@@ -185,7 +185,7 @@ fn push_task(text: &mut Vec<u8>, alloc: Global, task: Option<&Task>) -> Result<(
 }
 
 /// Adds the line of a terminal.
-#[tactic(auto, unfolding(crate::specs::Tasks::task_line), using(cx_look_tables::specs::Facts::Spaced::spaced_both))]
+#[tactic(auto, unfolding(crate::specs::Tasks::task_line), using(cx_look_lines::specs::Facts::Spaced::spaced_both))]
 fn task_line<S: Store + Drop>(
     report: &mut Report,
     region: &Region<S>,

@@ -6,13 +6,13 @@ ghost use Rattle.cx_region.specs.Sound.{IsSound};
 ghost use Rattle.cx_look_tasks.specs.Activities.{is_waiting};
 ghost use Rattle.cx_look_tasks.specs.Parts.Words.{of_one};
 ghost use Rattle.cx_look_tasks.specs.Tasks.{WaitsText, of_each, waiting_line, waiting_words};
-ghost use Rattle.cx_look_tables.specs.Words.{with_blanks};
+ghost use Rattle.cx_look_lines.specs.Words.{with_blanks};
 
 use crate::activities::Activity;
 use crate::tasks::{activities_in, push_activity};
 use cx_base::{decimal, shown_name};
 use cx_ebcdic::Name4;
-use cx_look_tables::{Report, push_words};
+use cx_look_lines::{Report, push_words};
 use cx_region::{Region, Terminal};
 use cx_region_state::Task;
 use cx_storage::Store;
@@ -38,7 +38,7 @@ fn push_waiting(text: &mut Vec<u8>, alloc: Global, task: Option<&Task>) -> Resul
 }
 
 /// Adds the line of a terminal, where its task waits.
-#[tactic(auto, unfolding(crate::specs::Tasks::waiting_line), using(cx_look_tables::specs::Facts::Spaced::spaced_both))]
+#[tactic(auto, unfolding(crate::specs::Tasks::waiting_line), using(cx_look_lines::specs::Facts::Spaced::spaced_both))]
 fn waiting_line<S: Store + Drop>(
     report: &mut Report,
     region: &Region<S>,

@@ -6,10 +6,10 @@ ghost use Rattle.cx_base.specs.Arguments.{has_option};
 ghost use Rattle.cx_region_state.specs.Call.{place_of};
 ghost use Rattle.cx_region_state.specs.Inputs.{bytes_of, halfword_of};
 ghost use Rattle.cx_look_tasks.specs.Commands.{address_value, bytes_value, call_text, command_line, condition_word, count_read, halfword_value, input_line, input_lines, is_data, is_input, kind_read, labelled_word, name_value, nohandle_words, option_value, option_word, option_words, reads_halfword, resp_words, value_by, with_value};
-ghost use Rattle.cx_look_tables.specs.Words.{with_blanks};
+ghost use Rattle.cx_look_lines.specs.Words.{with_blanks};
 
 use cx_base::{ArgumentKind, Command, CommandOption, OptionName, has_bit, hexadecimal};
-use cx_look_tables::{Report, push_word, written_bytes, written_name};
+use cx_look_lines::{Report, push_word, written_bytes, written_name};
 use cx_region_state::{Call, Listed, halfword, read_argument};
 use cx_storage::Store;
 use std::alloc::{AllocError, Global};
@@ -198,7 +198,7 @@ fn push_resp(text: &mut Vec<u8>, alloc: Global, call: &Call) -> Result<(), Alloc
 }
 
 /// Adds the command's line.
-#[tactic(auto, unfolding(crate::specs::Commands::command_line), using(cx_look_tables::specs::Facts::Spaced::spaced_both))]
+#[tactic(auto, unfolding(crate::specs::Commands::command_line), using(cx_look_lines::specs::Facts::Spaced::spaced_both))]
 fn command_line<S: Store>(report: &mut Report, store: &S, call: &Call) -> Result<(), AllocError>
     ensures { OnOk result (report.new ≡ report.old ++ command_line (S.storage store.now) call.now) }
 {

@@ -11,7 +11,7 @@ use Rattle.cx_asm_pass1.specs.PassState.{parts_in}
 use Rattle.cx_asm_pass2.specs.Statements.{PlacedStatement, operation_of, statements_of}
 use Rattle.cx_asm_pass2.specs.Whole.{Whole, whole_of}
 use Rattle.cx_asm.specs.Assembly.{AssemblyParts, assembly_of, last_line}
-use Rattle.cx_look_tables.specs.Words.{look_line, or_none, with_blanks, written_name, Lines}
+use Rattle.cx_look_lines.specs.Words.{look_line, or_none, with_blanks, written_name, Lines}
 use Rattle.cx_look_symbols.specs.Symbols.{SourceSymbols, named_of, translated_in}
 use Rattle.cx_look_symbols.specs.Texts.{in_order}
 use Rattle.cx_look_symbols.specs.declared.rows.Symbol.{Symbol}

@@ -14,8 +14,8 @@ use crate::usings::using_lines;
 use cx_asm::{AsmFault, assemble};
 use cx_asm_pass1::{Places, place_all};
 use cx_asm_pass2::{placed_lines, stated};
+use cx_look_lines::Report;
 use cx_look_symbols::{in_order, names_of_places, translated_in};
-use cx_look_tables::Report;
 use cx_source::{Source, Text};
 use std::alloc::{AllocError, Global};
 

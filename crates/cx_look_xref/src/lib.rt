@@ -1,4 +1,5 @@
-//! The cross-reference of a program's source.
+//! The cross-reference of a program's source: the lines that use its names and literals, and those in which its base
+//! registers are in use.
 #![tactic(auto)]
 
 mod all;

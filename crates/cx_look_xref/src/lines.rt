@@ -1,10 +1,10 @@
 //! The numbers of the lines that use something.
 ghost use Rattle.std.specs.Prelude.{◌≡◌, ◌==◌, ◌++◌, IfOk, OnOk, map};
 ghost use Rattle.std.specs.List.{list_any};
-ghost use Rattle.cx_look_tables.specs.Words.{with_blanks};
+ghost use Rattle.cx_look_lines.specs.Words.{with_blanks};
 ghost use Rattle.cx_look_xref.specs.Texts.{use_line_word, used_word};
 
-use cx_look_tables::{decimal, push_word};
+use cx_look_lines::{decimal, push_word};
 use std::alloc::{AllocError, Global};
 
 /// Whether a line is among others.

@@ -15,14 +15,14 @@ use cx_asm_pass1::Role;
 use cx_asm_pass2::Statement;
 use cx_asm_pools::{Literal, Pool, literal_text};
 use cx_base::hexadecimal;
-use cx_look_tables::{Report, spelled};
+use cx_look_lines::{Report, spelled};
 use cx_source::{Delimiter, cut};
 use indexmap::IndexMap;
 use std::alloc::{AllocError, Global};
 use std::collections::BTreeSet;
 
 /// A literal by the number of its pool, from 0, and its text.
-#[derive(Clone, Copy, Debug, PartialEq, Eq, Hash)]
+#[derive(Clone, Copy, PartialEq, Eq, Hash)]
 pub(crate) struct PoolText<'a> {
     /// The pool's number.
     pub(crate) pool: usize,

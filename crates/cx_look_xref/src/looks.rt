@@ -1,11 +1,11 @@
 //! A look at the cross-reference of a program's source.
 ghost use Rattle.std.specs.Prelude.{◌≡◌, ◌++◌, IfOk, codes};
-ghost use Rattle.cx_look_tables.specs.Words.{written_name};
+ghost use Rattle.cx_look_lines.specs.Words.{written_name};
 ghost use Rattle.cx_look_xref.specs.Texts.{xref_text};
 
 use crate::all::xref_among;
 use cx_ebcdic::Name8;
-use cx_look_tables::{Report, written_name};
+use cx_look_lines::{Report, written_name};
 use cx_source::Text;
 use std::alloc::{AllocError, Global};
 

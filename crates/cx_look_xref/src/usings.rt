@@ -14,7 +14,7 @@ use cx_asm_expressions::{TermFault, Value, value_of};
 use cx_asm_operations::{Directive, Operation};
 use cx_asm_pass1::Places;
 use cx_asm_pass2::{Statement, counter_of};
-use cx_look_tables::{Report, decimal};
+use cx_look_lines::{Report, decimal};
 use cx_source::{Delimiter, cut};
 use std::alloc::{AllocError, Global};
 

@@ -23,7 +23,7 @@ pub struct KeyLine {
 }
 
 /// What no later state of the region shows, and what therefore is kept of the turns and keys that led to a state.
-#[derive(Clone, Copy, Debug)]
+#[derive(Clone, Copy)]
 pub enum Incident {
     /// The terminal's task ended by an abend of that code.
     Abended(Name4),
@@ -32,7 +32,7 @@ pub enum Incident {
 }
 
 /// What was kept of a terminal.
-#[derive(Clone, Copy, Debug)]
+#[derive(Clone, Copy)]
 pub struct IncidentAt {
     /// The terminal's number in the order of their definition, counted from 0.
     pub number: usize,

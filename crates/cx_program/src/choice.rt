@@ -5,7 +5,7 @@ use cx_ebcdic::Name4;
 /// What is done for a condition that a command met.
 ///
 /// Application Programmer's Reference Manual, SC33-0077, "Exceptional conditions".
-#[derive(Clone, Copy, Debug, PartialEq, Eq)]
+#[derive(Clone, Copy, PartialEq, Eq)]
 pub enum Choice {
     /// The instruction at this address takes control.
     Label(u32),

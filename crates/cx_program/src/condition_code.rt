@@ -6,7 +6,7 @@ use std::marker::Model;
 /// A condition code of the machine: 0 to 3.
 ///
 /// System/370 Principles of Operation, GA22-7000, "Program-Status Word". Contracts see it as the number.
-#[derive(Clone, Copy, Debug, PartialEq, Eq)]
+#[derive(Clone, Copy)]
 pub struct ConditionCode {
     code: u8,
 }

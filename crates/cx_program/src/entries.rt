@@ -7,7 +7,7 @@ use cx_base::{CONDITIONS, Condition};
 /// What is to be done where a command meets a condition.
 ///
 /// Application Programmer's Reference Manual, SC33-0077, HANDLE CONDITION and IGNORE CONDITION.
-#[derive(Clone, Copy, Debug, PartialEq, Eq, Default)]
+#[derive(Clone, Copy, PartialEq, Eq, Default)]
 pub enum Handler {
     /// The program has asked for nothing, or has put the condition back.
     #[default]
@@ -21,7 +21,7 @@ pub enum Handler {
 /// The exit that takes an abend.
 ///
 /// Application Programmer's Reference Manual, SC33-0077, HANDLE ABEND.
-#[derive(Clone, Copy, Debug, PartialEq, Eq, Default)]
+#[derive(Clone, Copy, PartialEq, Eq, Default)]
 pub enum Exit {
     /// None was set.
     #[default]
@@ -66,7 +66,7 @@ impl Exit {
 
 /// The entry of each condition, at the condition's place (`Condition::place`). NORMAL's is the first; no choice is made
 /// for NORMAL, so nothing asks for it.
-#[derive(Clone, Copy, Debug, PartialEq, Eq)]
+#[derive(Clone, Copy)]
 pub struct Entries {
     /// The entries in the order of the conditions' numbers.
     pub of: [Handler; CONDITIONS],
@@ -104,7 +104,7 @@ impl Entries {
 }
 
 /// All that a level's program has asked for: what PUSH HANDLE keeps and POP HANDLE puts back.
-#[derive(Clone, Copy, Debug, PartialEq, Eq, Default)]
+#[derive(Clone, Copy, Default)]
 pub struct Handling {
     /// The entries for conditions.
     pub entries: Entries,

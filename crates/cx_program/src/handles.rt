@@ -21,7 +21,7 @@ pub(crate) const PUSHES: usize = 16;
 /// the last kept first.
 ///
 /// Application Programmer's Reference Manual, SC33-0077, "Exceptional conditions" and "Abnormal Termination Recovery".
-#[derive(Debug, Drop)]
+#[derive(Drop)]
 pub struct HandleTable {
     pub(crate) active: Handling,
     pub(crate) kept: ArrayVec<Handling, PUSHES>,

@@ -5,7 +5,7 @@ use cx_ebcdic::Name8;
 
 /// A program level of a task: the program of its transaction, one that LINK began, or one that XCTL put in place of
 /// such a one.
-#[derive(Debug, Drop)]
+#[derive(Drop)]
 pub struct Level {
     /// The program's name.
     pub program: Name8,

@@ -19,7 +19,7 @@ pub(crate) const CALLERS: usize = 15;
 ///
 /// No call takes memory. Contracts see it as `Levels`: the callers (`callers`), the nearest first, and the
 /// current level (`current`).
-#[derive(Debug, Drop)]
+#[derive(Drop)]
 pub struct LevelStack {
     pub(crate) callers: ArrayVec<Level, CALLERS>,
     pub(crate) current: Level,

@@ -1,6 +1,8 @@
 -- What can be seen of a region (this product's own).
-use Rattle.std.specs.Prelude.{◌≡◌, suc, length}
+use Rattle.std.specs.Prelude.{◌≡◌, ℕ, ◌==◌, suc, Option, List, length}
+use Rattle.std.specs.List.{find}
 use Rattle.cx_region_state.specs.State.{TaskState}
+use Rattle.cx_region.specs.State.{TerminalState}
 use Rattle.cx_region.specs.declared.replies.TaskInfo.{TaskInfo}
 
 -- what is shown of a task is what it is
@@ -16,3 +18,7 @@ pub record Shows (task : TaskState) (info : TaskInfo) : Type 0 where
   pub cc : info.cpu.cc ≡ task.cc
   pub next : info.cpu.next ≡ task.next
   pub due : info.due ≡ task.due
+
+-- the terminal at a position, with its name: that of a task's areas and resources
+abbrev pub terminal_at : List (List ℕ × TerminalState) → ℕ → Option (List ℕ × TerminalState)
+terminal_at terminals slot = find (λ terminal. terminal.1.entry.slot == slot) terminals

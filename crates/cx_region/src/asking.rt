@@ -4,7 +4,7 @@ use cx_ebcdic::{Name4, Name8};
 use cx_load::Loaded;
 
 /// What is known of a task before it has areas, a number and levels.
-#[derive(Clone, Copy, Debug, PartialEq, Eq)]
+#[derive(Clone, Copy)]
 pub struct Start {
     /// The position of its terminal, counted from 1.
     pub slot: u8,
@@ -19,7 +19,7 @@ pub struct Start {
 }
 
 /// What a key asks for.
-#[derive(Clone, Copy, Debug, PartialEq, Eq)]
+#[derive(Clone, Copy)]
 pub enum KeyEffect {
     /// This answer, with no change.
     Answer(KeyReply),

@@ -577,9 +577,10 @@ impl<S: Store + Drop> Region<S> {
     /// dropped.
     ///
     /// Without a task, the terminal's next transaction, or that of the bytes before the first blank, at most four, is
-    /// attached: Attached; or NoSuchTransaction where it isn't defined, or NoStorage where its areas have no place.
-    /// With a task the input is held for it: Given; or AlreadyHeldInput. NoSuchTerminal where there is no such
-    /// terminal. All answers but Attached and Given leave all as before.
+    /// attached: Attached; or NoSuchTransaction where it isn't defined, or NoStorage where its areas have no place. The
+    /// task begins with its areas at their least places, its EIB and its DFHEISTG, the registers of an entry, the next
+    /// number and the input. With a task the input is held for it: Given; or AlreadyHeldInput. NoSuchTerminal where
+    /// there is no such terminal. All answers but Attached and Given leave all as before.
     ///
     /// An error comes only where an allocation failed, and only where Attached or Given is due. Then all is as before.
     #[tactic(auto, using(crate::proofs::KeyLemmas::keyed_answer, crate::proofs::EventLemmas::key_memory), unfolding(crate::specs::Attach::input_from))]

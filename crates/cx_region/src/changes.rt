@@ -3,7 +3,7 @@ ghost use Rattle.std.specs.Prelude.{◌≡◌};
 ghost use Rattle.cx_region.specs.Replies.{alter_reply_name};
 
 /// What an operator alters of a terminal's task.
-#[derive(Clone, Copy, Debug, PartialEq, Eq)]
+#[derive(Clone, Copy)]
 pub enum Change {
     /// A register, 0 to 15, gets this value; where a command is due, the one that the current level keeps gets it too.
     Register(u8, u32),
@@ -17,7 +17,7 @@ pub enum Change {
 
 /// What an alteration is answered. Where several refusals apply, the first of this order is answered. Every answer but
 /// Altered leaves the region as it was.
-#[derive(Clone, Copy, Debug, PartialEq, Eq)]
+#[derive(Clone, Copy, PartialEq, Eq)]
 pub enum AlterReply {
     /// It is done.
     Altered,

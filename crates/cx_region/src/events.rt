@@ -14,7 +14,7 @@ impl<S: Store + Drop> Region<S> {
     /// 1,920 bytes of a key, a register as for `alter`. A refusal of the call is its reply.
     ///
     /// An error comes only where an allocation failed, no refusal is due, and the event may take memory. Then all is as
-    /// before.
+    /// before. A clock and an alteration never take any.
     #[tactic(auto, using(crate::proofs::EventLemmas::transaction_memory, crate::proofs::EventLemmas::terminal_memory), unfolding(crate::specs::Events::Applies, crate::specs::Defining::DefinesTransaction, crate::specs::Defining::DefinesTerminal))]
     pub fn apply(&mut self, event: &Event) -> Result<Reply, AllocError>
         requires { IsAllowed event.now }

@@ -1,4 +1,4 @@
-//! The region: programs, terminals and tasks, and the commands that tasks give.
+//! The region: definitions of programs, transactions and terminals, keys, turns, alterations, and runs of such events.
 #![tactic(auto)]
 
 mod alter;
@@ -20,7 +20,7 @@ pub use cx_region_state::{Call, CallFault, TurnReply, read_call};
 #[doc(hidden)]
 pub use cx_region_state::{Input, NextTransaction, Shared, Task, TerminalEntry};
 pub use cx_region_task::{AbendRecord, Cause};
-pub use looking::command_name;
+pub use looking::{command_name, terminal_at};
 #[doc(hidden)]
 pub use parts::RegionParts;
 pub use replies::{DefineFault, Event, KeyReply, Reply, RunStop, TaskInfo};

@@ -5,7 +5,7 @@ ghost use Rattle.cx_base.specs.declared.commands.Command.{Command as TheCommand}
 ghost use Rattle.cx_base.specs.Commands.{row_of};
 ghost use Rattle.cx_storage.specs.Storage.{byte_at};
 ghost use Rattle.cx_region.specs.Tables.{task_of, terminal_of};
-ghost use Rattle.cx_region.specs.Looking.{Shows};
+ghost use Rattle.cx_region.specs.Looking.{Shows, terminal_at};
 
 use crate::replies::TaskInfo;
 use crate::state::{Region, Terminal};
@@ -115,6 +115,19 @@ impl<S: Store + Drop> Region<S> {
     {
         byte_of(&self.shared.store, address)
     }
+}
+
+/// The terminal whose position this is, by which areas and resources name their owner, with its name; None where no
+/// terminal has it.
+pub fn terminal_at(terminals: &IndexMap<Name4, Terminal>, slot: u8) -> Option<(Name4, &Terminal)>
+    ensures { option_map (λ t. (t.0, t.1.now)) result ≡ terminal_at terminals.now.entries slot }
+{
+    for (name, terminal) in terminals.iter() {
+        if terminal.terminal_entry().slot == slot {
+            return Some((*name, terminal));
+        }
+    }
+    None
 }
 
 /// The byte of a store at any address.

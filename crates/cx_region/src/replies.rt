@@ -81,7 +81,7 @@ impl From<LoadFault> for DefineFault {
 }
 
 /// What a key is answered. Every answer but Attached and Given leaves the region as it was.
-#[derive(Clone, Copy, Debug, PartialEq, Eq)]
+#[derive(Clone, Copy, PartialEq, Eq)]
 pub enum KeyReply {
     /// A task was attached, and the input is held for it.
     Attached,
@@ -133,7 +133,7 @@ pub enum Event {
 }
 
 /// What an event is answered.
-#[derive(Clone, Copy, Debug, PartialEq, Eq)]
+#[derive(Clone, Copy, PartialEq, Eq)]
 pub enum Reply {
     /// Where the program is, or why it was refused.
     Program(Result<Loaded, DefineFault>),

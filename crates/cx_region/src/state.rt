@@ -39,7 +39,9 @@ impl Terminal {
 }
 
 /// A region: programs, queues, resources and storage that tasks share; transactions and terminals; the clock, and the
-/// last task's number. Contracts see it as `RegionState`; it is always sound (`IsSound`).
+/// last task's number. Contracts see it as `RegionState`; it is always sound (`IsSound`): areas are disjoint, names
+/// distinct, and every limit is kept; a live task's EIB and each level's DFHEISTG are areas of its slot, and a slot
+/// without a task owns nothing.
 #[derive(Drop)]
 pub struct Region<S: Store + Drop> {
     pub(crate) alloc: Global,

@@ -70,7 +70,7 @@ pub(crate) fn services_are_sound<S: Store + Drop>(shared: &Shared<S>)
 impl<S: Store + Drop> Region<S> {
     /// A turn of a terminal: its task runs up to its next command, an interruption or the limit of 65,536 instructions;
     /// or the command that is due is performed. It is answered NoSuchTerminal where there is no such terminal, and Idle
-    /// where the terminal has no task; then all is as before.
+    /// where the terminal has no task; then all is as before. All else in the region stays.
     ///
     /// An error comes only where an allocation failed, and only where the change that the command makes takes memory
     /// and no refusal, wait or abend applies. Then all is as before.

@@ -67,7 +67,7 @@ pub(crate) fn task_place<S: Store>(store: &S, len: u32) -> Option<u32>
 }
 
 /// A program: its name, and where it is.
-#[derive(Clone, Copy, Debug, PartialEq, Eq)]
+#[derive(Clone, Copy)]
 pub struct Called {
     pub name: Name8,
     pub loaded: Loaded,

@@ -1,4 +1,5 @@
-//! How each command is judged, before anything changes: one module for each command.
+//! How each of the twenty commands is judged, before anything changes: one module for each (HANDLE and IGNORE CONDITION
+//! share one, and so do PUSH and POP HANDLE).
 #![tactic(auto)]
 
 mod abending;

@@ -13,7 +13,8 @@ ghost use Rattle.cx_region_laws.specs.Laws.Sound.{SoundIsKept};
 ghost use Rattle.cx_region_laws.specs.Laws.TaskMemory.{OnlyTheseTakeMemory};
 
 /// A command leaves the areas of all other slots, and of the region itself. Each of their bytes stays, unless an output
-/// of the command, or RESP's word, has its address.
+/// of the command, or RESP's word, has its address. The task is sound, in sound storage with sound programs and queues,
+/// and the command is due.
 pub fn commands_leave_others()
     ensures { CommandsLeaveOthers }
 {
@@ -21,8 +22,9 @@ pub fn commands_leave_others()
 }
 
 /// Where a program goes on after its command, it does so at the address in R14, with the registers and the code that it
-/// had. Each byte of the command's outputs is at its place then, unless an output after it, the EIB or RESP's word
-/// has its address. So a pointer that GETMAIN or READQ TS gives its SET, or ADDRESS its CWA, is the word at its place.
+/// had. Of a sound task each byte of the command's outputs is at its place then, unless an output after it, the EIB or
+/// RESP's word has its address. So a pointer that GETMAIN or READQ TS gives its SET, or ADDRESS its CWA, is the word at
+/// its place, where none of these has one of its four addresses.
 pub fn a_pointer_stays()
     ensures program { ProgramsGoOn }
     ensures outputs { OutputsStay }
@@ -31,9 +33,12 @@ pub fn a_pointer_stays()
 }
 
 /// A command that is performed reports itself: EIBFN is its function value, EIBRCODE and EIBRESP have the number of the
-/// condition that it met, EIBRSRCE the name at PROGRAM or QUEUE, and RESP's word the number. A level that begins, and
+/// condition that it met, EIBRSRCE the name at PROGRAM or QUEUE, and RESP's word the number, as far as it is in storage
+/// afterwards. Without a PROGRAM or QUEUE EIBRSRCE stays, unless an output lies over the EIB. A level that begins, and
 /// one that is returned to, is reported with NORMAL, and after RETURN EIBFN is LINK's. Where an exit takes a command's
-/// abend the program finds the report of the condition, or, where the command was refused, the report before it.
+/// abend the program finds the report of the condition, or, where the command was refused, the report before it. The
+/// task is sound, and RESP's word doesn't lie over the EIB; performed are those that are answered Performed, TookLabel,
+/// Entered or Returned.
 pub fn a_command_reports_itself()
     ensures performed { CommandsReport }
     ensures exits { ExitsFindReports }
@@ -43,7 +48,7 @@ pub fn a_command_reports_itself()
 }
 
 /// Where a level begins, by LINK, by XCTL or by a key, is returned to, or takes an abend, EIBCALEN is the length of its
-/// COMMAREA.
+/// COMMAREA. The task, or the region of the key, is sound, and RESP's word doesn't lie over the EIB.
 pub fn eibcalen_is_the_current_levels()
     ensures turned { CalenIsTheLevels }
     ensures attached { AttachedCalenIsTheLevels }
@@ -53,7 +58,9 @@ pub fn eibcalen_is_the_current_levels()
 }
 
 /// A program that is entered finds the COMMAREA that is passed to it: EIBCALEN says how many bytes it has, DFHEICAP has
-/// its address, or 0 where it has no bytes, and the bytes are those that the command found.
+/// its address, or 0 where it has no bytes, and the bytes are those that the command found. XCTL passes a copy. The
+/// task, or the region of the key, is sound, and RESP's word doesn't lie over the EIB; the COMMAREA of a LINK is in
+/// storage, and neither the EIB nor RESP's word lies over it.
 pub fn an_entered_program_finds_its_commarea()
     ensures entered { EnteredFindCommareas }
     ensures attached { AttachedFindCommareas }
@@ -86,7 +93,8 @@ pub fn half_turns_leave_callers()
 {}
 
 /// A LINK and the RETURN from it, whatever is done between them, leave the linking level's registers, code, handles and
-/// exit, and all levels above it. So they do where an operator alters the task between them.
+/// exit, and all levels above it. So they do where an operator alters the task between them. What comes between
+/// half-turns must leave the callers.
 pub fn a_link_is_returned_from()
     ensures { LinksAreReturned }
 {}

@@ -37,7 +37,7 @@ pub enum CallFault {
 /// Application Programmer's Reference Manual, SC33-0077; the layout of the list is this product's own.
 /// Contracts see it as `Call`: the command, the two option bytes, the listed conditions, and the addresses
 /// of the arguments. It takes no memory.
-#[derive(Debug, Drop)]
+#[derive(Drop)]
 pub struct Call {
     command: Command,
     first: u8,

@@ -6,7 +6,7 @@ use cx_base::EibField;
 use cx_storage::{Store, address_after};
 
 /// What is in a task's EIB at attach.
-#[derive(Clone, Copy, Debug, PartialEq, Eq)]
+#[derive(Clone, Copy)]
 pub struct InitialEib {
     /// The time of attach as hhmmss.
     pub time: u32,

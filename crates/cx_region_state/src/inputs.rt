@@ -16,7 +16,7 @@ use cx_storage::{Store, halfword_at};
 
 /// Bytes in storage: the address (below 2^24) of the first, and how many there are. They go on at address 0
 /// after X'FFFFFF'.
-#[derive(Clone, Copy, Debug, PartialEq, Eq)]
+#[derive(Clone, Copy)]
 pub struct StorageSpan {
     /// The address of the first byte, below 2^24.
     pub place: u32,

@@ -14,7 +14,7 @@ use std::marker::Model;
 const CONDITIONS: usize = 16;
 
 /// A condition that HANDLE or IGNORE CONDITION lists.
-#[derive(Clone, Copy, Debug, PartialEq, Eq, Default)]
+#[derive(Clone, Copy, Default)]
 pub struct Listed {
     /// The condition.
     pub condition: Condition,
@@ -23,7 +23,7 @@ pub struct Listed {
 }
 
 /// The conditions that a call lists, at most sixteen, in their order. Contracts see it as the list of them.
-#[derive(Debug, Drop)]
+#[derive(Drop)]
 pub struct ListedConditions {
     entries: ArrayVec<Listed, CONDITIONS>,
 }

@@ -14,7 +14,7 @@ use std::marker::Model;
 const OUTPUTS: usize = 4;
 
 /// Where the bytes of an output come from.
-#[derive(Clone, Copy, Debug, PartialEq, Eq)]
+#[derive(Clone, Copy)]
 pub enum OutputValue {
     /// The first bytes of the text that the command hands over, this many: the input that RECEIVE gives, or the
     /// item that READQ TS gives.
@@ -26,7 +26,7 @@ pub enum OutputValue {
 }
 
 /// Bytes that a command writes at an option's argument, where the option is there.
-#[derive(Clone, Copy, Debug, PartialEq, Eq)]
+#[derive(Clone, Copy)]
 pub struct Output {
     /// The option at whose argument the bytes are written.
     pub option: OptionName,
@@ -36,7 +36,7 @@ pub struct Output {
 
 /// What a command writes at its arguments, at most four outputs, in the order of its options. Contracts see it as the
 /// list of them.
-#[derive(Debug, Drop)]
+#[derive(Drop)]
 pub struct Outputs {
     entries: [Output; OUTPUTS],
     count: usize,

@@ -6,7 +6,7 @@ use cx_base::Condition;
 use cx_ebcdic::Name4;
 
 /// What a turn of a terminal, or a half-turn of its task, is answered.
-#[derive(Clone, Copy, Debug, PartialEq, Eq)]
+#[derive(Clone, Copy, PartialEq, Eq)]
 pub enum TurnReply {
     /// The terminal has no task.
     Idle,

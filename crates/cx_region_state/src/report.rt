@@ -12,7 +12,7 @@ use cx_ebcdic::Name8;
 use cx_storage::Store;
 
 /// What a command reports in the EIB and in RESP's word.
-#[derive(Clone, Copy, Debug, PartialEq, Eq)]
+#[derive(Clone, Copy)]
 pub struct CommandReport {
     /// The function value of the command after which the program goes on.
     pub function: u16,

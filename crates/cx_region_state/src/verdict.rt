@@ -12,7 +12,7 @@ pub const FIRST_OF_TASKS: u32 = 0x20_0000;
 pub const LAST_OF_TASKS: u32 = 0xFF_FFFF;
 
 /// What a program level begins with, by LINK, XCTL or a task's attaching.
-#[derive(Clone, Copy, Debug, PartialEq, Eq)]
+#[derive(Clone, Copy)]
 pub struct NewLevel {
     /// The program, and where it is.
     pub program: Name8,
@@ -24,7 +24,7 @@ pub struct NewLevel {
 }
 
 /// The COMMAREA that XCTL copies to a fresh area.
-#[derive(Clone, Copy, Debug, PartialEq, Eq)]
+#[derive(Clone, Copy)]
 pub struct Copying {
     /// The COMMAREA's bytes, where its program has them.
     pub from: StorageSpan,
@@ -33,7 +33,7 @@ pub struct Copying {
 }
 
 /// The transaction that the terminal's next key attaches, and the COMMAREA that is kept for it.
-#[derive(Clone, Copy, Debug, PartialEq, Eq)]
+#[derive(Clone, Copy)]
 pub struct RequestedTransaction {
     /// The transaction.
     pub tran: Name4,
@@ -42,7 +42,7 @@ pub struct RequestedTransaction {
 }
 
 /// What an area holds when the program gets it.
-#[derive(Clone, Copy, Debug, PartialEq, Eq)]
+#[derive(Clone, Copy)]
 pub enum Fill {
     /// Each byte is this one.
     Byte(u8),
@@ -51,7 +51,7 @@ pub enum Fill {
 }
 
 /// An area that the program gets by GETMAIN, or by a command's SET.
-#[derive(Clone, Copy, Debug, PartialEq, Eq)]
+#[derive(Clone, Copy)]
 pub struct Got {
     /// Its place: the address of its first byte.
     pub place: u32,
@@ -62,7 +62,7 @@ pub struct Got {
 }
 
 /// What a program asks to be done for conditions and on an abend.
-#[derive(Debug, Drop)]
+#[derive(Drop)]
 pub enum Request {
     /// HANDLE CONDITION: each condition's label takes control; one without a label has no entry any more.
     Handle(ListedConditions),
@@ -81,7 +81,7 @@ pub enum Request {
 }
 
 /// What a command makes before its outputs are written.
-#[derive(Debug, Drop)]
+#[derive(Drop)]
 pub enum BeforeOutputs {
     /// These bytes are a new item, the last of the queue.
     ItemLast(Name8, StorageSpan),
@@ -96,7 +96,7 @@ pub enum BeforeOutputs {
 }
 
 /// What a command ends after all else is written.
-#[derive(Clone, Copy, Debug, PartialEq, Eq)]
+#[derive(Clone, Copy)]
 pub enum AfterOutputs {
     /// The held input is gone.
     TakesInput,
@@ -111,7 +111,7 @@ pub enum AfterOutputs {
 }
 
 /// What a command changes, beside its outputs, the EIB and RESP's word.
-#[derive(Debug, Drop)]
+#[derive(Drop)]
 pub enum TaskChange {
     /// Nothing.
     Nothing,
@@ -134,7 +134,7 @@ pub enum TaskChange {
 }
 
 /// How a command is judged, before anything changes.
-#[derive(Debug, Drop)]
+#[derive(Drop)]
 pub enum Verdict {
     /// The task abends, and nothing of the command is done.
     Refuses(Abend),

@@ -3,7 +3,7 @@ use cx_base::{Abend, Command, Condition};
 use cx_exec::Interruption;
 
 /// Why a task abends.
-#[derive(Clone, Copy, Debug, PartialEq, Eq)]
+#[derive(Clone, Copy)]
 pub enum Cause {
     /// An instruction was interrupted: ASRA.
     Interrupted(Interruption),
@@ -19,7 +19,7 @@ pub enum Cause {
 
 /// Why a task abends, and what it had then: before an exit took the abend, or the task ended. Of a command it is what
 /// the task had when the command was due; the address of the argument list is in bits 8 to 31 of register 1.
-#[derive(Clone, Copy, Debug, PartialEq, Eq)]
+#[derive(Clone, Copy)]
 pub struct AbendRecord {
     /// Why it abends.
     pub cause: Cause,

@@ -3,7 +3,7 @@ use cx_ebcdic::Name4;
 use cx_region_state::NewLevel;
 
 /// How a task goes on after a command.
-#[derive(Clone, Copy, Debug, PartialEq, Eq)]
+#[derive(Clone, Copy)]
 pub enum Continuation {
     /// After the command.
     GoesOn,

@@ -11,7 +11,7 @@ use cx_region_state::{Call, Outputs, TaskChange};
 use cx_service::ResourceName;
 
 /// What a command waits for.
-#[derive(Clone, Copy, Debug)]
+#[derive(Clone, Copy)]
 pub enum Wait {
     /// Input of its terminal: RECEIVE.
     Input,

@@ -1,4 +1,5 @@
-//! What is decided of a command and what that leads to, and the half-turns of tasks.
+//! The one wrapper round all commands: what is decided of a command and what that leads to; and the half-turns of
+//! tasks.
 #![tactic(auto)]
 
 mod abending;

@@ -41,6 +41,12 @@ pub fn edf_performer(alloc: Global) -> Result<EdfPerformer, AllocError>
 /// a transcript. Memory comes only where an allocation failed, before anything was read or at a line that isn't a bad
 /// one: the lines in front of it have no fault, are done, and their transcript is written. A line may ask several
 /// actions: then those in front of the one without memory are done, and their texts are written.
+///
+/// What a run did is known whatever its devices are: the list of its calls, in time, each with the bytes that a read
+/// gave or a write took. The contract says which lists these may be, and that they took the devices from the one state
+/// to the other; nothing but a call gives what a call did. The script is the bytes that the reads gave. What a file
+/// held isn't said. No more is read after a read that gave no byte, or failed, or past 16,777,216 bytes. A source's
+/// block gives what its three stages give (`cx_asm_build::prepare`), or its first fault by the script's line.
 pub fn run_script_on<P: Performer + Drop, D: ScriptDevices>(
     performer: Result<P, AllocError>,
     alloc: Global,

@@ -17,7 +17,7 @@ use cx_region::Event;
 use std::alloc::{AllocError, Global};
 
 /// What is to be written of a source.
-#[derive(Clone, Copy, Debug, PartialEq, Eq)]
+#[derive(Clone, Copy)]
 pub struct Wanted {
     /// The listing.
     pub listing: bool,
@@ -44,7 +44,7 @@ pub enum Action {
 }
 
 /// What begins a block of lines that are handed over.
-#[derive(Clone, Copy, Debug)]
+#[derive(Clone, Copy)]
 pub enum Heading {
     /// FAULTS, with a program's name.
     Faults(Name8),

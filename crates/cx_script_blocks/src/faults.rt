@@ -11,7 +11,7 @@ use std::fmt::{Display, Formatter};
 use thiserror::Error;
 
 /// Why a run of a script ends early, or isn't one without a fault. The lines before the fault are done, and their
-/// transcript is written. It is shown as the program's line on standard error.
+/// transcript is written. It is shown as the program's line on standard error, a source's with the fault's name.
 #[derive(Clone, Copy, Debug, PartialEq, Eq, Error)]
 pub enum RunFault {
     /// The line with this number, counted from 1, is no line of a script; or it begins a block that is not ended.

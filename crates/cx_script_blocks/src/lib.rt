@@ -1,4 +1,5 @@
-//! What each line of a script leads to, and the faults that a script may have.
+//! What each line of a script leads to; blocks of images, of sources, and of lines that are handed over; the faults
+//! that a script may have, and their statuses.
 #![tactic(auto)]
 
 mod blocks;

@@ -1,7 +1,7 @@
 //! Why no more of a script is read.
 
 /// Why no more of a script was read.
-#[derive(Clone, Copy, Debug, PartialEq, Eq)]
+#[derive(Clone, Copy, PartialEq, Eq)]
 pub enum Ending {
     /// It was read to its end.
     AtEnd,

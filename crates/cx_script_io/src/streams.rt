@@ -7,7 +7,9 @@ use crate::devices::{DeviceFault, ScriptIn, ScriptOut};
 use std::io;
 use std::io::{Read, Write};
 
-/// A device over a reader or writer of the standard library, with whether it has failed.
+/// A device over a reader or writer of the standard library, with whether it has failed. It fails exactly where its
+/// reader or writer answers an error, or a write takes none of some: each answer goes through a function whose contract
+/// says so. No contract says that a call uses the reader or writer, and only once.
 #[derive(Drop)]
 pub struct Std<T> {
     inner: T,

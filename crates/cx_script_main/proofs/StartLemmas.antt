@@ -1,12 +1,13 @@
--- What is run over a file that was opened.
-use Rattle.std.proofs.Common.{◌≡◌, ℕ, Bool, false, List, None, Option, Result, Ok, Err}
+-- What is run over a file that was opened, and what is done for words.
+use Rattle.std.proofs.Common.{◌≡◌, ℕ, Bool, false, List, None, Some, Option, Result, Ok, Err, sym, subst}
 use Rattle.std.specs.Prelude.{IfOk, OnErr}
 use Rattle.std.specs.declared.alloc.AllocError.{AllocError}
 use Rattle.cx_script.specs.Language.{Language}
 use Rattle.cx_script_io.specs.declared.devices.DeviceFault.{DeviceFault}
 use Rattle.cx_script_blocks.specs.declared.faults.RunFault.TheVariants as fault
 use Rattle.cx_script_main.specs.Program.{RanFrom, unread_run}
-use Rattle.cx_script_main.specs.Start.{RunsFile, RunsOnDevices}
+use Rattle.cx_script_main.specs.Start.{Answers, Obeys, RunsFile, RunsOnDevices}
+use Rattle.cx_script_main.specs.declared.program.Refusal.{Refusal}
 use Rattle.cx_script_main.specs.declared.program.Run.{Run}
 
 -- a run over what was opened
@@ -27,3 +28,14 @@ pub runs_file : {H A S D : Type 0} (opens : H → List ℕ → Result D DeviceFa
     → RunsFile opens (RunsOnDevices language performs performer keeps reads writes) old path run new
 runs_file opens language performs performer keeps reads writes old new path opened run given h k n u =
     record { opened = opened; given = given; ran = runs_opened language performs performer keeps reads writes opened run h k n; unopened = u }
+
+-- a text that is asked for, and none
+pub answers_text : {H : Type 0} (tells : H → List ℕ → Run → H → Type 0) (runs : H → Option (List ℕ) → Run → H → Type 0)
+    (due : Option (List ℕ)) (file : Option (Option (List ℕ))) (old new : H) (text : List ℕ) (run : Run) → Some text ≡ due → tells old text run new
+    → Answers tells runs due file old (Ok run) new
+answers_text tells runs due file old new text run e h = subst (λ (it : Option (List ℕ)). Answers tells runs it file old (Ok run) new) e h
+
+pub answers_script : {H : Type 0} (tells : H → List ℕ → Run → H → Type 0) (runs : H → Option (List ℕ) → Run → H → Type 0)
+    (due : Option (List ℕ)) (file : Option (Option (List ℕ))) (old new : H) (outcome : Result Run Refusal) → None ≡ due
+    → Obeys runs file old outcome new → Answers tells runs due file old outcome new
+answers_script tells runs due file old new outcome e h = subst (λ (it : Option (List ℕ)). Answers tells runs it file old outcome new) e h

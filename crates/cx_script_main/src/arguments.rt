@@ -1,10 +1,10 @@
-//! The words that a program is started with, and which file they name.
+//! The words that a program is started with, and which text they ask for, or which file they name.
 
 ghost use Rattle.std.specs.Prelude.{◌≡◌, map, IfOk, IsErrOf, None, Some};
 ghost use Rattle.std.specs.Option.{option_map};
-ghost use Rattle.cx_script_main.specs.Words.{file_of, is_option_word};
+ghost use Rattle.cx_script_main.specs.Words.{file_of, is_option_word, text_for, text_of};
 
-use crate::program::Refusal;
+use crate::program::{Refusal, Texts};
 use clap::error::ErrorKind;
 use clap::{Arg, ArgAction, Command};
 use std::alloc::Global;
@@ -17,6 +17,28 @@ fn is_option_word(word: &str) -> bool
     match word.as_bytes() {
         [b'-', _, ..] => true,
         _ => false,
+    }
+}
+
+/// The text that a word asks for.
+fn text_for<'a>(word: &str, texts: Texts<'a>) -> Option<&'a str>
+    ensures { option_map (λ it. it.now) result ≡ text_for word.now texts.entry }
+{
+    match word {
+        "--help" | "-h" => Some(texts.help),
+        "--version" | "-V" => Some(texts.version),
+        _ => None,
+    }
+}
+
+/// The text that the words ask for, where a program has such texts: the one word after its own name does.
+pub(crate) fn text_in<'a, S: AsStr>(words: &[S], texts: Option<Texts<'a>>) -> Option<&'a str>
+    ensures { option_map (λ it. it.now) result ≡ text_of texts.entry (map S.text words.now) }
+{
+    let texts = texts?;
+    match words {
+        [_, word] => text_for(word.as_str(), texts),
+        _ => None,
     }
 }
 

@@ -32,6 +32,9 @@ pub trait Host {
     /// The standard input.
     ghost takes_input: { Self → Self.Input → Self → Type 0 };
 
+    /// A line that was to be written on standard output, and whether it was.
+    ghost tells: { Self → List ℕ → Result Unit Fault → Self → Type 0 };
+
     /// A line that was written on standard error.
     ghost reports: { Self → List ℕ → Self → Type 0 };
 
@@ -53,6 +56,10 @@ pub trait Host {
         ensures taken { takes_input self.old result self.new }
         ensures input { Self.Input.ScriptIn.has_failed result ≡ false }
         ensures output { Self.Input.ScriptOut.has_failed result ≡ false };
+
+    /// Writes a line on standard output. An error says that it couldn't be written.
+    fn tell(&mut self, line: &str) -> Result<(), DeviceFault>
+        ensures { tells self.old line.now result self.new };
 
     /// Writes a line on standard error, as far as it can be written.
     fn report<D: Display + Drop>(&mut self, line: D)
@@ -85,6 +92,8 @@ impl<'a, R: Env + Files + Input + Print + Eprint + AllocGlobal> Host for Machine
 
     ghost takes_input = { λ _ _ _. Unit {0} };
 
+    ghost tells = { λ _ _ _ _. Unit {0} };
+
     ghost reports = { λ _ _ _. Unit {0} };
 
     fn words(&mut self) -> Result<Vec<String>, Refusal> {
@@ -111,6 +120,10 @@ impl<'a, R: Env + Files + Input + Print + Eprint + AllocGlobal> Host for Machine
             reader: Std::new(self.rt.reader()),
             writer: Std::new(io::writer(self.rt)),
         }
+    }
+
+    fn tell(&mut self, line: &str) -> Result<(), DeviceFault> {
+        self.rt.println(line).map_err(|_| DeviceFault)
     }
 
     fn report<D: Display + Drop>(&mut self, line: D) {

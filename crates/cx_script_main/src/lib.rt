@@ -9,5 +9,5 @@ mod shown;
 mod starting;
 
 pub use host::{Host, Machine};
-pub use program::{Refusal, Run, program_status, run_opened, run_reader};
+pub use program::{About, Refusal, Run, Texts, program_status, run_opened, run_reader};
 pub use starting::start;

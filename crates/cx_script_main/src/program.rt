@@ -4,21 +4,41 @@ ghost use Rattle.std.specs.Prelude.{◌≡◌, false, IfOk, None, OnErr, Err};
 ghost use Rattle.cx_script_blocks.specs.Faults.{is_read, is_write};
 ghost use Rattle.cx_script_blocks.specs.declared.faults.RunFault.TheVariants.{Memory};
 ghost use Rattle.cx_script.specs.Session.{RanIn};
-ghost use Rattle.cx_script_main.specs.Program.{RanFrom, program_status, unread_run};
+ghost use Rattle.cx_script_main.specs.Program.{RanFrom, program_status, told_run, unread_run};
 
 use crate::keeping::Keeping;
 use cx_base::List;
-use cx_script::{Performer, RunFault, ScriptDevices, Summary, run_script_on, status};
+use cx_script::{DeviceFault, Performer, RunFault, ScriptDevices, Summary, run_script_on, status};
 use std::alloc::{AllocError, Global};
 
 /// The status where the words are refused.
 const USAGE_STATUS: u8 = 2;
 
+/// What a program is, beside the scripts that it runs.
+#[derive(Clone, Copy)]
+pub struct About<'a> {
+    /// The line on standard error where its words are refused.
+    pub usage: &'a str,
+    /// The texts that a word asks for. Without them the words that do are refused, as other options are.
+    pub texts: Option<Texts<'a>>,
+    /// Whether the line of the script that a fault is of is reported after the fault's.
+    pub shows_lines: bool,
+}
+
+/// What a program tells of itself.
+#[derive(Clone, Copy)]
+pub struct Texts<'a> {
+    /// What `--help` asks for.
+    pub help: &'a str,
+    /// What `--version` asks for.
+    pub version: &'a str,
+}
+
 /// Why a program's words are refused.
-#[derive(Clone, Copy, Debug, PartialEq, Eq)]
+#[derive(Clone, Copy, PartialEq, Eq)]
 pub enum Refusal {
-    /// There is more than one word after the program's name, or the one word is an option, a hyphen with more after it;
-    /// or a word is no text.
+    /// There is more than one word after the program's name, or the one word is an option, a hyphen with more after it,
+    /// that asks for no text; or a word is no text.
     Usage,
     /// An allocation failed.
     Memory,
@@ -97,6 +117,17 @@ pub fn run_opened<P: Performer + Drop, D: ScriptDevices + Drop, E: Drop>(
             read: None,
         },
     }
+}
+
+/// A text was told, or couldn't be written: as a run that did no line.
+pub(crate) fn told_run(told: Result<(), DeviceFault>) -> Run
+    ensures { result ≡ told_run told }
+{
+    let answer = match told {
+        Ok(()) => Ok(Summary { lines: 0 }),
+        Err(_) => Err(RunFault::Write),
+    };
+    Run { answer, read: None }
 }
 
 /// A program's status: that of the run; 2 where its words are refused; 4 where memory ran out before a run.

@@ -1,14 +1,16 @@
 //! Starting a program `NAME [FILE]`: it runs a script from a file or from standard input, and writes its transcript.
 
+ghost use Rattle.std.specs.Prelude.{map, string_bytes};
 ghost use Rattle.std.specs.Option.{option_map};
 ghost use Rattle.std.specs.Result.{result_err};
 ghost use Rattle.std.specs.Process.{exit_status};
 ghost use Rattle.cx_script_blocks.specs.Faults.{fault_line};
-ghost use Rattle.cx_script_main.specs.Start.{ObeysWords, ReportsLine, RunsFile, RunsInput, RunsOnDevices, RunsScript, ProgramStarts, line_report_of, outcome_line};
+ghost use Rattle.cx_script_main.specs.Start.{Answers, Obeys, ObeysWords, ReportsLine, RunsFile, RunsInput, RunsOnDevices, RunsScript, ProgramStarts, TellsText, line_report_of, outcome_line};
+ghost use Rattle.cx_script_main.specs.Words.{file_of, text_of};
 
-use crate::arguments::file_in;
+use crate::arguments::{file_in, text_in};
 use crate::host::Host;
-use crate::program::{Refusal, Run, program_status, run_opened};
+use crate::program::{About, Refusal, Run, program_status, run_opened, told_run};
 use crate::shown::ShownLine;
 use cx_script::{DeviceFault, Performer, RunFault, Summary};
 use std::alloc::{AllocError, Global};
@@ -62,21 +64,69 @@ fn run<P: Performer + Drop, H: Host>(
     }
 }
 
+/// Tells a text.
+fn tell<H: Host>(host: &mut H, text: &str) -> Run
+    ensures { TellsText H.tells host.old text.now result host.new }
+{
+    let told = host.tell(text);
+    told_run(told)
+}
+
+/// Runs the script that the words name, where they name one.
+fn obey<P: Performer + Drop, H: Host>(
+    host: &mut H,
+    alloc: Global,
+    performer: Result<P, AllocError>,
+    keeps: bool,
+    words: &[String],
+) -> Result<Run, Refusal>
+    ensures { let runs_file = RunsOnDevices P.Action.language P.performs performer keeps H.File.reads H.File.writes in
+        let runs_input = RunsOnDevices P.Action.language P.performs performer keeps H.Input.reads H.Input.writes in
+        let runs = RunsScript H.opens runs_file H.takes_input runs_input in
+        Obeys runs (file_of (map string_bytes words.now)) host.old result host.new }
+{
+    let file = file_in(alloc, words)?;
+    Ok(run(host, alloc, performer, keeps, file))
+}
+
+/// Tells the text that the words ask for, or runs the script that they name.
+#[tactic(auto, using(crate::proofs::StartLemmas::answers_text, crate::proofs::StartLemmas::answers_script))]
+fn answer<P: Performer + Drop, H: Host>(
+    host: &mut H,
+    alloc: Global,
+    performer: Result<P, AllocError>,
+    about: About,
+    words: &[String],
+) -> Result<Run, Refusal>
+    ensures { let keeps = about.entry.shows_lines in
+        let runs_file = RunsOnDevices P.Action.language P.performs performer keeps H.File.reads H.File.writes in
+        let runs_input = RunsOnDevices P.Action.language P.performs performer keeps H.Input.reads H.Input.writes in
+        let runs = RunsScript H.opens runs_file H.takes_input runs_input in
+        let given = map string_bytes words.now in
+        Answers (TellsText H.tells) runs (text_of about.entry.texts given) (file_of given) host.old result host.new }
+{
+    match text_in(words, about.texts) {
+        Some(text) => Ok(tell(host, text)),
+        None => obey(host, alloc, performer, about.shows_lines, words),
+    }
+}
+
 /// Does what the words ask.
 fn outcome_of<P: Performer + Drop, H: Host>(
     host: &mut H,
     alloc: Global,
     performer: Result<P, AllocError>,
-    keeps: bool,
+    about: About,
 ) -> Result<Run, Refusal>
-    ensures { let runs_file = RunsOnDevices P.Action.language P.performs performer keeps H.File.reads H.File.writes in
+    ensures { let keeps = about.entry.shows_lines in
+        let runs_file = RunsOnDevices P.Action.language P.performs performer keeps H.File.reads H.File.writes in
         let runs_input = RunsOnDevices P.Action.language P.performs performer keeps H.Input.reads H.Input.writes in
         let runs = RunsScript H.opens runs_file H.takes_input runs_input in
-        ObeysWords H.gives_words runs host.old result host.new }
+        ObeysWords H.gives_words (TellsText H.tells) runs about.entry.texts host.old result host.new }
 {
     let words = host.words()?;
-    let file = file_in(alloc, &words)?;
-    Ok(run(host, alloc, performer, keeps, file))
+    let run = answer(host, alloc, performer, about, &words)?;
+    Ok(run)
 }
 
 /// Reports the fault of a run on standard error.
@@ -113,27 +163,32 @@ fn report_line<H: Host>(host: &mut H, outcome: &Result<Run, Refusal>)
     }
 }
 
-/// Does what the words of a host ask, on a performer that was to be made: runs the script of the file that they name,
-/// or that of standard input. Gives the status: 0, or that of the run's fault; 2 where the words are refused, 4 where
-/// memory ran out. The fault's line is reported on standard error, or `usage` where the words are refused. With
-/// `shows_lines` what is read is kept, and the line of the script that a fault is of is reported after the fault's; it
-/// isn't only where memory for what is kept was refused.
+/// Does what the words of a host ask, on a performer that was to be made: tells the text that they ask for, or runs the
+/// script of the file that they name, or that of standard input. Gives the status: 0, or that of the run's fault; 2
+/// where the words are refused, 4 where memory ran out. The fault's line is reported on standard error, or the usage
+/// where the words are refused. Where the program shows lines, what is read is kept, and the line of the script that a
+/// fault is of is reported after the fault's; it isn't only where memory for what is kept was refused.
+///
+/// The words are asked for first. After the program's name there is at most one: a file, that is no option, or a word
+/// that asks for a text. Any others are refused, and these never. `--help` or `-h` alone asks for the one text of a
+/// program that has texts, `--version` or `-V` for the other: it is written on standard output, nothing is opened or
+/// run, and the status is 0, or 3 where it couldn't be written. The file that is named is opened, and no other; none
+/// where the words are refused.
 pub fn start<P: Performer + Drop, H: Host>(
     host: &mut H,
     alloc: Global,
     performer: Result<P, AllocError>,
-    usage: &str,
-    shows_lines: bool,
+    about: About,
 ) -> ExitCode
-    ensures { let runs_file = RunsOnDevices P.Action.language P.performs performer shows_lines
+    ensures { let runs_file = RunsOnDevices P.Action.language P.performs performer about.entry.shows_lines
         H.File.reads H.File.writes in
-        let runs_input = RunsOnDevices P.Action.language P.performs performer shows_lines
+        let runs_input = RunsOnDevices P.Action.language P.performs performer about.entry.shows_lines
         H.Input.reads H.Input.writes in
         let runs = RunsScript H.opens runs_file H.takes_input runs_input in
-        ProgramStarts H.gives_words runs H.reports usage.now host.old (exit_status result) host.new }
+        ProgramStarts H.gives_words (TellsText H.tells) runs H.reports about.entry host.old (exit_status result) host.new }
 {
-    let outcome = outcome_of(host, alloc, performer, shows_lines);
-    report(host, usage, &outcome);
+    let outcome = outcome_of(host, alloc, performer, about);
+    report(host, about.usage, &outcome);
     report_line(host, &outcome);
     ExitCode::from(program_status(&outcome))
 }

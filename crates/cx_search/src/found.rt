@@ -12,7 +12,7 @@ use indexmap::IndexMap;
 use std::alloc::{AllocError, Global};
 
 /// How a state was first come to.
-#[derive(Clone, Copy, Debug)]
+#[derive(Clone, Copy)]
 pub struct Origin {
     /// One list of moves led to it first; the place, counted from 0, of the state from which the last of these was
     /// made.

@@ -11,7 +11,7 @@ use cx_base::List;
 use std::alloc::{AllocError, Global};
 
 /// By which places, once they are marked, a place is marked too.
-#[derive(Clone, Copy, Debug)]
+#[derive(Clone, Copy)]
 pub enum Rule {
     /// By one that a move leads to; and where no move can be made.
     Any,

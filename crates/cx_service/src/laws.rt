@@ -39,7 +39,8 @@ pub fn a_shown_text_is_decided()
         → ShowsText old text erase one → ShowsText old text erase other → one ≡ other }
 {}
 
-/// A text is shown on 24 lines of 80 bytes: nothing comes after the 24th, and each line is filled with blanks.
+/// Over a screen, a text is shown on 24 lines of 80 bytes: nothing comes after the 24th, and each line is filled with
+/// blanks.
 pub fn a_shown_text_leaves_a_screen()
     ensures { (old : List (List ℕ)) (text : List ℕ) (erase : Bool) (new : List (List ℕ))
         → IsScreen old → ShowsText old text erase new → IsScreen new }
@@ -57,7 +58,7 @@ pub fn resource_names_are_themselves()
     ensures { (one other : ResourceName) → (is_resource one other ≡ true) ↔ (one ≡ other) }
 {}
 
-/// A queue that is deleted and made anew has 0 as the number of the item last read: none was.
+/// Of sound queues one that is deleted and made anew has 0 as the number of the item last read: none was.
 pub fn a_deleted_queue_begins_anew()
     ensures { (queues : Queues) (name bytes : List ℕ) → AreSoundQueues queues
         → option_map (λ queue. queue.last_read) (queue_of (with_item (without_queue queues name) name bytes) name)

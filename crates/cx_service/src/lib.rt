@@ -1,4 +1,5 @@
-//! What tasks share beside storage: temporary storage queues, enqueued resources, and each terminal's screen.
+//! What tasks share beside storage: temporary storage queues, enqueued resources, and each terminal's screen; equal
+//! ones of each are made and compared.
 #![tactic(auto)]
 
 mod enqueues;

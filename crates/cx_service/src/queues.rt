@@ -27,7 +27,7 @@ const MOST_DATA: usize = 4_194_304;
 pub type Item = List<u8>;
 
 /// What READQ TS reads, without the item's bytes.
-#[derive(Clone, Copy, Debug, PartialEq, Eq)]
+#[derive(Clone, Copy, PartialEq, Eq)]
 pub struct Reading {
     /// The item's number, counted from 1.
     pub number: usize,

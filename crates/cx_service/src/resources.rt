@@ -10,7 +10,7 @@ use std::marker::Model;
 const MOST_NAME: usize = 255;
 
 /// The bytes that name a resource: 1 to 255 of them.
-#[derive(Clone, Copy, Debug, PartialEq, Eq, Hash)]
+#[derive(Clone, Copy, PartialEq, Eq, Hash)]
 pub struct NameBytes {
     bytes: [u8; MOST_NAME],
     len: usize,
@@ -55,7 +55,7 @@ impl NameBytes {
 }
 
 /// The name of a resource: bytes, or an address. The two are never the same.
-#[derive(Clone, Copy, Debug, PartialEq, Eq, Hash)]
+#[derive(Clone, Copy, PartialEq, Eq, Hash)]
 pub enum ResourceName {
     /// The resource that these bytes name.
     Bytes(NameBytes),
@@ -78,7 +78,7 @@ impl ResourceName {
 }
 
 /// Who holds a resource, and how often it enqueued upon it.
-#[derive(Clone, Copy, Debug, PartialEq, Eq)]
+#[derive(Clone, Copy, PartialEq, Eq)]
 pub struct Hold {
     /// The owner: the position of its terminal, counted from 1.
     pub owner: u8,

@@ -20,7 +20,7 @@ const BLANK: u8 = 0x40;
 const NEW_LINE: u8 = 0x15;
 
 /// The screen of a terminal: 24 lines of 80 bytes, EBCDIC codes.
-#[derive(Clone, Copy, Debug, PartialEq, Eq)]
+#[derive(Clone, Copy)]
 pub struct Screen {
     cells: [[u8; COLUMNS]; ROWS],
 }

@@ -1,4 +1,4 @@
-//! The lines of an assembler source, and the statements that they hold.
+//! The lines of an assembler source, the statements that they hold, and where a text is cut.
 #![tactic(auto)]
 
 mod all_faults;

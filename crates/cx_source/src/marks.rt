@@ -10,7 +10,7 @@ use std::alloc::{AllocError, Global};
 const APOSTROPHE: u8 = b'\'';
 
 /// The state of a walk along an operand.
-#[derive(Clone, Copy, Debug)]
+#[derive(Clone, Copy)]
 pub struct Scan {
     /// Whether the next character is in a text.
     pub within: bool,
@@ -23,7 +23,7 @@ pub struct Scan {
 }
 
 /// Where an operand may be cut. Only characters outside apostrophes count.
-#[derive(Clone, Copy, Debug, PartialEq, Eq)]
+#[derive(Clone, Copy, PartialEq, Eq)]
 pub enum Delimiter {
     /// At each comma that is in no parentheses.
     TopComma,

@@ -21,7 +21,7 @@ const LINE_FEED: u8 = b'\n';
 const CARRIAGE_RETURN: u8 = b'\r';
 
 /// How far a reader has come.
-#[derive(Clone, Copy, Debug)]
+#[derive(Clone, Copy)]
 pub enum Progress {
     /// It expects a line; whether the line before is continued.
     Expects(bool),

@@ -15,7 +15,7 @@ pub type Items = List<Item>;
 
 /// A statement in its three fields; what continues it is joined, and remarks are left out (GC33-4010, "Assembler
 /// Language Coding Conventions").
-#[derive(Debug, Drop)]
+#[derive(Drop)]
 pub struct Stmt {
     /// The name, empty where there is none.
     pub name: Text,
@@ -42,7 +42,7 @@ impl Stmt {
 }
 
 /// A line of a source, with the statement that begins on it.
-#[derive(Debug, Drop)]
+#[derive(Drop)]
 pub struct Item {
     /// The line's number, from 1.
     pub line: usize,
@@ -72,7 +72,7 @@ impl Item {
 }
 
 /// A source as its lines, with the statements that begin on them.
-#[derive(Debug, Drop)]
+#[derive(Drop)]
 pub struct Source {
     /// Its lines, in order; of a source that was read, up to END's, which is the last.
     pub items: Items,

@@ -1,7 +1,7 @@
 //! Areas and who owns them (this product's own: the manual's storage has none).
 
 /// What an area is for.
-#[derive(Clone, Copy, Debug, PartialEq, Eq)]
+#[derive(Clone, Copy, PartialEq, Eq)]
 pub enum Kind {
     /// The common work area, or a program.
     Fixed,
@@ -12,7 +12,7 @@ pub enum Kind {
 }
 
 /// Who owns an area.
-#[derive(Clone, Copy, Debug, PartialEq, Eq)]
+#[derive(Clone, Copy, PartialEq, Eq)]
 pub struct Owner {
     /// 0 for the region, else the position of the terminal whose task owns it, counted from 1.
     pub slot: u8,
@@ -21,7 +21,7 @@ pub struct Owner {
 }
 
 /// An area: `len` bytes from the address `start` on, and its owner.
-#[derive(Clone, Copy, Debug, PartialEq, Eq)]
+#[derive(Clone, Copy, PartialEq, Eq)]
 pub struct Area {
     /// The address of the area's first byte.
     pub start: u32,

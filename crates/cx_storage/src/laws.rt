@@ -26,7 +26,7 @@ pub fn areas_apart()
     ensures { AreasApart }
 {}
 
-/// A byte is present exactly where an area has its address, and is below 256.
+/// In sound storage a byte is present exactly where an area has its address, and is below 256.
 pub fn present_in_areas()
     ensures { PresentInAreas }
 {}
@@ -36,22 +36,23 @@ pub fn same_storage()
     ensures { SameStorage }
 {}
 
-/// A span is the bytes at its addresses.
+/// A span from an address below 2^24 is the bytes at its addresses.
 pub fn span_is_bytes()
     ensures { SpanIsBytes }
 {}
 
-/// An area that starts at an address is whole, and each span inside it is present.
+/// In sound storage an area that starts at an address is whole, and each span inside it is present.
 pub fn area_is_present()
     ensures { AreaIsPresent }
 {}
 
-/// The next area is the one with the least start that isn't below an address.
+/// In sound storage the next area is the one with the least start that isn't below an address; there is none exactly
+/// where no area starts there or above.
 pub fn next_area_is_least()
     ensures { NextArea }
 {}
 
-/// Bytes that lie together are present, and bytes of one area and one block lie together.
+/// In sound storage bytes that lie together are present, and bytes of one area and one block lie together.
 pub fn together_is_present()
     ensures present { TogetherIsPresent }
     ensures area { AreaIsTogether }
@@ -62,13 +63,16 @@ pub fn byte_after_set()
     ensures { ByteAfterSet }
 {}
 
-/// What bytes written leave, byte by byte; nothing where one of them is absent.
+/// What bytes written leave, byte by byte: the new ones in their span, where all of them are present, and every other
+/// as it was; nothing is changed where one of them is absent. The addresses are below 2^24, and at most 2^24 bytes are
+/// written.
 pub fn byte_after_write()
     ensures whole { ByteAfterWrite }
     ensures nothing { NothingWritten }
 {}
 
-/// After a write its own span reads what was written; a span that meets none of its addresses reads as before.
+/// After a write its own span reads what was written; a span that meets none of its addresses reads as before. The
+/// addresses are below 2^24, each span has at most 2^24 bytes, and those written are there.
 pub fn span_after_write()
     ensures same { SpanAfterWrite }
     ensures aside { SpanAside }
@@ -84,37 +88,42 @@ pub fn set_keeps_areas()
     ensures { SetKeepsAreas }
 {}
 
-/// A write into some areas leaves the bytes of all others.
+/// A write into some areas leaves the bytes of all others. The address is below 2^24, and at most 2^24 bytes are
+/// written.
 pub fn others_stay()
     ensures { WritesKeepOthers }
 {}
 
-/// An area that is put in at a place has zeros; all other bytes and areas are as before.
+/// In sound storage an area of a byte or more that is put in at a place, which is free, has zeros; all other bytes and
+/// areas are as before.
 pub fn fresh_area()
     ensures { FreshArea }
 {}
 
-/// Of areas that are freed no byte is left; all others are as before.
+/// In sound storage, of areas that are freed no byte is left; all others are as before.
 pub fn areas_freed()
     ensures { AreasFreed }
 {}
 
-/// An area can be placed exactly at a multiple of 16 at which all of it lies in the range and no byte of it is present.
+/// In sound storage an area of a byte or more can be placed exactly at a multiple of 16 at which all of it lies in the
+/// range and no byte of it is present.
 pub fn place_is_free()
     ensures { PlaceIsFree }
 {}
 
-/// Of a range and a length there is at most one least place.
+/// Of a range and a length there is at most one least place, and the areas decide it.
 pub fn place_decides()
     ensures { PlaceDecides }
 {}
 
-/// Sound storage stays sound by each change: bytes written, an area put in at a least place, areas freed.
+/// Sound storage stays sound by each change: bytes below 256 written, an area put in at a least place as `get_area`
+/// asks, areas freed.
 pub fn sound_kept()
     ensures { SoundKept }
 {}
 
-/// A word that was written is read back from its place: its first byte is the highest.
+/// A word or a halfword that was written at an address below 2^24, all of its bytes there, is read back from its place:
+/// its first byte is the highest. The number fits.
 pub fn word_after_write()
     ensures { WordAfterWrite }
 {}

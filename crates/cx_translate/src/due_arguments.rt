@@ -16,7 +16,7 @@ use crate::words::Argument;
 use cx_base::{ArgumentKind, Command, CommandOption, CommonOption, Condition};
 
 /// The argument that is due with a word of an EXEC statement (SC33-0077).
-#[derive(Clone, Copy, Debug)]
+#[derive(Clone, Copy)]
 pub enum DueArgument {
     /// None: no parentheses follow the word.
     Nothing,

@@ -24,7 +24,8 @@ pub fn pieces_are_the_operand()
         → joined (pieces_of operand) ≡ unblanked_from 0 (outside_apostrophes operand) operand }
 {}
 
-/// The option bytes of an accepted statement are legal for its command.
+/// The option bytes of an accepted statement are legal for its command. A statement is accepted where `fault_in` finds
+/// no fault in its words, as `translate` asks.
 #[tactic(auto, using(crate::proofs::RefusalLemmas::legal_bytes))]
 pub fn accepted_bytes_are_legal()
     ensures { (n : ℕ) (command : Command) (cics named words : List Word)

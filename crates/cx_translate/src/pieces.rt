@@ -7,7 +7,7 @@ use cx_source::{Text, outside};
 use std::alloc::{AllocError, Global};
 
 /// A piece of the operand of an EXEC statement, as it is cut.
-#[derive(Debug, Drop)]
+#[derive(Drop)]
 pub enum Token {
     /// A word: what stands between blanks and parentheses.
     Word(Text),

@@ -8,7 +8,7 @@ use cx_source::Text;
 use std::alloc::{AllocError, Global};
 
 /// What follows a word as its argument.
-#[derive(Debug, Drop)]
+#[derive(Drop)]
 pub enum Argument {
     /// Nothing.
     Absent,
@@ -19,7 +19,7 @@ pub enum Argument {
 }
 
 /// A word of an operand, with its argument.
-#[derive(Debug, Drop)]
+#[derive(Drop)]
 pub struct Word {
     /// The word itself.
     pub name: Text,

@@ -1,174 +1,169 @@
 //! Alterations of tasks by rows worked by hand.
-use crate::acts::{Act, FIRST, bytes, reply, task, terminal};
-use cx_ebcdic::{Aid, Name4};
-use cx_region::{AlterReply, Change, Reply, TurnReply};
-use std::alloc::Global;
-use std::test::Fail;
 
-/// A program that builds an argument list with one word and gives RETURN, whose block is its last four bytes, at
-/// 01001C.
-const RETURN: [u8; 32] = [
-    0x41, 0x00, 0xF0, 0x1C, 0x50, 0x00, 0xF0, 0x18, 0x96, 0x80, 0xF0, 0x18, 0x41, 0x10, 0xF0, 0x18,
-    0x41, 0xE0, 0x08, 0x00, 0x05, 0xEE, 0x00, 0x00, 0x00, 0x00, 0x00, 0x00, 0x0E, 0x08, 0x00, 0x00,
+use crate::acts::{Act, FIRST, NONE, Turned, done, empty, gone};
+use crate::looks::{Shown, byte_of, task_of};
+use crate::programs::{RETURN, Text};
+use Act::*;
+use cx_region::{AlterReply, Change, Region};
+use cx_storage::FlatStore;
+use std::alloc::Global;
+
+/// The first program's text.
+const TEXT: Text = Text::Is(&RETURN);
+
+const AT_COMMAND: Act = Turn(FIRST, Turned::AtCommand);
+
+/// The first task as it comes to its command.
+const DUE: Shown = Shown {
+    number: 1,
+    eib: 0x20_0000,
+    stg: 0x20_0060,
+    stg_len: 80,
+    next: 0x800,
+    due: true,
+};
+
+/// Cases: acts in a region in which nothing is defined at first, and the first program gives RETURN.
+#[rattlefmt::skip]
+const CASES: &[(&str, &[Act])] = &[
+    // after the command comes 0000, which is no instruction
+    ("a dropped command", &[
+        Attached,
+        AT_COMMAND,
+        Alter(FIRST, Change::Nop, AlterReply::Altered),
+        Turn(FIRST, Turned::Abended("ASRA")),
+    ]),
+    ("a function that there isn't", &[
+        Attached,
+        AT_COMMAND,
+        Alter(FIRST, Change::Byte(0x01_001D, 0xFF), AlterReply::Altered),
+        Turn(FIRST, Turned::Abended("XFUN")),
+    ]),
+    ("no argument list", &[
+        Attached,
+        AT_COMMAND,
+        Alter(FIRST, Change::Register(1, 0), AlterReply::Altered),
+        Turn(FIRST, Turned::Abended("XARG")),
+    ]),
+    ("an ended task leaves nothing", &[
+        Attached,
+        AT_COMMAND,
+        Alter(FIRST, Change::Abend, AlterReply::Altered),
+        Task(FIRST, None),
+        Absent(0x20_0000),
+        Turn(FIRST, Turned::Idle),
+    ]),
+    ("a register that the command doesn't use", &[
+        Attached,
+        AT_COMMAND,
+        Alter(FIRST, Change::Register(15, 0xFFFF_FFFF), AlterReply::Altered),
+        Turn(FIRST, Turned::Ended),
+    ]),
+    ("refusals of a task whose command is due", &[
+        Attached,
+        AT_COMMAND,
+        Alter(FIRST, Change::Byte(0, 0), AlterReply::NoByte),
+        Alter(FIRST, Change::Byte(0x0100_0000, 0), AlterReply::NoByte),
+        Alter(FIRST, Change::Byte(0xFFFF_FFFF, 0), AlterReply::NoByte),
+        Alter(NONE, Change::Nop, AlterReply::NoSuchTerminal),
+        Alter(NONE, Change::Byte(0, 0), AlterReply::NoSuchTerminal),
+        Task(FIRST, Some(DUE)),
+    ]),
+    ("refusals without a task", &[
+        Defined,
+        Alter(FIRST, Change::Nop, AlterReply::NoTask),
+        Alter(FIRST, Change::Byte(0, 0), AlterReply::NoTask),
+        Alter(FIRST, Change::Abend, AlterReply::NoTask),
+    ]),
+    ("a task whose command isn't due", &[
+        Attached,
+        Alter(FIRST, Change::Nop, AlterReply::NotDue),
+        Alter(FIRST, Change::Byte(0, 0), AlterReply::NoByte),
+        Alter(FIRST, Change::Register(1, 0), AlterReply::Altered),
+    ]),
+    ("a register is set", &[
+        Attached,
+        AT_COMMAND,
+        Alter(FIRST, Change::Register(7, 0x1234_5678), AlterReply::Altered),
+        Register(7, 0x1234_5678),
+        Task(FIRST, Some(DUE)),
+    ]),
+    // of the common work area
+    ("a byte is set", &[
+        Attached,
+        AT_COMMAND,
+        Alter(FIRST, Change::Byte(0x00_11FF, 0xAA), AlterReply::Altered),
+        Storage(0x00_11FE, &[0x00, 0xAA]),
+    ]),
 ];
 
-/// A terminal that isn't defined.
-const NONE: u8 = 0xF9;
-
-const ASRA: [u8; 4] = [0xC1, 0xE2, 0xD9, 0xC1];
-
-const XARG: [u8; 4] = [0xE7, 0xC1, 0xD9, 0xC7];
-
-const XFUN: [u8; 4] = [0xE7, 0xC6, 0xE4, 0xD5];
-
-/// The program, its transaction and a terminal; a key of it; the turn up to RETURN; an alteration; and one turn.
-fn acts_of(change: Change) -> [Act<'static>; 7] {
-    [
-        Act::Program(FIRST, &RETURN, 80),
-        Act::Transaction(FIRST, FIRST),
-        Act::Terminal(FIRST),
-        Act::Key(FIRST, Aid::Enter, 4),
-        Act::Turn(FIRST),
-        Act::Alter(FIRST, change),
-        Act::Turn(FIRST),
-    ]
-}
-
-/// What the first `count` of these are answered.
-fn answer(alloc: Global, change: Change, count: usize) -> Result<Option<Reply>, Fail> {
-    let acts = acts_of(change);
-    let (done, _) = acts.split_at(count.min(7));
-    reply(alloc, done)
-}
-
-/// Whether the alteration is done, and the turn after it is answered so.
-fn turns_to(alloc: Global, change: Change, turned: TurnReply) -> Result<bool, Fail> {
-    Ok(
-        answer(alloc, change, 6)? == Some(Reply::Alter(AlterReply::Altered))
-            && answer(alloc, change, 7)? == Some(Reply::Turn(turned)),
-    )
-}
-
-fn abended(code: [u8; 4]) -> TurnReply {
-    TurnReply::Abended(Name4::from_bytes(code))
-}
-
-/// What an alteration is answered after the first `count` of the calls up to RETURN, at this terminal.
-fn refusal(alloc: Global, count: usize, n: u8, change: Change) -> Result<Option<Reply>, Fail> {
-    let mut acts = Vec::new(alloc);
-    for act in acts_of(change).iter().take(count.min(5)) {
-        acts.push(*act)?;
+#[test]
+fn alterations_are_answered(rt: HostRuntime) {
+    for &(case, acts) in CASES {
+        let done = done(rt.alloc(), TEXT, acts);
+        assert!(rt; done == acts.len(), "{case}: {done}");
     }
-    acts.push(Act::Alter(n, change))?;
-    reply(alloc, acts.as_slice())
+}
+
+/// What an alteration may change of a task.
+#[derive(Clone, Copy, PartialEq, Eq)]
+struct State {
+    regs: [u32; 16],
+    cc: u8,
+    next: u32,
+    due: bool,
+}
+
+fn seen(region: &Region<FlatStore>) -> Option<State> {
+    let task = task_of(region, FIRST)?;
+    let regs = task.cpu.regs;
+    Some(State {
+        regs,
+        cc: task.cpu.cc,
+        next: task.cpu.next,
+        due: task.due,
+    })
+}
+
+/// The bytes of the first task's EIB, and FF for one that is absent.
+fn eib_of(region: &Region<FlatStore>) -> [u8; 88] {
+    let mut bytes = [0xFF; 88];
+    for k in 0..88usize {
+        if let Some(byte) = byte_of(region, 0x20_0000 + k as u32) {
+            bytes[k] = byte;
+        }
+    }
+    bytes
+}
+
+/// Whether the first task's command is dropped, and only the next instruction, which is at 010016, is another.
+fn drops(alloc: Global, region: &mut Region<FlatStore>) -> bool {
+    let old = seen(region);
+    let eib = eib_of(region);
+    let nop = Alter(FIRST, Change::Nop, AlterReply::Altered);
+    let is_done = gone(alloc, region, TEXT, &[nop]) == 1;
+    match old {
+        Some(old) if is_done && old.due && old.next == 0x800 => {
+            let new = State {
+                next: 0x01_0016,
+                due: false,
+                ..old
+            };
+            seen(region) == Some(new) && eib_of(region) == eib
+        }
+        _ => false,
+    }
+}
+
+/// Whether a task that comes to its command drops it.
+fn is_dropped(alloc: Global) -> bool {
+    let Ok(mut region) = empty(alloc) else {
+        return false;
+    };
+    gone(alloc, &mut region, TEXT, &[Attached, AT_COMMAND]) == 2 && drops(alloc, &mut region)
 }
 
 #[test]
-fn after_an_alteration_the_turn_is_another(rt: HostRuntime) -> Result<(), Fail> {
-    // After the command comes 0000, which is no instruction.
-    assert!(rt; turns_to(rt.alloc(), Change::Nop, abended(ASRA))?);
-    // The command is RETURN with a function that there isn't.
-    assert!(rt; turns_to(rt.alloc(), Change::Byte(0x01_001D, 0xFF), abended(XFUN))?);
-    // R1 addresses no argument list.
-    assert!(rt; turns_to(rt.alloc(), Change::Register(1, 0), abended(XARG))?);
-    assert!(rt; turns_to(rt.alloc(), Change::Abend, TurnReply::Idle)?);
-    assert!(rt;
-        turns_to(
-            rt.alloc(),
-            Change::Register(15, 0xFFFF_FFFF),
-            TurnReply::Ended
-        )?
-    );
-    Ok(())
-}
-
-/// Whether an alteration after the first `count` of the calls is answered so.
-fn refuses(
-    alloc: Global,
-    count: usize,
-    n: u8,
-    change: Change,
-    expected: AlterReply,
-) -> Result<bool, Fail> {
-    Ok(refusal(alloc, count, n, change)? == Some(Reply::Alter(expected)))
-}
-
-#[test]
-fn refusals_have_an_order(rt: HostRuntime) -> Result<(), Fail> {
-    let absent = Change::Byte(0, 0);
-    assert!(rt; refuses(rt.alloc(), 5, FIRST, absent, AlterReply::NoByte)?);
-    assert!(rt;
-        refuses(
-            rt.alloc(),
-            5,
-            FIRST,
-            Change::Byte(0x0100_0000, 0),
-            AlterReply::NoByte
-        )?
-    );
-    assert!(rt;
-        refuses(
-            rt.alloc(),
-            5,
-            FIRST,
-            Change::Byte(0xFFFF_FFFF, 0),
-            AlterReply::NoByte
-        )?
-    );
-    assert!(rt; refuses(rt.alloc(), 5, NONE, Change::Nop, AlterReply::NoSuchTerminal)?);
-    assert!(rt; refuses(rt.alloc(), 5, NONE, absent, AlterReply::NoSuchTerminal)?);
-    assert!(rt; refuses(rt.alloc(), 3, FIRST, Change::Nop, AlterReply::NoTask)?);
-    assert!(rt; refuses(rt.alloc(), 3, FIRST, absent, AlterReply::NoTask)?);
-    assert!(rt; refuses(rt.alloc(), 3, FIRST, Change::Abend, AlterReply::NoTask)?);
-    assert!(rt; refuses(rt.alloc(), 4, FIRST, Change::Nop, AlterReply::NotDue)?);
-    assert!(rt; refuses(rt.alloc(), 4, FIRST, absent, AlterReply::NoByte)?);
-    assert!(rt;
-        refuses(
-            rt.alloc(),
-            4,
-            FIRST,
-            Change::Register(1, 0),
-            AlterReply::Altered
-        )?
-    );
-    Ok(())
-}
-
-#[test]
-fn a_dropped_command_changes_no_more_than_it_says(rt: HostRuntime) -> Result<(), Fail> {
-    let acts = acts_of(Change::Nop);
-    let (before, _) = acts.split_at(5);
-    let (after, _) = acts.split_at(6);
-    let old = task(rt.alloc(), before, FIRST)?.ok_or("a task")?;
-    let new = task(rt.alloc(), after, FIRST)?.ok_or("a task")?;
-    assert!(rt; old.due && old.cpu.next == 0x800 && !new.due && new.cpu.next == 0x01_0016);
-    assert!(rt; new.cpu.regs == old.cpu.regs && new.cpu.cc == old.cpu.cc);
-    // The EIB is as it was: no command has written it.
-    assert!(rt;
-        bytes(rt.alloc(), after, 0x20_0000, 88)? == bytes(rt.alloc(), before, 0x20_0000, 88)?
-    );
-    Ok(())
-}
-
-#[test]
-fn a_register_and_a_byte_are_set(rt: HostRuntime) -> Result<(), Fail> {
-    let set = acts_of(Change::Register(7, 0x1234_5678));
-    let (done, _) = set.split_at(6);
-    let seen = task(rt.alloc(), done, FIRST)?.ok_or("a task")?;
-    assert!(rt; seen.cpu.regs[7] == 0x1234_5678 && seen.due);
-    // A byte of the common work area, and the last byte of a second area.
-    let work = acts_of(Change::Byte(0x00_11FF, 0xAA));
-    let (done, _) = work.split_at(6);
-    assert!(rt; bytes(rt.alloc(), done, 0x00_11FE, 2)?.as_slice() == [0x00, 0xAA].as_slice());
-    Ok(())
-}
-
-#[test]
-fn an_ended_task_leaves_nothing(rt: HostRuntime) -> Result<(), Fail> {
-    let acts = acts_of(Change::Abend);
-    let (done, _) = acts.split_at(6);
-    assert!(rt; task(rt.alloc(), done, FIRST)?.is_none());
-    assert!(rt; bytes(rt.alloc(), done, 0x20_0000, 1)?.is_empty());
-    assert!(rt; terminal(FIRST) != terminal(NONE));
-    Ok(())
+fn a_dropped_command_changes_no_more_than_it_says(rt: HostRuntime) {
+    assert!(rt; is_dropped(rt.alloc()));
 }

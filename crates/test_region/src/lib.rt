@@ -1,4 +1,5 @@
-//! Tests of the region over its public calls.
+//! Tests of the region over its public calls, and of the instructions made of EXEC statements: storage holds them, they
+//! are run, and the list that they leave is read.
 #![tactic(auto)]
 
 #[cfg(test)]
@@ -6,6 +7,12 @@ mod acts;
 #[cfg(test)]
 mod alter;
 #[cfg(test)]
+mod arrival;
+#[cfg(test)]
 mod call;
+#[cfg(test)]
+mod looks;
+#[cfg(test)]
+mod programs;
 #[cfg(test)]
 mod region;

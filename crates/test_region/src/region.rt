@@ -1,519 +1,245 @@
 //! Regions by rows worked by hand, and each call once.
-ghost use Rattle.cx_region.specs.Events.{IsAllowed};
 
-use crate::acts::{
-    Act, FIRST, after, bytes, checked, is_blank, program, reply, task, terminal, transaction,
+use crate::acts::{Act, FIRST, NONE, Turned, done, empty, terminal};
+use crate::looks::Shown;
+use crate::programs::{
+    HALF_A_PAIR, LOOP, NO_FUNCTION, NO_HIGH_BIT, NO_LIST, NO_OPTION, RETURN, SUSPEND,
+    SUSPEND_AFTER_FF, SUSPEND_WITH_RESP, Text,
 };
-use cx_base::Condition;
-use cx_code::Bytes;
-use cx_ebcdic::{Aid, Name4};
-use cx_load::Loaded;
-use cx_region::{DefineFault, Event, KeyReply, Region, Reply, TurnReply, command_name};
-use cx_storage::FlatStore;
+use Act::*;
+use cx_ebcdic::Aid;
+use cx_region::{DefineFault, Event, KeyReply, Reply, TurnReply, command_name};
 use std::alloc::Global;
-use std::test::Fail;
-
-/// A program that builds an argument list with one word and gives its command, whose block is its last four bytes:
-/// RETURN.
-const ONE_COMMAND: [u8; 32] = [
-    0x41, 0x00, 0xF0, 0x1C, 0x50, 0x00, 0xF0, 0x18, 0x96, 0x80, 0xF0, 0x18, 0x41, 0x10, 0xF0, 0x18,
-    0x41, 0xE0, 0x08, 0x00, 0x05, 0xEE, 0x00, 0x00, 0x00, 0x00, 0x00, 0x00, 0x0E, 0x08, 0x00, 0x00,
-];
-
-/// A program that sets all bytes of its EIB to FF, and then gives SUSPEND: MVI 0(11),255; MVC 1(87,11),0(11); and the
-/// list as above.
-const SUSPEND_AFTER_FF: [u8; 44] = [
-    0x92, 0xFF, 0xB0, 0x00, 0xD2, 0x56, 0xB0, 0x01, 0xB0, 0x00, 0x41, 0x00, 0xF0, 0x28, 0x50, 0x00,
-    0xF0, 0x24, 0x96, 0x80, 0xF0, 0x24, 0x41, 0x10, 0xF0, 0x24, 0x41, 0xE0, 0x08, 0x00, 0x05, 0xEE,
-    0x00, 0x00, 0x00, 0x00, 0x00, 0x00, 0x00, 0x00, 0x12, 0x08, 0x00, 0x00,
-];
-
-/// A program whose list is ready: SUSPEND with NOHANDLE and RESP, whose word is the last of the text.
-const SUSPEND_WITH_RESP: [u8; 32] = [
-    0x41, 0x10, 0xF0, 0x10, 0x41, 0xE0, 0x08, 0x00, 0x05, 0xEE, 0x00, 0x00, 0x00, 0x00, 0x00, 0x00,
-    0x00, 0x01, 0x00, 0x18, 0x80, 0x01, 0x00, 0x1C, 0x12, 0x08, 0x00, 0xC0, 0xFF, 0xFF, 0xFF, 0xFF,
-];
-
-/// A program that goes round in one instruction: BC 15,0(15).
-const LOOP: [u8; 4] = [0x47, 0xF0, 0xF0, 0x00];
-
-/// A program that asks for a command whose list is at address 0: LA 1,0; LA 14,X'800'; BALR 14,14.
-const NO_LIST: [u8; 10] = [0x41, 0x10, 0x00, 0x00, 0x41, 0xE0, 0x08, 0x00, 0x05, 0xEE];
-
-/// The first program with a command's block.
-fn with_block(block: [u8; 4]) -> [u8; 32] {
-    let mut text = ONE_COMMAND;
-    text[28] = block[0];
-    text[29] = block[1];
-    text[30] = block[2];
-    text[31] = block[3];
-    text
-}
 
 /// The address of the first task's EIB.
 const EIB: u32 = 0x20_0000;
 
-/// A terminal that isn't defined.
-const NONE: u8 = 0xF0;
+/// The first task as it is attached.
+const ATTACHED: Shown = Shown {
+    number: 1,
+    eib: EIB,
+    stg: 0x20_0060,
+    stg_len: 80,
+    next: 0x01_0000,
+    due: false,
+};
 
-/// One program, its transaction and a terminal; a key of it; and three turns.
-fn acts_of(text: &[u8]) -> [Act<'_>; 7] {
-    [
-        Act::Program(FIRST, text, 80),
-        Act::Transaction(FIRST, FIRST),
-        Act::Terminal(FIRST),
-        Act::Key(FIRST, Aid::Enter, 4),
-        Act::Turn(FIRST),
-        Act::Turn(FIRST),
-        Act::Turn(FIRST),
-    ]
+/// Cases: a program's text, and acts in a region in which nothing is defined at first.
+#[rattlefmt::skip]
+const CASES: &[(&str, Text, &[Act])] = &[
+    ("a task returns", Text::Is(&RETURN), &[
+        Program(FIRST, 80, Ok((0x01_0000, 32))),
+        Terminal(FIRST, Ok(())),
+        Transaction(FIRST, FIRST, Ok(())),
+        Clock,
+        Key(FIRST, Aid::Enter, 4, KeyReply::Attached),
+        Turn(FIRST, Turned::AtCommand),
+        Turn(FIRST, Turned::Ended),
+    ]),
+    ("an event is answered as its call", Text::Is(&RETURN), &[
+        Defined,
+        TerminalEvent(FIRST, Err(DefineFault::Duplicate)),
+        KeyEvent(FIRST, KeyReply::Attached),
+        KeyEvent(FIRST, KeyReply::AlreadyHeldInput),
+    ]),
+    ("a list at an absent address abends", Text::Is(&NO_LIST), &[
+        Attached,
+        Turn(FIRST, Turned::AtCommand),
+        Turn(FIRST, Turned::Abended("XARG")),
+    ]),
+    ("a list without a high bit abends", Text::Is(&NO_HIGH_BIT), &[
+        Attached,
+        Turn(FIRST, Turned::AtCommand),
+        Turn(FIRST, Turned::Abended("XARG")),
+    ]),
+    ("an unknown function abends", Text::Is(&NO_FUNCTION), &[
+        Attached,
+        Turn(FIRST, Turned::AtCommand),
+        Turn(FIRST, Turned::Abended("XFUN")),
+    ]),
+    ("an illegal option byte 1 abends", Text::Is(&HALF_A_PAIR), &[
+        Attached,
+        Turn(FIRST, Turned::AtCommand),
+        Turn(FIRST, Turned::Abended("XFUN")),
+    ]),
+    ("an illegal option byte 2 abends", Text::Is(&NO_OPTION), &[
+        Attached,
+        Turn(FIRST, Turned::AtCommand),
+        Turn(FIRST, Turned::Abended("XFUN")),
+    ]),
+    ("a loop abends", Text::Is(&LOOP), &[
+        Attached,
+        Turn(FIRST, Turned::Abended("AICA")),
+        Turn(FIRST, Turned::Idle),
+    ]),
+    ("the EIB at attach", Text::Is(&RETURN), &[
+        Defined,
+        Clock,
+        Key(FIRST, Aid::Pf3, 4, KeyReply::Attached),
+        Storage(EIB, &[
+            0x01, 0x23, 0x45, 0x6C, 0x00, 0x98, 0x36, 0x5C, 0xD9, 0xC5, 0xE3, 0xF1, 0x00, 0x00, 0x00, 0x1C,
+            0xE3, 0xF0, 0xF0, 0xF1, 0x00, 0x00, 0x00, 0x00, 0x00, 0x00, 0xF3,
+        ]),
+        Zeros(EIB + 27, 61),
+        Absent(EIB + 88),
+        Absent(0xFFFF_FFFF),
+    ]),
+    ("a task is shown", Text::Is(&RETURN), &[
+        Defined,
+        Task(FIRST, None),
+        Key(FIRST, Aid::Enter, 4, KeyReply::Attached),
+        Task(FIRST, Some(ATTACHED)),
+        Turn(FIRST, Turned::AtCommand),
+        Task(FIRST, Some(Shown { next: 0x800, due: true, ..ATTACHED })),
+    ]),
+    // of the EIB, which was all FF: EIBFN 1208, EIBRCODE and EIBRESP zero
+    ("SUSPEND writes its fields alone", Text::Is(&SUSPEND_AFTER_FF), &[
+        Attached,
+        Turn(FIRST, Turned::AtCommand),
+        Turn(FIRST, Turned::Performed),
+        Storage(EIB, &[
+            0xFF, 0xFF, 0xFF, 0xFF, 0xFF, 0xFF, 0xFF, 0xFF, 0xFF, 0xFF, 0xFF, 0xFF, 0xFF, 0xFF, 0xFF, 0xFF,
+            0xFF, 0xFF, 0xFF, 0xFF, 0xFF, 0xFF, 0xFF, 0xFF, 0xFF, 0xFF, 0xFF, 0x12, 0x08, 0x00, 0x00, 0x00,
+            0x00, 0x00, 0x00, 0xFF, 0xFF, 0xFF, 0xFF, 0xFF, 0xFF, 0xFF, 0xFF, 0xFF, 0xFF, 0xFF, 0xFF, 0xFF,
+            0xFF, 0xFF, 0xFF, 0xFF, 0xFF, 0xFF, 0xFF, 0xFF, 0xFF, 0xFF, 0xFF, 0xFF, 0xFF, 0xFF, 0xFF, 0xFF,
+            0xFF, 0xFF, 0xFF, 0xFF, 0xFF, 0xFF, 0xFF, 0xFF, 0xFF, 0xFF, 0xFF, 0xFF, 0x00, 0x00, 0x00, 0x00,
+            0xFF, 0xFF, 0xFF, 0xFF, 0xFF, 0xFF, 0xFF, 0xFF,
+        ]),
+        Absent(EIB + 88),
+    ]),
+    ("an abend leaves nothing", Text::Is(&SUSPEND_AFTER_FF), &[
+        Attached,
+        Turn(FIRST, Turned::AtCommand),
+        Turn(FIRST, Turned::Performed),
+        Task(FIRST, Some(Shown { next: 0x01_0020, ..ATTACHED })),
+        Turn(FIRST, Turned::Abended("ASRA")),
+        Task(FIRST, None),
+        Absent(EIB),
+    ]),
+    ("RESP gets the condition's number", Text::Is(&SUSPEND_WITH_RESP), &[
+        Attached,
+        Storage(0x01_001C, &[0xFF, 0xFF, 0xFF, 0xFF]),
+        Turn(FIRST, Turned::AtCommand),
+        Turn(FIRST, Turned::Performed),
+        Storage(0x01_001C, &[0x00, 0x00, 0x00, 0x00]),
+    ]),
+    ("sixteen tasks have areas of their own", Text::Is(&SUSPEND), &[
+        Program(FIRST, 80, Ok((0x01_0000, 32))),
+        Transaction(FIRST, FIRST, Ok(())),
+        Terminals(1, 17),
+        Numbered(16),
+        Terminal(17, Err(DefineFault::Full)),
+        Terminal(16, Err(DefineFault::Duplicate)),
+        Turns(2, 17, Turned::AtCommand),
+        Turns(2, 17, Turned::Performed),
+        // EIBFN of each
+        Storage(EIB + 27, &[0x00, 0x00]),
+        Storage(EIB + 27 + 1 * 0xB0, &[0x12, 0x08]),
+        Storage(EIB + 27 + 2 * 0xB0, &[0x12, 0x08]),
+        Storage(EIB + 27 + 3 * 0xB0, &[0x12, 0x08]),
+        Storage(EIB + 27 + 4 * 0xB0, &[0x12, 0x08]),
+        Storage(EIB + 27 + 5 * 0xB0, &[0x12, 0x08]),
+        Storage(EIB + 27 + 6 * 0xB0, &[0x12, 0x08]),
+        Storage(EIB + 27 + 7 * 0xB0, &[0x12, 0x08]),
+        Storage(EIB + 27 + 8 * 0xB0, &[0x12, 0x08]),
+        Storage(EIB + 27 + 9 * 0xB0, &[0x12, 0x08]),
+        Storage(EIB + 27 + 10 * 0xB0, &[0x12, 0x08]),
+        Storage(EIB + 27 + 11 * 0xB0, &[0x12, 0x08]),
+        Storage(EIB + 27 + 12 * 0xB0, &[0x12, 0x08]),
+        Storage(EIB + 27 + 13 * 0xB0, &[0x12, 0x08]),
+        Storage(EIB + 27 + 14 * 0xB0, &[0x12, 0x08]),
+        Storage(EIB + 27 + 15 * 0xB0, &[0x12, 0x08]),
+    ]),
+    ("the sixty-fifth program and transaction are refused", Text::Is(&RETURN), &[
+        Programs(0, 64),
+        Transactions(0, 64),
+        Program(64, 80, Err(DefineFault::Full)),
+        Program(0, 80, Err(DefineFault::Duplicate)),
+        Transaction(64, 0, Err(DefineFault::Full)),
+        Transaction(0, 0, Err(DefineFault::Duplicate)),
+    ]),
+    // 31 programs of 65,536 bytes leave no room
+    ("a program without a place is refused", Text::Long(65_536), &[
+        Programs(1, 32),
+        Program(32, 80, Err(DefineFault::NoRoom)),
+    ]),
+    ("keys are answered", Text::Is(&RETURN), &[
+        Defined,
+        Key(NONE, Aid::Enter, 4, KeyReply::NoSuchTerminal),
+        Key(FIRST, Aid::Clear, 4, KeyReply::NoSuchTransaction),
+        Key(FIRST, Aid::Enter, 4, KeyReply::Attached),
+        Key(FIRST, Aid::Enter, 4, KeyReply::AlreadyHeldInput),
+    ]),
+    ("turns without a task are idle", Text::Is(&RETURN), &[
+        Defined,
+        Turn(NONE, Turned::NoSuchTerminal),
+        Turn(FIRST, Turned::Idle),
+    ]),
+    ("a new terminal's screen is blank", Text::Is(&RETURN), &[
+        Terminal(FIRST, Ok(())),
+        Blank(FIRST, Some(true)),
+        Blank(NONE, None),
+    ]),
+    ("a transaction needs its program", Text::Is(&RETURN), &[
+        Transaction(1, 1, Err(DefineFault::NoProgram)),
+    ]),
+    ("the longest program runs", Text::Long(65_536), &[
+        Program(FIRST, 80, Ok((0x01_0000, 65_536))),
+        Transaction(FIRST, FIRST, Ok(())),
+        Terminal(FIRST, Ok(())),
+        Key(FIRST, Aid::Enter, 4, KeyReply::Attached),
+        Turn(FIRST, Turned::AtCommand),
+        Turn(FIRST, Turned::Ended),
+    ]),
+    ("the longest DFHEISTG is given", Text::Is(&RETURN), &[
+        Program(FIRST, 65_520, Ok((0x01_0000, 32))),
+        Transaction(FIRST, FIRST, Ok(())),
+        Terminal(FIRST, Ok(())),
+        Key(FIRST, Aid::Enter, 4, KeyReply::Attached),
+        Task(FIRST, Some(Shown { stg_len: 65_520, ..ATTACHED })),
+        Zeros(0x20_0060, 65_520),
+        Absent(0x21_0050),
+    ]),
+    ("the longest input is held", Text::Is(&RETURN), &[
+        Defined,
+        Key(FIRST, Aid::Enter, 1920, KeyReply::Attached),
+        Key(FIRST, Aid::Enter, 1920, KeyReply::AlreadyHeldInput),
+    ]),
+];
+
+#[test]
+fn acts_are_answered(rt: HostRuntime) {
+    for &(case, text, acts) in CASES {
+        let done = done(rt.alloc(), text, acts);
+        assert!(rt; done == acts.len(), "{case}: {done}");
+    }
 }
 
-/// Whether the first, the second or the third turn of a program's task is answered so.
-fn turns_to(alloc: Global, text: &[u8], turn: usize, turned: TurnReply) -> Result<bool, Fail> {
-    let acts = acts_of(text);
-    let (done, _) = acts.split_at(turn.min(3) + 4);
-    Ok(reply(alloc, done)? == Some(Reply::Turn(turned)))
-}
-
-fn abended(code: [u8; 4]) -> TurnReply {
-    TurnReply::Abended(Name4::from_bytes(code))
-}
-
-const ASRA: [u8; 4] = [0xC1, 0xE2, 0xD9, 0xC1];
-
-const AICA: [u8; 4] = [0xC1, 0xC9, 0xC3, 0xC1];
-
-const XARG: [u8; 4] = [0xE7, 0xC1, 0xD9, 0xC7];
-
-const XFUN: [u8; 4] = [0xE7, 0xC6, 0xE4, 0xD5];
-
-/// The replies to a program's definitions, a clock, a key and two turns, as one run.
-fn whole_run(alloc: Global) -> Result<Vec<Reply>, Fail> {
-    let bytes = Vec::from_slice(alloc, &[0xD9, 0xC5, 0xE3, 0xF1])?;
-    let mut events = Vec::new(alloc);
-    events.push(Event::Program(program(FIRST), checked(alloc, &ONE_COMMAND, 80)?))?;
-    events.push(Event::Terminal(terminal(FIRST)))?;
-    events.push(Event::Transaction(transaction(FIRST), program(FIRST)))?;
-    events.push(Event::Clock(123_456, 98_365))?;
-    events.push(Event::Key(terminal(FIRST), Aid::Enter, Bytes::from_vec(bytes)))?;
-    events.push(Event::Turn(terminal(FIRST)))?;
-    events.push(Event::Turn(terminal(FIRST)))?;
-    let mut region = Region::new(alloc, FlatStore::new(alloc))?;
-    Ok(region.run(events.as_slice())?)
+/// The replies to a terminal's definition, a clock and a turn, as one run.
+fn replies(alloc: Global) -> Option<Vec<Reply>> {
+    let events = [
+        Event::Terminal(terminal(FIRST)),
+        Event::Clock(123_456, 98_365),
+        Event::Turn(terminal(FIRST)),
+    ];
+    empty(alloc).ok()?.run(&events).ok()
 }
 
 #[test]
-fn a_task_returns(rt: HostRuntime) -> Result<(), Fail> {
-    let loaded = Loaded {
-        at: 0x01_0000,
-        len: 32,
-        entry: 0x01_0000,
-        stg_len: 80,
-    };
+fn a_run_answers_each_event(rt: HostRuntime) {
     let expected = [
-        Reply::Program(Ok(loaded)),
         Reply::Terminal(Ok(())),
-        Reply::Transaction(Ok(())),
         Reply::Clock,
-        Reply::Key(KeyReply::Attached),
-        Reply::Turn(TurnReply::AtCommand),
-        Reply::Turn(TurnReply::Ended),
+        Reply::Turn(TurnReply::Idle),
     ];
-    assert!(rt; whole_run(rt.alloc())?.as_slice() == expected.as_slice());
-    Ok(())
-}
-
-/// What an event is answered after some calls.
-fn apply(alloc: Global, acts: &[Act], event: &Event) -> Result<Option<Reply>, Fail>
-    requires { IsAllowed event.now }
-{
-    let (mut region, _) = after(alloc, acts)?;
-    Ok(Some(region.apply(event)?))
-}
-
-/// Whether the first terminal's definition, as an event after some calls, is answered so.
-fn terminal_applies(alloc: Global, acts: &[Act], expected: Reply) -> Result<bool, Fail> {
-    let event = Event::Terminal(terminal(FIRST));
-    Ok(apply(alloc, acts, &event)? == Some(expected))
-}
-
-/// Whether the first transaction's key, as an event after some calls, is answered so.
-fn key_applies(alloc: Global, acts: &[Act], expected: Reply) -> Result<bool, Fail> {
-    let bytes = Vec::from_slice(alloc, &[0xD9, 0xC5, 0xE3, 0xF1])?;
-    let event = Event::Key(terminal(FIRST), Aid::Enter, Bytes::from_vec(bytes));
-    Ok(apply(alloc, acts, &event)? == Some(expected))
-}
-
-#[test]
-fn an_event_is_answered_as_its_call(rt: HostRuntime) -> Result<(), Fail> {
-    let alloc = rt.alloc();
-    let acts = acts_of(&ONE_COMMAND);
-    let duplicate = Reply::Terminal(Err(DefineFault::Duplicate));
-    assert!(rt; terminal_applies(alloc, &acts[..3], duplicate)?);
-    let attached = Reply::Key(KeyReply::Attached);
-    assert!(rt; key_applies(alloc, &acts[..3], attached)?);
-    let held = Reply::Key(KeyReply::AlreadyHeldInput);
-    assert!(rt; key_applies(alloc, &acts[..4], held)?);
-    Ok(())
-}
-
-#[test]
-fn lists_that_are_none_abend(rt: HostRuntime) -> Result<(), Fail> {
-    let alloc = rt.alloc();
-    assert!(rt; turns_to(alloc, &NO_LIST, 2, abended(XARG))?);
-    let mut no_high_bit = ONE_COMMAND;
-    no_high_bit[8] = 0x47;
-    no_high_bit[9] = 0x00;
-    no_high_bit[10] = 0x00;
-    no_high_bit[11] = 0x00;
-    assert!(rt; turns_to(alloc, &no_high_bit, 2, abended(XARG))?);
-    Ok(())
-}
-
-/// An unknown function, and an illegal option byte of each kind.
-#[test]
-fn blocks_that_are_none_abend(rt: HostRuntime) -> Result<(), Fail> {
-    for block in [
-        [0x0E, 0xFF, 0, 0],
-        [0x0E, 0x08, 0x40, 0],
-        [0x0E, 0x08, 0, 1],
-    ] {
-        let text = with_block(block);
-        assert!(rt; turns_to(rt.alloc(), &text, 2, abended(XFUN))?);
+    match replies(rt.alloc()) {
+        Some(replies) => assert!(rt; replies.as_slice() == expected.as_slice()),
+        None => assert!(rt; false),
     }
-    Ok(())
-}
-
-#[test]
-fn a_loop_abends(rt: HostRuntime) -> Result<(), Fail> {
-    assert!(rt; turns_to(rt.alloc(), &LOOP, 1, abended(AICA))?);
-    assert!(rt; turns_to(rt.alloc(), &LOOP, 2, TurnReply::Idle)?);
-    Ok(())
-}
-
-/// A task attached by PF3 with a clock set.
-fn with_clock() -> [Act<'static>; 5] {
-    [
-        Act::Program(FIRST, &ONE_COMMAND, 80),
-        Act::Transaction(FIRST, FIRST),
-        Act::Terminal(FIRST),
-        Act::Clock,
-        Act::Key(FIRST, Aid::Pf3, 4),
-    ]
-}
-
-#[test]
-fn the_eib_at_attach(rt: HostRuntime) -> Result<(), Fail> {
-    let expected = [
-        0x01, 0x23, 0x45, 0x6C, 0x00, 0x98, 0x36, 0x5C, 0xD9, 0xC5, 0xE3, 0xF1, 0x00, 0x00, 0x00,
-        0x1C, 0xE3, 0xF0, 0xF0, 0xF1, 0x00, 0x00, 0x00, 0x00, 0x00, 0x00, 0xF3,
-    ];
-    let eib = bytes(rt.alloc(), &with_clock(), EIB, 89)?;
-    assert!(rt; eib.len() == 88);
-    assert!(rt; eib.starts_with(&expected));
-    assert!(rt; eib.iter().skip(27).all(|value| *value == 0));
-    assert!(rt; bytes(rt.alloc(), &with_clock(), 0xFFFF_FFFF, 1)?.is_empty());
-    Ok(())
-}
-
-#[test]
-fn a_task_is_shown(rt: HostRuntime) -> Result<(), Fail> {
-    let acts = acts_of(&ONE_COMMAND);
-    assert!(rt; task(rt.alloc(), &acts[..3], FIRST)?.is_none());
-    let shown = task(rt.alloc(), &acts[..4], FIRST)?.ok_or("a task")?;
-    assert!(rt; shown.tran == transaction(FIRST));
-    assert!(rt; shown.program == program(FIRST));
-    assert!(rt; shown.number == 1 && shown.levels == 1);
-    assert!(rt; shown.eib == EIB);
-    assert!(rt; shown.stg == 0x20_0060 && shown.stg_len == 80);
-    assert!(rt; shown.cpu.next == 0x01_0000);
-    assert!(rt; !shown.due);
-    let shown = task(rt.alloc(), &acts[..5], FIRST)?.ok_or("a task")?;
-    assert!(rt; shown.due);
-    Ok(())
-}
-
-/// What the EIB holds after SUSPEND where it was all FF: EIBFN 1208, EIBRCODE and EIBRESP zero.
-fn after_suspend(k: usize) -> u8 {
-    match k {
-        27 => 0x12,
-        28 => 0x08,
-        29..=34 | 76..=79 => 0x00,
-        _ => 0xFF,
-    }
-}
-
-#[test]
-fn suspend_writes_its_fields_alone(rt: HostRuntime) -> Result<(), Fail> {
-    let alloc = rt.alloc();
-    let performed = TurnReply::Performed(Condition::Normal);
-    assert!(rt; turns_to(alloc, &SUSPEND_AFTER_FF, 2, performed)?);
-    let eib = bytes(alloc, &acts_of(&SUSPEND_AFTER_FF)[..6], EIB, 88)?;
-    assert!(rt; eib.len() == 88);
-    assert!(rt;
-        eib.iter()
-            .enumerate()
-            .all(|(k, value)| *value == after_suspend(k))
-    );
-    Ok(())
-}
-
-#[test]
-fn an_abend_leaves_nothing(rt: HostRuntime) -> Result<(), Fail> {
-    let alloc = rt.alloc();
-    assert!(rt; turns_to(alloc, &SUSPEND_AFTER_FF, 3, abended(ASRA))?);
-    let acts = acts_of(&SUSPEND_AFTER_FF);
-    assert!(rt; task(alloc, &acts[..6], FIRST)?.is_some());
-    assert!(rt; task(alloc, &acts, FIRST)?.is_none());
-    assert!(rt; bytes(alloc, &acts, EIB, 1)?.is_empty());
-    Ok(())
-}
-
-#[test]
-fn resp_gets_the_conditions_number(rt: HostRuntime) -> Result<(), Fail> {
-    let acts = acts_of(&SUSPEND_WITH_RESP);
-    let word = bytes(rt.alloc(), &acts[..6], 0x01_001C, 4)?;
-    assert!(rt; word.as_slice() == [0; 4].as_slice());
-    Ok(())
-}
-
-/// Sixteen terminals, each with a task of one program that suspends.
-fn sixteen(alloc: Global, text: &[u8]) -> Result<Vec<Act<'_>>, Fail> {
-    let mut acts = Vec::new(alloc);
-    acts.push(Act::Program(FIRST, text, 80))?;
-    acts.push(Act::Transaction(FIRST, FIRST))?;
-    for n in 1u8..17 {
-        acts.push(Act::Terminal(n))?;
-        acts.push(Act::Key(n, Aid::Enter, 4))?;
-    }
-    Ok(acts)
-}
-
-/// Whether the tasks' areas follow one another, and the tasks are numbered.
-fn is_numbered(alloc: Global, acts: &[Act], n: u8) -> Result<bool, Fail> {
-    let number = u32::from(n);
-    let eib = 0x1F_FF50 + number * 0xB0;
-    let shown = task(alloc, acts, n)?.ok_or("a task")?;
-    Ok(shown.number == number && shown.eib == eib && shown.stg == eib + 0x60)
-}
-
-#[test]
-fn sixteen_tasks_have_areas_of_their_own(rt: HostRuntime) -> Result<(), Fail> {
-    let text = with_block([0x12, 0x08, 0, 0]);
-    let acts = sixteen(rt.alloc(), &text)?;
-    for n in 1u8..17 {
-        assert!(rt; is_numbered(rt.alloc(), acts.as_slice(), n)?, "{n}");
-    }
-    Ok(())
-}
-
-/// The same where all tasks but the first are turned twice, the last of them first.
-fn sixteen_turned(alloc: Global, text: &[u8]) -> Result<Vec<Act<'_>>, Fail> {
-    let mut acts = sixteen(alloc, text)?;
-    for done in 0u8..30 {
-        acts.push(Act::Turn(16 - done % 15))?;
-    }
-    Ok(acts)
-}
-
-/// The first byte of a task's EIBFN.
-fn function_of(alloc: Global, acts: &[Act], n: u32) -> Result<Option<u8>, Fail> {
-    Ok(
-        bytes(alloc, acts, EIB + 27 + n % 16 * 0xB0, 1)?
-            .first()
-            .copied(),
-    )
-}
-
-#[test]
-fn sixteen_tasks_are_turned_apart(rt: HostRuntime) -> Result<(), Fail> {
-    let text = with_block([0x12, 0x08, 0, 0]);
-    let acts = sixteen_turned(rt.alloc(), &text)?;
-    assert!(rt; function_of(rt.alloc(), acts.as_slice(), 0)? == Some(0x00));
-    for n in 1u32..16 {
-        assert!(rt;
-            function_of(rt.alloc(), acts.as_slice(), n)? == Some(0x12),
-            "{n}"
-        );
-    }
-    Ok(())
-}
-
-/// Whether one more call is answered so.
-fn goes_on<'a>(
-    alloc: Global,
-    mut acts: Vec<Act<'a>>,
-    act: Act<'a>,
-    expected: Reply,
-) -> Result<bool, Fail> {
-    acts.push(act)?;
-    Ok(reply(alloc, acts.as_slice())? == Some(expected))
-}
-
-#[test]
-fn the_seventeenth_terminal_is_refused(rt: HostRuntime) -> Result<(), Fail> {
-    let alloc = rt.alloc();
-    let acts = sixteen(alloc, &ONE_COMMAND)?;
-    let full = Reply::Terminal(Err(DefineFault::Full));
-    assert!(rt; goes_on(alloc, acts, Act::Terminal(17), full)?);
-    let acts = sixteen(alloc, &ONE_COMMAND)?;
-    let duplicate = Reply::Terminal(Err(DefineFault::Duplicate));
-    assert!(rt; goes_on(alloc, acts, Act::Terminal(16), duplicate)?);
-    Ok(())
-}
-
-/// Whether a call after the definitions of a program, a transaction and a terminal is answered so.
-fn answers(alloc: Global, act: Act, expected: Reply) -> Result<bool, Fail> {
-    let [program, transaction, terminal, ..] = acts_of(&ONE_COMMAND);
-    Ok(reply(alloc, &[program, transaction, terminal, act])? == Some(expected))
-}
-
-#[test]
-fn keys_are_answered(rt: HostRuntime) -> Result<(), Fail> {
-    for (n, aid, answer) in [
-        (NONE, Aid::Enter, KeyReply::NoSuchTerminal),
-        (FIRST, Aid::Clear, KeyReply::NoSuchTransaction),
-        (FIRST, Aid::Enter, KeyReply::Attached),
-    ] {
-        assert!(rt; answers(rt.alloc(), Act::Key(n, aid, 4), Reply::Key(answer))?);
-    }
-    let [program, transaction, terminal, key, ..] = acts_of(&ONE_COMMAND);
-    let held = Some(Reply::Key(KeyReply::AlreadyHeldInput));
-    let acts = [program, transaction, terminal, key, key];
-    assert!(rt; reply(rt.alloc(), &acts)? == held);
-    Ok(())
-}
-
-#[test]
-fn turns_without_a_task_are_idle(rt: HostRuntime) -> Result<(), Fail> {
-    let alloc = rt.alloc();
-    let none = Reply::Turn(TurnReply::NoSuchTerminal);
-    assert!(rt; answers(alloc, Act::Turn(NONE), none)?);
-    let idle = Reply::Turn(TurnReply::Idle);
-    assert!(rt; answers(alloc, Act::Turn(FIRST), idle)?);
-    Ok(())
-}
-
-#[test]
-fn a_new_terminals_screen_is_blank(rt: HostRuntime) -> Result<(), Fail> {
-    let acts = [Act::Terminal(FIRST)];
-    assert!(rt; is_blank(rt.alloc(), &acts, FIRST)? == Some(true));
-    assert!(rt; is_blank(rt.alloc(), &acts, NONE)?.is_none());
-    Ok(())
 }
 
 #[test]
 fn commands_have_names(rt: HostRuntime) {
     assert!(rt; command_name(0x0E08) == Some("RETURN"));
     assert!(rt; command_name(0x0E09).is_none());
-}
-
-/// Sixty-four programs and transactions.
-fn full(alloc: Global) -> Result<Vec<Act<'static>>, Fail> {
-    let mut acts = Vec::new(alloc);
-    for n in 0u8..64 {
-        acts.push(Act::Program(n, &ONE_COMMAND, 80))?;
-        acts.push(Act::Transaction(n, n))?;
-    }
-    Ok(acts)
-}
-
-#[test]
-fn the_sixty_fifth_program_is_refused(rt: HostRuntime) -> Result<(), Fail> {
-    for (n, fault) in [(64, DefineFault::Full), (0, DefineFault::Duplicate)] {
-        let act = Act::Program(n, &ONE_COMMAND, 80);
-        let acts = full(rt.alloc())?;
-        assert!(rt; goes_on(rt.alloc(), acts, act, Reply::Program(Err(fault)))?);
-    }
-    Ok(())
-}
-
-#[test]
-fn the_sixty_fifth_transaction_is_refused(rt: HostRuntime) -> Result<(), Fail> {
-    for (n, fault) in [(64, DefineFault::Full), (0, DefineFault::Duplicate)] {
-        let act = Act::Transaction(n, 0);
-        let acts = full(rt.alloc())?;
-        assert!(rt; goes_on(rt.alloc(), acts, act, Reply::Transaction(Err(fault)))?);
-    }
-    Ok(())
-}
-
-#[test]
-fn a_transaction_needs_its_program(rt: HostRuntime) -> Result<(), Fail> {
-    let refused = Reply::Transaction(Err(DefineFault::NoProgram));
-    assert!(rt; reply(rt.alloc(), &[Act::Transaction(1, 1)])? == Some(refused));
-    Ok(())
-}
-
-/// A program of `size` bytes.
-fn long_text(alloc: Global, size: usize) -> Result<Vec<u8>, Fail> {
-    let mut text = Vec::from_slice(alloc, &ONE_COMMAND)?;
-    for _ in 32..size {
-        text.push(0)?;
-    }
-    Ok(text)
-}
-
-#[test]
-fn the_longest_program_runs(rt: HostRuntime) -> Result<(), Fail> {
-    let text = long_text(rt.alloc(), 65_536)?;
-    let loaded = Loaded {
-        at: 0x01_0000,
-        len: 65_536,
-        entry: 0x01_0000,
-        stg_len: 80,
-    };
-    let acts = acts_of(text.as_slice());
-    let defined = Some(Reply::Program(Ok(loaded)));
-    assert!(rt; reply(rt.alloc(), &acts[..1])? == defined);
-    assert!(rt; turns_to(rt.alloc(), text.as_slice(), 2, TurnReply::Ended)?);
-    Ok(())
-}
-
-/// As many of the longest programs as storage has room for.
-fn longest(alloc: Global, text: &[u8]) -> Result<Vec<Act<'_>>, Fail> {
-    let mut acts = Vec::new(alloc);
-    for n in 1u8..32 {
-        acts.push(Act::Program(n, text, 80))?;
-    }
-    Ok(acts)
-}
-
-#[test]
-fn a_program_without_a_place_is_refused(rt: HostRuntime) -> Result<(), Fail> {
-    let text = long_text(rt.alloc(), 65_536)?;
-    let acts = longest(rt.alloc(), text.as_slice())?;
-    let act = Act::Program(32, &ONE_COMMAND, 80);
-    let refused = Reply::Program(Err(DefineFault::NoRoom));
-    assert!(rt; goes_on(rt.alloc(), acts, act, refused)?);
-    Ok(())
-}
-
-#[test]
-fn the_longest_dfheistg_is_given(rt: HostRuntime) -> Result<(), Fail> {
-    let acts = [
-        Act::Program(FIRST, &ONE_COMMAND, 65_520),
-        Act::Transaction(FIRST, FIRST),
-        Act::Terminal(FIRST),
-        Act::Key(FIRST, Aid::Enter, 4),
-    ];
-    let shown = task(rt.alloc(), &acts, FIRST)?.ok_or("a task")?;
-    assert!(rt; shown.stg == 0x20_0060 && shown.stg_len == 65_520);
-    let stg = bytes(rt.alloc(), &acts, 0x20_0060, 65_521)?;
-    assert!(rt; stg.len() == 65_520);
-    assert!(rt; stg.iter().all(|value| *value == 0));
-    Ok(())
-}
-
-#[test]
-fn the_longest_input_is_held(rt: HostRuntime) -> Result<(), Fail> {
-    let [program, transaction, terminal, ..] = acts_of(&ONE_COMMAND);
-    let key = Act::Key(FIRST, Aid::Enter, 1920);
-    let acts = [program, transaction, terminal, key, key];
-    let attached = Some(Reply::Key(KeyReply::Attached));
-    assert!(rt; reply(rt.alloc(), &acts[..4])? == attached);
-    let held = Some(Reply::Key(KeyReply::AlreadyHeldInput));
-    assert!(rt; reply(rt.alloc(), &acts)? == held);
-    Ok(())
 }

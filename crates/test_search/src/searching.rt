@@ -1,190 +1,173 @@
-//! What is found, by which lists, and where it is cut.
+//! What is found, by which lists, and where it is cut; which states loop, and which are at rest.
 
 use crate::graph::{Graph, Row};
 use cx_search::{Outcome, search};
 use std::alloc::{AllocError, Global};
 
-fn row(zero: Option<usize>, one: Option<usize>) -> Row {
-    Row { zero, one }
-}
-
 /// Two ways to 3, and 3 is at rest.
-fn diamond() -> [Row; 4] {
-    [
-        row(Some(1), Some(2)),
-        row(Some(3), None),
-        row(None, Some(3)),
-        row(None, None),
-    ]
-}
+#[rattlefmt::skip]
+const DIAMOND: [Row; 4] = [
+    Row { zero: Some(1), one: Some(2) },
+    Row { zero: Some(3), one: None },
+    Row { zero: None, one: Some(3) },
+    Row { zero: None, one: None },
+];
 
 /// From 1 a longer list leads to 2 than the one that begins with the last move; 2 leads back to 0.
-fn shorter() -> [Row; 4] {
-    [
-        row(Some(1), Some(2)),
-        row(Some(2), Some(3)),
-        row(Some(0), None),
-        row(None, None),
-    ]
+#[rattlefmt::skip]
+const SHORTER: [Row; 4] = [
+    Row { zero: Some(1), one: Some(2) },
+    Row { zero: Some(2), one: Some(3) },
+    Row { zero: Some(0), one: None },
+    Row { zero: None, one: None },
+];
+
+/// One place, at rest.
+#[rattlefmt::skip]
+const ONE: [Row; 1] = [
+    Row { zero: None, one: None },
+];
+
+/// 0 leads back to itself, until another move ends it.
+#[rattlefmt::skip]
+const SPIN: [Row; 2] = [
+    Row { zero: Some(0), one: Some(1) },
+    Row { zero: None, one: None },
+];
+
+/// 1 leads to itself alone.
+#[rattlefmt::skip]
+const ENDLESS: [Row; 3] = [
+    Row { zero: Some(1), one: Some(2) },
+    Row { zero: Some(1), one: None },
+    Row { zero: None, one: None },
+];
+
+/// By the lowest moves the spin of 3 is come to first, and 2 was found before it.
+#[rattlefmt::skip]
+const SPINS: [Row; 4] = [
+    Row { zero: Some(1), one: Some(2) },
+    Row { zero: Some(3), one: None },
+    Row { zero: Some(2), one: None },
+    Row { zero: Some(3), one: None },
+];
+
+/// 1 and 3 are at rest; 2 leads to itself too.
+#[rattlefmt::skip]
+const REST: [Row; 4] = [
+    Row { zero: Some(1), one: Some(2) },
+    Row { zero: None, one: None },
+    Row { zero: Some(3), one: Some(2) },
+    Row { zero: None, one: None },
+];
+
+/// A place, and the list of moves that leads to it.
+type Way = (usize, &'static [usize]);
+
+/// A graph, how many states may be kept, at how many moves the search is cut, and what it finds, in this order.
+type Finding = (&'static [Row], usize, Option<usize>, &'static [Way]);
+
+#[rattlefmt::skip]
+const FOUND: [Finding; 7] = [
+    (&DIAMOND, 100, None, &[(0, &[]), (1, &[0]), (2, &[1]), (3, &[0, 0])]),
+    (&SHORTER, 100, None, &[(0, &[]), (1, &[0]), (2, &[1]), (3, &[0, 1])]),
+    (&ENDLESS, 100, None, &[(0, &[]), (1, &[0]), (2, &[1])]),
+    (&ONE, 1, None, &[(0, &[])]),
+    (&DIAMOND, 4, None, &[(0, &[]), (1, &[0]), (2, &[1]), (3, &[0, 0])]),
+    (&DIAMOND, 3, Some(1), &[(0, &[]), (1, &[0]), (2, &[1])]),
+    (&DIAMOND, 2, Some(0), &[(0, &[]), (1, &[0])]),
+];
+
+/// A graph, the place of the first state that is come to again from itself, and of the first that can't rest.
+const LOOPS: [(&[Row], Option<usize>, Option<usize>); 5] = [
+    (&DIAMOND, None, None),
+    (&SHORTER, Some(0), None),
+    (&SPIN, Some(0), None),
+    (&ENDLESS, Some(1), Some(1)),
+    (&SPINS, Some(2), Some(0)),
+];
+
+/// A graph, how many states may be kept, and the places of those at rest: of all, or where that is cut of those that
+/// were found before.
+const RESTING: [(&[Row], usize, &[usize]); 3] = [
+    (&REST, 100, &[1, 3]),
+    (&REST, 3, &[1]),
+    (&DIAMOND, 100, &[3]),
+];
+
+fn graph_of(alloc: Global, rows: &[Row]) -> Result<Graph, AllocError> {
+    Ok(Graph {
+        rows: Vec::from_slice(alloc, rows)?,
+    })
 }
 
-fn find(alloc: Global, rows: &[Row], most: usize) -> Result<Outcome<Graph>, AllocError> {
-    let graph = Graph {
-        rows: Vec::from_slice(alloc, rows)?,
+fn find(alloc: Global, graph: &Graph, most: usize) -> Result<Outcome<Graph>, AllocError> {
+    search(graph, &mut (), 0, most.max(1), alloc)
+}
+
+/// Whether a state was found at a place, by this list.
+fn is_found(
+    alloc: Global,
+    outcome: &Outcome<Graph>,
+    place: usize,
+    (state, list): Way,
+) -> Result<bool, AllocError> {
+    let path = outcome.found.path(place, alloc)?;
+    let Some((found, origin)) = outcome.found.states.get_index(place) else {
+        return Ok(false);
     };
-    search(&graph, &mut (), 0, most.max(1), alloc)
+    Ok(*found == state && origin.moves == list.len() && path.as_slice() == list)
 }
 
 /// Whether these states were found, in this order and by these lists, and no others.
-fn found_are(
-    alloc: Global,
-    outcome: &Outcome<Graph>,
-    wanted: &[(usize, &[usize])],
-) -> Result<bool, AllocError> {
-    if outcome.found.states.len() != wanted.len() {
-        return Ok(false);
-    }
-    for (place, (state, list)) in wanted.iter().enumerate() {
-        let path = outcome.found.path(place, alloc)?;
-        let Some((found, origin)) = outcome.found.states.get_index(place) else {
-            return Ok(false);
-        };
-        if *found != *state || origin.moves != list.len() || path.as_slice() != *list {
+fn are_found(alloc: Global, outcome: &Outcome<Graph>, ways: &[Way]) -> Result<bool, AllocError> {
+    for (place, way) in ways.iter().enumerate() {
+        if !is_found(alloc, outcome, place, *way)? {
             return Ok(false);
         }
     }
-    Ok(true)
+    Ok(outcome.found.states.len() == ways.len())
+}
+
+/// Whether a search finds what it should, and is cut where it should be.
+fn finds(alloc: Global, (rows, most, cut, ways): Finding) -> Result<bool, AllocError> {
+    let outcome = find(alloc, &graph_of(alloc, rows)?, most)?;
+    Ok(outcome.cut == cut && are_found(alloc, &outcome, ways)?)
+}
+
+/// The places of the first states of a graph that loop and that can't rest.
+fn loops_of(alloc: Global, rows: &[Row]) -> Result<(Option<usize>, Option<usize>), AllocError> {
+    let found = find(alloc, &graph_of(alloc, rows)?, 100)?.found;
+    Ok((found.looping()?, found.restless()?))
+}
+
+/// The places of the states at rest.
+fn resting_of(alloc: Global, rows: &[Row], most: usize) -> Result<Vec<usize>, AllocError> {
+    let graph = graph_of(alloc, rows)?;
+    let outcome = find(alloc, &graph, most)?;
+    outcome.found.resting(&graph, &mut (), outcome.cut)
 }
 
 #[test]
 fn each_state_is_found_by_its_soonest_list(rt: HostRuntime) -> Result<(), AllocError> {
-    let outcome = find(rt.alloc(), &diamond(), 100)?;
-    assert!(rt; outcome.cut.is_none());
-    assert!(rt;
-        found_are(
-            rt.alloc(),
-            &outcome,
-            &[(0, &[]), (1, &[0]), (2, &[1]), (3, &[0, 0])]
-        )?
-    );
+    for (number, finding) in FOUND.iter().enumerate() {
+        assert!(rt; finds(rt.alloc(), *finding)?, "{number}");
+    }
     Ok(())
 }
 
-#[test]
-fn a_shorter_list_by_the_last_move_is_sooner(rt: HostRuntime) -> Result<(), AllocError> {
-    let outcome = find(rt.alloc(), &shorter(), 100)?;
-    assert!(rt; outcome.cut.is_none());
-    assert!(rt;
-        found_are(
-            rt.alloc(),
-            &outcome,
-            &[(0, &[]), (1, &[0]), (2, &[1]), (3, &[0, 1])]
-        )?
-    );
-    Ok(())
-}
-
-#[test]
-fn as_many_as_may_be_kept_are_whole(rt: HostRuntime) -> Result<(), AllocError> {
-    let outcome = find(rt.alloc(), &diamond(), 4)?;
-    assert!(rt; outcome.cut.is_none());
-    assert!(rt; outcome.found.states.len() == 4);
-    Ok(())
-}
-
-#[test]
-fn one_less_is_cut_at_the_moves_before(rt: HostRuntime) -> Result<(), AllocError> {
-    let outcome = find(rt.alloc(), &diamond(), 3)?;
-    assert!(rt; outcome.cut == Some(1));
-    assert!(rt; found_are(rt.alloc(), &outcome, &[(0, &[]), (1, &[0]), (2, &[1])])?);
-    let outcome = find(rt.alloc(), &diamond(), 2)?;
-    assert!(rt; outcome.cut == Some(0));
-    assert!(rt; outcome.found.states.len() == 2);
-    Ok(())
-}
-
-#[test]
-fn one_state_at_rest_is_all(rt: HostRuntime) -> Result<(), AllocError> {
-    let outcome = find(rt.alloc(), &[row(None, None)], 1)?;
-    assert!(rt; outcome.cut.is_none());
-    assert!(rt; found_are(rt.alloc(), &outcome, &[(0, &[])])?);
-    Ok(())
-}
-
-#[test]
-fn two_ways_to_one_state_are_no_loop(rt: HostRuntime) -> Result<(), AllocError> {
-    let outcome = find(rt.alloc(), &diamond(), 100)?;
-    assert!(rt; outcome.found.looping()?.is_none());
-    assert!(rt; outcome.found.restless()?.is_none());
-    Ok(())
-}
-
-#[test]
-fn a_state_come_to_again_is_a_loop(rt: HostRuntime) -> Result<(), AllocError> {
-    let outcome = find(rt.alloc(), &shorter(), 100)?;
-    assert!(rt; outcome.found.looping()? == Some(0));
-    assert!(rt; outcome.found.restless()?.is_none());
-    Ok(())
-}
-
-#[test]
-fn a_spin_that_another_move_ends_can_rest(rt: HostRuntime) -> Result<(), AllocError> {
-    let outcome = find(rt.alloc(), &[row(Some(0), Some(1)), row(None, None)], 100)?;
-    assert!(rt; outcome.found.looping()? == Some(0));
-    assert!(rt; outcome.found.restless()?.is_none());
-    Ok(())
-}
-
-#[test]
-fn a_spin_without_an_end_cannot_rest(rt: HostRuntime) -> Result<(), AllocError> {
-    let rows = [row(Some(1), Some(2)), row(Some(1), None), row(None, None)];
-    let outcome = find(rt.alloc(), &rows, 100)?;
-    assert!(rt; outcome.found.looping()? == Some(1));
-    assert!(rt; outcome.found.restless()? == Some(1));
-    assert!(rt; found_are(rt.alloc(), &outcome, &[(0, &[]), (1, &[0]), (2, &[1])])?);
-    Ok(())
-}
-
-// By the lowest moves the spin of 3 is come to first, and 2 was found before it.
 #[test]
 fn the_first_state_found_that_loops_is_given(rt: HostRuntime) -> Result<(), AllocError> {
-    let rows = [
-        row(Some(1), Some(2)),
-        row(Some(3), None),
-        row(Some(2), None),
-        row(Some(3), None),
-    ];
-    let outcome = find(rt.alloc(), &rows, 100)?;
-    assert!(rt; outcome.found.looping()? == Some(2));
-    assert!(rt; outcome.found.restless()? == Some(0));
+    for (rows, looping, restless) in LOOPS {
+        assert!(rt; loops_of(rt.alloc(), rows)? == (looping, restless));
+    }
     Ok(())
-}
-
-/// Whether these are the places of the states at rest, of all, or of those that at most so many moves lead to.
-fn resting_are(
-    alloc: Global,
-    rows: &[Row],
-    most: usize,
-    wanted: &[usize],
-) -> Result<bool, AllocError> {
-    let graph = Graph {
-        rows: Vec::from_slice(alloc, rows)?,
-    };
-    let outcome = search(&graph, &mut (), 0, most.max(1), alloc)?;
-    let places = outcome.found.resting(&graph, &mut (), outcome.cut)?;
-    Ok(places.as_slice() == wanted)
 }
 
 #[test]
 fn states_at_rest_are_given_in_their_order(rt: HostRuntime) -> Result<(), AllocError> {
-    let rows = [
-        row(Some(1), Some(2)),
-        row(None, None),
-        row(Some(3), Some(2)),
-        row(None, None),
-    ];
-    assert!(rt; resting_are(rt.alloc(), &rows, 100, &[1, 3])?);
-    assert!(rt; resting_are(rt.alloc(), &rows, 3, &[1])?);
-    assert!(rt; resting_are(rt.alloc(), &diamond(), 100, &[3])?);
+    for (rows, most, places) in RESTING {
+        assert!(rt; resting_of(rt.alloc(), rows, most)?.as_slice() == places);
+    }
     Ok(())
 }

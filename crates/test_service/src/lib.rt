@@ -2,8 +2,12 @@
 #![tactic(auto)]
 
 #[cfg(test)]
-mod program;
+mod handles;
 #[cfg(test)]
-mod replicas;
+mod levels;
 #[cfg(test)]
-mod service;
+mod queues;
+#[cfg(test)]
+mod resources;
+#[cfg(test)]
+mod screens;

@@ -9,6 +9,8 @@ mod rows;
 #[cfg(test)]
 mod runs;
 #[cfg(test)]
+mod seen;
+#[cfg(test)]
 mod snapshots;
 #[cfg(test)]
 mod stores;

@@ -127,6 +127,7 @@ pub(crate) fn the_entry_comes_before_the_limit<S: Store>(
         if !comes
             || run(&mut cpu, store, 5) != Halt::AtEntry
             || run(&mut cpu, store, 0) != Halt::AtEntry
+            || step(&mut cpu, store) != Step::AtEntry
         {
             return Ok(false);
         }

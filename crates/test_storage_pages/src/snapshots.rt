@@ -1,10 +1,12 @@
 //! Snapshots of stores: they are the areas, owners and bytes that are there, and nothing else; and a store gets them
 //! back.
 
+use crate::stores::renew;
 use cx_storage::{FlatStore, Kind, Owner, Store};
 use cx_storage_pages::{KeepingStore, PagedStore};
 use cx_storage_snapshot::StorageSnapshot;
 use std::alloc::{AllocError, Global};
+use std::process::Abort;
 use std::test::Fail;
 
 const OWNER: Owner = Owner {
@@ -113,40 +115,43 @@ fn one_and_many<S: Store + Drop>(
     Ok(last == Some(7) && many.is_same(&again) && !many.is_same(&whole))
 }
 
-#[test]
-fn snapshots_are_given_back(rt: HostRuntime) -> Result<(), Fail> {
-    let alloc = rt.alloc();
-    assert!(rt; is_given_back(alloc, &mut FlatStore::new(alloc))?);
-    assert!(rt; is_given_back(alloc, &mut PagedStore::new(alloc))?);
-    assert!(rt; is_given_back(alloc, &mut KeepingStore::new(PagedStore::new(alloc)))?);
+/// What a snapshot is to be, each over a store made anew. One area of a length, and as many small ones, are kept too.
+fn expect_snapshots<R: Abort, S: Store + Drop>(
+    rt: &R,
+    alloc: Global,
+    store: &mut S,
+    (len, areas): (u32, u32),
+) -> Result<(), AllocError> {
+    renew(store);
+    assert!(rt; is_given_back(alloc, store)?);
+    renew(store);
+    assert!(rt; freed_bytes_are_none(alloc, store)?);
+    renew(store);
+    assert!(rt; small_changes_are_seen(alloc, store)?);
+    renew(store);
+    assert!(rt; one_and_many(alloc, store, len, areas)?);
     Ok(())
 }
 
 #[test]
-fn snapshots_see_no_freed_bytes(rt: HostRuntime) -> Result<(), Fail> {
+fn snapshots_of_the_plain_store(rt: HostRuntime) -> Result<(), Fail> {
     let alloc = rt.alloc();
-    assert!(rt; freed_bytes_are_none(alloc, &mut FlatStore::new(alloc))?);
-    assert!(rt; freed_bytes_are_none(alloc, &mut PagedStore::new(alloc))?);
-    assert!(rt; freed_bytes_are_none(alloc, &mut KeepingStore::new(PagedStore::new(alloc)))?);
+    expect_snapshots(&rt, alloc, &mut FlatStore::new(alloc), (0x2000, 100))?;
     Ok(())
 }
 
 #[test]
-fn snapshots_see_small_changes(rt: HostRuntime) -> Result<(), Fail> {
+fn snapshots_of_the_store_in_pages(rt: HostRuntime) -> Result<(), Fail> {
     let alloc = rt.alloc();
-    assert!(rt; small_changes_are_seen(alloc, &mut FlatStore::new(alloc))?);
-    assert!(rt; small_changes_are_seen(alloc, &mut PagedStore::new(alloc))?);
-    assert!(rt; small_changes_are_seen(alloc, &mut KeepingStore::new(PagedStore::new(alloc)))?);
+    expect_snapshots(&rt, alloc, &mut PagedStore::new(alloc), (0x10_0000, 1000))?;
     Ok(())
 }
 
 #[test]
-fn snapshots_of_one_area_and_of_many(rt: HostRuntime) -> Result<(), Fail> {
+fn snapshots_of_the_keeping_store(rt: HostRuntime) -> Result<(), Fail> {
     let alloc = rt.alloc();
-    assert!(rt; one_and_many(alloc, &mut FlatStore::new(alloc), 0x2000, 100)?);
-    assert!(rt; one_and_many(alloc, &mut PagedStore::new(alloc), 0x10_0000, 1000)?);
     let mut keeping = KeepingStore::new(PagedStore::new(alloc));
-    assert!(rt; one_and_many(alloc, &mut keeping, 0x10_0000, 1000)?);
+    expect_snapshots(&rt, alloc, &mut keeping, (0x10_0000, 1000))?;
     Ok(())
 }
 

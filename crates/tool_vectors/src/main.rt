@@ -4,7 +4,6 @@
 //!
 //! - `VECTORS spellings`: spellings of instructions (`spellings`);
 //! - `VECTORS steps`: single instructions and short programs (`steps`);
-//! - `VECTORS statements`: single statements and whole sources (`statements`);
 //! - `VECTORS calls`: EXEC statements, up to their calls (`calls`).
 //!
 //! A line before all parts is printed and counted as a difference (`strays`). So are a line `VECTORS` with another
@@ -18,11 +17,8 @@ mod call_judge;
 mod call_layout;
 mod call_program;
 mod calls;
-mod source;
 mod spelling_vector;
 mod spellings;
-mod statement_vector;
-mod statements;
 mod step_judge;
 mod step_vector;
 mod steps;
@@ -30,7 +26,6 @@ mod strays;
 
 use crate::calls::CallPart;
 use crate::spellings::SpellingPart;
-use crate::statements::StatementPart;
 use crate::steps::StepPart;
 use crate::strays::StrayLines;
 use std::io;
@@ -42,7 +37,6 @@ enum Part {
     Stray(StrayLines),
     Spellings(SpellingPart),
     Steps(StepPart),
-    Statements(StatementPart),
     Calls(CallPart),
 }
 
@@ -52,7 +46,6 @@ impl Part {
         match heading {
             "VECTORS spellings" => Ok(Part::Spellings(SpellingPart::new())),
             "VECTORS steps" => Ok(Part::Steps(StepPart::new(rt.alloc()))),
-            "VECTORS statements" => Ok(Part::Statements(StatementPart::new(rt.alloc()))),
             "VECTORS calls" => Ok(Part::Calls(CallPart::new(rt.alloc()))),
             other => {
                 let mut strays = StrayLines::new();
@@ -68,7 +61,6 @@ impl Part {
             Part::Stray(strays) => strays.line(rt, line),
             Part::Spellings(part) => part.line(rt, line),
             Part::Steps(part) => part.line(rt, line),
-            Part::Statements(part) => part.line(rt, line),
             Part::Calls(part) => part.line(rt, line),
         }
     }
@@ -79,7 +71,6 @@ impl Part {
             Part::Stray(strays) => strays.print(rt),
             Part::Spellings(part) => part.print(rt),
             Part::Steps(part) => part.print(rt),
-            Part::Statements(part) => part.print(rt),
             Part::Calls(part) => part.print(rt),
         }
     }

@@ -18,7 +18,7 @@ abbrev pub ArrivesInTime : Type 0
 ArrivesInTime = (m : Machine) (s : Statement) (after : Machine) (limit : ℕ) → Arrives m s after
     → length (instructions_made s) ≤ limit → Advances limit m halt.AtEntry after
 
--- and there is one such machine at most
+-- there is one machine at most that has arrived
 abbrev pub ArrivalsDecide : Type 0
 ArrivalsDecide = (m : Machine) (s : Statement) (a b : Machine) → Arrives m s a → Arrives m s b → a ≡ b
 

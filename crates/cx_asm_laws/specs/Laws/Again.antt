@@ -34,12 +34,13 @@ statement_of (Code i) = statement [] (mnemonic_of i.op) (operands (is_shift i.op
 statement_of (Data bytes) = statement [] (codes "DC") (codes "X'" ++ hex_text bytes ++ codes "'")
 statement_of (Space n) = statement [] (codes "DS") (codes "XL" ++ decimal n)
 
--- they have a blank between them
+-- a line is an operation and an operand with a blank between them
 abbrev pub LinesAreStatements : Type 0
 LinesAreStatements =
     (what : LineContent) → what_text what ≡ (statement_of what).operation ++ codes " " ++ (statement_of what).operand
 
 -- ---- a well-formed instruction is read back, whatever symbols and bases its operand is read by
+-- a well-formed instruction is read back as itself, by whatever symbols and bases
 abbrev pub InstructionsAreReadBack : Type 0
 InstructionsAreReadBack = (i : Instruction) (c : Context) → IsWellFormed i
     → (operation_named (statement_of (Code i)).operation ≡ Some (Machine i.op))
@@ -53,6 +54,7 @@ BytesAreReadBack = (bytes : List ℕ) (whole : Whole) (counter : Option Value) �
     → (constant_in false (statement_of (Data bytes)).operand ≡ Ok (constant 1 Hexadecimal None (Some (hex_text bytes))))
     × (item_made whole false counter (statement_of (Data bytes)).operand ≡ Ok (copy_of_constant bytes false))
 
+-- a space of 1 to 65,535 bytes is read back as one of its length
 abbrev pub SpacesAreReadBack : Type 0
 SpacesAreReadBack = (n : ℕ) → 1 ≤ n → n ≤ 65535
     → constant_in true (statement_of (Space n)).operand ≡ Ok (constant 1 Hexadecimal (Some n) None)

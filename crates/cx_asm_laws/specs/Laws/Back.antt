@@ -10,7 +10,7 @@ ComesBack =
     (source : Source) (made : AssemblyParts) → assembly_of source ≡ Ok made
     → lines made.section.image.text made.section.spans ≡ (standing_of source).lines
 
--- It is the resolved lines.
+-- The disassembly is the resolved lines.
 abbrev pub LinesAreResolved : Type 0
 LinesAreResolved = (source : Source) (made : AssemblyParts) → assembly_of source ≡ Ok made
     → lines made.section.image.text made.section.spans ≡ made.section.resolved

@@ -90,7 +90,7 @@ unfoldable pub given_in : EdfState → List EdfEvent → List Answer → List Ed
 given_in old (e ∷ events) (given ∷ answers) (new ∷ states) = given_by old e given ++ given_in new events answers states
 given_in old _ _ _ = []
 
--- these are its replies
+-- the replies of that run are those that were given under EDF
 abbrev pub ReportedAreThoseGiven : Type 0
 ReportedAreThoseGiven = (make : DisplayMaker) (old : EdfState) (events : List EdfEvent) (answers : List Answer)
     (states : List EdfState) → Trace make old events answers states
@@ -101,14 +101,14 @@ abbrev pub OwnEventsHaveOwnAnswers : Type 0
 OwnEventsHaveOwnAnswers = (make : DisplayMaker) (old : EdfState) (e : EdfEvent) (given : Answer) (new : EdfState)
     → AppliesBy make old e given new → is_own old e ≡ is_edfs given
 
--- Nothing is left of it exactly where its answer is EDF's own, and it is no PF12 that ends a task; or where it is a
--- refused alteration.
+-- Nothing is left of an event exactly where its answer is EDF's own, and it is no PF12 that ends a task; or where it is
+-- a refused alteration.
 abbrev pub ErasedEvents : Type 0
 ErasedEvents = (make : DisplayMaker) (old : EdfState) (e : EdfEvent) (given : Answer) (new : EdfState)
     → AppliesBy make old e given new
     → (length (left_of old e given) == 0) ≡ ((is_edfs given && not (event_ends_task old e)) || is_refusal e given)
 
--- and then the region stays
+-- where nothing is left of an event, the region stays
 abbrev pub ErasedEventsLeaveTheRegion : Type 0
 ErasedEventsLeaveTheRegion = (make : DisplayMaker) (old : EdfState) (e : EdfEvent) (given : Answer) (new : EdfState)
     → AppliesBy make old e given new → left_of old e given ≡ [] → new.region ≡ old.region
@@ -155,7 +155,7 @@ pub record AreAnsweredOff (make : DisplayMaker) (old : RegionState) (events : Li
   pub trace : Trace make (off_at old) (map (λ e. edf_event.Plain e) events) (map (λ r. answer.Region r) replies) states
   pub ends : last_state (off_at old) states ≡ off_at new
 
--- and each run of the region without alterations is such a run
+-- each run of the region without alterations is a run with EDF Off everywhere
 abbrev pub TheRegionIsOff : Type 0
 TheRegionIsOff = (make : DisplayMaker) (old : RegionState) (events : List Event) (replies : List Reply)
     (new : RegionState)
@@ -163,10 +163,12 @@ TheRegionIsOff = (make : DisplayMaker) (old : RegionState) (events : List Event)
     → AreAnsweredOff make old events replies new
 
 -- ---- a session set is that session, and every other terminal's is as before
+-- a session that is put under a terminal's name is found there, and one that is taken out is gone
 abbrev pub SessionsAreSet : Type 0
 SessionsAreSet = (sessions : Sessions) (name : List ℕ) (to : Option SessionState)
     → session_in (with_session sessions name to) name ≡ to
 
+-- those of other terminals stay
 abbrev pub OtherSessionsStay : Type 0
 OtherSessionsStay = (sessions : Sessions) (name other : List ℕ) (to : Option SessionState) → is_name name other ≡ false
     → session_in (with_session sessions name to) other ≡ session_in sessions other

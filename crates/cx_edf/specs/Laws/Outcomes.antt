@@ -15,6 +15,7 @@ pub record HasOutcomeEdf (make : DisplayMaker) (old : EdfState) (e : EdfEvent) :
   pub new : EdfState
   pub applies : AppliesBy make old e given new
 
+-- each event under EDF has an outcome
 abbrev pub EdfEventsHaveOutcomes : Type 0
 EdfEventsHaveOutcomes = (make : DisplayMaker) (old : EdfState) (e : EdfEvent) → IsCheckedEdf e
     → HasOutcomeEdf make old e
@@ -25,7 +26,7 @@ pub record HasTrace (make : DisplayMaker) (old : EdfState) (events : List EdfEve
   pub states : List EdfState
   pub trace : Trace make old events answers states
 
--- so it is of each list of events, images checked
+-- each list of events under EDF, images checked, is a run
 abbrev pub EdfEventListsAreRuns : Type 0
 EdfEventListsAreRuns = (make : DisplayMaker) (old : EdfState) (events : List EdfEvent)
     → AllByRecursion IsCheckedEdf events → HasTrace make old events

@@ -49,7 +49,7 @@ pub record CanBeWatched (make : DisplayMaker) (old : EdfState) (plan : List Watc
   pub replied : region_replies old watched answers states ≡ replies
   pub ends : (last_state old states).region ≡ new
 
--- so it is of each run of the region without alterations, in whatever modes the terminals are
+-- each run of the region without alterations can be watched, in whatever modes the terminals are
 abbrev pub RunsCanBeWatched : Type 0
 RunsCanBeWatched = (make : DisplayMaker) (old : EdfState) (plan : List WatchedEvent) (replies : List Reply)
     (new : RegionState)

@@ -19,6 +19,7 @@ OutsideIsMoved = (s : Storage) (a1 a2 n : ℕ) (second : List ℕ) → a1 < 2 ^ 
     → ((j : ℕ) → 0 < j → j < n → a1 ≢ address_after a2 j) → span s a2 n ≡ Some second
     → stored_by (moved_byte s a1 a2) n ≡ second
 
+-- so XC joins each byte of the first with the one of the second that was there before
 abbrev pub OutsideIsJoined : Type 0
 OutsideIsJoined = (s : Storage) (a1 a2 n k : ℕ) (first second : List ℕ) → a1 < 2 ^ 24 → a2 < 2 ^ 24 → n ≤ 2 ^ 24
     → ((j : ℕ) → 0 < j → j < n → a1 ≢ address_after a2 j) → span s a1 n ≡ Some first → span s a2 n ≡ Some second → k < n

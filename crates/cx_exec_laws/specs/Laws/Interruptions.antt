@@ -29,7 +29,7 @@ InterruptionsLeave =
     (m : Machine) (cause : Interruption) (after : Machine) → Steps m (Interrupt cause) after
     → (after ≡ m) ⊎ IsConversion m cause after
 
--- so the code, the next address and storage are always those before
+-- the code, the next address and storage are always those before
 abbrev pub InterruptionsKeep : Type 0
 InterruptionsKeep = (m : Machine) (cause : Interruption) (after : Machine) → Steps m (Interrupt cause) after
     → (after.cc ≡ m.cc) × (after.next ≡ m.next) × (after.storage ≡ m.storage)

@@ -18,21 +18,21 @@ abbrev pub KeepsWhatIsDue : RegionState → Type 0
 KeepsWhatIsDue region =
     (name : List ℕ) (task : TaskState) → task_of region name ≡ Some task → task.due ≡ true → Keeps task
 
--- each event leaves it so, whatever it is
+-- each event of a region in which what is due is kept leaves it so, whatever the event is
 abbrev pub EventsKeepWhatIsDue : Type 0
 EventsKeepWhatIsDue = (old : RegionState) (event : Event) (reply : Reply) (new : RegionState)
     → KeepsWhatIsDue old → Applies old event reply new → KeepsWhatIsDue new
 
--- and so does each run of events
+-- each run of events of a region leaves it so too
 abbrev pub RunsKeepWhatIsDue : Type 0
 RunsKeepWhatIsDue = (old : RegionState) (events : List Event) (replies : List Reply) (new : RegionState)
     → KeepsWhatIsDue old → Run old events replies new → KeepsWhatIsDue new
 
--- so it is after each event of a run under EDF, and before the first
+-- what is due is kept after each event of a run under EDF, and before the first
 abbrev pub AlwaysKeepsWhatIsDue : EdfState → List EdfEvent → List Answer → List EdfState → Type 0
 AlwaysKeepsWhatIsDue old events answers states = (n : ℕ) → KeepsWhatIsDue (state_after_first old states n).region
 
--- that, of a run that begins so
+-- what is due is kept after each event of a run under EDF, where it was before the first
 abbrev pub StillKeepsWhatIsDue : EdfState → List EdfEvent → List Answer → List EdfState → Type 0
 StillKeepsWhatIsDue old events answers states =
     KeepsWhatIsDue old.region → AlwaysKeepsWhatIsDue old events answers states

@@ -31,11 +31,11 @@ HoldTheirBases regs entry stg eib =
     (c : Context) (name : List ℕ)
     → AreHeld c regs (bases name) ((name, entry) ∷ (codes "DFHEISTG", stg) ∷ (codes "DFHEIBLK", eib) ∷ [])
 
--- The registers of an entry do, with which a level begins by LINK and XCTL.
+-- The registers of an entry hold their bases, with which a level begins by LINK and XCTL.
 abbrev pub EntriesHoldTheirBases : Type 0
 EntriesHoldTheirBases = (entry stg eib : ℕ) → HoldTheirBases (entry_registers entry stg eib) entry stg eib
 
--- So does the task that a key attaches.
+-- So do the registers of the task that a key attaches.
 abbrev pub TasksBeginSo : Type 0
 TasksBeginSo = (tran : List ℕ) (number eib : ℕ) (level : NewLevel) →
     let task = fresh_task tran number eib level in HoldTheirBases task.regs task.next task.levels.current.stg task.eib

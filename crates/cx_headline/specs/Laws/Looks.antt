@@ -33,7 +33,7 @@ pub record IsLookedOver (script : Script LookAction) (answer : Result Summary Ru
   pub unchanged : ChangesNothing fresh_look_state actions text new
   pub did : IsRun fresh_state (flat_map plain_of unchanged.parts) (flat_map written_of unchanged.parts) new.edf
 
--- so it is of each script that ran: the premise is what `run_script_on` ensures of `cicslook`'s performer
+-- in each script that ran looks change nothing: the premise is what `run_script_on` ensures of `cicslook`'s performer
 abbrev pub ScriptsAreLookedOver : Type 0
 ScriptsAreLookedOver = (calls : List DeviceCall) (answer : Result Summary RunFault)
     (session : IsSession look_language LookPerforms fresh_look_state calls answer)

@@ -3,6 +3,7 @@ use Rattle.std.specs.Prelude.{◌≡◌, ◌↔◌, ℕ, List, ◌++◌, Option,
 use Rattle.std.specs.List.{AllByRecursion}
 use Rattle.std.specs.Map.{keys_of as names_of}
 use Rattle.cx_search.specs.Forever.{AtRest, IsLong}
+use Rattle.cx_search.specs.Moves.{Leads}
 use Rattle.cx_search.specs.Rest.{IsNear}
 use Rattle.cx_region.specs.State.{RegionState}
 use Rattle.cx_edf.specs.Steps.{DisplayMaker}
@@ -13,7 +14,7 @@ use Rattle.cx_orders.specs.declared.states.KeyLine.{KeyLine}
 use Rattle.cx_orders.specs.declared.states.OrdersState.{OrdersState}
 use Rattle.cx_look_tables.specs.Words.{Lines}
 use Rattle.cx_look_orders.specs.Laws.{AskFor, IsRunOf}
-use Rattle.cx_look_orders.specs.Outcomes.{EndsWith, HasText, IsStuck, NoLater}
+use Rattle.cx_look_orders.specs.Outcomes.{EndsWith, HasText, IsStuck, IsWritten, NoLater}
 use Rattle.cx_look_orders.specs.Report.{CutText, WholeText}
 use Rattle.cx_look_orders.specs.Rest.{RestText}
 use Rattle.cx_look_orders.specs.Script.{script_lines, steps_lines}
@@ -42,11 +43,14 @@ pub record IsReal (Shows : RegionState → Lines → Type 0) (keys : List KeyLin
   pub soonest : (moves : List ℕ) → EndsWith Shows keys (begun region) moves one.text
       → NoLater (moves_of one.steps) moves
 
--- None is missed of lists of at most so many moves, where they are limited; each is real, and each text stands once.
+-- None is missed of lists of at most so many moves, where they are limited: each that ends at rest ends with the text of
+-- an outcome, and whatever is written of its end is one. Each is real, and each text stands once.
 pub record AreAll (Shows : RegionState → Lines → Type 0) (keys : List KeyLine) (region : RegionState) (cut : Option ℕ)
     (outcomes : List Outcome) : Type 0 where
   pub none_missed : (moves : List ℕ) (text : Lines) → EndsWith Shows keys (begun region) moves text
       → IsNear cut (length moves) → HasText outcomes text
+  pub written : (moves : List ℕ) (to : OrdersState) → Leads (Moves keys) (begun region) moves to
+      → AtRest (Moves keys) to → IsNear cut (length moves) → IsWritten Shows keys outcomes to
   pub real : (place : ℕ) (one : Outcome) → slice_get outcomes place ≡ Some one → IsReal Shows keys region one
   pub once : (j k : ℕ) (one other : Outcome) → slice_get outcomes j ≡ Some one → slice_get outcomes k ≡ Some other
       → one.text ≡ other.text → j ≡ k
@@ -71,7 +75,7 @@ abbrev pub Seen : OrdersBlock → LookState → RegionState → Lines → Type 0
 Seen block state region =
     AreSeen (λ look. AreLookLines look (at_region state region)) region (sights_of block.sights state.edf.region)
 
--- so it is of whatever `cicslook` writes for a block of ORDERS
+-- whatever `cicslook` writes for a block of ORDERS is true, and misses no order
 abbrev pub OrdersAreTrue : Type 0
 OrdersAreTrue = (block : OrdersBlock) (state : LookState) (text : List ℕ) (is : ShowsOrders block state text)
     → AreTrue (Seen block state) block.keys state.edf.region (names_with_edf state.edf) block.most is.lines

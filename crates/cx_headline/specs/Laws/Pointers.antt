@@ -83,7 +83,7 @@ GivesPointer site assembly at s name back =
     (argument_address m.regs back.argument) back.number name
     s m before condition after
 
--- So does each EXEC statement that arrives for its pointer, if the register is an operand by itself.
+-- Each EXEC statement that arrives gives its pointer back, if the register is an operand by itself.
 abbrev pub PointersAreGiven : Type 0
 PointersAreGiven = (translated : Source) (assembly : AssemblyParts) (item : Item) (exec : Stmt)
     (arrives : CommandArrives translated assembly item exec) (earlier : List CommandOption) (register : List ℕ)

@@ -59,7 +59,7 @@ pub record IsItsRow (before : EdfState) (e : EdfEvent) (given : Answer) (after :
   pub other : (plain : Event) → e ≡ edf_event.Plain plain → is_own before e ≡ false
       → IsRow before.region plain given after.region
 
--- each event of a run, by the state before it, its answer, and the state after it
+-- each event of a run changes the region as its row says, by the state before it, its answer, and the state after it
 abbrev pub EachIsItsRow : EdfState → List EdfEvent → List Answer → List EdfState → Type 0
 EachIsItsRow old events answers states = (n : ℕ) (e : EdfEvent) → slice_get events n ≡ Some e
     → IsSomeAnd (slice_get answers n)

@@ -25,8 +25,8 @@ abbrev pub state_after_first : EdfState → List EdfState → ℕ → EdfState
 state_after_first old states n = last_state old (take n states)
 
 -- ---- every list of events
--- what holds of events under EDF, whatever displays are: of the state before them, the events, their answers, and the
--- state after each
+-- Of each list of events under EDF, whatever displays are: of the state before them, the events, their answers, and the
+-- state after each.
 abbrev pub OfEachRun : (EdfState → List EdfEvent → List Answer → List EdfState → Type 0) → Type 0
 OfEachRun Holds =
     (make : DisplayMaker) (old : EdfState) (events : List EdfEvent) (answers : List Answer) (states : List EdfState)
@@ -50,8 +50,8 @@ pub record IsDoneOf (script : Script Action) (answer : Result Summary RunFault) 
   pub new : EdfState
   pub did : IsRun fresh_state actions text new
 
--- What holds of the run that each script did, however it ended: the premise is what `run_script` ensures of the calls
--- that it made, whatever its devices are.
+-- Of the run that each script did, however it ended: the premise is what `run_script` ensures of the calls that it
+-- made, whatever its devices are.
 abbrev pub OfEachScript : (EdfState → List EdfEvent → List Answer → List EdfState → Type 0) → Type 0
 OfEachScript Holds =
     (calls : List DeviceCall) (answer : Result Summary RunFault) (session : IsScriptSession calls answer)

@@ -24,7 +24,7 @@ pub record IsWrittenBack (listing disassembly : Bool) (block : List (List ℕ)) 
       ≡ where_wanted listing made.listing ++ where_wanted disassembly (map line_text (standing_of translated).lines)
   pub back : lines prepared.image.text made.section.spans ≡ (standing_of translated).lines
 
--- so is each block that gives a program
+-- each block of a source that gives a program comes back so: what DISASM writes of it is what is in its control section
 abbrev pub BlocksComeBack : Type 0
 BlocksComeBack = (listing disassembly : Bool) (block : List (List ℕ)) (prepared : Prepared)
     → prepared_of listing disassembly block ≡ Ok prepared → IsWrittenBack listing disassembly block prepared

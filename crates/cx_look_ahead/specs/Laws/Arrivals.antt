@@ -5,10 +5,10 @@ use Rattle.cx_region.specs.State.{RegionState}
 use Rattle.cx_region.specs.Tables.{task_of}
 use Rattle.cx_region.specs.Turn.{TakesTurn}
 use Rattle.cx_look_symbols.specs.Lines.{SourcePlaces}
-use Rattle.cx_look_ahead.specs.declared.traces.Visit.{Visit}
+use Rattle.cx_look_turn.specs.declared.traces.Visit.{Visit}
 use Rattle.cx_look_ahead.specs.Arrivals.{ComesTo, are_among, is_command_among, statements_on}
-use Rattle.cx_look_ahead.specs.Instructions.{machine_ahead}
-use Rattle.cx_look_ahead.specs.Laws.{RunsThem}
+use Rattle.cx_look_turn.specs.NextTurn.{machine_ahead}
+use Rattle.cx_look_turn.specs.Laws.{RunsThem}
 use Rattle.cx_look_ahead.specs.declared.arrivals.SourceLine.{SourceLine}
 
 -- the turn runs these instructions, and whether one of them is on the line

@@ -9,10 +9,10 @@ use Rattle.cx_look_symbols.specs.Lines.{SourcePlaces}
 use Rattle.cx_look_symbols.specs.Sources.{Sources}
 use Rattle.cx_look_ahead.specs.Arrivals.{statements_on}
 use Rattle.cx_look_ahead.specs.At.{ArrivesAt, AtText, IsAfter, first_among}
-use Rattle.cx_look_ahead.specs.Instructions.{machine_ahead}
-use Rattle.cx_look_ahead.specs.Laws.{RunsThem}
+use Rattle.cx_look_turn.specs.NextTurn.{machine_ahead}
+use Rattle.cx_look_turn.specs.Laws.{RunsThem}
 use Rattle.cx_look_ahead.specs.declared.arrivals.SourceLine.{SourceLine}
-use Rattle.cx_look_ahead.specs.declared.traces.Visit.{Visit}
+use Rattle.cx_look_turn.specs.declared.traces.Visit.{Visit}
 
 -- The turn runs these instructions; the machine is the one after as many of them as come before the first that is on
 -- the line.

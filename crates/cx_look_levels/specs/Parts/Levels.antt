@@ -3,7 +3,7 @@ use Rattle.std.specs.Prelude.{ℕ, List, [], Option}
 use Rattle.std.specs.Option.{option_map_or}
 use Rattle.cx_program.specs.declared.level.Level.{Level}
 use Rattle.cx_region_state.specs.State.{SharedState}
-use Rattle.cx_look_tables.specs.Words.{Lines}
+use Rattle.cx_look_lines.specs.Words.{Lines}
 use Rattle.cx_look_symbols.specs.Sources.{Sources}
 use Rattle.cx_look_levels.specs.Levels.{level_number, level_text, pushed_number}
 use Rattle.cx_look_levels.specs.declared.levels.Handles.{Handles}

@@ -11,7 +11,7 @@ use Rattle.cx_ebcdic.specs.Names.{is_name}
 use Rattle.cx_search.specs.Laws.{BoundedNeverLoop, SoonerOrders}
 use Rattle.cx_search.specs.Moves.{IsSooner}
 use Rattle.cx_region_laws.specs.Laws.Regions.{KeysKeepToTheirTerminal, TurnsKeepToTheirTask}
-use Rattle.cx_look_tables.specs.Words.{Lines}
+use Rattle.cx_look_lines.specs.Words.{Lines}
 use Rattle.cx_region.specs.State.{RegionState}
 use Rattle.cx_orders.specs.Facts.Same.{is_same, same_equivalence, same_is, same_state}
 use Rattle.cx_orders.specs.Laws.{MovesDecide}
@@ -279,9 +279,10 @@ reports_decide Shows decide turned keyed sooner keys never region edf most one o
     let start = begun region in
     let moves = cuts_decide keys start most p.moves q.moves p.cut q.cut in
     p.is
-    ∙ ap (λ (os : List Outcome). cut_line most ++ outcomes_lines region keys edf 1 os)
+    ∙ ap (λ (os : List Outcome). cut_line most p.moves ++ outcomes_lines region keys edf 1 os)
     (outcomes_decide decide turned keyed keys sooner start named Shows (Some q.moves) p.outcomes q.outcomes
     (subst (λ m. AreOutcomes Shows keys start (Some m) p.outcomes) moves p.are) q.are)
+    ∙ ap (λ m. cut_line most m ++ outcomes_lines region keys edf 1 q.outcomes) moves
     ∙ sym q.is
 reports_decide Shows decide turned keyed sooner keys never region edf most one other named (inl p) (inr q) =
     absurd (not_both keys (begun region) most p.states q.moves p.count p.few q.cut)

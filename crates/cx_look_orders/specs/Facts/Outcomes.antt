@@ -8,7 +8,7 @@ use Rattle.cx_region.specs.State.{RegionState}
 use Rattle.cx_orders.specs.Moves.{KeyMoves, Moves, TurnMoves}
 use Rattle.cx_orders.specs.declared.states.KeyLine.{KeyLine}
 use Rattle.cx_orders.specs.declared.states.OrdersState.{OrdersState}
-use Rattle.cx_look_tables.specs.Words.{Lines}
+use Rattle.cx_look_lines.specs.Words.{Lines}
 use Rattle.cx_look_orders.specs.Laws.{TextsStandOnce}
 use Rattle.cx_look_orders.specs.Outcomes.{EndsWith, IsOutcome, NoLater}
 use Rattle.cx_look_orders.specs.Rest.{RestText}

@@ -6,11 +6,11 @@ use Rattle.cx_search.specs.Found.{IsAt, IsFound}
 use Rattle.cx_search.specs.Moves.{IsFirst, IsSooner, Leads}
 use Rattle.cx_search.specs.Rest.{IsNear}
 use Rattle.cx_region.specs.State.{RegionState}
-use Rattle.cx_look_tables.specs.Words.{Lines}
+use Rattle.cx_look_lines.specs.Words.{Lines}
 use Rattle.cx_orders.specs.Moves.{Moves}
 use Rattle.cx_orders.specs.declared.states.KeyLine.{KeyLine}
 use Rattle.cx_orders.specs.declared.states.OrdersState.{OrdersState}
-use Rattle.cx_look_orders.specs.Outcomes.{HasText}
+use Rattle.cx_look_orders.specs.Outcomes.{HasText, IsWritten}
 use Rattle.cx_look_orders.specs.Rest.{RestText}
 use Rattle.cx_look_orders.specs.Steps.{AreSteps, moves_of}
 use Rattle.cx_look_orders.specs.declared.outcomes.Outcome.{Outcome}
@@ -66,6 +66,8 @@ module _ (Shows : RegionState → Lines → Type 0) (keys : List KeyLine) (start
   pub record AreOfFirst (many : ℕ) (outcomes : List Outcome) : Type 0 where
     pub each : (k : ℕ) (one : Outcome) → slice_get outcomes k ≡ Some one → IsOfFirst many one
     pub all : (index : ℕ) (text : Lines) → index < many → IsTextAt index text → HasText outcomes text
+    pub written : (index place : ℕ) (state : OrdersState) → index < many → slice_get places index ≡ Some place
+        → IsAt found place state → IsWritten Shows keys outcomes state
     pub ordered : (j k : ℕ) (one other : Outcome) → j < k → slice_get outcomes j ≡ Some one
         → slice_get outcomes k ≡ Some other
         → IsSooner (moves_of one.steps) (moves_of other.steps)

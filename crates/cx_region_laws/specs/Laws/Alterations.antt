@@ -70,30 +70,34 @@ pub record AlterKeepsLevels (before after : TaskState) : Type 0 where
   pub callers : after.levels.callers ≡ before.levels.callers
   pub kept : KeepsWhereDue before → KeepsWhereDue after
 
+-- an alteration leaves the levels above the current one, and what that keeps at a command is still its program's
 abbrev pub AlterationsKeepLevels : Type 0
 AlterationsKeepLevels =
     (change : Change) (before : TaskContext) → AlterKeepsLevels before.task (after_change change before).task
 
+-- an alteration changes no terminal but its own, no definition or queue, nor the clock or the counter
 abbrev pub AlterationsKeepToTheirTask : Type 0
 AlterationsKeepToTheirTask =
     (old : RegionState) (name : List ℕ) (change : Change) (reply : AlterReply) (new : RegionState)
     → Alters old name change reply new → AlterKeeps old name new
 
+-- where the task goes on, an alteration changes no area and no resource, and one byte at most
 abbrev pub AlterationsKeepStorage : Type 0
 AlterationsKeepStorage = (old : RegionState) (name : List ℕ) (change : Change) (reply : AlterReply) (new : RegionState)
     → Alters old name change reply new → ends_task change ≡ false → AlterKeepsStorage old change new
 
+-- an alteration that ends the task leaves the areas of all others with their bytes, and their resources
 abbrev pub AbendsKeepOthers : Type 0
 AbendsKeepOthers = (old : RegionState) (name : List ℕ) (reply : AlterReply) (new : RegionState)
     → Alters old name Abend reply new → AlterKeepsOthers old name new
 
 -- ---- the abend
--- that of a live task isn't refused
+-- an operator's abend of a live task isn't refused
 abbrev pub AbendsOfTasksAreDone : Type 0
 AbendsOfTasksAreDone = (old : RegionState) (name : List ℕ) (reply : AlterReply) (new : RegionState)
     → Alters old name Abend reply new → is_some (task_of old name) ≡ true → reply ≡ alter.Altered
 
--- it is an abend with the code XEDF at which no exit is looked at
+-- an operator's abend is one with the code XEDF at which no exit is looked at
 abbrev pub AbendsLookAtNoExit : Type 0
 AbendsLookAtNoExit =
     (before : TaskContext)

@@ -83,7 +83,7 @@ ExitsTakeAbends =
     (code : List ℕ) (before after : TaskContext) (reply : TurnReply) (i : ℕ) → Abends code false before reply after
     → has_exit_at (all_levels before.task.levels) i ≡ true → reply ≡ turn.TookExit code
 
--- and one with CANCEL by none
+-- an abend with CANCEL is taken by no exit
 abbrev pub CancelTakesNoExit : Type 0
 CancelTakesNoExit =
     (code : List ℕ) (before after : TaskContext) (reply : TurnReply) → Abends code true before reply after
@@ -119,6 +119,7 @@ pub record ComesToExit (before after : TaskContext) : Type 0 where
   pub levels : abend.task.levels ≡ before.task.levels
   pub takes : TakesExit abend after
 
+-- a half-turn comes to an abend that an exit takes with its task's levels as they were
 abbrev pub HalfTurnsTakeExits : Type 0
 HalfTurnsTakeExits =
     (code : List ℕ) (before after : TaskContext) → HalfTurn before (turn.TookExit code) after → ComesToExit before after

@@ -48,6 +48,7 @@ LeavesCallers turn.Returned before after =
 LeavesCallers (turn.TookExit code) before after = HaveEnded before.levels after.levels
 LeavesCallers _ before after = after.levels.callers ≡ before.levels.callers
 
+-- a half-turn leaves each level above the current one, except a caller's exit that it takes
 abbrev pub HalfTurnsLeaveCallers : Type 0
 HalfTurnsLeaveCallers =
     (before after : TaskContext) (reply : TurnReply) → HalfTurn before reply after
@@ -63,11 +64,12 @@ pub record Keeps (task : TaskState) : Type 0 where
   pub regs : task.levels.current.regs ≡ task.regs
   pub cc : task.levels.current.cc ≡ task.cc
 
+-- where a half-turn comes to a command, the current level keeps what its program has
 abbrev pub CommandsAreKept : Type 0
 CommandsAreKept =
     (before after : TaskContext) → before.task.due ≡ false → HalfTurn before turn.AtCommand after → Keeps after.task
 
--- So it is in every state that half-turns lead to: where a command is due the current level keeps what its program has.
+-- In every state that half-turns lead to, where a command is due, the current level keeps what its program has.
 abbrev pub DueIsKept : Type 0
 DueIsKept =
     (before after : TaskContext) (reply : TurnReply) → (before.task.due ≡ true → Keeps before.task)

@@ -14,6 +14,7 @@ pub record IsAsWithout {S E R : Type 0} (does : S → E → R → S → Type 0) 
   pub answer : (reply : R) (after : S) → does old next reply after
       → IfOk result (λ given. (given ≡ reply) × (new ≡ after))
 
+-- what comes after an event that was refused memory is done as if that had never come
 abbrev pub RefusedEventsAreNone : Type 0
 RefusedEventsAreNone = (old mid new : RegionState) (refused next : Event) (fault : AllocError)
     (result : Result Reply AllocError)

@@ -22,6 +22,7 @@ pub record HasStep (m : Machine) : Type 0 where
   pub after : Machine
   pub steps : Steps m step after
 
+-- from each machine there is a step
 abbrev pub StepsHaveOutcomes : Type 0
 StepsHaveOutcomes = (m : Machine) → HasStep m
 
@@ -31,6 +32,7 @@ pub record HasHalt (m : Machine) : Type 0 where
   pub after : Machine
   pub advances : Advances most_steps m how after
 
+-- from each machine there is a run of at most 65,536 steps
 abbrev pub AdvancesHaveOutcomes : Type 0
 AdvancesHaveOutcomes = (m : Machine) → HasHalt m
 
@@ -40,6 +42,7 @@ pub record HasEnd (before : TaskContext) : Type 0 where
   pub after : TaskContext
   pub half_turn : HalfTurn before reply after
 
+-- each half-turn has an end
 abbrev pub HalfTurnsHaveEnds : Type 0
 HalfTurnsHaveEnds = (before : TaskContext) → HasEnd before
 
@@ -49,6 +52,7 @@ pub record HasOutcome (old : RegionState) (event : Event) : Type 0 where
   pub new : RegionState
   pub applies : Applies old event reply new
 
+-- each event has an outcome
 abbrev pub EventsHaveOutcomes : Type 0
 EventsHaveOutcomes = (old : RegionState) (event : Event) → IsChecked event → HasOutcome old event
 
@@ -58,5 +62,6 @@ pub record HasRun (old : RegionState) (events : List Event) : Type 0 where
   pub new : RegionState
   pub run : Run old events replies new
 
+-- each list of events, images checked, is a run
 abbrev pub EventListsAreRuns : Type 0
 EventListsAreRuns = (old : RegionState) (events : List Event) → AllByRecursion IsChecked events → HasRun old events

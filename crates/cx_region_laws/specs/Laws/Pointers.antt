@@ -33,6 +33,7 @@ pub record GoesOnAfter (before after : TaskState) : Type 0 where
   pub cc : after.cc ≡ before.cc
   pub due : after.due ≡ false
 
+-- a program that goes on after its command does so at the address in R14, with its registers and its code
 abbrev pub ProgramsGoOn : Type 0
 ProgramsGoOn =
     (before after : TaskContext) (condition : Condition) → HalfTurn before (turn.Performed condition) after
@@ -73,6 +74,7 @@ pub record HasPutOut (condition : Condition) (before after : TaskContext) : Type
   pub bytes : OutputsStand after.shared.storage before.task.eib call (handed_over change before) outputs
   pub pointers : PointersStand after.shared.storage before.task.eib call (handed_over change before) outputs
 
+-- each byte of the command's outputs is at its place then, unless its address is written again
 abbrev pub OutputsStay : Type 0
 OutputsStay =
     (before after : TaskContext) (condition : Condition) → IsSoundStorage before.shared.storage

@@ -28,7 +28,7 @@ abbrev pub EventsDecide : Type 0
 EventsDecide = (old : RegionState) (event : Event) (reply other : Reply) (new later : RegionState)
     → Applies old event reply new → Applies old event other later → (reply ≡ other) × (new ≡ later)
 
--- two outcomes of one definition, of one key, of one turn
+-- two outcomes of one definition of a program are equal
 abbrev pub ProgramsDecide : Type 0
 ProgramsDecide =
     (old : RegionState) (name : List ℕ) (image : Image) (answer other : Result Loaded DefineFault)
@@ -36,21 +36,25 @@ ProgramsDecide =
     → DefinesProgram old name image answer new → DefinesProgram old name image other later
     → (answer ≡ other) × (new ≡ later)
 
+-- two outcomes of one definition of a transaction are equal
 abbrev pub TransactionsDecide : Type 0
 TransactionsDecide =
     (old : RegionState) (tran program : List ℕ) (answer other : Result (Unit {0}) DefineFault) (new later : RegionState)
     → DefinesTransaction old tran program answer new → DefinesTransaction old tran program other later
     → (answer ≡ other) × (new ≡ later)
 
+-- two outcomes of one definition of a terminal are equal
 abbrev pub TerminalsDecide : Type 0
 TerminalsDecide =
     (old : RegionState) (name : List ℕ) (answer other : Result (Unit {0}) DefineFault) (new later : RegionState)
     → DefinesTerminal old name answer new → DefinesTerminal old name other later → (answer ≡ other) × (new ≡ later)
 
+-- two outcomes of one key are equal
 abbrev pub KeysDecide : Type 0
 KeysDecide = (old : RegionState) (name : List ℕ) (input : Input) (reply other : KeyReply) (new later : RegionState)
     → TakesKey old name input reply new → TakesKey old name input other later → (reply ≡ other) × (new ≡ later)
 
+-- two outcomes of one turn are equal
 abbrev pub TurnsDecide : Type 0
 TurnsDecide = (old : RegionState) (name : List ℕ) (reply other : TurnReply) (new later : RegionState)
     → TakesTurn old name reply new → TakesTurn old name other later → (reply ≡ other) × (new ≡ later)
@@ -103,11 +107,13 @@ pub record KeyKeeps (old : RegionState) (name : List ℕ) (reply : KeyReply) (ne
   pub storage : reply ≢ key.Attached → new.shared.storage ≡ old.shared.storage
   pub counter : new.counter ≡ counter_after reply old.counter
 
+-- a turn changes no terminal but its own, no definition, nor the clock or the counter
 abbrev pub TurnsKeepToTheirTask : Type 0
 TurnsKeepToTheirTask =
     (old : RegionState) (name : List ℕ) (reply : TurnReply) (new : RegionState) → TakesTurn old name reply new
     → TurnKeeps old name new
 
+-- in a sound region a turn leaves the areas and the resources of all others
 abbrev pub TurnsKeepOthers : Type 0
 TurnsKeepOthers =
     (old : RegionState) (name : List ℕ) (reply : TurnReply) (new : RegionState) → IsSound old
@@ -138,16 +144,19 @@ StillKeysLeaveTheRegion =
     → TakesKey old name input reply new
     → reply ≢ key.Attached → reply ≢ key.Given → new ≡ old
 
+-- a definition of a program that is refused leaves the region
 abbrev pub RefusedProgramsLeaveTheRegion : Type 0
 RefusedProgramsLeaveTheRegion =
     (old : RegionState) (name : List ℕ) (image : Image) (fault : DefineFault) (new : RegionState)
     → DefinesProgram old name image (Err fault) new → new ≡ old
 
+-- a definition of a transaction that is refused leaves it too
 abbrev pub RefusedTransactionsLeaveTheRegion : Type 0
 RefusedTransactionsLeaveTheRegion =
     (old : RegionState) (tran program : List ℕ) (fault : DefineFault) (new : RegionState)
     → DefinesTransaction old tran program (Err fault) new → new ≡ old
 
+-- a definition of a terminal that is refused leaves it too
 abbrev pub RefusedTerminalsLeaveTheRegion : Type 0
 RefusedTerminalsLeaveTheRegion = (old : RegionState) (name : List ℕ) (fault : DefineFault) (new : RegionState)
     → DefinesTerminal old name (Err fault) new → new ≡ old

@@ -52,7 +52,7 @@ pub record IsBadLine {A : Type 0} (language : Language A) (ending : Ending) (byt
   pub done : front_of language (lines_met ending bytes) (number - 1)
       ≡ record { actions = (script_in language ending bytes).actions; fault = Some Read }
 
--- a script's BadLine is one
+-- a line that is reported as BadLine is a bad one
 abbrev pub BadLinesAreBad : {A : Type 0} → Language A → Type 0
 BadLinesAreBad language = (ending : Ending) (bytes : List ℕ) (number : ℕ)
     → (script_in language ending bytes).fault ≡ Some (BadLine number) → IsBadLine language ending bytes number

@@ -33,10 +33,11 @@ pub record IsPastBound (calls : List DeviceCall) : Type 0 where
   pub longer : most_bytes < length (given calls)
   pub faultless : (script_in edf_language PastBound (take most_bytes (given calls))).fault ≡ Some ReadBound
 
--- ReadBound comes exactly there
+-- ReadBound comes only where the reads gave more bytes than a script may have
 abbrev pub ReadBoundIsPastTheBound : Type 0
 ReadBoundIsPastTheBound = (calls : List DeviceCall) → IsScriptSession calls (Err ReadBound) → IsPastBound calls
 
+-- where they gave more, and no fault came before, the answer of a run that wasn't stopped is ReadBound
 abbrev pub PastTheBoundIsReadBound : Type 0
 PastTheBoundIsReadBound = (calls : List DeviceCall) (answer : Result Summary RunFault) → IsScriptSession calls answer
     → IsPastBound calls → was_stopped answer ≡ false → answer ≡ Err ReadBound

@@ -18,7 +18,7 @@ pub record IsTranscribed (input : List ℕ) (counted : ℕ) (written : List ℕ)
   pub count : counted ≡ length (lines input)
   pub transcript : Wrote (◌≡◌ written) Performs fresh_state (script_in edf_language AtEnd input).actions
 
--- an Ok
+-- an Ok is the end of a whole script, whose transcript was written
 abbrev pub OkIsTheWholeScript : Type 0
 OkIsTheWholeScript = (calls : List DeviceCall) (summary : Summary) → IsScriptSession calls (Ok summary)
     → IsEnding calls AtEnd × IsTranscribed (given calls) summary.lines (taken calls)

@@ -16,5 +16,6 @@ IsOfTheSession action name =
 abbrev pub DisplayIsTheSessions : Type 0
 DisplayIsTheSessions = (name : List ℕ) → IsOfTheSession (Display name) name
 
+-- a display before the newest is the session's too
 abbrev pub PreviousIsTheSessions : Type 0
 PreviousIsTheSessions = (name : List ℕ) (back : ℕ) → IsOfTheSession (Previous name back) name

@@ -11,7 +11,7 @@ pub record MovesKnown (calls : List DeviceCall) (left left_after before after : 
   pub ended : last_read calls ≡ Some (Some []) → IsAtEnd left_after
   pub written : Appends before after (taken calls)
 
--- so it is of all calls, one after another
+-- all calls, one after another, move what is known so
 abbrev pub CallsMoveKnown : {D : Type 0} → (D → Option (List ℕ) → D → Type 0) → (D → Option (List ℕ) → D → Type 0)
     → (D → Option (List ℕ)) → (D → Option (List ℕ)) → Type 0
 CallsMoveKnown {D} reads writes left written =

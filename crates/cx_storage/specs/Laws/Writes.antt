@@ -30,6 +30,7 @@ SpanAfterWrite =
     (s : Storage) (a : ℕ) (bytes : List ℕ) → a < 2 ^ 24 → length bytes ≤ 2 ^ 24
     → is_some (span s a (length bytes)) ≡ true → span (after_write s a bytes) a (length bytes) ≡ Some bytes
 
+-- a span that has none of the addresses of a write reads as before
 abbrev pub SpanAside : Type 0
 SpanAside = (s : Storage) (a : ℕ) (bytes : List ℕ) (b n : ℕ) → a < 2 ^ 24 → b < 2 ^ 24 → length bytes ≤ 2 ^ 24
     → ((k : ℕ) → k < n → length bytes ≤ distance a (address_after b k)) → span (after_write s a bytes) b n ≡ span s b n
@@ -41,7 +42,7 @@ WriteKeepsAreas = (s : Storage) (a : ℕ) (bytes : List ℕ)
     × ((x : ℕ) → is_some (byte_at (after_write s a bytes) x) ≡ is_some (byte_at s x))
     × ((b n : ℕ) → is_some (span (after_write s a bytes) b n) ≡ is_some (span s b n))
 
--- nor does one byte written change an area or a presence
+-- one byte written changes no area and no presence either
 abbrev pub SetKeepsAreas : Type 0
 SetKeepsAreas = (s : Storage) (a v : ℕ)
     → (areas_of (with_byte s a v) ≡ areas_of s) × ((x : ℕ) → holder (with_byte s a v) x ≡ holder s x)

@@ -11,15 +11,15 @@ use Rattle.cx_look_orders.proofs.outcomes.add_outcome.Goals as goal
 pub returns-in_default : goal.returns-in_default
 returns-in_default g c =
     first_past (g.V.Seen.shows c.args.searched.now.seen.now) c.args.searched.now.orders.now.keys.items (begun c.args.searched.now.region.now) c.args.searched.now.found.now.states.entries c.args.places.now c.shows_decide.ensures c.texts_decide.ensures.waits c.args.index c.args.outcomes.now.items c.requires.so_far
-    (λ text at. none-some at.place (sym c.in_default.is ∙ c.place_at.ensures ∙ at.there))
+    (λ place state there at. none-some place (sym c.in_default.is ∙ c.place_at.ensures ∙ there))
 
 pub returns-in_default-get_index : goal.returns-in_default-get_index
 returns-in_default-get_index g c =
     first_past (g.V.Seen.shows c.args.searched.now.seen.now) c.args.searched.now.orders.now.keys.items (begun c.args.searched.now.region.now) c.args.searched.now.found.now.states.entries c.args.places.now c.shows_decide.ensures c.texts_decide.ensures.waits c.args.index c.args.outcomes.now.items c.requires.so_far
-    (λ text at.
-    let same = same_Some c.in-Some.place at.place (sym c.in-Some.is ∙ c.place_at.ensures ∙ at.there) in
-    none-some (at.state, at.at.origin)
-    (c.in_default-get_index.ensures.entry ∙ subst (λ p. slice_get c.args.searched.now.found.now.states.entries p ≡ Some (at.state, at.at.origin)) (sym same) at.at.there))
+    (λ place state there at.
+    let same = same_Some c.in-Some.place place (sym c.in-Some.is ∙ c.place_at.ensures ∙ there) in
+    none-some (state, at.origin)
+    (c.in_default-get_index.ensures.entry ∙ subst (λ p. slice_get c.args.searched.now.found.now.states.entries p ≡ Some (state, at.origin)) (sym same) at.there))
 
 pub returns-then-has_text : goal.returns-then-has_text
 returns-then-has_text g c =

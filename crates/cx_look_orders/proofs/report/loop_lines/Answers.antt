@@ -1,6 +1,6 @@
 use Rattle.std.proofs.Common.{◌≡◌, ◌∙◌, ◌++◌, [], ◌∷◌, ap, append_assoc, codes, sym}
 use Rattle.std.specs.Option.{option_copied}
-use Rattle.cx_look_tables.specs.Words.{look_line}
+use Rattle.cx_look_lines.specs.Words.{look_line}
 use Rattle.cx_look_orders.specs.Report.{loop_lines}
 use Rattle.cx_look_orders.specs.Script.{script_lines}
 use Rattle.cx_look_orders.proofs.ListLemmas.{ok_on}

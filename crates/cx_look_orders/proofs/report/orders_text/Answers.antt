@@ -99,7 +99,7 @@ returns g c =
     c.in_ok-end.ensures.finds in
     let nearest = nearest_of keys c.in_ok-start.start region c.in_ok-start.ensures found.states.entries found.links.items most
     c.in_ok-end.end.cut moves c.in-Some.is c.in_ok-end.ensures.reaches in
-    ok_on (λ report. report ≡ cut_line most ++ outcomes_lines region keys edf 1 c.as_slice.result.now)
+    ok_on (λ report. report ≡ cut_line most moves ++ outcomes_lines region keys edf 1 c.as_slice.result.now)
     (OrdersText (g.V.Seen.shows c.args.seen.now) keys region edf most) c.cut_report.result
     (λ report is. inr (record {
       moves = moves;
@@ -107,6 +107,6 @@ returns g c =
           c.in_ok-end.ensures.at_most_most;
       outcomes = outcomes;
       are = c.in_ok-outcomes.ensures;
-      is = subst (λ os. report ≡ cut_line most ++ outcomes_lines region keys edf 1 os) c.as_slice.ensures.value is;
+      is = subst (λ os. report ≡ cut_line most moves ++ outcomes_lines region keys edf 1 os) c.as_slice.ensures.value is;
     }))
     c.cut_report.ensures

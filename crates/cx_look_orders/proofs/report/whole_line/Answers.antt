@@ -1,7 +1,7 @@
 use Rattle.std.proofs.Common.{◌≡◌, ◌∙◌, ◌++◌, [], ◌∷◌, codes, subst}
 use Rattle.std.specs.Fmt.{decimal}
 use Rattle.std.specs.Prelude.{OnOk}
-use Rattle.cx_look_tables.specs.Words.{look_line}
+use Rattle.cx_look_lines.specs.Words.{look_line}
 use Rattle.cx_look_orders.proofs.report.whole_line.Goals as goal
 
 pub returns : goal.returns

@@ -1,6 +1,6 @@
 use Rattle.std.proofs.Common.{◌≡◌, ◌++◌, map, take}
 use Rattle.cx_look_tasks.specs.Commands.{condition_word}
-use Rattle.cx_look_tables.specs.Words.{with_blanks}
+use Rattle.cx_look_lines.specs.Words.{with_blanks}
 use Rattle.cx_look_tasks.proofs.words.push_conditions.Given as goal
 
 abbrev pub invariant-loop-listed : goal.invariant-loop-listed

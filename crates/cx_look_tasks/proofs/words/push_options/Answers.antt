@@ -1,6 +1,6 @@
 use Rattle.std.proofs.lemmas.Option.{slice_get-get_or}
 use Rattle.cx_look_tasks.specs.Commands.{option_words}
-use Rattle.cx_look_tables.specs.Words.{with_blanks}
+use Rattle.cx_look_lines.specs.Words.{with_blanks}
 use Rattle.cx_look_tasks.proofs.LineLemmas.{each_done, each_goes_on, no_options, one_more_option}
 use Rattle.cx_look_tasks.proofs.words.push_options.Goals as goal
 

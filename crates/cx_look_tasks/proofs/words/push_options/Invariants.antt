@@ -1,6 +1,6 @@
 use Rattle.std.proofs.Common.{◌≡◌, ◌++◌, drop}
 use Rattle.cx_look_tasks.specs.Commands.{option_words}
-use Rattle.cx_look_tables.specs.Words.{with_blanks}
+use Rattle.cx_look_lines.specs.Words.{with_blanks}
 use Rattle.cx_look_tasks.proofs.words.push_options.Given as goal
 
 abbrev pub invariant-loop-option : goal.invariant-loop-option

@@ -1,5 +1,5 @@
 use Rattle.std.proofs.Common.{◌≡◌, ◌++◌, drop, map}
-use Rattle.cx_look_tables.specs.Words.{with_blanks}
+use Rattle.cx_look_lines.specs.Words.{with_blanks}
 use Rattle.cx_look_xref.specs.Texts.{use_line_word}
 use Rattle.cx_look_xref.proofs.lines.push_lines.Given as goal
 

@@ -3,7 +3,7 @@ use Rattle.std.specs.Prelude.{slice_get}
 use Rattle.std.specs.List.{flat_map}
 use Rattle.std.specs.Option.{option_map_or}
 use Rattle.cx_asm_pools.specs.declared.closed.Literal.{Literal}
-use Rattle.cx_look_tables.specs.Words.{Lines}
+use Rattle.cx_look_lines.specs.Words.{Lines}
 use Rattle.cx_look_xref.proofs.PoolLemmas.{one_more}
 use Rattle.cx_look_xref.specs.Parts.Uses.{lines_of_literal}
 use Rattle.cx_look_xref.specs.Texts.{literal_line}

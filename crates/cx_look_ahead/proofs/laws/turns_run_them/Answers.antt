@@ -1,5 +1,0 @@
-use Rattle.cx_look_ahead.proofs.AheadLemmas.{turns_run_them as run_them}
-use Rattle.cx_look_ahead.proofs.laws.turns_run_them.Goals as goal
-
-pub returns : goal.returns
-returns c = run_them c.visits_are_of_runs.ensures

@@ -1,5 +1,0 @@
-use Rattle.cx_look_ahead.proofs.RunLemmas.{visits_are_of_runs as are_of_runs}
-use Rattle.cx_look_ahead.proofs.laws.visits_are_of_runs.Goals as goal
-
-pub returns : goal.returns
-returns c = are_of_runs c.runs_decide.ensures

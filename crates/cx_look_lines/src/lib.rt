@@ -1,0 +1,12 @@
+//! What the lines of looks are made of: words, names, bytes, registers; and reports, a line after the other.
+#![tactic(auto)]
+
+mod lines;
+mod registers;
+mod reports;
+mod values;
+
+pub use lines::{decimal, push_word, push_words};
+pub use registers::register_lines;
+pub use reports::Report;
+pub use values::{in_apostrophes, spelled, written_bytes, written_name};

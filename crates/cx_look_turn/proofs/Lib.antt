@@ -1,0 +1,5 @@
+pub mod TraceLemmas
+pub mod RunLemmas
+pub mod PassLemmas
+mod NextTurnLemmas
+mod LeaveLemmas
