@@ -1,15 +1,17 @@
 """Tries wrong bodies of a crate together: a function's proof reads no other function's body, so edits in different functions
 are tried by one check, which reports each function that isn't proved. An edit is refused where that check fails in a function that it
-edits. One for which no such failure is reported (it edits a type, say, or spoils what the others need) is left to be tried
-alone."""
+edits. Those of which no such failure is reported are tried together once more, without the others; where that tells nothing of any (one spoils
+what the others need, say), in halves. One that edits no function (a type, say) is tried alone."""
 import itertools
 import os
 import re
 import shutil
 import subprocess
+import tempfile
+from collections.abc import Collection, Sequence
 
 import interface
-from repository import libraries_of, text_of
+from repository import libraries_of, text_of, write
 
 UNPROVED = re.compile(r"(?m)^note: (src/\S+):(\d+):\d+: it is not proved ")
 UNANSWERED = re.compile(r"(?m)^(?:\./)?proofs/(\S+)/Answers\.antt:\d+:\d+: error: (.*)")
@@ -22,32 +24,32 @@ NOT_PROVED = re.compile(r"(?m)^logic=not-proved\b")
 class Function:
     """A function of a source: its file, its lines, and the end of the path of its proofs."""
 
-    def __init__(self, path, text, span):
+    def __init__(self, path: str, text: str, span: tuple[int, int, tuple[str, ...]]) -> None:
         start, end, (*owner, name) = span
         self.path, self.name, self.owners = path, name, {"".join(it) for it in itertools.permutations(owner)}
         self.lines = range(text.count("\n", 0, start) + 1, text.count("\n", 0, end) + 2)
         module = re.sub(r"(^|/)(lib|main|mod)$", "", path[len("src/") : -len(".rt")])
         self.module = [it for it in module.split("/") if it]
 
-    def holds(self, path, line):
+    def holds(self, path: str, line: int) -> bool:
         return path == self.path and line in self.lines
 
-    def is_answered(self, place):
+    def is_answered(self, place: str) -> bool:
         """Returns whether the proof file of this place is the function's, or that of a closure in it."""
         parts = place.split("/")
         rest = [it for it in parts[len(self.module) :] if it != "fn"]
         rest = rest[1:] if self.owners != {""} and rest and rest[0] in self.owners else rest
         return parts[: len(self.module)] == self.module and rest[:1] == [self.name]
 
-    def is_refused(self, said):
+    def is_refused(self, said: str) -> bool:
         """Returns whether a check's report has a goal of this function that isn't proved."""
         goals = any(self.holds(it[1], int(it[2])) for it in UNPROVED.finditer(said))
         return goals or any(self.is_answered(it[1]) and not NAMES.search(it[2]) for it in UNANSWERED.finditer(said))
 
 
-def pairs_of(edit):
+def pairs_of(edit: str) -> list[tuple[str, str, str]]:
     """Returns an edit's pairs of old and new text, each with its file."""
-    path, old, found = None, None, []
+    path, old, found = "", "", list[tuple[str, str, str]]()
     for line in text_of(edit).splitlines():
         word, _, rest = line.partition(":")
         if word == "file":
@@ -59,9 +61,12 @@ def pairs_of(edit):
     return found
 
 
-def functions_edited(edit, folder):
+Functions = dict[tuple[str, int], Function]  # by path and first line
+
+
+def functions_edited(edit: str, folder: str) -> Functions | None:
     """Returns the functions that an edit of the crate in this folder edits, by path and first line, or None where it edits something else."""
-    found = {}
+    found: Functions = {}
     for path, old, _ in pairs_of(edit):
         text = text_of(f"{folder}/{path}")
         if text.count(old) != 1:
@@ -76,9 +81,9 @@ def functions_edited(edit, folder):
     return found
 
 
-def batches_of(edits, folder):
+def batches_of(edits: Sequence[str], folder: str) -> tuple[list[dict[str, Functions]], list[str]]:
     """Returns the edits in batches, each with its functions, so that no two of a batch edit one function; and those that edit something else."""
-    batches, alone = [], []
+    batches, alone = list[dict[str, Functions]](), list[str]()
     for edit in edits:
         try:
             functions = functions_edited(edit, folder)
@@ -89,78 +94,92 @@ def batches_of(edits, folder):
             continue
         room = next((it for it in batches if not any(functions.keys() & its.keys() for its in it.values())), None)
         if room is None:
-            batches.append(room := {})
+            room = {}
+            batches.append(room)
         room[edit] = functions
     return batches, alone
 
 
-def linked(source, folder):
+def linked(source: str, folder: str) -> None:
     """Makes a folder of hard links to all that is in another."""
     shutil.copytree(source, folder, copy_function=os.link, dirs_exist_ok=True)
 
 
+def ran(words: list[str], folder: str) -> tuple[int, str, float]:
+    """Runs a command and returns its status, what it says, and the processor seconds that it and all that it began took."""
+    with tempfile.TemporaryFile() as said:
+        begun = subprocess.Popen(words, cwd=folder, stdin=subprocess.DEVNULL, stdout=said, stderr=subprocess.STDOUT)
+        _, status, usage = os.wait4(begun.pid, 0)
+        begun.returncode = os.waitstatus_to_exitcode(status)
+        said.seek(0)
+        return begun.returncode, said.read().decode(errors="replace"), usage.ru_utime + usage.ru_stime
+
+
 class Room:
     """A copy of a repository for one crate: the libraries below it are links to those that were built. So what is done to a crate in its
-    room, which rt locks with all below it, keeps no other waiting, and its edits are seen nowhere else."""
+    room, which rt locks with all below it, keeps no other waiting, and its edits are seen nowhere else. `took` is what each edit took: its
+    share of the checks with it."""
 
-    def __init__(self, root, crate, below, folder):
+    def __init__(self, root: str, crate: str, below: Collection[str], folder: str) -> None:
         self.folder, self.kept = f"{folder}/crates/{crate}", f"{root}/crates/{crate}/out"
-        for it in below - {crate}:
+        self.took: dict[str, float] = {}
+        for it in {*below} - {crate}:
             linked(f"{root}/crates/{it}", f"{folder}/crates/{it}")
         shutil.copytree(f"{root}/crates/{crate}", self.folder)
         shutil.copy2(f"{root}/HANDLES", folder)
         libraries = libraries_of(text_of(f"{root}/crates.txt"))
-        with open(f"{folder}/crates.txt", "w", encoding="utf-8") as it:
-            it.writelines(f"{name}: {' '.join(its)}\n" for name, its in libraries.items() if name in below)
+        write(f"{folder}/crates.txt", "".join(f"{name}: {' '.join(its)}\n" for name, its in libraries.items() if name in below))
 
-    def run(self, word):
-        ran = subprocess.run(["rt", word, "--jobs", "1"], cwd=self.folder, capture_output=True, text=True, errors="replace")
-        return ran.stdout + ran.stderr if not ran.returncode or word == "check" else None
+    def check(self) -> tuple[str, float]:
+        """What a check of the crate says, and the seconds that it takes."""
+        return ran(["rt", "check", "--jobs", "1"], self.folder)[1:]
 
-    def check(self):
-        return self.run("check")
-
-    def build(self):
+    def build(self) -> bool:
         """Builds the crate as a library, puts it, with the work that it kept, where the crate came from, and returns
         whether it was proved."""
-        if self.run("lib") is None:
+        if ran(["rt", "lib", "--jobs", "1"], self.folder)[0]:
             return False
         shutil.move(f"{self.folder}/out", self.kept)
         return True
 
-    def said_of(self, edits):
-        """Returns what a check of the crate with these edits says."""
-        texts = {}
+    def said_of(self, edits: Collection[str]) -> str:
+        """Returns what a check of the crate with these edits says, and nothing where it finds no goal that isn't proved."""
+        texts: dict[str, str] = {}
         for path, old, new in [pair for edit in edits for pair in pairs_of(edit)]:
             texts[path] = texts.get(path, text_of(f"{self.folder}/{path}")).replace(old, new)
         were = {it: text_of(f"{self.folder}/{it}") for it in texts}
         try:
             self.write(texts)
-            said = self.check()
+            said, seconds = self.check()
         finally:
             self.write(were)
+        for it in edits:
+            self.took[it] = self.took.get(it, 0) + seconds / len(edits)
         return said if NOT_PROVED.search(said) else ""
 
-    def refused_of(self, batch):
-        """Returns which edits of a batch are refused together."""
-        said = self.said_of(batch)
-        return [edit for edit, functions in batch.items() if any(it.is_refused(said) for it in functions.values())]
-
-    def write(self, texts):
+    def write(self, texts: dict[str, str]) -> None:
         for path, text in texts.items():
-            with open(f"{self.folder}/{path}", "w", encoding="utf-8") as it:
-                it.write(text)
+            write(f"{self.folder}/{path}", text)
 
-    def is_refused_alone(self, edit):
-        """Returns whether a check of the crate with this edit alone finds a goal that isn't proved, in whatever
-        function."""
-        said = self.said_of([edit])
+    def refused_of(self, batch: dict[str, Functions]) -> list[str]:
+        """Returns which edits of a batch are refused: by one check where its report tells them apart, and by one more for those that it doesn't
+        tell apart, or two for halves of them where it tells none."""
+        said = self.said_of(batch)
+        if len(batch) == 1:
+            return [*batch] if self.is_any_refused(said) else []
+        told = [edit for edit, functions in batch.items() if any(it.is_refused(said) for it in functions.values())]
+        rest = [it for it in batch if it not in told]
+        parts = [rest] if told else [rest[: len(rest) // 2], rest[len(rest) // 2 :]]
+        return told + [it for part in parts if part for it in self.refused_of({edit: batch[edit] for edit in part})]
+
+    def is_any_refused(self, said: str) -> bool:
+        """Returns whether a report finds a goal that isn't proved, in whatever function."""
         return bool(UNPROVED.search(said)) or any(not NAMES.search(it[2]) for it in UNANSWERED.finditer(said))
 
-    def refused(self, edits):
+    def refused(self, edits: Sequence[str]) -> list[str]:
         """Returns those of the crate's edits that are refused; none where the crate itself isn't proved."""
-        if not PROVED.search(self.check()):
+        if not PROVED.search(self.check()[0]):
             return []
-        batches = batches_of(edits, self.folder)[0]
+        batches, alone = batches_of(edits, self.folder)
         together = [edit for batch in batches for edit in self.refused_of(batch)]
-        return together + [it for it in edits if it not in together and self.is_refused_alone(it)]
+        return together + [it for it in alone if self.is_any_refused(self.said_of([it]))]

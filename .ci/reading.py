@@ -4,6 +4,7 @@ Words at which he may stop are not entered."""
 import functools
 import os
 import re
+from collections.abc import Collection, Iterable
 
 from trusted import cites, filled, imports_of, paths_in, types_in, without_comments, without_imports
 from repository import Repository, text_of
@@ -11,9 +12,9 @@ from repository import Repository, text_of
 DEFINED = re.compile(r"(?:(?:abbrev|unfoldable|pub|record|data) )*([^\W\d][\w'-]*)")
 
 
-def blocks_in(text):
+def blocks_in(text: str) -> dict[str, str]:
     """Returns the text of each word that a file defines."""
-    found = {}
+    found: dict[str, str] = {}
     for block in re.split(r"(?m)^(?=[^\s)\]}])", without_imports(text)):
         name = DEFINED.match(block)
         if name:
@@ -24,29 +25,28 @@ def blocks_in(text):
 class Module:
     """A file of definitions: the text of each word, and where each word comes from that it imports."""
 
-    def __init__(self, path):
+    def __init__(self, path: str) -> None:
         text = without_comments(text_of(path))
         self.blocks = blocks_in(text)
         self.imports = {name: (crate, module) for crate, module, name in imports_of(text)}
         self.passed = {name: (crate, module) for crate, module, name in imports_of(text)}
 
-    def cited(self, word):
+    def cited(self, word: str) -> list[tuple[str | None, str]]:
         """Returns what the text of a word cites: words of this file, and crates with paths."""
         block = self.blocks[word]
-        own = [(None, it) for it in self.blocks if it != word and cites(block, it)]
-        return own + [at for name, at in self.imports.items() if cites(block, name.partition("◌")[0] or name)] + [
-            (crate, path) for crate, path, _ in paths_in(block)
-        ]
+        found: list[tuple[str | None, str]] = [(None, it) for it in self.blocks if it != word and cites(block, it)]
+        found += [at for name, at in self.imports.items() if cites(block, name.partition("◌")[0] or name)]
+        return found + [(crate, path) for crate, path, _ in paths_in(block)]
 
 
 class Reading:
     """The definitions that are reached from some words."""
 
-    def __init__(self, root="."):
+    def __init__(self, root: str = ".") -> None:
         self.root, self.crates = root, {*Repository(root).libraries}
-        self.module = functools.cache(self.module)
 
-    def module(self, crate, path):
+    @functools.cache
+    def module(self, crate: str, path: str) -> tuple[Module, str, str] | None:
         """Returns the module of a path as imports write it, and the word after it; of a word that a crate passes on, where it is defined."""
         parts = path.split(".")
         for cut in range(len(parts) - 1, 0, -1):
@@ -57,7 +57,7 @@ class Reading:
         passed = Module(lib).passed.get(parts[1]) if os.path.isfile(lib) and len(parts) > 2 else None
         return self.module(passed[0], f"{passed[1]}.{'.'.join(parts[2:])}") if passed else None
 
-    def type_lines(self, crate, path):
+    def type_lines(self, crate: str, path: str) -> tuple[str, int] | None:
         """Returns the name and the lines of a type of a source."""
         found = re.match(r"specs\.declared\.((?:\w+\.)*?)([A-Z]\w*)(?:\.|$)", path)
         if not found:
@@ -66,9 +66,9 @@ class Reading:
         types = types_in(text_of(at)) if os.path.isfile(at) else {}
         return (f"{crate}/{found[2]}", filled(types[found[2]], ("//", "#["))) if found[2] in types else None
 
-    def reached(self, begin, stops=()):
+    def reached(self, begin: Iterable[tuple[str, str]], stops: Collection[str] = ()) -> dict[str, int]:
         """Returns the lines of each word reached from these (crate, path), by where it stands; a word of `stops` is left unread."""
-        found, waiting = {}, [*begin]
+        found, waiting = dict[str, int](), [*begin]
         while waiting:
             crate, path = waiting.pop()
             if crate not in self.crates:

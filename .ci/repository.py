@@ -2,25 +2,33 @@
 import os
 import shutil
 import subprocess
+from collections.abc import Collection
 
 
-def text_of(path):
-    with open(path, encoding="utf-8") as it:
+def text_of(path: str, errors: str = "strict") -> str:
+    with open(path, encoding="utf-8", errors=errors) as it:
         return it.read()
 
 
-def libraries_of(text):
+def write(path: str, text: str) -> None:
+    """Writes a file: beside it first, so that it is never there in part."""
+    with open(f"{path}.new", "w", encoding="utf-8") as it:
+        it.write(text)
+    os.replace(f"{path}.new", path)
+
+
+def libraries_of(text: str) -> dict[str, list[str]]:
     """Returns the libraries that each crate names, by crates.txt's text."""
     lines = [it.partition("#")[0].partition(":") for it in text.splitlines()]
     return {name.split()[0]: libraries.split() for name, _, libraries in lines if name.strip()}
 
 
-def toolchain():
+def toolchain() -> str:
     """Returns the toolchain's line."""
     return subprocess.run(["rt", "version"], capture_output=True, text=True, check=True).stdout.strip()
 
 
-def logic():
+def logic() -> str:
     """Returns the sum of the toolchain's logic, by which each verdict names what it is proved in."""
     return toolchain().partition(" logic ")[2] or toolchain()
 
@@ -28,12 +36,13 @@ def logic():
 class Repository:
     """The crates that crates.txt lists."""
 
-    def __init__(self, root="."):
+    def __init__(self, root: str = ".") -> None:
         self.root, self.libraries = root, libraries_of(text_of(f"{root}/crates.txt"))
 
-    def below(self, crate):
+    def below(self, crate: str) -> set[str]:
         """Returns the repository's crates that this one uses, and it."""
-        found, waiting = set(), [crate]
+        found: set[str] = set()
+        waiting = [crate]
         while waiting:
             it = waiting.pop()
             if it in self.libraries and it not in found:
@@ -41,14 +50,15 @@ class Repository:
                 waiting += self.libraries[it]
         return found
 
-    def files(self, crates=None):
+    def files(self, crates: Collection[str] | None = None) -> list[str]:
         """Returns the files of the repository that git keeps or would keep, or just what `rt ci` reads of these crates."""
         listed = subprocess.run(["git", "ls-files", "-zco", "--exclude-standard"], cwd=self.root, capture_output=True, check=True)
         paths = [it for it in listed.stdout.decode().split("\0") if it and os.path.isfile(f"{self.root}/{it}")]
-        is_read = lambda it: it == "HANDLES" or it.startswith("crates/") and it.split("/")[1] in crates
-        return paths if crates is None else [*filter(is_read, paths)]
+        if crates is None:
+            return paths
+        return [it for it in paths if it == "HANDLES" or it.startswith("crates/") and it.split("/")[1] in crates]
 
-    def copy(self, folder, crates=None):
+    def copy(self, folder: str, crates: Collection[str] | None = None) -> None:
         """Copies the repository, or just what `rt ci` reads of these crates."""
         for path in self.files(crates):
             os.makedirs(os.path.dirname(f"{folder}/{path}"), exist_ok=True)

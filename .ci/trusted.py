@@ -14,12 +14,14 @@ import functools
 import glob
 import os
 import re
+from collections.abc import Iterable, Iterator
 
-from interface import functions_in, items_at
+from interface import Span, functions_in, items_at
 from repository import Repository, text_of
 
 PROGRAMS = ("cicsedf", "cicslook")
 HEADLINE = "cx_headline"  # laws too, of all of it
+Import = tuple[str, str, str]  # crate, path in it, and what this is called here
 APART = ("Laws", "Facts", "Parts")  # modules of specs/ without definitions: statements of laws, lemmas, words of private functions
 IMPORT = re.compile(r"^[ \t]*(?:pub )?(?:use|mod)\b[^{\n]*(?:\{[^}]*\})?[^\n]*\n?", re.M)
 USE = re.compile(r"\buse Rattle\.(\w+)\.([\w.]+?)(?:\.\{([^}]*)\})?(?: as (\w+))?[ \t]*(?:;|$)", re.M)
@@ -27,29 +29,29 @@ BEFORE, AFTER = r"[\s(){}\[\],;]", r"[\s(){}\[\],;.]"  # what may be before a wo
 
 
 @functools.cache
-def without_comments(text):
+def without_comments(text: str) -> str:
     """Returns a text of definitions without its comments."""
     return re.sub(r"(?m)^[ \t]*--(?:[ \t].*)?$", "", re.sub(r"\{-.*?-\}", "", text, flags=re.S))
 
 
 @functools.cache
-def without_imports(text):
+def without_imports(text: str) -> str:
     """Returns a text of definitions without comments and imports."""
     return IMPORT.sub("", without_comments(text))
 
 
-def filled(text, comment="--"):
+def filled(text: str, comment: str | tuple[str, ...] = "--") -> int:
     """Returns how many lines of a text are neither blank nor begin as a comment does."""
     return sum(bool(it.strip()) and not it.strip().startswith(comment) for it in text.split("\n"))
 
 
-def cites(text, word):
+def cites(text: str, word: str) -> bool:
     """Returns whether a text cites this word."""
     return word in text and re.search(rf"(?:^|(?<={BEFORE})){re.escape(word)}(?={AFTER}|$)", text) is not None
 
 
 @functools.cache
-def imports_of(text):
+def imports_of(text: str) -> list[Import]:
     """Returns what a text imports: the crate, the path in it, and what this is called here."""
     found = []
     for crate, path, items, renamed in USE.findall(text):
@@ -61,7 +63,7 @@ def imports_of(text):
     return found
 
 
-def paths_in(text):
+def paths_in(text: str) -> list[Import]:
     """Returns what a text without imports cites by its whole path, in the form of an import."""
     return [(crate, path, path.rpartition(".")[2]) for crate, path in re.findall(r"\bRattle\.(\w+)\.([\w.]+)", text)]
 
@@ -71,37 +73,37 @@ DECLARED = re.compile(r"specs\.declared\.(?:\w+\.)*?([A-Z]\w*)(?:\.|$)")  # a ty
 
 
 @functools.cache
-def types_in(text):
+def types_in(text: str) -> dict[str, str]:
     """Returns the text of each enum and struct of a source, by its name."""
-    return {name: text[start:end] for start, end, kind, name in items_at(text) if kind in ("enum", "struct")}
+    return {str(name): text[start:end] for start, end, kind, name in items_at(text) if kind in ("enum", "struct")}
 
 
 class Crate:
     """A crate's definition files and sources."""
 
-    def __init__(self, root, name):
+    def __init__(self, root: str, name: str) -> None:
         folder = os.path.normpath(f"{root}/crates/{name}")
         self.specs, self.sources = f"{folder}/specs", f"{folder}/src"
         files = sorted(glob.glob(f"{self.specs}/**/*.antt", recursive=True))
         self.texts = {os.path.relpath(it, self.specs)[: -len(".antt")]: text_of(it) for it in files}
-        self.passed = {}
+        self.passed: dict[str, tuple[str, str]] = {}
         for of, path, _, renamed in USE.findall(self.texts.get("Lib", "")):
             self.passed[renamed or path.rpartition(".")[2]] = of, path
 
-    def modules(self, within="Lib", folder=""):
+    def modules(self, within: str = "Lib", folder: str = "") -> Iterator[str]:
         """Returns its definition files in reading order, which Lib and the files that hold others give."""
         for module in re.findall(r"^pub mod (\w+)", self.texts.get(within, ""), re.M):
             if f"{folder}{module}" in self.texts and (folder or module not in APART):
                 yield f"{folder}{module}"
                 yield from self.modules(f"{folder}{module}", f"{folder}{module}/")
 
-    def kinds(self):
+    def kinds(self) -> Iterator[tuple[str, str | None]]:
         """Returns each definition file with the module that gives its kind: Laws, Facts, Parts, or None where it has definitions."""
         for path in self.texts:
             first = path.partition("/")[0]
             yield path, first if first in APART else None
 
-    def exports(self):
+    def exports(self) -> tuple[set[str], set[str], set[str]]:
         """Returns the names that it gives to other crates, the modules that it gives whole, and all names that its sources declare. A
         program gives what its root uses of its other modules."""
         texts = {os.path.basename(it)[: -len(".rt")]: text_of(it) for it in glob.glob(f"{self.sources}/*.rt")}
@@ -112,13 +114,13 @@ class Crate:
         declared = {it for text in texts.values() for it in item.findall(text)}
         return names, {*re.findall(r"^pub mod (\w+);", root, re.M)}, declared
 
-    def types(self):
+    def types(self) -> dict[str, str]:
         """Returns the text of each enum and struct of its sources, by its name."""
         return {name: text for it in glob.glob(f"{self.sources}/*.rt") for name, text in types_in(text_of(it)).items()}
 
-    def shown(self, names):
+    def shown(self, names: Iterable[str]) -> set[str]:
         """Returns these types of the crate, and those that their fields have, and theirs."""
-        types, found, waiting = self.types(), set(), [*names]
+        types, found, waiting = self.types(), set[str](), [*names]
         while waiting:
             it = waiting.pop()
             if it in types and it not in found:
@@ -126,27 +128,27 @@ class Crate:
                 waiting += re.findall(r"\b[A-Z]\w*\b", types[it])
         return found
 
-    def clauses(self):
+    def clauses(self) -> Iterator[tuple[str, str, list[Span]]]:
         """Returns the clauses of its public functions: the source's path, its text, and their places in it."""
         names, whole, declared = self.exports()
         shown = self.shown(names)
         for path in sorted(glob.glob(f"{self.sources}/*.rt")):
             own = declared - names if os.path.basename(path)[: -len(".rt")] not in whole else set()
             text = text_of(path)
-            is_seen = lambda by: not by & own or "Model" in by and by & own <= shown
-            yield path, text, [it for seen_by, spans in clauses_in(text) if is_seen(seen_by) for it in spans]
+            seen = [spans for by, spans in clauses_in(text) if not by & own or "Model" in by and by & own <= shown]
+            yield path, text, [it for spans in seen for it in spans]
 
 
 class Believed:
     """The definitions, laws, clauses and types of the crates that the programs use, of them, and of the crates of laws."""
 
-    def __init__(self, root="."):
+    def __init__(self, root: str = ".") -> None:
         self.root, repository = root, Repository(root)
         self.crates = {it: Crate(root, it) for it in repository.libraries}
-        below = set().union(*map(repository.below, PROGRAMS))
+        below = set[str]().union(*map(repository.below, PROGRAMS))
         self.counted = [it for it in self.crates if it in below or it.endswith("_laws") or it == HEADLINE]
 
-    def kind(self, crate, path):
+    def kind(self, crate: str, path: str) -> str | None:
         """Returns what a path of a crate names: Laws, Facts, Parts, proofs, or None for definitions, declarations and what is the kit's."""
         if crate not in self.crates:
             return None
@@ -160,7 +162,7 @@ class Believed:
             return self.kind(of, f"{path}.{rest}".rstrip("."))
         return first if first in APART else None
 
-    def lines(self, crate):
+    def lines(self, crate: str) -> tuple[int, int, int, int]:
         """Returns how many lines a crate has of definitions, of statements of laws, of clauses and of types that are cited."""
         texts = [(kind, filled(without_imports(self.crates[crate].texts[path]))) for path, kind in self.crates[crate].kinds()]
         clauses = sum(filled(text[start:end], "//") for _, text, spans in self.crates[crate].clauses() for start, end in spans)
@@ -169,12 +171,12 @@ class Believed:
         return sum(n for kind, n in texts if kind is None), sum(n for kind, n in texts if kind == "Laws"), clauses, types
 
     @functools.cached_property
-    def types(self):
+    def types(self) -> set[tuple[str, str]]:
         """Returns the types of sources that are cited, each with its crate."""
         cited = [it for crate in self.counted for it in self.citations(crate)]
         return {(of, it[1]) for _, of, module, _ in cited for it in [DECLARED.match(module)] if it and of in self.crates}
 
-    def citations(self, crate):
+    def citations(self, crate: str) -> Iterator[tuple[tuple[str, str | None], str, str, str]]:
         """Returns what a crate's definitions, laws and public clauses cite: where, and the crate, path and word that it names."""
         it = self.crates[crate]
         for path, kind in it.kinds():
@@ -187,7 +189,7 @@ class Believed:
             for of, module, word in [it for it in imports_of(text) if cites(clauses, it[2])] + paths_in(clauses):
                 yield (path, "clauses"), of, module, word
 
-    def cited_apart(self, crate):
+    def cited_apart(self, crate: str) -> Iterator[str]:
         """Returns the words that are cited where they mustn't be. A definition cites definitions; a law or a public clause also laws."""
         for (path, by), of, module, word in self.citations(crate):
             stands = self.kind(of, module)

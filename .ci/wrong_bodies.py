@@ -1,0 +1,296 @@
+"""The wrong bodies of a repository, the edits crates/NAME/wrong/*.edit, and .ci/wrong.record, which has a line for each that was refused: crate
+and edit; the hash of all that the prover read then; the processor seconds that the trial took, or `-`; and the time of the commit over
+which it was tried, or `-`. These need no clock: they are compared with each other and with HEAD's alone. A merge may leave two lines of an
+edit: the one with today's hash counts, and else the one tried later.
+
+What the prover reads of an edit is the edit, its crate's sources, definitions and proofs, of the crates below their definitions and all of
+their sources except comments, bodies and private functions, the lines of crates.txt, and the toolchain's logic (a release of the
+toolchain with the same logic changes what its search finds, not what is true of a wrong body). An edit is due where that hash isn't
+today's."""
+import datetime
+import functools
+import glob
+import hashlib
+import os
+import random
+import re
+import shutil
+import subprocess
+import tempfile
+from collections.abc import Callable, Collection, Iterable
+from dataclasses import dataclass
+from typing import NamedTuple
+
+import interface
+import measured
+from repository import Repository, logic, text_of, write
+
+RECORD = ".ci/wrong.record"
+DRAWN = 3
+BUDGET = 2_000  # processor seconds
+RECENT = 4 * 60 * 60  # seconds: what changed in them is tried always
+REFUSED = re.compile(r"^rt: must-fail (\w+)/([\w.-]+)\.edit: refused, as it must be", re.M)
+TOOK = re.compile(r"^edit (\w+/[\w.-]+) took (\d+) s$", re.M)
+WRONG = "crates/*/wrong/*.edit"
+
+
+class Line(NamedTuple):
+    """What the record has of an edit."""
+
+    read: str
+    seconds: int | None = None
+    tried: str = ""
+
+    @classmethod
+    def of(cls, read: str, seconds: str = "-", tried: str = "-") -> "Line":
+        return cls(read, None if seconds == "-" else int(seconds), "" if tried == "-" else tried)
+
+    def text(self) -> str:
+        return f"{self.read} {'-' if self.seconds is None else self.seconds} {self.tried or '-'}"
+
+
+@dataclass(frozen=True)
+class Choice:
+    """What a run of the gate tries: edits that are drawn, those that were added or changed lately, and the oldest of those that are due; and
+    which of the due are left."""
+
+    drawn: list[str]
+    changed: list[str]
+    oldest: list[str]
+    left: list[str]
+    seconds: int
+
+    def tried(self) -> list[str]:
+        return sorted({*self.drawn, *self.changed, *self.oldest})
+
+    def words(self) -> str:
+        return (f"wrong bodies: {len(self.tried())} are tried, of some {self.seconds:,} processor seconds: {len(self.drawn)} drawn, "
+                f"{len(self.changed)} added or changed in the last hours before this commit, {len(self.oldest)} of those that are due")
+
+
+def crate_of(edit: str) -> str:
+    return edit.split("/")[0]
+
+
+def by_crate(edits: Iterable[str]) -> dict[str, list[str]]:
+    found: dict[str, list[str]] = {}
+    for it in edits:
+        found.setdefault(crate_of(it), []).append(it)
+    return found
+
+
+class Edits(Repository):
+    """A repository's edits, with what the prover reads of each crate."""
+
+    def __init__(self, root: str = ".", its_logic: str | None = None, costs: measured.Measured | None = None) -> None:
+        super().__init__(root)
+        self.logic = its_logic or logic()
+        self.costs = costs or measured.noted(f"{root}/.ci/MEASURED.md")
+        self.edits = {name_of(it): it for it in sorted(glob.glob(f"{root}/{WRONG}"))}
+
+    # What is read of an edit
+
+    def read(self, crate: str, folders: tuple[str, ...], of_source: Callable[[str], str]) -> str:
+        """Returns the hash of the crate's files in these folders as the prover reads them."""
+        total = hashlib.sha256()
+        for folder in folders:
+            for path in sorted(glob.glob(f"{self.root}/crates/{crate}/{folder}/**/*.*t", recursive=True)):
+                text = of_source(text_of(path)) if path.endswith(".rt") else interface.antt_text(text_of(path))
+                if not text and of_source is interface.interface:
+                    continue
+                total.update(f"{os.path.relpath(path, self.root)}\n{len(text)}\n{text}\n".encode())
+        return total.hexdigest()
+
+    @functools.cache
+    def seen_above(self, crate: str) -> str:
+        return f"{crate}: {' '.join(self.libraries[crate])} {self.read(crate, ('specs', 'src'), interface.interface)}\n"
+
+    @functools.cache
+    def seen_whole(self, crate: str) -> str:
+        own = self.read(crate, ("specs", "src", "proofs"), interface.own_text)
+        return own + "".join(map(self.seen_above, sorted(self.below(crate))))
+
+    @functools.cache
+    def hash_of(self, edit: str) -> str:
+        read = f"{self.logic}\n{text_of(self.edits[edit])}\n{self.seen_whole(crate_of(edit))}"
+        return hashlib.sha256(read.encode()).hexdigest()[:32]
+
+    # The record
+
+    @functools.cached_property
+    def recorded(self) -> dict[str, Line]:
+        path, found = f"{self.root}/{RECORD}", dict[str, Line]()
+        for words in map(str.split, text_of(path).splitlines() if os.path.exists(path) else []):
+            edit, line = words[0], Line.of(*words[1:])
+            found[edit] = max(found.get(edit, line), line, key=lambda it: (self.is_todays(edit, it), it.tried))
+        return found
+
+    def is_todays(self, edit: str, line: Line) -> bool:
+        return edit in self.edits and line.read == self.hash_of(edit)
+
+    @functools.cached_property
+    def due(self) -> list[str]:
+        return [it for it in self.edits if it not in self.recorded or not self.is_todays(it, self.recorded[it])]
+
+    def write(self, refused: dict[str, int | None], tried: str) -> None:
+        """Writes the lines of the edits that were refused, with the seconds that each took, where they are known, and when they were tried;
+        those of edits that are gone go."""
+        lines = {it: its for it, its in self.recorded.items() if it in self.edits}
+        for it in self.edits.keys() & refused.keys():
+            seconds = refused[it] if refused[it] is not None or it not in lines else lines[it].seconds
+            lines[it] = Line(self.hash_of(it), seconds, tried)
+        write(f"{self.root}/{RECORD}", "".join(f"{it} {lines[it].text()}\n" for it in sorted(lines)))
+
+    # What is tried
+
+    def git(self, *words: str) -> str:
+        """What git says, and nothing where it can't."""
+        ran = subprocess.run(["git", *words], cwd=self.root, capture_output=True, text=True, check=False)
+        return "" if ran.returncode else ran.stdout.strip()
+
+    @functools.cached_property
+    def draw(self) -> random.Random:
+        """What draws, by HEAD's hash."""
+        return random.Random(self.git("rev-parse", "HEAD"))
+
+    def now(self) -> str:
+        """Returns the time of the commit over which edits are tried, to the minute."""
+        time = self.git("log", "-1", "--format=%cI")
+        return datetime.datetime.fromisoformat(time).astimezone(datetime.timezone.utc).strftime("%Y-%m-%dT%H:%MZ") if time else "-"
+
+    def drawn(self) -> list[str]:
+        return self.draw.sample(sorted(self.edits), min(DRAWN, len(self.edits)))
+
+    def changed(self) -> list[str]:
+        """Returns the edits that a commit of the last hours before HEAD's, HEAD's itself, or what isn't committed yet, adds or changes; one that
+        only has another name is as it was. So it makes no difference in how many commits a change is made."""
+        before = self.before_changes() or "HEAD"
+        paths = self.git("diff", "--name-only", "-M100%", "--diff-filter=AM", before, "--", WRONG).splitlines()
+        paths += self.git("ls-files", "--others", "--exclude-standard", "--", WRONG).splitlines()
+        return sorted({name_of(it) for it in paths} & self.edits.keys())
+
+    def before_changes(self) -> str:
+        """Returns the newest commit that is older than HEAD's by RECENT, else the first one."""
+        time = self.git("log", "-1", "--format=%ct")
+        older = time and self.git("rev-list", "-1", f"--before={int(time) - RECENT}", "HEAD")
+        return older or self.git("rev-list", "--max-parents=0", "HEAD").rpartition("\n")[2]
+
+    def by_age(self) -> list[str]:
+        """Returns the edits that are due: those that were never tried, and then the others from the one on that was tried the longest ago; of
+        one time those of a crate together."""
+        return sorted(self.due, key=lambda it: (self.recorded[it].tried if it in self.recorded else "", it))
+
+    def seconds_of(self, edits: Collection[str]) -> int:
+        """Returns the processor seconds that a trial of these edits by `rt ci` is likely to take. Each takes what it took when it was last tried,
+        and as long as its crate's proof where that isn't known. A crate of which several are tried is proved once more for them all; one that
+        is tried alone is tried from nothing."""
+        total = 0
+        for crate, its in by_crate(edits).items():
+            proof = self.costs.of(crate).proof
+            lines = [self.recorded.get(it, Line("")) for it in its]
+            own = sum(proof if it.seconds is None else it.seconds for it in lines)
+            total += proof + own if len(its) > 1 else max(proof, own)
+        return total
+
+    def choice(self, budget: int = BUDGET) -> Choice:
+        """Returns what a run of the gate tries. The oldest of those that are due goes in wherever anything is left of the budget, so none waits for
+        ever; each other one where it fits."""
+        drawn, changed = sorted(self.drawn()), self.changed()
+        chosen, oldest = {*drawn, *changed}, list[str]()
+        for it in [edit for edit in self.by_age() if edit not in chosen]:
+            if self.seconds_of(chosen) < budget and (not oldest or self.seconds_of({*chosen, it}) <= budget):
+                chosen.add(it)
+                oldest.append(it)
+        left = [it for it in self.by_age() if it not in chosen]
+        return Choice(drawn, changed, oldest, left, self.seconds_of(chosen))
+
+    def words_on(self, left: Collection[str]) -> str:
+        """Returns how many edits are due and weren't tried, and how old the oldest of them is."""
+        tried = sorted(self.recorded[it].tried for it in left if it in self.recorded and self.recorded[it].tried)
+        never = sum(it not in self.recorded for it in left)
+        said = f"wrong bodies: {len(left)} are due and not tried, of which {never} never were; .ci/wrong tries them"
+        return said + (f"; the oldest other was tried {tried[0]}, days before this commit: {self.days_since(tried[0])}" if tried else "")
+
+    def days_since(self, tried: str) -> int:
+        now = self.now()
+        return (datetime.datetime.fromisoformat(now) - datetime.datetime.fromisoformat(tried)).days if now != "-" else 0
+
+    def fault_of(self, edit: str) -> str | None:
+        """Returns why the edit doesn't apply, if so: each `old:` is once in what the pairs before it made."""
+        texts, path, pairs = dict[str, str](), "", 0
+        for line in text_of(self.edits[edit]).splitlines():
+            word, _, rest = line.partition(":")
+            if word == "file":
+                path = f"{self.root}/crates/{crate_of(edit)}/{rest.strip()}"
+                if not rest.strip().startswith("src/") or not os.path.isfile(path):
+                    return f"{rest.strip()} is no source of the crate"
+                texts.setdefault(path, text_of(path))
+            elif word == "old":
+                old = rest[1:]
+                if not path or texts[path].count(old) != 1:
+                    return f"an old text stands {texts[path].count(old) if path else 0} times: {old[:60]}"
+            elif word == "new":
+                texts[path], pairs = texts[path].replace(old, rest[1:]), pairs + 1
+        return None if pairs else "it has no pair of old and new"
+
+    def faults(self, none_due: bool = True) -> list[str]:
+        """Returns what is wrong with the edits and their record; an edit that is due is a fault where none may be."""
+        wrong = [f"{it}: {why}" for it in self.edits if (why := self.fault_of(it))]
+        if none_due:
+            wrong += [f"{it}: due: what the prover reads has changed since it was refused; .ci/wrong tries it" for it in self.due]
+        return wrong + [f"{it}: the record has a line for it, and there is no such edit" for it in self.recorded if it not in self.edits]
+
+    def copy_with(self, folder: str, edits: Iterable[str], crates: Collection[str] | None = None) -> None:
+        """Copies the repository, or just these crates of it, and puts the edits where `rt ci` tries them."""
+        self.copy(folder, crates)
+        for edit in edits:
+            crate, name = edit.split("/")
+            os.makedirs(f"{folder}/crates/{crate}/must-fail", exist_ok=True)
+            shutil.copy2(self.edits[edit], f"{folder}/crates/{crate}/must-fail/{name}.edit")
+
+    # What is only added
+
+    @functools.cache
+    def texts(self, crate: str, folders: tuple[str, ...]) -> dict[str, str]:
+        """Returns the texts of the crate's files in these folders by their paths."""
+        paths = [it for folder in folders for it in glob.glob(f"{self.root}/crates/{crate}/{folder}/**/*.*t", recursive=True)]
+        return {os.path.relpath(it, self.root): text_of(it) for it in paths}
+
+    @functools.cache
+    def has_gained(self, old: "Edits", crate: str, folders: tuple[str, ...], of_source: Callable[[str], str]) -> bool:
+        """Returns whether the crate's files in these folders are those of the old repository, except what is added."""
+        before, now = old.texts(crate, folders), self.texts(crate, folders)
+        has_lines = {*old.libraries.get(crate, ())} <= {*self.libraries[crate]}
+        return has_lines and {*before} <= {*now} and all(interface.has_gained(it, before.get(it, ""), now[it], of_source) for it in now)
+
+    def gained_since(self, old: "Edits") -> list[str]:
+        """Returns the edits that are due, weren't in the old repository, and for which no more is read than what is added."""
+
+        def is_same(crate: str) -> bool:
+            above = self.has_gained(old, crate, ("src", "specs", "proofs"), interface.own_text)
+            return above and all(self.has_gained(old, it, ("src", "specs"), interface.interface) for it in self.below(crate) - {crate})
+
+        settled = {it for it in old.edits if it in self.edits and text_of(old.edits[it]) == text_of(self.edits[it])} - {*old.due}
+        return [it for it in self.due if it in settled and is_same(crate_of(it))]
+
+    def note_gained(self, commit: str) -> list[str]:
+        """Writes the lines of the edits that are due for what the crates have gained since a commit alone, and returns those edits. They keep the
+        seconds and the time of their trial."""
+        with tempfile.TemporaryDirectory(prefix="wrong-bodies-") as folder:
+            packed = subprocess.run(["git", "archive", commit], cwd=self.root, capture_output=True, check=True)
+            subprocess.run(["tar", "x"], cwd=folder, input=packed.stdout, check=True)
+            old = Edits(folder, self.logic)
+            gained = self.gained_since(old)
+            self.recorded.update({it: self.recorded.get(it, old.recorded[it])._replace(read=self.hash_of(it)) for it in gained})
+        self.write({}, "-")
+        return gained
+
+
+def name_of(path: str) -> str:
+    return f"{path.split('/')[-3]}/{os.path.basename(path)[: -len('.edit')]}"
+
+
+def refused_in(said: str) -> dict[str, int | None]:
+    """Returns the edits that a log of `rt ci` reports as refused, with the seconds that .ci/time-and-memory says of them."""
+    took = {edit: int(seconds) for edit, seconds in TOOK.findall(said)}
+    return {it: took.get(it) for crate, name in REFUSED.findall(said) for it in [f"{crate}/{name}"]}

@@ -1,0 +1,1 @@
+"""Measurements of the built programs: no part of the gate, but for `bench/instructions`."""

@@ -1,0 +1,81 @@
+"""Measures how many machine instructions `cicslook` takes for each that `cicsedf` takes. By callgrind it counts them for a script whose turns
+run some 60,000 instructions each: without a look, while a WATCH is on whose bytes stay, and while one is on whose bytes each turn changes.
+A turn should be run once, and with WATCH at most twice: a ratio above its limit is a fault. Where valgrind isn't installed, that is said.
+No part of the gate."""
+import re
+import shutil
+from typing import NamedTuple
+
+from cics.child import run
+from cics.cli import say
+from checks.common import Check
+from checks.measuring import SECONDS, failing
+
+TURNS = 20
+
+
+class Measure(NamedTuple):
+    """A script's line with WATCH, and how many times as much it may take."""
+
+    what: str
+    watch: str
+    limit: float
+
+
+MEASURES = [
+    Measure("no look", "", 1.05),
+    Measure("WATCH of bytes that stay", "WATCH T001 STAYS\n", 1.05),
+    Measure("WATCH of bytes that change", "WATCH T001 COUNT\n", 2.2),
+]
+SCRIPT = """SOURCE LONG
+DFHEISTG DSECT
+COUNT    DS    F
+STAYS    DS    F
+LONG     CSECT
+NEXT     L     6,=F'20000'
+LOOP     A     7,=F'1'
+         LR    8,7
+         BCT   6,LOOP
+         ST    7,COUNT
+         EXEC  CICS DELETEQ TS QUEUE('NONE') NOHANDLE
+         B     NEXT
+         END
+/*
+TRANSACTION LONG LONG
+TERMINAL T001
+KEY T001 ENTER LONG
+"""
+
+
+def script(watch: str) -> str:
+    """So many turns of instructions, each with its command's turn after it."""
+    return SCRIPT + watch + "TURN T001\n" * (2 * TURNS)
+
+
+def counted(valgrind: str, program: str, watch: str) -> int:
+    """How many machine instructions a program takes for a script."""
+    words = [valgrind, "--tool=callgrind", "--callgrind-out-file=/dev/null", program]
+    ended = run(words, script(watch).encode(), seconds=SECONDS)
+    collected = re.search(rb"Collected : (\d+)", ended.reported)
+    if not collected:
+        raise failing("valgrind", str(ended))
+    answers = [line for line in ended.lines() if line.startswith("TURN ")]
+    if answers[0::2] != ["TURN T001 AtCommand"] * TURNS or not all(line.startswith("TURN T001 Performed ") for line in answers[1::2]):
+        raise failing(program, f"the turns are answered otherwise: {answers[:4]}")
+    return int(collected[1])
+
+
+def main(words: list[str]) -> int:
+    check = Check(__name__, __doc__, words, "cicsedf", "cicslook")
+    valgrind = shutil.which("valgrind")
+    if not valgrind:
+        say("valgrind isn't installed: nothing is counted")
+        return 0
+    plain, faults = counted(valgrind, check.program(), ""), 0
+    for what, watch, limit in MEASURES:
+        ratio = counted(valgrind, check.program(1), watch) / plain
+        is_more = ratio > limit
+        faults += is_more
+        say(f"{what}: {ratio:.3f} of cicsedf's machine instructions, at most {limit}{', above it' if is_more else ''}")
+    say(f"{check.name}: {len(MEASURES)} scripts; {faults or 'none'} FAILED")
+    return int(faults > 0)
