@@ -1,19 +1,32 @@
-# Completion of the companions' words, for bash: `. completion/cicsedf.bash`.
+# Completion of the companions' words, made of their --help by completion/make. For bash: `. completion/cicsedf.bash`.
+_cics_names() {  # programs and transactions of the sources and scripts that stand among the words
+  local file
+  for file in "${COMP_WORDS[@]:1}"; do
+    [[ -f $file ]] && sed -nE 's/^([A-Z0-9@#$]{1,8}) +(CSECT|START|DFHEIENT)( .*)?$/\1/p; s/^(SOURCE|TRANSACTION) ([A-Z0-9@#$]+).*/\2/p' "$file"
+  done | sort -u
+}
 _cics_words() {
-  local word=${COMP_WORDS[COMP_CWORD]} options=
+  local word=${COMP_WORDS[COMP_CWORD]} before=${COMP_WORDS[COMP_CWORD - 1]} options=
   case ${COMP_WORDS[0]##*/} in
-    cics-adapt) options="--copy --keep --ebcdic --version --help" ;;
-    cics-check) options="--json --cicsedf --cicslook --version --help" ;;
-    cics-film) options="-o --open --cicslook --version --help" ;;
-    cics-run) options="--fields --key --tran --queue --script --film --cicsedf --cicslook --version --help" ;;
-    cics-same) options="--orders --screens --source --queue --cicsedf --cicslook --version --help" ;;
-    cics-terminals) options="--resume --back --port --session --mixed --clock --idle --any-user --program --version --help" ;;
+    cics-adapt) options="-h --help --version --copy --keep --ebcdic --map --stand-in --bms --file --out" ;;
+    cics-check) options="-h --help --version --script --explain --marks --watch --json --map --cicslook" ;;
+    cics-film) options="-h --help --version -o --map --open --cicslook" ;;
+    cics-look) options="-h --help --version --keep --keep-typed --cicslook" ;;
+    cics-run) options="-h --help --version --key --mixed --tran --queue --fields --script --json --film --map --cicslook" ;;
+    cics-same) options="-h --help --version --source --shown --screens --orders --json --queue --cicslook --cicsedf" ;;
+    cics-terminals) options="-h --help --version --resume --back --tran --queue --port --session --mixed --clock --idle --any-user --cicslook" ;;
+    cics-test) options="-h --help --version --write --junit --json --watch --jobs --cicslook" ;;
+  esac
+  case $before in
+    --explain) mapfile -t COMPREPLY < <(compgen -W "TooLong BadCharacter BadContinuation BadName NoEnd BadOperand ValueOutOfRange NotRelocatable UnknownOperation UndefinedSymbol DuplicateSymbol NoAddressability TooLarge UnknownCommand UnknownOption BadArgument TooManyConditions Conflict MissingOption Memory BadLength EntryOutside StgLength Duplicate Full NoProgram NoRoom RelocOutside Overlap BadLine BadLook note" -- "$word"); return ;;
+    --key|--tran|--source) mapfile -t COMPREPLY < <(compgen -W "$(_cics_names)" -- "$word"); return ;;
   esac
   if [[ $word == -* ]]; then
     mapfile -t COMPREPLY < <(compgen -W "$options" -- "$word")
+  elif [[ ${COMP_WORDS[0]##*/} == cics-same && $COMP_CWORD == 2 ]]; then
+    mapfile -t COMPREPLY < <(compgen -f -W "$(_cics_names)" -- "$word")
   else
     mapfile -t COMPREPLY < <(compgen -f -- "$word")
   fi
 }
-complete -o filenames -F _cics_words cicsedf cicslook cics-adapt cics-check cics-film cics-run cics-same \
-  cics-terminals
+complete -o filenames -F _cics_words cicsedf cicslook cics-adapt cics-check cics-film cics-look cics-run cics-same cics-terminals cics-test

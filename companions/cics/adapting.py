@@ -1,24 +1,39 @@
 """A source as shops have it, rewritten where what is refused here has an exact equivalent."""
 from collections.abc import Callable
-from dataclasses import dataclass, replace
+from dataclasses import dataclass
+from typing import Protocol
 
-from cics.commands import rewritten_command
+from cics.areas import rewritten_exec
+from cics.bases import with_other_base
+from cics.commands import names_of_commands
 from cics.copying import Copying
-from cics.data import rewritten_data, rewritten_equate
+from cics.data import rewritten_data, rewritten_equate, with_addresses_joined
+from cics.exact.writing import Written, written_exactly
 from cics.from_cics import advice
 from cics.instructions import INSTRUCTIONS, STATEMENTS
 from cics.layout import Layout
-from cics.macros import Macros
-from cics.operands import rewritten_operands
+from cics.log import Log
+from cics.operands import RESP, rewritten_operands, with_numbers_of_resp
 from cics.overlays import without_overlays
+from cics.own_macros import Expansion
+from cics.plain_lines import tell_broken, without_tabs
 from cics.program import Program
+from cics.rewritings import Rewritings
 from cics.sources import SourceText
 from cics.statements import (CONTINUED, MARK, Origin, Statement, comment_of, is_continued, statements_of)
-from cics.telling import Log
-from cics.texts import CODED
+from cics.symbols import tell_undefined
+from cics.texts import CODED, is_name
 
 MOST_LINES, MOST_COLUMNS = 10_000, 80
 Rewrite = Callable[[Statement, Program], list[Statement]]
+
+
+class Replacing(Protocol):
+    """What stands for commands that aren't here: members of COPY that are made, and statements in their place."""
+
+    def members(self) -> dict[str, list[str]]: ...
+    def replaced(self, groups: list[list[Statement]], program: Program) -> list[list[Statement]]: ...
+    def finished(self, statements: list[Statement], program: Program) -> None: ...
 
 
 @dataclass(frozen=True)
@@ -47,6 +62,10 @@ class Adapted:
     def lines(self) -> list[str]:
         return [line for group in self.groups for line in group.lines(is_kept=self.is_kept)]
 
+    def origins(self) -> list[Origin]:
+        """Of each line the statement that it comes from."""
+        return [group.old.origin for group in self.groups for _ in group.lines(is_kept=self.is_kept)]
+
 
 def rewrite_of(statement: Statement) -> Rewrite | None:
     """The rewriting for a statement's operation."""
@@ -55,35 +74,58 @@ def rewrite_of(statement: Statement) -> Rewrite | None:
     if statement.operation == "EQU":
         return rewritten_equate
     if statement.operation == "EXEC":
-        return rewritten_command
+        return rewritten_exec
     return rewritten_operands if statement.operation in INSTRUCTIONS or statement.operation in ("USING", "END") else None
 
 
 def rewritten(statement: Statement, program: Program) -> list[Statement]:
     """What a statement becomes; a change that the rewriting itself doesn't tell is told by the new text."""
     rewrite = None if statement.is_comment or statement.operation in ("USING", "END") and not statement.operand else rewrite_of(statement)
-    if rewrite is None:
+    if rewrite is None or statement.origin.order in program.broken:
         return [statement]
-    new = rewrite(statement, program)
+    is_resp = statement.operation in ("DC", "EQU") and RESP in statement.operand
+    new = rewrite(statement.changed(operand=with_numbers_of_resp(statement.operand)) if is_resp else statement, program)
     if new != [statement] and statement.operation != "EXEC":
         texts = [f"{one.operation} {one.operand}" for one in new]
         program.log.changed(statement.origin, f"{statement.operation} {statement.operand}", "; ".join(texts))
     return new
 
 
-def adapted(source: SourceText, name: str, folders: list[str], *, is_kept: bool = False) -> Adapted:
+def adapted(source: SourceText, name: str, folders: list[str], *, is_kept: bool = False, stand_ins: Replacing | None = None) -> Adapted:
     log = Log()
     told_of_file(source, name, log)
-    old = without_macros(Copying(folders, log).expanded(statements_of(source.lines, name)), log)
+    read = statements_of(without_tabs(source.lines, name, log), name)
+    old = Expansion(log).expanded(Copying(folders, log, stand_ins.members() if stand_ins else {}).expanded(read))
     program = Program(Layout([]), log, is_kept)
-    macros = Macros(program)
+    program.broken = tell_broken(old, log)
+    macros = Rewritings(program)
     groups = [Group(one, with_told(one, macros, log)) for one in old]
+    groups = with_stand_ins(groups, program, stand_ins) if stand_ins else groups
     statements = [one for group in groups for one in group.new]
     program.layout = Layout(statements)
+    based = with_other_base(statements, program)
+    if based is not statements:
+        statements, program.layout = based, Layout(based)
+    program.commands = names_of_commands(statements)
+    tell_undefined(statements, program)
+    statements = with_addresses_joined(statements, program)
     ordered = without_overlays(statements, program)
-    result = Adapted(grouped(ordered, [group.old for group in groups], program), log, is_kept)
-    tell_left(result, program)
+    found = grouped(ordered, [group.old for group in groups], program)
+    exact = written_exactly([group.new for group in found], program)
+    result = Adapted([Group(group.old, new) for group, new in zip(found, exact.groups)], log, is_kept)
+    tell_left(result, program, exact, name)
+    if stand_ins:
+        stand_ins.finished([one for group in result.groups for one in group.new], program)
     return result
+
+
+def with_stand_ins(groups: list[Group], program: Program, stand_ins: Replacing) -> list[Group]:
+    """The groups, with what stands for commands that aren't here."""
+    statements = [one for group in groups for one in group.new]
+    program.layout = Layout(statements)
+    program.commands = names_of_commands(statements)
+    replaced = stand_ins.replaced([group.new for group in groups], program)
+    return [Group(group.old, new) for group, new in zip(groups, replaced)]
 
 
 def grouped(statements: list[Statement], old: list[Statement], program: Program) -> list[Group]:
@@ -96,7 +138,7 @@ def grouped(statements: list[Statement], old: list[Statement], program: Program)
     return found
 
 
-def with_told(statement: Statement, macros: Macros, log: Log) -> list[Statement]:
+def with_told(statement: Statement, macros: Rewritings, log: Log) -> list[Statement]:
     """What a macro becomes, told."""
     new = [statement] if statement.is_comment else macros.rewritten(statement)
     if new != [statement]:
@@ -106,21 +148,11 @@ def with_told(statement: Statement, macros: Macros, log: Log) -> list[Statement]
     return new
 
 
-def without_macros(statements: list[Statement], log: Log) -> list[Statement]:
-    """The statements, with the definitions of macros taken as comments: nothing in them is rewritten."""
-    found, is_inside = [], False
-    for one in statements:
-        if one.operation == "MACRO" and not one.is_comment:
-            is_inside = True
-            log.left(one.origin, f"MACRO: a macro's definition{advice('Assembler statements', 'MACRO')}")
-        found.append(replace(one, is_comment=True) if is_inside else one)
-        is_inside = is_inside and one.operation != "MEND"
-    return found
-
-
 def told_of_file(source: SourceText, name: str, log: Log) -> None:
     if source.is_ebcdic:
         log.changed(Origin(name, 1, 0), "a file of EBCDIC records (cp037)", "lines")
+    if source.has_mark:
+        log.changed(Origin(name, 1, 0), "a byte order mark in front", "none")
     if source.is_mixed:
         log.changed(Origin(name, 1, 0), "a carriage return at the end of some lines", "none")
 
@@ -128,16 +160,16 @@ def told_of_file(source: SourceText, name: str, log: Log) -> None:
 # ---- what is left
 
 
-def tell_left(result: Adapted, program: Program) -> None:
+def tell_left(result: Adapted, program: Program, exact: Written, name: str) -> None:
     """Tells what the new source still has that isn't accepted."""
     control: list[str] = []
     for group in result.groups:
         for one in group.new:
             tell_lines(one, program)
             if not one.is_comment:
-                tell_operation(one, program, control)
+                tell_operation(one, program, control, exact)
     operations = [one.operation for group in result.groups for one in group.new if not one.is_comment]
-    last = result.groups[-1].old.origin if result.groups else Origin("the source", 1, 0)
+    last = result.groups[-1].old.origin if result.groups else Origin(name, 1, 0)
     if "END" not in operations:
         program.left(last, "there is no END")
     tell_size(result, program)
@@ -167,15 +199,18 @@ def tell_lines(statement: Statement, program: Program) -> None:
         program.left(statement.origin, f"continued, but columns 1 to {CONTINUED} of the next line aren't blank, or there is none")
 
 
-def tell_operation(statement: Statement, program: Program, control: list[str]) -> None:
+def tell_operation(statement: Statement, program: Program, control: list[str], exact: Written) -> None:
     """Tells an operation that isn't there, with what to write instead."""
     operation, name = statement.operation, statement.name
     row = INSTRUCTIONS.get(operation)
+    if len(name) > 8 and is_name(name[:8]):
+        program.left(statement.origin, f"{name}: a name of more than eight characters; write: one of at most eight")
     if operation != operation.upper() or name != name.upper():
         write = advice("Assembler statements", "lower-case names")
         program.left(statement.origin, f"{f'{name} {operation}'.strip()}: small letters{write}")
     elif row is not None and not row.is_known:
-        program.left(statement.origin, f"{operation}: not one of the instructions that are here{advice('Instructions', operation)}")
+        why = exact.why.get(statement.origin.order, "not one of the instructions that are here")
+        program.left(statement.origin, f"{operation}: {why}{advice('Instructions', operation)}")
     elif operation in ("CSECT", "START") and control and name not in control:
         program.left(statement.origin, f"{operation} {name}: a second control section{advice('Assembler statements', 'several CSECTs')}")
     elif row is None and operation not in STATEMENTS and operation not in ("ORG", "DFHEIENT", "DFHEIRET"):

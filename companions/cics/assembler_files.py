@@ -1,13 +1,13 @@
 """Assembler files as the programs take them: the sources that stand in them one after the other, each for a block of a script."""
 from dataclasses import dataclass
 
-from cics.cli import Failure
-from cics.sources import Unreadable, read_source
+from cics.child import run
+from cics.cli import Failure, name_of
+from cics.scripts import BLOCK_END, LONGEST
+from cics.sources import read_source
 from cics.statements import Statement, is_comment_line, statements_of
 
-MOST_BYTES = 4096  # of a script's line
 CUT = 100  # bytes of a longer line that are given: it has more columns than a source's line in any case
-BLOCK_END = "/*"
 
 
 @dataclass(frozen=True)
@@ -21,10 +21,10 @@ class Source:
 
     def block(self, word: str) -> list[str]:
         """The source as a block of a script."""
-        return [f"{word} {self.name}", *(line if len(line) <= MOST_BYTES else line[:CUT] for line in self.lines), BLOCK_END]
+        return [f"{word} {self.name}", *(line if len(line) <= LONGEST else line[:CUT] for line in self.lines), BLOCK_END]
 
 
-def name_of(statements: list[Statement]) -> str:
+def section_of(statements: list[Statement]) -> str:
     """The name of the control section; without one a name that no source has to have."""
     names = (one.name for one in statements if one.operation in ("CSECT", "START", "DFHEIENT") and one.name)
     return next(names, "NONAME")
@@ -38,22 +38,29 @@ def sources_of_lines(path: str, lines: list[str]) -> list[Source]:
         statements = statements_of(lines[begin:], path)
         ends = (one.origin.number + len(one.lines) - 1 for one in statements if one.operation == "END" and not one.is_comment)
         count = next(ends, len(lines) - begin)
-        found.append(Source(path, begin, lines[begin : begin + count], name_of(statements)))
+        found.append(Source(path, begin, lines[begin : begin + count], section_of(statements)))
         begin += count
     return found
 
 
 def sources_of_file(path: str) -> list[Source]:
-    try:
-        lines = read_source(path).lines
-    except Unreadable as why:
-        raise Failure(str(why)) from None
-    for number, line in enumerate(lines):
+    source, name = read_source(path), name_of(path)
+    if source.has_mark:
+        raise Failure(f"{name}:1: a byte order mark in front of the text, X'EFBBBF': take it out, as cics-adapt does")
+    for number, line in enumerate(source.lines, 1):
         if line == BLOCK_END:
-            raise Failure(f"{path}:{number + 1}: a line /* ends the source's block: take it out")
-    return sources_of_lines(path, lines) or [Source(path, 0, [], "NONAME")]
+            raise Failure(f"{name}:{number}: a line /* ends the source's block: take it out")
+    return sources_of_lines(name, source.lines) or [Source(name, 0, [], "NONAME")]
 
 
 def encoded(lines: list[str]) -> bytes:
     """Lines of a script as bytes, each character one byte."""
     return "".join(f"{line}\n" for line in lines).encode("latin-1", errors="replace")
+
+
+def run_script(script: list[str], cicslook: str) -> list[str]:
+    """What cicslook writes for a script, which must end well."""
+    ended = run([cicslook], encoded(script))
+    if not ended.is_well():
+        raise Failure(f"{cicslook}: {ended.why()}")
+    return ended.out.decode("latin-1").rstrip("\n").split("\n")

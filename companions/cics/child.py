@@ -1,34 +1,32 @@
-"""The programs as children: runs to their end, and sessions in which lines are typed and answers read.
+"""The programs as children: runs to their end, and children that are given lines and whose answers are read.
 
-No run may take longer, and none may write more, than any of theirs needs. A program that doesn't end, or doesn't answer, ends
-the caller with a line that says so.
+No run may take longer, and none may write more, than any of theirs needs. A program that doesn't end, or doesn't answer, ends the caller
+with a line that says so. Whatever ends the caller, a signal too, no child is left running.
 """
+import contextlib
 import functools
+import math
 import os
 import select
 import signal
 import subprocess
-import sys
 import threading
 import time
-from collections.abc import Mapping, Sequence
+from collections.abc import Callable, Iterable, Iterator, Mapping, Sequence
+from functools import partial
 from types import TracebackType
 from typing import NamedTuple
 
 TOP = os.path.dirname(os.path.dirname(os.path.dirname(os.path.abspath(__file__))))
-SECONDS = 20  # no run may take longer, but one that is given more, and no session either
-BYTES = 1 << 25  # no run may write more to a file, where the system is asked to end it
-ANSWERED = 1 << 20  # nor may a session answer more
-CLOCK, CLOCK_SET = "CLOCK 000000 00000", "CLOCK SET"
+SECONDS = 20.0  # of a processor: no run may take longer, and no answer, but one that is given more
+BYTES = 1 << 25  # no answer may have more, and no run may write more to a file, where the system is asked to end it
+MARK = "@@@@"  # a terminal's name, where no other is given
 PROGRAMS = ("cicsedf", "cicslook")
-
-
-class Overdue(SystemExit):
-    """The line on a program that didn't end, or didn't answer. Nothing is tried after it."""
+ENDING = (signal.SIGINT, signal.SIGTERM, signal.SIGHUP)  # signals that end a caller
 
 
 class Ended(NamedTuple):
-    """How a run ended: its status, and what it wrote on standard output and on standard error."""
+    """How a run ended: its status, which is negative for a signal, and what it wrote on standard output and on standard error."""
 
     status: int
     out: bytes
@@ -39,10 +37,40 @@ class Ended(NamedTuple):
 
     def lines(self) -> list[str]:
         """The lines of its standard output."""
-        return lines_of(self.out.decode(errors="replace"))
+        return lines_of(decoded(self.out))
+
+    def why(self) -> str:
+        """What it said when it ended, in a line: the line in front of what follows, or its status."""
+        said = decoded(self.reported).partition("\n")[0].strip()
+        return said or (f"status {self.status}" if self.status >= 0 else f"ended by {signal.Signals(-self.status).name}")
 
     def __str__(self) -> str:
         return f"status {self.status}, {self.out[:100]!r}, {self.reported[:200]!r} on standard error"
+
+
+class Overdue(SystemExit):
+    """The line on a program that didn't end, or didn't answer. Nothing is tried after it."""
+
+
+class Gone(Overdue):
+    """The line on a program that ended where an answer was due, and how it ended: its output is what it wrote after the last answer."""
+
+    def __init__(self, line: str, ended: Ended) -> None:
+        super().__init__(line)
+        self.ended = ended
+
+
+def decoded(data: bytes) -> str:
+    """A text of the programs. Bytes that are no UTF-8 come back as they were from `encoded`."""
+    return data.decode(errors="surrogateescape")
+
+
+def encoded(text: str) -> bytes:
+    return text.encode(errors="surrogateescape")
+
+
+def text_of(lines: Iterable[str]) -> str:
+    return "".join(f"{line}\n" for line in lines)
 
 
 def lines_of(text: str) -> list[str]:
@@ -54,36 +82,6 @@ def lines_of(text: str) -> list[str]:
 def read(path: str) -> bytes:
     with open(path, "rb") as file:
         return file.read()
-
-
-def is_executable(path: str) -> bool:
-    return os.access(path, os.X_OK) and not os.path.isdir(path)
-
-
-def executable(path: str) -> str:
-    return path if is_executable(path) else sys.exit(f"FAILED: no program stands at {path}")
-
-
-def places_of_program(name: str) -> list[str]:
-    """Where a program may stand: in a release beside the companions' folder, in the repository where it is built."""
-    return [os.path.join(TOP, "bin", name), os.path.join(TOP, f"crates/{name}/out/{name}")]
-
-
-def found_program(name: str) -> str | None:
-    return next((path for path in places_of_program(name) if is_executable(path)), None)
-
-
-def beside(path: str, name: str) -> str:
-    """The program of a name that was built with the one at a path: it stands in the same folder, or in its own crate's."""
-    folder = os.path.dirname(os.path.abspath(path))
-    crates = os.path.dirname(os.path.dirname(folder))
-    places = [os.path.join(folder, name), os.path.join(crates, name, "out", name)]
-    return next((place for place in places if is_executable(place)), places[-1])
-
-
-def is_of_page(line: str) -> bool:
-    """Whether a line of a transcript is one of a page."""
-    return line[:2].isdigit() and line[2:3] == "|"
 
 
 @functools.cache
@@ -100,18 +98,57 @@ def emptied(file: int) -> bytes:
     return written
 
 
-def ends_in_time(child: int, seconds: float = SECONDS) -> bool:
-    handle = os.pidfd_open(child)
+def seconds_taken(child: int) -> float:
+    """The processor seconds that a child took; all there are, of one that is gone."""
     try:
-        return bool(select.select([handle], [], [], seconds)[0])
+        with open(f"/proc/{child}/stat", "rb") as file:
+            words = file.read().rpartition(b")")[2].split()
+    except OSError:
+        return math.inf
+    return (int(words[11]) + int(words[12])) / os.sysconf("SC_CLK_TCK")
+
+
+class Patience:
+    """How long a child may take: so many processor seconds, since on a busy machine it has but a part of one; and so many by the clock, if it
+    does next to no work in them."""
+
+    def __init__(self, child: int, seconds: float) -> None:
+        self.child, self.seconds = child, seconds
+        self.begun = self.seen = seconds_taken(child)
+
+    def ends(self) -> bool:
+        """Whether it ends, when so many seconds have gone by since it was asked last."""
+        taken = seconds_taken(self.child)
+        worked, self.seen = taken - self.seen, taken
+        return taken - self.begun > self.seconds or not worked > self.seconds / 100
+
+
+def ends_in_time(child: int, seconds: float = SECONDS) -> bool:
+    handle, patience = os.pidfd_open(child), Patience(child, seconds)
+    try:
+        while not select.select([handle], [], [], seconds)[0]:
+            if patience.ends():
+                return False
+        return True
     finally:
         os.close(handle)
 
 
+@contextlib.contextmanager
+def signals_held() -> Iterator[set[signal.Signals]]:
+    """Signals that end the caller wait while a child begins, so that none comes before the child is known. Gives the signals that waited
+    before; where there are threads nothing is held, since another one would get them."""
+    held = signal.pthread_sigmask(signal.SIG_BLOCK, ENDING if threading.active_count() == 1 else ())
+    mask = {number for number in held if isinstance(number, signal.Signals)}
+    try:
+        yield mask
+    finally:
+        signal.pthread_sigmask(signal.SIG_SETMASK, held)
+
+
 def run(command: Sequence[str | bytes], given: bytes = b"", environment: Mapping[str, str] | None = None,
         seconds: float = SECONDS) -> Ended:
-    """Runs a command to its end, over what it is given on standard input. Signals that Python ignores have their effect on
-    it."""
+    """Runs a command to its end, over what it is given on standard input. Signals that Python ignores have their effect on it."""
     files = files_of(os.getpid(), threading.get_ident())
     left = memoryview(given)
     while left:
@@ -119,104 +156,196 @@ def run(command: Sequence[str | bytes], given: bytes = b"", environment: Mapping
     os.lseek(files[0], 0, os.SEEK_SET)
     streams = [(os.POSIX_SPAWN_DUP2, file, number) for number, file in enumerate(files)]
     signals = [signal.SIGPIPE, signal.SIGXFSZ]
-    child = os.posix_spawn(command[0], list(command), environment or os.environ, file_actions=streams, setsigdef=signals)
-    in_time = ends_in_time(child, seconds)
-    if not in_time:
-        os.kill(child, signal.SIGKILL)
-    status = os.waitstatus_to_exitcode(os.waitpid(child, 0)[1])
-    _, out, reported = (emptied(file) for file in files)
-    if not in_time or status == -signal.SIGXFSZ:
-        why = f"it writes more than {BYTES} bytes" if in_time else f"no end within {seconds} seconds"
-        raise Overdue(f"{' '.join(map(str, command))}: FAILED, {why}")
+    child, is_in_time, status, out, reported = 0, False, 0, b"", b""
+    try:
+        with signals_held() as mask:
+            child = os.posix_spawn(command[0], list(command), environment or os.environ, file_actions=streams, setsigdef=signals, setsigmask=mask)
+        is_in_time = ends_in_time(child, seconds)
+    finally:  # a signal to the caller comes here too
+        if child and not is_in_time:
+            os.kill(child, signal.SIGKILL)
+        if child:
+            status = os.waitstatus_to_exitcode(os.waitpid(child, 0)[1])
+            _, out, reported = (emptied(file) for file in files)
+    if not is_in_time or status == -signal.SIGXFSZ:
+        why = f"it writes more than {BYTES} bytes" if is_in_time else f"no end within {seconds:g} seconds"
+        raise Overdue(f"{' '.join(map(str, command))}: {why}")
     return Ended(status, out, reported)
 
 
-class Session:
-    """The program as an operator has it: lines are typed, and what is answered is read before the next ones are."""
+class Child:
+    """A program that is given lines, and whose answers are read.
 
-    def __init__(self, command: Sequence[str]) -> None:
-        self.name, self.typed, self.unread, self.left, self.stops = " ".join(command), "nothing", b"", ANSWERED, 0
-        self.until, self.seconds, self.count = time.monotonic() + SECONDS, SECONDS, 0  # of lines that were typed
+    After lines it is asked for the screen of a terminal that no script has, the mark; the answer to that ends the answer to the lines, and
+    nothing is changed by it. The pipes never block: who waits for several things reads and writes when `output` and `input` are ready.
+    """
+
+    def __init__(self, command: Sequence[str], mark: str = MARK, seconds: float = SECONDS) -> None:
+        self.name, self.seconds, self.typed = " ".join(command), seconds, "nothing"
+        self.marked(mark)
+        self.unsent, self.unread, self.count = bytearray(), b"", 0  # how many lines it was given, with the questions
         self.reported = os.memfd_create("reported")
-        self.process = subprocess.Popen(command, stdin=subprocess.PIPE, stdout=subprocess.PIPE, stderr=self.reported)
+        self.process = self.begun(command)
         assert self.process.stdin and self.process.stdout
         self.input, self.output = self.process.stdin, self.process.stdout
-        self.keys, self.screen = self.input.fileno(), self.output.fileno()
-        os.set_blocking(self.keys, False)
+        for pipe in (self.input, self.output):
+            os.set_blocking(pipe.fileno(), False)
 
-    def __enter__(self) -> "Session":
+    def marked(self, mark: str) -> None:
+        """Takes another terminal as the mark."""
+        self.question, self.answer = f"SCREEN {mark}", f"SCREEN {mark} NONE"
+
+    def begun(self, command: Sequence[str]) -> subprocess.Popen[bytes]:
+        """The process; where a signal comes meanwhile, it isn't left."""
+        process: subprocess.Popen[bytes] | None = None
+        try:
+            with signals_held() as mask:
+                restored = partial(signal.pthread_sigmask, signal.SIG_SETMASK, mask) if threading.active_count() == 1 else None
+                process = subprocess.Popen(command, stdin=subprocess.PIPE, stdout=subprocess.PIPE, stderr=self.reported, bufsize=0,
+                                           start_new_session=True, preexec_fn=restored)
+            return process
+        except BaseException:
+            if process:
+                process.kill()
+                process.wait()
+            raise
+
+    def __enter__(self) -> "Child":
         return self
 
     def __exit__(self, _kind: type[BaseException] | None, _what: BaseException | None, _where: TracebackType | None) -> None:
+        self.close()
+
+    def close(self) -> None:
+        """Ends it, whatever it does."""
         self.process.kill()
+        self.process.wait()
         self.input.close()
         self.output.close()
-        self.process.wait()
         os.close(self.reported)
 
-    def overdue(self, why: str) -> Overdue:
-        return Overdue(f"{self.name}: FAILED, {why}, after {self.typed!r}")
+    def put(self, text: str) -> None:
+        """Has a text of whole lines given to it at the next flush."""
+        data = encoded(text)
+        self.count += data.count(b"\n")
+        self.unsent += data
 
-    def wait_for(self, readers: Sequence[int] = (), writers: Sequence[int] = ()) -> None:
-        """Waits until one of these can be read or written."""
-        if not any(select.select(readers, writers, [], max(0, self.until - time.monotonic()))):
-            raise self.overdue(f"no answer within {self.seconds} seconds")
+    def send(self, text: str) -> None:
+        """Gives it a text of whole lines, as far as its pipe takes it now."""
+        self.put(text)
+        self.flush()
 
-    def type(self, *lines: str) -> None:
-        *_, self.typed = (line for line in lines if line != CLOCK)
-        self.count += len(lines)
-        keys = "".join(f"{line}\n" for line in lines).encode(errors="surrogateescape")
-        while keys:
-            self.wait_for(writers=[self.keys])
-            try:
-                keys = keys[os.write(self.keys, keys) :]
-            except BrokenPipeError:
-                raise self.overdue("it ended") from None
+    def flush(self) -> None:
+        """Gives it what the pipe takes of what is left."""
+        try:
+            while self.unsent:
+                del self.unsent[: os.write(self.input.fileno(), self.unsent[:65536])]
+        except BlockingIOError:
+            pass
+        except BrokenPipeError:
+            self.unsent.clear()  # that it has ended is seen by what it writes
 
-    def read_on(self) -> bytes:
-        """Takes what is written next: nothing, where the program has ended."""
-        self.wait_for(readers=[self.screen])
-        piece = os.read(self.screen, 65536)
-        self.unread, self.left = self.unread + piece, self.left - len(piece)
-        if self.left < 0:
-            raise self.overdue("too many bytes are answered")
+    def receive(self) -> bytes:
+        """Takes what it has written: nothing, where it has ended."""
+        piece = os.read(self.output.fileno(), 1 << 20)
+        self.unread += piece
         return piece
 
-    def read_to(self, length: int) -> None:
-        """Takes what is written until a number of bytes are unread, or the program has ended."""
-        while len(self.unread) < length and self.read_on():
-            pass
+    def exchange(self, until: float) -> bytes:
+        """Waits up to a moment for what can be read or written; returns what was read."""
+        reads, writes, _ = select.select([self.output], [self.input] if self.unsent else [], [], max(0.0, until - time.monotonic()))
+        if not reads and not writes:
+            raise Overdue(f"{self.name}: no answer within {self.seconds:g} seconds, after {self.typed!r}")
+        if writes:
+            self.flush()
+        piece = self.receive() if reads else b""
+        if reads and not piece:
+            raise self.gone()
+        return piece
+
+    def read_until(self, is_done: Callable[[], bool], seconds: float | None = None) -> None:
+        """Takes what it writes up to what is waited for."""
+        allowed, left = seconds or self.seconds, BYTES
+        until, patience = time.monotonic() + allowed, Patience(self.process.pid, allowed)
+        while not is_done():
+            try:
+                left -= len(self.exchange(until))
+            except Overdue as why:
+                if isinstance(why, Gone) or patience.ends():
+                    raise
+                until = time.monotonic() + allowed
+            if left < 0:
+                raise Overdue(f"{self.name}: too many bytes are answered, after {self.typed!r}")
+
+    def gone(self) -> Gone:
+        """How it ended, where it was to answer."""
+        ended = self.ended()
+        return Gone(f"{self.name}: {ended.why()}, after {self.typed!r}", ended)
+
+    def ended(self) -> Ended:
+        if not ends_in_time(self.process.pid, self.seconds):
+            raise Overdue(f"{self.name}: no end within {self.seconds:g} seconds, after {self.typed!r}")
+        return Ended(self.process.wait(), self.unread, os.pread(self.reported, BYTES, 0))
+
+    def type(self, *lines: str) -> None:
+        """Gives it lines, without a question after them."""
+        self.typed = lines[-1] if lines else self.typed
+        self.send(text_of(lines))
+
+    def taken(self) -> list[str]:
+        """The whole lines that were read."""
+        whole, _, self.unread = self.unread.rpartition(b"\n")
+        return decoded(whole).split("\n") if whole else []
 
     def line(self) -> str:
-        """The next line that is written."""
-        while b"\n" not in self.unread:
-            if not self.read_on():
-                raise self.overdue("it ended")
-        line, self.unread = self.unread.split(b"\n", 1)
-        return line.decode(errors="replace")
+        """The next line that it writes."""
+        self.read_until(lambda: b"\n" in self.unread)
+        line, _, self.unread = self.unread.partition(b"\n")
+        return decoded(line)
 
-    def ask(self, *lines: str) -> list[str]:
-        """The lines that are answered to lines: all that is written up to the answer to a clock after them."""
-        self.type(*lines, CLOCK)
-        return list(iter(self.line, CLOCK_SET))
-
-    def ask_region(self, line: str) -> list[str]:
-        """What the region answers to a line: stops of EDF in front of it are counted, and left by ENTER."""
-        key = f"KEY {line.split()[1]}"
-        answer = self.ask(line)
-        while answer and answer[0].endswith((" Held", " ToEdf")):
-            self.stops += 1
-            reported = self.ask(f"{key} ENTER")
-            if reported != [f"{key} ToEdf"]:
-                return reported
-            answer = self.ask(line)
-        return answer
-
-    def end(self) -> Ended:
-        """How the program ends, when no more is typed."""
-        self.input.close()
-        while self.read_on():
+    def read_to(self, length: int) -> None:
+        """Takes what it writes until a number of bytes are unread, or it has ended."""
+        try:
+            self.read_until(lambda: len(self.unread) >= length)
+        except Gone:
             pass
-        if not ends_in_time(self.process.pid):
-            raise self.overdue(f"no end within {SECONDS} seconds")
-        return Ended(self.process.wait(), self.unread, os.pread(self.reported, BYTES, 0))
+
+    def ask(self, *lines: str, seconds: float | None = None) -> list[str]:
+        """The lines that are answered to lines."""
+        return self.ask_each([lines], seconds)[0]
+
+    def ask_each(self, texts: Sequence[Sequence[str]], seconds: float | None = None) -> list[list[str]]:
+        """The lines that are answered to each of some texts, all of which are given at once."""
+        answers: list[list[str]] = [[]]
+        for text in texts:
+            self.typed = text[-1] if text else self.typed
+            self.put(f"{text_of(text)}{self.question}\n")
+        self.flush()
+
+        def are_all() -> bool:
+            for line in self.taken():
+                if line == self.answer:
+                    answers.append([])
+                else:
+                    answers[-1].append(line)
+            return len(answers) > len(texts)
+
+        try:
+            self.read_until(are_all, seconds)
+        except Gone as gone:
+            rest = encoded(text_of(answers[-1])) + gone.ended.out
+            raise Gone(str(gone), gone.ended._replace(out=rest)) from None
+        return answers[:-1]
+
+    def end(self, *lines: str) -> Ended:
+        """How it ends, when no more than these lines is given."""
+        if lines:
+            self.type(*lines)
+        try:
+            while self.unsent:
+                self.exchange(time.monotonic() + self.seconds)
+            self.input.close()
+            self.read_until(lambda: False)
+        except Gone as gone:
+            return gone.ended
+        raise AssertionError  # there is no other way out

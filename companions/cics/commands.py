@@ -6,7 +6,7 @@ from cics.expressions import Kind, Value, read_expression, terms_of, value_of, w
 from cics.from_cics import advice
 from cics.operands import CONDITIONS
 from cics.program import Program
-from cics.statements import CONTINUED, LAST, Statement, begin_of_word, joined, new_comment, parsed, put, with_marks
+from cics.statements import CONTINUED, LAST, Statement, begin_of_word, joined, new_comment, new_statement, parsed, put, with_marks
 from cics.texts import closing, is_decimal, is_name, places_of
 
 PAGE = "Commands"
@@ -20,8 +20,12 @@ OPTIONS = {name: set(words.split()) for name, words in {
     "ABEND": "ABCODE CANCEL NODUMP", "HANDLE ABEND": "LABEL CANCEL RESET", "ENQ": "RESOURCE LENGTH NOSUSPEND", "DEQ": "RESOURCE LENGTH",
     "SEND TEXT": "FROM LENGTH ERASE FREEKB"}.items()}
 OF_ALL = {"NOHANDLE", "RESP"}
+AID, SYNCPOINT, CONDITION = "HANDLE AID", "SYNCPOINT", "CONDITION"
+OF_NO_FILE = {AID, SYNCPOINT, "ASSIGN"}  # commands that aren't here, and meet no condition but those that can be handled here
+WRITTEN_ELSEWHERE = ("OPERATOR", "JOURNALNUM", "JTYPEID")  # options by which WRITE isn't one of files
 HANDLED = {"ERROR", "INVREQ", "NOSPACE", "LENGERR", "ITEMERR", "PGMIDERR", "NOSTG", "QIDERR", "ENQBUSY"}
 TWO_WORDS = {"HANDLE", "IGNORE", "PUSH", "POP", "SEND", "READQ", "WRITEQ", "DELETEQ"}
+LENGTH_FIELD, LENGTH_DEFINED = "$XLEN", "$XLEN    DS    H"  # a length that a command is given, and writes, where none is named
 WITH_QUEUES = {"READQ", "WRITEQ", "DELETEQ"}  # commands whose TS may be left out
 
 # Options without an argument that CICS has and the region hasn't: they are no remarks.
@@ -57,6 +61,7 @@ class Command:
     name: str = ""
     words: int = 0
     remarks: list[str] = field(default_factory=list)
+    is_cut: bool = False
 
     def option(self, word: str) -> Unit | None:
         return next((unit for unit in self.units[self.words :] if unit.word == word), None)
@@ -156,6 +161,7 @@ class Rewriting:
 
     def __init__(self, statement: Statement, command: Command, program: Program) -> None:
         self.statement, self.command, self.program = statement, command, program
+        self.before: list[tuple[str, str]] = []  # what is done in front of the command
         self.here = program.here(statement)
 
     def left(self, text: str) -> None:
@@ -168,10 +174,14 @@ class Rewriting:
 
     def rewrite(self) -> None:
         self.close_arguments()
+        if self.command.name == AID:
+            return
         if self.command.name not in OPTIONS:
             self.left(f"EXEC {' '.join(unit.word for unit in self.command.units[: self.command.words])}: no command that is here"
-                      f"{advice(PAGE, self.command.name, self.command.name.split(' ')[0])}")
+                      f"{advice(PAGE, *self.known_as())}")
             return
+        if self.command.name in (f"HANDLE {CONDITION}", f"IGNORE {CONDITION}"):
+            self.drop_conditions()
         are_known = all([self.is_known(unit) for unit in self.command.units[self.command.words :]])
         for unit in self.command.units[self.command.words :]:
             if unit.argument is not None:
@@ -181,6 +191,22 @@ class Rewriting:
         self.initial_image()
         if are_known:
             self.length_left_out()
+
+    def known_as(self) -> list[str]:
+        """The names under which the page may have the command."""
+        name = self.command.name
+        others = [f"{name} {word}" for word in WRITTEN_ELSEWHERE if self.command.has(word)]
+        return [*others, name, name.split(" ")[0]]
+
+    def drop_conditions(self) -> None:
+        """Leaves out the conditions that none of the source's commands can meet; not all of them, since one has to stand."""
+        if not self.program.commands <= set(OPTIONS) | OF_NO_FILE:
+            return
+        for unit in self.command.units[self.command.words :]:
+            if unit.word in CONDITIONS and unit.word not in HANDLED and len(self.command.units) > self.command.words + 1:
+                self.command.units.remove(unit)
+                self.command.is_cut = True
+                self.program.log.changed(self.statement.origin, unit.text(), "left out, since no command here meets it")
 
     def close_arguments(self) -> None:
         for unit in list(self.command.units):
@@ -251,19 +277,32 @@ class Rewriting:
             self.change(unit, f"=AL1({argument})")
 
     def length_left_out(self) -> None:
-        """LENGTH, where it is left out and needed: that of a plain symbol in FROM or COMMAREA."""
+        """LENGTH, where it is left out and needed: that of a plain symbol in FROM, COMMAREA or INTO, in a field of its own where the command
+        writes it."""
         name = self.command.name
         area = self.command.option("FROM") or self.command.option("COMMAREA")
         is_needed = "LENGTH" in OPTIONS[name] and not self.command.has("LENGTH")
         if not is_needed or name in ("ENQ", "DEQ") or area is None and "COMMAREA" in OPTIONS[name]:
             return
+        given, area = self.command.option("SET"), area or self.command.option("INTO")
+        if given is not None and self.is_written("LENGTH"):
+            self.add_length(given, LENGTH_FIELD)
+            return
         symbol = area.argument if area else None
-        if area is None or symbol is None or not is_name(symbol) or self.is_written("LENGTH"):
+        if area is None or symbol is None or not is_name(symbol):
             self.left(f"LENGTH is left out of {name}{advice(PAGE, 'LENGTH left out')}")
             return
         layout = self.program.layout
         old = layout.length(symbol)
         argument = f"=AL2(L'{symbol})" if old == layout.new_length(symbol) else f"=H'{old}'"
+        if self.is_written("LENGTH"):
+            self.before.append(("MVC", f"{LENGTH_FIELD},{argument}"))
+            argument = LENGTH_FIELD
+        self.add_length(area, argument)
+
+    def add_length(self, area: Unit, argument: str) -> None:
+        if argument == LENGTH_FIELD and LENGTH_DEFINED not in self.program.fields:
+            self.program.fields.append(LENGTH_DEFINED)
         new = Unit("LENGTH", argument, area.end, area.end, area.line, 1, True)
         self.command.units.insert(self.command.units.index(area) + 1, new)
         self.program.log.changed(self.statement.origin, area.text(), f"{area.text()} {new.text()}")
@@ -279,11 +318,51 @@ def rewritten_command(old: Statement, program: Program) -> list[Statement]:
         return [old]
     for remark in command.remarks:
         program.log.changed(statement.origin, f"the remark {remark}", "a comment")
-    Rewriting(statement, command, program).rewrite()
-    if not command.remarks and not any(unit.is_new for unit in command.units):
+    if is_nothing(command, program):
+        return nothing(statement, command, program)
+    rewriting = Rewriting(statement, command, program)
+    rewriting.rewrite()
+    if not command.remarks and not command.is_cut and not any(unit.is_new for unit in command.units):
         return [old]
     comments = [new_comment(statement, f"*        {remark}"[:LAST]) for remark in command.remarks]
-    return [*comments, statement.with_lines(lines_of_command(statement, command, begin))]
+    if not rewriting.before:
+        return [*comments, statement.with_lines(lines_of_command(statement, command, begin))]
+    return [*comments, *in_front(statement, rewriting.before), without_name(statement, command, begin)]
+
+
+def in_front(statement: Statement, before: list[tuple[str, str]]) -> list[Statement]:
+    """What is done in front of a command, with its name."""
+    return [new_statement(statement, operation, operand, statement.name if at == 0 else "") for at, (operation, operand) in enumerate(before)]
+
+
+def without_name(statement: Statement, command: Command, begin: int) -> Statement:
+    nameless = statement.changed(name="")
+    lines = lines_of_command(nameless, command, begin)
+    return parsed(statement.origin, lines)
+
+
+def names_of_commands(statements: list[Statement]) -> frozenset[str]:
+    read = [parsed(one.origin, one.written()) for one in statements if one.operation == "EXEC" and not one.is_comment]
+    found = [command_of(joined(one.lines), one.columns.operand) for one in read]
+    return frozenset(command.name for command in found if command)
+
+
+def is_nothing(command: Command, program: Program) -> bool:
+    """Whether a command does nothing here: SYNCPOINT, where nothing is recovered and no resource is held; and what handles only conditions
+    that none of the source's commands can meet."""
+    options = command.units[command.words :]
+    if command.name == SYNCPOINT:
+        return not {"ENQ"} & program.commands and all(unit.word in OF_ALL - {"RESP"} for unit in options)
+    is_whole = program.commands <= set(OPTIONS) | OF_NO_FILE
+    is_handling = command.name in (f"HANDLE {CONDITION}", f"IGNORE {CONDITION}")
+    return is_whole and is_handling and options != [] and all(unit.word in CONDITIONS and unit.word not in HANDLED for unit in options)
+
+
+def nothing(statement: Statement, command: Command, program: Program) -> list[Statement]:
+    """A comment, and the name where it has one."""
+    why = "nothing is recovered here" if command.name == SYNCPOINT else "no command here meets the conditions"
+    program.log.changed(statement.origin, f"EXEC {statement.operand}", f"nothing, since {why}")
+    return [statement.made_comment(), *([new_statement(statement, "DS", "0H", statement.name)] if statement.name else [])]
 
 
 def lines_of_command(statement: Statement, command: Command, begin: int) -> list[str]:

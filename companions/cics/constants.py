@@ -101,4 +101,3 @@ def is_lone_mark(text: str) -> bool:
     """Whether a text between apostrophes has an apostrophe or an ampersand that isn't doubled."""
     rest = text.replace("''", "").replace("&&", "")
     return "'" in rest or "&" in rest
-

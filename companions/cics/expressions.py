@@ -1,4 +1,5 @@
 """Expressions of the assembler, with signs, `*`, `/` and parentheses, and what they are worked out to be."""
+import functools
 from collections.abc import Mapping
 from dataclasses import dataclass, field
 from enum import Enum
@@ -7,6 +8,7 @@ from typing import Protocol
 from cics.texts import DIGITS, LETTERS, NAME, is_length_attribute
 
 LARGEST = 2**32  # no number of a source is as large
+SIGNED = 2**31  # nor is what is worked out: the assembler does that in a fullword with a sign
 MOST_TERMS, MOST_DEPTH = 200, 50  # of an expression that is read here, more than any assembler takes
 
 
@@ -182,6 +184,7 @@ def end_of_text(text: str, at: int) -> int:
     raise NotOne
 
 
+@functools.lru_cache(maxsize=1 << 14)
 def read_expression(text: str, at: int = 0) -> Read | None:
     """The expression with which a text begins at a place."""
     reader = Reader(text, at)
@@ -253,7 +256,7 @@ def combined(operator: str, left: Value | None, right: Value | None) -> Value | 
         found = Value(left.number * right.number if operator == "*" else quotient(left.number, right.number))
     else:
         return None
-    return found if abs(found.number) < LARGEST else None
+    return found if -SIGNED <= found.number < SIGNED else None
 
 
 def quotient(dividend: int, divisor: int) -> int:

@@ -1,10 +1,9 @@
 """The faults and notes of sources, as `FAULTS` of cicslook finds them."""
 import re
-from dataclasses import dataclass
+from dataclasses import dataclass, replace
 
-from cics.assembler_files import Source, encoded
-from cics.child import run
-from cics.cli import Failure
+from cics.assembler_files import Source, run_script
+from cics.origins import Origins, Place
 
 # A line of FAULTS: line and column, the fault, perhaps what is missing, and the text, in which >> and << stand around the part at fault;
 # or NOTE and what it says.
@@ -22,9 +21,15 @@ class Fault:
     column: int
     kind: str
     text: str
+    length: int = 0  # of the part at fault, in its line; 0 where it isn't known
 
     def is_note(self) -> bool:
         return self.kind == "note"
+
+    def of(self, origins: Origins) -> "Fault":
+        """The fault at the line from which its own comes; its column isn't known there."""
+        place = origins.place(self.file, self.line)
+        return self if place == Place(self.file, self.line) else replace(self, file=place.file, line=place.line, column=0, length=0)
 
     def __str__(self) -> str:
         place = f"{self.file}:{self.line}:{self.column}:"
@@ -46,8 +51,9 @@ class Block:
         word, text = WORD.search(found["text"]), found["text"].strip()
         kind = "note" if found["kind"] == "NOTE" else found["kind"].split()[0]
         shown = text if kind == "note" else found["missing"] or (word["word"] if word else text)
+        part = word["word"] if word else text.partition(" IS ")[0]
         number = self.source.before + min(line, max(len(self.source.lines), 1))
-        return Fault(self.source.path, number, int(found["column"]), kind, shown)
+        return Fault(self.source.path, number, int(found["column"]), kind, shown, len(part))
 
 
 def faults_of(sources: list[Source], cicslook: str) -> list[Fault]:
@@ -57,10 +63,5 @@ def faults_of(sources: list[Source], cicslook: str) -> list[Fault]:
     for source in sources:
         blocks.append(Block(source, len(script) + 1))
         script += source.block("FAULTS")
-    ended = run([cicslook], encoded(script))
-    if not ended.is_well():
-        raise Failure(f"{cicslook}: {ended}")
-    lines = ended.out.decode("latin-1").split("\n")
-    found = [match for match in map(FAULT.fullmatch, lines) if match]
+    found = [match for match in map(FAULT.fullmatch, run_script(script, cicslook)) if match]
     return [next(block for block in blocks if block.has(int(match["line"]))).fault(match) for match in found]
-

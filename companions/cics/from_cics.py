@@ -51,4 +51,7 @@ def advice(heading: str, *words: str) -> str:
     under = [row for row in rows() if row.heading == heading]
     named = [row for word in words for row in under if word in row.names()]
     found = [*named, *(row for word in words for row in under if row.has(word))]
-    return f"; write: {found[0].write} (docs/FROM-CICS.md, {heading}: {found[0].missing})" if found else ""
+    if not found:
+        return ""
+    write = found[0].write.replace(" below", " of that page")
+    return f"; write: {write} (docs/FROM-CICS.md, {heading}: {found[0].missing})"

@@ -57,6 +57,8 @@ class Layout:
         self.counters: dict[str, Counter] = {}
         self.section: str | None = None
         self.chains = 0
+        self.bases: dict[int, str] = {}  # the place that each register holds by USING
+        self.bases_at: dict[int, dict[int, str]] = {}  # those at constants, by their order
         self.is_translated = any(one.operation == "EXEC" for one in statements)
         for statement in statements:
             if not statement.is_comment:
@@ -119,6 +121,8 @@ class Layout:
         operation = statement.operation
         if operation in ("CSECT", "START", "DSECT"):
             self.enter(statement)
+        elif operation in ("USING", "DROP"):
+            self.use(statement)
         elif operation in ("DS", "DC"):
             self.place_data(statement)
         elif operation == "EQU":
@@ -139,6 +143,8 @@ class Layout:
 
     def enter(self, statement: Statement) -> None:
         self.section = statement.name
+        if self.is_translated and statement.operation != "DSECT" and not self.bases:
+            self.bases = {3: statement.name, 13: WORKING_STORAGE, 11: "DFHEIBLK"}
         if self.section in self.counters:
             return
         self.begin_chain(8)
@@ -146,6 +152,18 @@ class Layout:
         self.define(self.section, counter.here(), 1)
         if self.section == WORKING_STORAGE and self.is_translated:
             counter.go_to(OF_COMMANDS)
+
+    def use(self, statement: Statement) -> None:
+        """USING and DROP."""
+        operands = cut(statement.operand) if statement.operand else []
+        if statement.operation == "DROP":
+            for register in [self.number(text, None) for text in operands] if operands else list(self.bases):
+                self.bases.pop(-1 if register is None else register, None)
+            return
+        for at, text in enumerate(operands[1:]):
+            register = self.number(text, None)
+            if register is not None:
+                self.bases[register] = f"{operands[0]}+{4096 * at}" if at else operands[0]
 
     def place_instruction(self, statement: Statement) -> None:
         self.align(2)
@@ -159,6 +177,7 @@ class Layout:
         """The items of a DS or DC; what can't be known of one begins a new chain after it."""
         items: list[Value] = []
         first: int | None = None
+        self.bases_at[statement.origin.order] = dict(self.bases)
         for number, text in enumerate(cut(statement.operand)):
             size = self.size(text)
             self.align(size.alignment if size else 1)
@@ -225,4 +244,3 @@ class Layout:
             self.placed[statement.origin.order] = Placed(value, value)
         else:
             self.begin_chain(1)
-

@@ -1,4 +1,5 @@
 """Rewritings of the operands of instructions, and of USING and END."""
+import re
 from dataclasses import dataclass
 
 from cics.data import rewritten_literal
@@ -20,6 +21,7 @@ CONDITIONS = {"NORMAL": 0, "ERROR": 1, "RDATT": 2, "WRBRK": 3, "EOF": 4, "EODS":
               "ENVDEFERR": 56, "IGREQCD": 57, "SESSIONERR": 58, "SYSBUSY": 59, "SESSBUSY": 60, "NOTALLOC": 61, "CBIDERR": 62,
               "INVEXITREQ": 63, "INVPARTNSET": 64, "INVPARTN": 65, "PARTNFAIL": 66, "USERIDERR": 69, "NOTAUTH": 70}
 RESP = "DFHRESP("
+WITHIN = re.compile(r"DFHRESP\(([A-Z]+)\)")
 
 
 @dataclass(frozen=True)
@@ -38,6 +40,11 @@ def without_resp(operand: Operand, program: Program) -> str:
         return f"=F'{CONDITIONS[name]}'"
     program.left(operand.statement.origin, f"{operand.text}: no condition of this name is known")
     return operand.text
+
+
+def with_numbers_of_resp(text: str) -> str:
+    """A text with a number for each DFHRESP(c) of a condition that is known."""
+    return WITHIN.sub(lambda found: str(CONDITIONS.get(found[1], found[0])), text)
 
 
 def worked_part(text: str, operand: Operand, program: Program) -> str:
@@ -63,21 +70,37 @@ def tell_place(literal: Operand, program: Program) -> None:
         program.left(literal.statement.origin, f"{literal.text}: a literal as the first operand{write}")
 
 
+def tell_unread(operand: Operand, program: Program) -> None:
+    """Tells an operand that is no expression with parentheses after it."""
+    if operand.statement.operation == "USING":
+        program.left(operand.statement.origin, f"USING {operand.text}: no place that can be read here; write: a place alone")
+    elif operand.text:
+        program.left(operand.statement.origin, f"{operand.text}: no operand that can be read here")
+
+
+def tell_absolute(operand: Operand, program: Program) -> None:
+    """Tells a base that is a number."""
+    value = program.layout.evaluated(operand.text, program.here(operand.statement))
+    if value is not None and value.is_number():
+        program.left(operand.statement.origin, f"USING {operand.text}: an absolute base{advice('Assembler statements', 'USING of an absolute base')}")
+
+
 def rewritten_operand(operand: Operand, program: Program) -> str:
     text = operand.text
+    if RESP in text and not (text.startswith(RESP) and text.endswith(")")):
+        text = with_numbers_of_resp(text)
     if text.startswith("="):
         tell_place(operand, program)
         return rewritten_literal(text, operand.statement, program)
     if text.startswith(RESP) and text.endswith(")"):
         return without_resp(operand, program)
     found = read_expression(text)
-    if found is None:
-        if operand.statement.operation == "USING":
-            program.left(operand.statement.origin, f"USING {text}: no place that can be read here; write: a place alone")
+    rest = text[found.end :] if found else ""
+    if found is None or rest and (rest[0] != "(" or closing(rest, 0) != len(rest) - 1):
+        tell_unread(operand, program)
         return text
-    rest = text[found.end :]
-    if rest and (rest[0] != "(" or closing(rest, 0) != len(rest) - 1):
-        return text
+    if operand.statement.operation == "USING" and operand.number == 0:
+        tell_absolute(operand, program)
     if rest:
         rest = f"({','.join(worked_part(part, operand, program) for part in cut(rest[1:-1]))})"
     else:
@@ -94,12 +117,14 @@ def rewritten_operand(operand: Operand, program: Program) -> str:
 def has_expression(old: str, new: str) -> bool:
     """Whether an operand has an expression that was worked out, so that its old text is kept as a remark."""
     is_length_added = new.startswith(old)
-    return old != new and not is_length_added and not old.startswith((RESP, "=Y"))
+    return old != new and not is_length_added and RESP not in old and not old.startswith("=Y")
 
 
 def rewritten_operands(statement: Statement, program: Program) -> list[Statement]:
     """The operands of an instruction, USING or END, each rewritten; a branch on a register with a name of its own as BCR."""
-    old = cut(statement.operand)
+    old = cut(statement.operand)[: 1 if statement.operation == "END" else None]
+    if statement.operation == "END" and old != cut(statement.operand):
+        statement = statement.changed(operand=old[0])
     new = [rewritten_operand(Operand(statement, at, text), program) for at, text in enumerate(old)]
     worked = [before for before, after in zip(old, new) if has_expression(before, after)]
     remark = f"{' '.join(worked)} {statement.remark}".strip()

@@ -7,14 +7,14 @@ import re
 from collections.abc import Iterator
 from dataclasses import dataclass, field
 
-from cics.child import ANSWERED, Overdue, Session
+from cics.child import Overdue
 from cics.queues import Loader
-from cics.same import Fault, Region, Step, pages_of, reported_by
+from cics.same import Depth, Fault, Region, child_of, why_of
+from cics.scripts import EVENTS, Action
 
-SECONDS = 600  # that a search may take
-MOST = 16 * ANSWERED  # bytes that it may write
+SECONDS = 600.0  # that a search may take
 FOUND = re.compile(r"ORDERS STATES ([0-9]+) OUTCOMES ([0-9]+)")
-CUT = re.compile(r"ORDERS MORE THAN ([0-9]+) STATES")
+CUT = re.compile(r"ORDERS MORE THAN ([0-9]+) STATES, ALL OF [0-9]+ MOVES")
 OUTCOME = re.compile(r"OUTCOME [0-9]+")
 NEVER, CANNOT = "ORDERS SOME NEVER REST", "ORDERS SOME CANNOT REST"
 MOVE = re.compile(r"EDF \S+ OFF|KEY .*|RUN \S+ [0-9]+")
@@ -61,39 +61,41 @@ def read_orders(lines: list[str]) -> Orders:
 
 @dataclass(frozen=True)
 class Asked:
-    """A script's last ORDERS, and what is done in front of it."""
+    """A script's last ORDERS, and the events in front of it."""
 
-    before: list[Step]
-    block: Step
-
-
-def is_orders(step: Step) -> bool:
-    return step.word() == "ORDERS"
+    before: list[Action]
+    block: Action
 
 
-def asked_of(steps: list[Step]) -> Asked | None:
-    """The last ORDERS of a script's steps, with the definitions, clocks and keys in front of it."""
-    at = next((at for at in reversed(range(len(steps))) if is_orders(steps[at])), None)
-    return None if at is None else Asked([step for step in steps[:at] if not is_orders(step)], steps[at])
+def asked_of(steps: list[Action]) -> Asked | None:
+    at = next((at for at in reversed(range(len(steps))) if steps[at].word == "ORDERS"), None)
+    return None if at is None else Asked([step for step in steps[:at] if step.word in EVENTS], steps[at])
+
+
+def performed(region: Region, steps: list[Action], loaders: list[Loader]) -> None:
+    """Does what a script does, as cicslook does it; test data is loaded before the first key or turn, or at the end."""
+    left = loaders
+    for step in steps:
+        if left and step.word in ("KEY", "TURN", "EDF", "ALTER", "RUN"):
+            region.loaded(left)
+            left = []
+        region.defined(step.lines)
+    region.loaded(left)
 
 
 def searched(command: list[str], asked: Asked, loaders: list[Loader]) -> Orders:
-    """What ORDERS finds in front of which the script was run, each key to rest."""
-    with Session(command) as session:
-        region = Region(session, has_looks=True)
+    """What ORDERS finds where the script has come to it."""
+    with child_of(command, [*asked.before, asked.block]) as child:
         began = 0
         try:
-            for page in pages_of(region, asked.before, loaders, is_last_loaded=True):
-                if page.lines[-1].endswith(" turns"):
-                    raise Fault(page.lines[-1])
-            region.renew(MOST, SECONDS)
-            began = session.count
-            lines = region.ask(*asked.block.lines)
+            performed(Region(child, Depth.SCREENS), asked.before, loaders)
+            began = child.count
+            lines = child.ask(*asked.block.lines, seconds=SECONDS)
         except Overdue as why:
-            said = reported_by(session) or str(why)
+            said = why_of(why)
             bad = BAD.search(said)
             if bad and began and int(bad[1]) > began:
-                said = f"line {asked.block.number + int(bad[1]) - began - 1}: {bad[2]}"
+                said = f"line {asked.block.line + int(bad[1]) - began - 1}: {bad[2]}"
             raise Fault(said) from None
     orders = read_orders(lines)
     if not orders.states and orders.most is None:
@@ -118,16 +120,22 @@ def alone(these: Orders, those: Orders) -> Outcome | None:
     return next((outcome for outcome in these.outcomes if outcome.text not in texts), None)
 
 
-def report_of_orders(number: int, sides: list[tuple[str, Orders]]) -> list[str]:
-    """The lines on what only one of two has, or on there being nothing: then one line."""
+def report_of_orders(number: int, sides: list[tuple[str, Orders]]) -> tuple[bool, list[str]]:
+    """Whether neither has what the other hasn't, and the lines on that. A fault where not all is known, or nothing was searched."""
     where = f"line {number}, ORDERS"
     (old, before), (new, after) = sides
+    for name, orders in sides:
+        if orders.most is not None:
+            raise Fault(f"{where}: {name} has more than {orders.most} states, so not all outcomes are known")
+    for name, orders in sides:
+        if orders.states < 2:
+            raise Fault(f"{where}: {name} has nothing to order: no task goes on, and no key is still to come")
     counts = f"{old} has {counted(before)}, {new} {counted(after)}"
     for name, these, those in ((old, before, after), (new, after, before)):
         if outcome := alone(these, those):
-            return [f"{where}: {counts}; only {name} has this one:", *shown(outcome)]
+            return False, [f"{where}: {counts}; only {name} has this one:", *shown(outcome)]
     for kind in (NEVER, CANNOT):
         for name, these, those in ((old, before, after), (new, after, before)):
             if kind in these.restless and kind not in those.restless:
-                return [f"{where}: the same outcomes; only {name} has {kind.removeprefix('ORDERS ')}:", *these.restless[kind]]
-    return [f"{where}: every order of these keys and turns ends as with the other: {counts}"]
+                return False, [f"{where}: the same outcomes; only {name} has {kind.removeprefix('ORDERS ')}:", *these.restless[kind]]
+    return True, [f"{where}: every order of these keys and turns ends as with the other: {counts}"]

@@ -5,6 +5,7 @@ from cics.constants import item_of
 from cics.expressions import Chain, terms_of, whole
 from cics.from_cics import advice
 from cics.layout import Placed
+from cics.patches import NotPatched, patched_at
 from cics.program import Program
 from cics.statements import Statement, new_statement
 from cics.texts import cut
@@ -159,6 +160,10 @@ def without_overlays(statements: list[Statement], program: Program) -> list[Stat
                 raise NotLaidOut("it ends one that is left")
             at = put_in_order(found, overlay_at(found, at - 1, program), one, program)
         except NotLaidOut as why:
+            after = None if is_last(one) else put_together(found, at - 1, one, program)
+            if after is not None:
+                at = after
+                continue
             is_back = True
             program.left(one.origin, f"ORG {one.operand}".strip() + f": {why}{advice('Assembler statements', 'ORG')}")
     return found
@@ -169,6 +174,21 @@ def put_in_order(found: list[Statement], overlay: Overlay, org: Statement, progr
     has_end = overlay.end < len(found) and is_last(found[overlay.end])
     last = [found[overlay.end].made_comment()] if has_end and program.is_kept else []
     made = [*laid_in_order(overlay.fields), *overlay.below, *last]
+    for one in found[overlay.begin : overlay.end + has_end]:
+        new = next((it for it in made if it.origin.order == one.origin.order and it.name == one.name and it.operation == one.operation), None)
+        if one is not org and not one.is_comment and new != one:
+            program.log.changed(one.origin, f"{one.operation} {one.operand}".strip(), f"{new.operation} {new.operand}" if new else "nothing")
     found[overlay.begin : overlay.end + has_end] = made
     program.log.changed(org.origin, f"ORG {org.operand}", "the fields in the order of their places, by DS 0.. and DS XLn")
     return overlay.begin + len(made)
+
+
+def put_together(found: list[Statement], at: int, org: Statement, program: Program) -> int | None:
+    """Puts constants together over which an ORG goes back; returns where the source goes on, or nothing where that can't be done."""
+    try:
+        patched = patched_at(found, at, program)
+    except NotPatched:
+        return None
+    found[patched.begin : patched.end] = patched.statements
+    program.log.changed(org.origin, f"ORG {org.operand}", "the bytes of all constants, as they are at the end")
+    return patched.begin + len(patched.statements)

@@ -1,10 +1,10 @@
 """What a rewriting knows: the layout of the source as it was read, and where it tells what it leaves."""
-from dataclasses import dataclass
+from dataclasses import dataclass, field
 
 from cics.expressions import Value, is_plain, whole, worked_out
 from cics.layout import Layout
+from cics.log import Log
 from cics.statements import Origin, Statement
-from cics.telling import Log
 
 
 @dataclass
@@ -12,6 +12,9 @@ class Program:
     layout: Layout
     log: Log
     is_kept: bool = False  # old texts are kept as comments
+    commands: frozenset[str] = frozenset()  # the names of the source's commands
+    fields: list[str] = field(default_factory=list)  # fields of the working storage that are written at its end
+    broken: set[int] = field(default_factory=set)  # the orders of statements whose continuation isn't one
 
     def here(self, statement: Statement) -> Value | None:
         return self.layout.here(statement)

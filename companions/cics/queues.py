@@ -5,8 +5,10 @@ with `=` is an item given by constants, as `=CL5'A1000',PL4'125'`; one that begi
 """
 from dataclasses import dataclass
 
-from cics.cli import Failure
+from cics.child import lines_of
+from cics.cli import MISUSED, Failure, read_file
 from cics.constants import item_of, size_of
+from cics.sources import BYTE_ORDER_MARK
 from cics.statements import CONTINUED, LAST, MARK, put
 from cics.texts import CODED, cut, is_decimal
 
@@ -36,7 +38,7 @@ def given_of(words: list[str]) -> list[Given]:
     for word in words:
         queue, equals, path = word.partition("=")
         if not equals or not is_queue(queue):
-            raise Failure(f"--queue {word}: write: --queue NAME=FILE, the name of 1 to 8 characters")
+            raise Failure(f"--queue {word}: write: --queue NAME=FILE, the name of 1 to 8 characters", MISUSED)
         found.append(Given(queue, path))
     return found
 
@@ -75,13 +77,11 @@ def constants_size(path: str, number: int, constants: list[str]) -> int:
 
 
 def items_of(given: Given) -> list[Item]:
-    try:
-        with open(given.path, "rb") as file:
-            lines = file.read().decode("latin-1").split("\n")
-    except OSError as why:
-        raise Failure(f"{given.path}: {why.strerror}") from None
+    data = read_file(given.path)
+    if data.startswith(BYTE_ORDER_MARK):
+        raise Failure(f"{given.path}:1: a byte order mark in front of the text, X'EFBBBF': take it out")
     found = []
-    for number, line in enumerate(lines[:-1] if lines[-1] == "" else lines, 1):
+    for number, line in enumerate(lines_of(data.decode("latin-1")), 1):
         line = line.removesuffix("\r")
         is_given = line.startswith("=") and not line.startswith("==")
         constants = cut(line[1:]) if is_given else text_constants(line.removeprefix("=") if line.startswith("==") else line)

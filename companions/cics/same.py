@@ -1,25 +1,40 @@
-"""Whether programs show the same: two scripts run, key by key, and what is to be seen after each compared.
+"""Whether programs do the same: two scripts run, key by key, and what the region has after each compared.
 
 Of a script its definitions, clocks and keys are taken. After each key the terminals are turned in the order of their definition, each up
 to a turn that is answered Idle or Waiting, round by round until no terminal goes on.
 """
-import os
 import re
-import time
 from collections.abc import Iterator
 from dataclasses import dataclass, field
+from enum import IntEnum
 
-from cics.child import ANSWERED, SECONDS, Overdue, Session, is_of_page
+from cics.child import Child, Gone, Overdue, text_of
 from cics.queues import TERMINAL, Loader
+from cics.scripts import BLOCK_END, Action, actions_of, free_name
+from cics.transcripts import CWA, RESTS, reply_of
 
 TURNS = 5000  # after a key: more than any program needs that comes to rest
 AT_ONCE = 50  # turns that are typed before their answers are read: those after a rest change nothing
-REST = ("Idle", "Waiting")
-NOBODY = "TURN $$$$"  # no terminal of a script has this name: its answer ends what is answered to the line in front
-MOST_OF_QUEUES = 16 * ANSWERED  # bytes that are answered, at most, with queues
-BLOCKS, TAKEN = ("IMAGE", "SOURCE", "FAULTS", "ORDERS"), ("IMAGE", "SOURCE", "TRANSACTION", "TERMINAL", "CLOCK", "KEY", "ORDERS")
-ANY_CASE = ("FAULTS", "ORDERS")  # words of `cicslook` that may be in lower case
+TAKEN = ("IMAGE", "SOURCE", "TRANSACTION", "TERMINAL", "CLOCK", "KEY")
+LONGEST_LOOK, COMMAREA_SHOWN = 4096, 64  # bytes that STORAGE writes, and that TERMINALS writes of a COMMAREA
 QUEUE = re.compile(r"> QUEUE (?P<shown>'.*'|X'[0-9A-F]{16}') ITEMS (?P<items>\d+) BYTES \d+ READ \d+")
+KEPT = re.compile(r"> TERMINAL (?P<terminal>\S+) NEXT (?:'[^']*'|X'[0-9A-F]+') COMMAREA (?P<length>\d+) ")
+COPY = re.compile(r"> AREA (?P<address>[0-9A-F]{6}) LENGTH (?P<length>[0-9A-F]{6}) OTHER ")
+
+
+class Depth(IntEnum):
+    """What is compared after a key, each with all before it."""
+
+    SCREENS = 0
+    SHOWN = 1
+    KEPT = 2
+
+
+SAID = {
+    Depth.SCREENS: "answers, ends of tasks and screens",
+    Depth.SHOWN: "answers, ends of tasks, screens and queues",
+    Depth.KEPT: "answers, ends of tasks, screens, next transactions and COMMAREAs, held input, resources, the common work area, and queues with "
+                "the item last read"}
 
 
 class Fault(Exception):
@@ -30,32 +45,22 @@ class Restless(Exception):
     """A terminal that doesn't come to rest."""
 
 
-def word_of(line: str) -> str:
-    word = line.split(" ", 1)[0]
-    return word.upper() if word.upper() in ANY_CASE else word
-
-
 @dataclass(frozen=True)
-class Step:
-    """What is asked: the number of its first line in the script, and its lines."""
+class Seen:
+    """A line that was seen, and what it is of; an answer is of nothing."""
 
-    number: int
-    lines: list[str]
-
-    def word(self) -> str:
-        return word_of(self.lines[0])
-
-    def is_key(self) -> bool:
-        return self.word() == "KEY"
+    of: str
+    line: str
 
 
 @dataclass(frozen=True)
 class Page:
-    """What is to be seen after a key: the key's line and its number, and the lines."""
+    """What is seen after a key: the key's line and its number, what is seen, and whether all terminals have come to rest."""
 
     number: int
     key: str
-    lines: list[str]
+    seen: list[Seen]
+    is_at_rest: bool = True
 
 
 @dataclass
@@ -65,29 +70,17 @@ class Sources:
     lines: dict[str, list[str]]
     found: set[str] = field(default_factory=set)
 
-    def replaced(self, taken: list[str]) -> list[str]:
-        words = taken[0].split()
-        name = words[1] if len(words) > 1 else ""
-        if words[0] != "SOURCE" or name not in self.lines:
-            return taken
+    def replaced(self, action: Action) -> Action:
+        name = action.words[1] if len(action.words) > 1 else ""
+        if action.word != "SOURCE" or name not in self.lines:
+            return action
         self.found.add(name)
-        return [f"SOURCE {name}", *self.lines[name], "/*"]
+        return Action(action.line, [f"SOURCE {name}", *self.lines[name], BLOCK_END])
 
 
-def steps_of(script: list[str], sources: Sources) -> list[Step]:
-    """Definitions, with SOURCE blocks replaced, clocks, keys, and ORDERS."""
-    steps, at = [], 0
-    while at < len(script):
-        number, taken = at + 1, [script[at]]
-        word = word_of(script[at])
-        if word in BLOCKS:
-            while taken[-1] != "/*" and at + 1 < len(script):
-                at += 1
-                taken.append(script[at])
-        if word in TAKEN:
-            steps.append(Step(number, sources.replaced(taken)))
-        at += 1
-    return steps
+def steps_of(script: str, sources: Sources) -> list[Action]:
+    """A script's actions, with SOURCE blocks replaced."""
+    return [sources.replaced(action) for action in actions_of(script)]
 
 
 def digits_of(shown: str) -> str:
@@ -98,151 +91,165 @@ def digits_of(shown: str) -> str:
 class Region:
     """The program, with a script's terminals."""
 
-    def __init__(self, session: Session, *, has_looks: bool) -> None:
-        self.session, self.has_looks, self.terminals = session, has_looks, list[str]()
+    def __init__(self, child: Child, depth: Depth) -> None:
+        self.child, self.depth, self.terminals = child, depth, list[str]()
+        self.long: dict[str, int] = {}  # terminals for which a COMMAREA is kept of which not all is shown, and its length
 
-    def ask(self, *lines: str) -> list[str]:
-        """All that is answered to lines."""
-        self.session.type(*lines, NOBODY)
-        return list(iter(self.session.line, f"{NOBODY} NoSuchTerminal"))
+    def look(self, of: str, line: str) -> list[Seen]:
+        return [Seen(of, found) for found in self.child.ask(line)]
 
     def turned(self, terminal: str, left: int) -> list[str]:
         """The answers of a terminal's turns, up to its rest."""
         answers: list[str] = []
-        while not any(answer in REST for answer in answers[-AT_ONCE:]):
+        while not any(answer in RESTS for answer in answers[-AT_ONCE:]):
             if len(answers) > left:
                 raise Restless(terminal)
-            self.session.type(*[f"TURN {terminal}"] * AT_ONCE)
-            answers += [self.session.line().split(" ", 2)[2] for _ in range(AT_ONCE)]
-        return answers[: next(at for at, answer in enumerate(answers) if answer in REST) + 1]
+            answers += [line.split(" ", 2)[2] for line in self.child.ask(*[f"TURN {terminal}"] * AT_ONCE)]
+        return answers[: next(at for at, answer in enumerate(answers) if answer in RESTS) + 1]
 
-    def rested(self) -> list[str]:
+    def rested(self) -> Iterator[Seen]:
         """How tasks ended, when all terminals have been turned to rest."""
-        ends: list[str] = []
         left, is_moving = TURNS, True
         while is_moving:
             is_moving = False
             for terminal in self.terminals:
                 answers = self.turned(terminal, left)
                 left, is_moving = left - len(answers), is_moving or len(answers) > 1
-                ends += [f"{terminal} {answer}" for answer in answers if answer.startswith(("Ended", "Abended"))]
-        return ends
+                yield from (Seen("", f"{terminal} {answer}") for answer in answers if answer.startswith(("Ended", "Abended")))
 
-    def renew(self, answered: int, seconds: int = SECONDS) -> None:
-        """Lets the next questions take their time."""
-        self.session.until, self.session.left, self.session.seconds = time.monotonic() + seconds, answered, seconds
-
-    def pressed(self, key: str) -> list[str]:
-        """What is to be seen after a key: its answer, how tasks ended, all screens and queues."""
-        self.renew(ANSWERED)
-        reported = self.ask(key)
+    def pressed(self, step: Action) -> Page:
+        """What is seen after a key: its answer, how tasks ended, all screens, and what is kept."""
+        seen = self.look("", step.lines[0])
+        if step.terminal in self.long and reply_of(seen[0].line) == "Attached":
+            seen += self.commarea(step.terminal)
         try:
-            reported += self.rested()
-        except Restless as terminal:
-            return [*reported, f"{terminal} doesn't come to rest within {TURNS} turns"]
-        reported += [line for terminal in self.terminals for line in self.ask(f"SCREEN {terminal}")]
-        return reported + (self.queues() if self.has_looks else [])
+            seen += self.rested()
+        except Restless as why:
+            return Page(step.line, step.lines[0], [*seen, Seen("", f"{why} doesn't come to rest within {TURNS} turns")], False)
+        for terminal in self.terminals:
+            seen += self.look(f"SCREEN {terminal}", f"SCREEN {terminal}")
+        seen += self.kept() if self.depth >= Depth.KEPT else []
+        return Page(step.line, step.lines[0], seen + (self.queues() if self.depth >= Depth.SHOWN else []))
 
-    def queues(self) -> list[str]:
+    def kept(self) -> list[Seen]:
+        """What a later key can find, beside screens and queues."""
+        _clock, *lines = self.child.ask("TERMINALS")
+        found = [it for it in map(KEPT.match, lines) if it]
+        self.long = {it["terminal"]: int(it["length"]) for it in found if int(it["length"]) > COMMAREA_SHOWN}
+        seen = [Seen("what is kept for a terminal", line) for line in lines]
+        return seen + self.look("a resource", "RESOURCES") + self.look("the common work area", f"STORAGE {CWA[0]} {CWA[1]}")
+
+    def commarea(self, terminal: str) -> list[Seen]:
+        """The bytes of the COMMAREA that was given to a task now: TERMINALS shows the first of them alone."""
+        copies = [it for it in map(COPY.match, self.child.ask(f"AREAS {terminal}")) if it]
+        length = self.long.pop(terminal)
+        copy = next((it for it in copies if int(it["length"], 16) == length), None)
+        if copy is None:
+            raise Fault(f"the COMMAREA that is kept for {terminal} has {length} bytes, and not all of them can be seen")
+        address, seen = int(copy["address"], 16), []
+        for at in range(0, length, LONGEST_LOOK):
+            rows = self.child.ask(f"STORAGE {address + at:06X} {min(LONGEST_LOOK, length - at)}")
+            seen += [Seen(f"the COMMAREA for {terminal}", f"> {at + 16 * row:06X}  {line[10:]}") for row, line in enumerate(rows[:-1])]
+        return seen
+
+    def last_commareas(self) -> list[Seen]:
+        """The long COMMAREAs that are kept after the last key, by one more key for each."""
+        seen = []
+        for terminal in [*self.long]:
+            if reply_of(self.child.ask(f"KEY {terminal} ENTER")[0]) != "Attached":
+                raise Fault(f"the COMMAREA that is kept for {terminal} has {self.long[terminal]} bytes, and not all of them can be seen")
+            seen += self.commarea(terminal)
+        return seen
+
+    def queues(self) -> list[Seen]:
         """All queues, with each item as a whole."""
-        self.renew(MOST_OF_QUEUES)
-        found = []
-        for line in self.ask("QUEUES"):
-            found.append(line)
+        seen = []
+        for line in self.child.ask("QUEUES"):
+            seen.append(Seen("a queue", line))
             if queue := QUEUE.fullmatch(line):
                 digits = digits_of(queue["shown"])
                 for number in range(1, int(queue["items"]) + 1):
-                    found += self.ask(f"QUEUE {digits} {number}")
-        return found
+                    seen += self.look(f"item {number} of queue {queue['shown']}", f"QUEUE {digits} {number}")
+        return seen
 
     def defined(self, lines: list[str]) -> None:
         """Defines what lines say; a refusal is a fault."""
-        self.renew(ANSWERED)
-        refused = [line for line in self.ask(*lines) if " REFUSED " in line]
+        refused = [line for line in self.child.ask(*lines) if " REFUSED " in line]
         if refused:
             raise Fault(refused[0])
         if lines[0].startswith("TERMINAL "):
             self.terminals.append(lines[0].split()[1])
 
-    def loaded_all(self, loaders: list[Loader]) -> None:
-        for at, loader in enumerate(loaders):
-            self.loaded(loader, is_first=at == 0)
-
-    def loaded(self, loader: Loader, *, is_first: bool) -> None:
+    def loaded(self, loaders: list[Loader]) -> None:
         """Loads test data at a terminal of its own, which is none of those that are compared."""
-        first = [f"TERMINAL {TERMINAL}"] if is_first else []
-        for lines in (first, [f"SOURCE {loader.name}", *loader.lines, "/*"], [f"TRANSACTION {loader.transaction} {loader.name}"]):
-            refused = [line for line in self.ask(*lines) if " REFUSED " in line] if lines else []
-            if refused:
-                raise Fault(refused[0])
-        self.renew(ANSWERED)
-        self.ask(f"KEY {TERMINAL} ENTER {loader.transaction}")
-        last = [line for line in self.ask(*[f"TURN {TERMINAL}"] * loader.turns) if line.endswith(("Ended", "Waiting")) or "Abended" in line]
-        if not last or not last[0].endswith("Ended"):
-            raise Fault(last[0] if last else f"{TERMINAL} doesn't end")
+        terminals = [*self.terminals]
+        if loaders:
+            self.defined([f"TERMINAL {TERMINAL}"])
+        for loader in loaders:
+            self.defined([f"SOURCE {loader.name}", *loader.lines, BLOCK_END])
+            self.defined([f"TRANSACTION {loader.transaction} {loader.name}"])
+            self.child.ask(f"KEY {TERMINAL} ENTER {loader.transaction}")
+            replies = map(reply_of, self.child.ask(*[f"TURN {TERMINAL}"] * loader.turns))
+            last = next((reply for reply in replies if reply in ("Ended", "Waiting", "Abended")), "doesn't end")
+            if last != "Ended":
+                raise Fault(f"{TERMINAL}, which loads test data: {last}")
+        self.terminals = terminals
 
 
-def reported_by(session: Session) -> str:
-    """The first line that a program wrote on standard error."""
-    return os.pread(session.reported, 4096, 0).decode(errors="replace").partition("\n")[0].strip()
-
-
-def pages_of(region: Region, steps: list[Step], loaders: list[Loader], *, is_last_loaded: bool = False) -> Iterator[Page]:
-    """What is to be seen after each key, up to one after which a terminal doesn't come to rest. Test data is loaded before the first; or
-    after the last step where there is no key."""
+def pages_of(region: Region, steps: list[Action], loaders: list[Loader]) -> Iterator[Page]:
+    """What is seen after each key, up to one after which a terminal doesn't come to rest. Test data is loaded before the first."""
     left = loaders
     for step in steps:
-        if not step.is_key():
+        if step.word != "KEY":
             region.defined(step.lines)
             continue
-        region.loaded_all(left)
+        region.loaded(left)
         left = []
-        page = Page(step.number, step.lines[0], region.pressed(step.lines[0]))
+        page = region.pressed(step)
         yield page
-        if page.lines[-1].endswith(" turns"):
+        if not page.is_at_rest:
             return
-    region.loaded_all(left if is_last_loaded else [])
+    if last := region.last_commareas():
+        yield Page(steps[-1].line, f"after {steps[-1].lines[0]}", last)
 
 
-def seen(command: list[str], steps: list[Step], loaders: list[Loader], *, has_looks: bool) -> list[Page]:
-    """What is to be seen after each key of a script, of which ORDERS is left out."""
-    with Session(command) as session:
+def child_of(command: list[str], steps: list[Action]) -> Child:
+    """A child for these steps, with a mark that none of them names."""
+    return Child(command, free_name("".join(text_of(step.lines) for step in steps)) or "")
+
+
+def seen(command: list[str], steps: list[Action], loaders: list[Loader], depth: Depth) -> list[Page]:
+    """What is seen after each key of a script."""
+    with child_of(command, steps) as child:
         try:
-            return [*pages_of(Region(session, has_looks=has_looks), [step for step in steps if step.word() != "ORDERS"], loaders)]
+            return [*pages_of(Region(child, depth), [step for step in steps if step.word in TAKEN], loaders)]
         except Overdue as why:
-            raise Fault(reported_by(session) or str(why)) from None
+            raise Fault(why_of(why)) from None
 
 
-@dataclass(frozen=True)
-class Difference:
-    """The first line that differs, of the old and of the new ones, and the line in front that says what it belongs to."""
-
-    of: str
-    old: str
-    new: str
-
-    def is_of_page(self) -> bool:
-        return is_of_page(self.old or self.new)
+def why_of(why: Overdue) -> str:
+    return why.ended.why() if isinstance(why, Gone) else str(why)
 
 
-def heading(lines: list[str], at: int) -> str:
-    """The line that a page's line belongs to."""
-    return next((line for line in reversed(lines[: at + 1]) if not is_of_page(line)), "") if at < len(lines) else ""
+def difference(old: list[Seen], new: list[Seen]) -> tuple[Seen | None, Seen | None] | None:
+    """The first that differs, of the old and of the new ones."""
+    pairs = zip([*old, *[None] * len(new)], [*new, *[None] * len(old)])
+    return next(((before, after) for before, after in pairs if before != after), None)
 
 
-def difference(old: list[str], new: list[str]) -> Difference | None:
-    at = next((k for k in range(max(len(old), len(new))) if old[k : k + 1] != new[k : k + 1]), None)
-    if at is None:
-        return None
-    return Difference(heading(old, at) or heading(new, at), "".join(old[at : at + 1]), "".join(new[at : at + 1]))
-
-
-def report_of(old: list[Page], new: list[Page], *, has_looks: bool) -> list[str]:
-    """The lines on the first key after which something differs, or on there being none."""
+def report_of(old: list[Page], new: list[Page], depth: Depth) -> tuple[bool, list[str]]:
+    """Whether nothing differs, and the lines on the first key after which something does, or on there being none. A fault where no key shows
+    it."""
+    if not old:
+        raise Fault("no key is pressed, so nothing is compared")
     for before, after in zip(old, new):
-        found = difference(before.lines, after.lines)
-        if found:
-            where = f"{found.of} differs" if found.is_of_page() else ""
-            return [f"line {before.number}, {before.key}: {where}".rstrip(), f"old: {found.old}", f"new: {found.new}"]
-    what = "ends of tasks, screens and queues" if has_looks else "ends of tasks and screens"
-    return [f"after each of {len(old)} keys the same answers, {what}; the script's own turns were left out"]
+        if found := difference(before.seen, after.seen):
+            of = next((it.of for it in found if it and it.of), "")
+            lines = [it.line if it else "" for it in found]
+            return False, [f"line {before.number}, {before.key}: {f'{of} differs' if of else ''}".rstrip(), f"old: {lines[0]}", f"new: {lines[1]}"]
+    if not old[-1].is_at_rest:
+        raise Fault(f"line {old[-1].number}, {old[-1].key}: {old[-1].seen[-1].line}, with both, so nothing is known of what follows")
+    if len(old) != len(new):
+        raise Fault("a COMMAREA that is kept after the last key can be seen of one alone")
+    count = sum(not page.key.startswith("after ") for page in old)
+    return True, [f"after each of {count} keys the same {SAID[depth]}; the script's own turns were left out"]

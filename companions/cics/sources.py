@@ -2,13 +2,12 @@
 import os
 from dataclasses import dataclass
 
+from cics.cli import Failure, name_of, read_file
+
 RECORD = 80
 BLANK, LINE_FEED = 0x40, 0x0A  # EBCDIC's blank; a text has line feeds
+BYTE_ORDER_MARK = b"\xef\xbb\xbf"  # which some editors put in front of a text
 SUFFIXES = ("", ".asm", ".cpy", ".copy", ".mac")
-
-
-class Unreadable(Exception):
-    """Why a file can't be read, as a line."""
 
 
 @dataclass(frozen=True)
@@ -20,6 +19,12 @@ class SourceText:
     is_ebcdic: bool = False
     is_mixed: bool = False
     ends_open: bool = False
+    has_mark: bool = False  # a byte order mark in front, which is no part of the lines
+
+    def written(self, lines: list[str]) -> str:
+        """New lines as the file had its own: with its ends, and the last one open where it was."""
+        text = "".join(line + self.ending for line in lines)
+        return text.removesuffix(self.ending) if self.ends_open else text
 
 
 def is_ebcdic(data: bytes) -> bool:
@@ -29,25 +34,20 @@ def is_ebcdic(data: bytes) -> bool:
 
 def source_of(data: bytes, name: str, *, must_be_ebcdic: bool = False) -> SourceText:
     if must_be_ebcdic and len(data) % RECORD:
-        raise Unreadable(f"{name}:1: {len(data)} bytes aren't records of {RECORD}")
+        raise Failure(f"{name}:1: {len(data)} bytes aren't records of {RECORD}")
     if must_be_ebcdic or data and is_ebcdic(data):
         text = data.decode("cp037")
         return SourceText([text[at : at + RECORD].rstrip() for at in range(0, len(text), RECORD)], is_ebcdic=True)
-    lines = data.decode("latin-1").split("\n")
-    ends_open = lines[-1] != ""
-    lines = lines if ends_open else lines[:-1]
+    *lines, rest = data.removeprefix(BYTE_ORDER_MARK).decode("latin-1").split("\n")
     with_return = sum(line.endswith("\r") for line in lines)
     ending = "\r\n" if with_return and with_return == len(lines) else "\n"
-    return SourceText([line.removesuffix("\r") for line in lines], ending, False, 0 < with_return < len(lines) - ends_open, ends_open)
+    ended, unfinished = [line.removesuffix("\r") for line in lines], [rest] if rest else []
+    return SourceText([*ended, *unfinished], ending, is_mixed=0 < with_return < len(lines), ends_open=bool(rest),
+                      has_mark=data.startswith(BYTE_ORDER_MARK))
 
 
 def read_source(path: str, *, must_be_ebcdic: bool = False) -> SourceText:
-    try:
-        with open(path, "rb") as file:
-            data = file.read()
-    except OSError as why:
-        raise Unreadable(f"{path}: {why.strerror or 'it cannot be read'}") from None
-    return source_of(data, path, must_be_ebcdic=must_be_ebcdic)
+    return source_of(read_file(path), name_of(path), must_be_ebcdic=must_be_ebcdic)
 
 
 def member_path(member: str, folders: list[str]) -> str | None:

@@ -143,7 +143,7 @@ def statements_of(lines: list[str], file: str) -> list[Statement]:
             continue
         after = lines_of_statement(lines, at)
         found.append(parsed(origin, lines[at:after]))
-        has_ended, at = found[-1].operation == "END", after
+        has_ended, at = found[-1].operation.upper() == "END", after
     return found
 
 

@@ -10,7 +10,7 @@ from cics.child import TOP, Ended
 
 def called(companion: str, words: list[str], folder: str) -> Ended:
     ran = subprocess.run([os.path.join(TOP, "companions", companion), *words], cwd=folder, stdin=subprocess.DEVNULL, capture_output=True,
-                         timeout=60, check=False)
+                         timeout=300, check=False)
     return Ended(ran.returncode, ran.stdout, ran.stderr)
 
 

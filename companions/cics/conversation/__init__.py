@@ -1,0 +1,1 @@
+"""A conversation with `cicslook`: lines that are typed, of which the good ones are done by one child."""

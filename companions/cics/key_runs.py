@@ -1,0 +1,187 @@
+"""A run by keys, without a script: programs, one terminal, and keys, each pressed and run to rest."""
+import json
+import re
+from collections.abc import Iterator
+from dataclasses import dataclass, field
+
+from cics.assembler_files import Source, encoded, run_script
+from cics.cli import DONE, FOUND, MISUSED, Failure, ended, say, write_out
+from cics.faults import faults_of
+from cics.key_names import AIDS
+from cics.origins import Origins
+from cics.queues import TERMINAL, Loader
+from cics.scripts import MOST_TURNS
+from cics.stand_in.abends import request_line
+from cics.texts import CODED, is_name
+from cics.transcripts import is_of_page, of_look, place_in, reply_of, rows_of
+
+KEY_NAME = re.compile(r"(?:PF|PA)\d+")
+MOST_TEXT = 1920  # characters of a key
+AT = "T001"
+TERMINALS = [f"T{number:03}" for number in range(1, 17)]  # of a set-up for terminals
+LINES_OF_KEY = 3  # in a script: the key, RUN, and SCREEN
+ENDS = ("Ended", "Waiting")
+
+
+@dataclass(frozen=True)
+class Transaction:
+    name: str
+    program: str
+
+
+def transactions_of(words: list[str], programs: list[str]) -> list[Transaction]:
+    """Those that are given, as BAL=BALINQ, and for each other program one of its name, of the first four characters of it."""
+    found = []
+    for word in words:
+        name, _, program = word.partition("=")
+        if not is_name(name) or len(name) > 4 or program not in programs:
+            raise Failure(f"--tran {word}: write: --tran NAME=PROGRAM, the name of 1 to 4 characters, the program one of "
+                          f"{', '.join(programs)}", MISUSED)
+        found.append(Transaction(name, program))
+    for program in programs:
+        if all(program != one.program for one in found):
+            found.append(Transaction(program[:4], program))
+    names = [one.name for one in found]
+    for name in names:
+        if names.count(name) > 1:
+            raise Failure(f"two transactions of the name {name}; write: --tran NAME=PROGRAM for one of them", MISUSED)
+    return found
+
+
+def key_of(word: str, *, is_mixed: bool = False) -> str:
+    """A key as a script's line has it after the terminal: ENTER with the text, or the key that is the first word. The text is in capitals,
+    as CICS makes it, unless it may be mixed."""
+    first, blank, rest = word.partition(" ")
+    if KEY_NAME.fullmatch(first.upper()) and first.upper() not in AIDS:
+        raise Failure(f"--key '{word}': no key is {first.upper()}; write ENTER, CLEAR, PA1, PA2 or PF1 to PF12, or --key 'ENTER {word}' for a text", MISUSED)
+    aid, text = (first.upper(), rest) if first.upper() in AIDS else ("ENTER", word)
+    uncoded = next((character for character in text if character not in CODED), None)
+    if uncoded is not None:
+        raise Failure(f"--key {word!r}: {uncoded!r} has no code, so no key gives it", MISUSED)
+    if len(text) > MOST_TEXT:
+        raise Failure(f"--key '{word[:20]}..': more than {MOST_TEXT} characters", MISUSED)
+    text = text if is_mixed else text.upper()
+    return f"{aid} {text}" if text else aid
+
+
+def loading_lines(loaders: list[Loader], terminal: str) -> list[str]:
+    """Lines that load test data, at a terminal."""
+    lines = []
+    for loader in loaders:
+        lines += [f"SOURCE {loader.name}", *loader.lines, "/*", f"TRANSACTION {loader.transaction} {loader.name}",
+                  f"KEY {terminal} ENTER {loader.transaction}", f"RUN {terminal} {min(loader.turns, MOST_TURNS)}"]
+    return lines
+
+
+def script_of(sources: list[Source], transactions: list[Transaction], loaders: list[Loader], keys: list[str]) -> list[str]:
+    """A script of cicslook that does it all; without keys a set-up for terminals, at the first of which test data is loaded."""
+    lines = [line for source in sources for line in source.block("SOURCE")]
+    lines += [f"TRANSACTION {one.name} {one.program}" for one in transactions]
+    lines += [f"TERMINAL {name}" for name in ([AT] if keys else TERMINALS)]
+    lines += [f"TERMINAL {TERMINAL}"] if loaders and keys else []
+    lines += loading_lines(loaders, TERMINAL if keys else AT)
+    for key in keys:
+        lines += [f"KEY {AT} {key}", f"RUN {AT} {MOST_TURNS}", f"SCREEN {AT}"]
+    return lines
+
+
+def faultless(sources: list[Source], cicslook: str, origins: Origins = Origins()) -> bool:
+    """Whether sources are faultless; their faults are told."""
+    faults = [fault.of(origins) for fault in faults_of(sources, cicslook) if not fault.is_note()]
+    for fault in faults:
+        ended(str(fault), FOUND)
+    return not faults
+
+
+@dataclass
+class Pressed:
+    """What came of a key: its answer, the answer to the last turn, and the lines of the screen."""
+
+    line: str
+    answer: str
+    last: str = ""
+    screen: list[str] = field(default_factory=list)
+
+    def is_well(self) -> bool:
+        """Whether the task has come to rest without an abend."""
+        return self.answer in ("Attached", "Given") and self.last in ENDS
+
+    def lines(self) -> list[str]:
+        """What is shown of it."""
+        return [self.line, *([] if self.last == "Ended" else [f"{AT} {self.explained()}"]), *self.screen]
+
+    def as_object(self, cause: list[str]) -> dict[str, object]:
+        """The same as an object: the key, its answer, the answer to the last turn, and a row of the screen for each of its lines."""
+        return {"key": self.line.split(" ", 2)[2], "answer": self.answer, "end": self.last, "screen": rows_of(["", *self.screen]), "cause": cause,
+                "well": self.is_well()}
+
+    def explained(self) -> str:
+        if self.answer == "NoSuchTransaction":
+            return "NoSuchTransaction: the text begins with the name of none; write: --tran NAME=PROGRAM for the name that is typed"
+        return self.last if self.answer in ("Attached", "Given") else self.answer
+
+
+def pressed_in(transcript: list[str], keys: list[str]) -> list[Pressed]:
+    """What came of each key, by the transcript. What a terminal for test data did is a failure, unless all went well."""
+    found: list[Pressed] = []
+    for line in transcript:
+        if " REFUSED " in line or line.startswith((f"TURN {TERMINAL} Abended", f"TURN {TERMINAL} Waiting")):
+            raise Failure(line)
+        if line.startswith(f"KEY {AT} "):
+            found.append(Pressed(f"KEY {AT} {keys[len(found)]}", reply_of(line)))
+        elif line.startswith(f"TURN {AT} ") and found:
+            found[-1].last = line.split(" ", 2)[2]
+        elif line.startswith(f"> RUN {AT} "):
+            found[-1].last = f"is still running after {MOST_TURNS} turns"
+        elif is_of_page(line) and found:
+            found[-1].screen.append(line)
+    return found
+
+
+def fields_before(script: list[str], cicslook: str) -> list[str]:
+    """What FIELDS writes in front of the abend with which the last line of a script ends, a RUN; the program's own fields."""
+    asked = [*script[:-1], f"{script[-1]} BEFORE ABEND", f"FIELDS {AT}"]
+    found = [line for line in of_look(run_script(asked, cicslook)) if line.startswith("FIELD")]
+    end = next((at for at, line in enumerate(found) if f"{AT} 'DFHEIBLK' " in line), len(found))
+    return [line for line in found[:end] if not line.split(" ")[2].startswith("'DFHEI")]
+
+
+def cause_of(until: list[str], cicslook: str, *, with_fields: bool) -> list[str]:
+    """Why the task of a script's last line abended, a RUN; with the fields where they are asked for."""
+    def looked(script: list[str]) -> list[str]:
+        return [line[2:] for line in run_script(script, cicslook) if line.startswith("> ")]
+
+    lines = looked([*until, f"ABEND {AT}"])
+    lines += request_line(lines, until, AT, looked)
+    return lines + (fields_before(until, cicslook) if with_fields else [])
+
+
+def led_back(cause: list[str], origins: Origins) -> list[str]:
+    """The lines of a cause, those of the program that is known led back to the old source."""
+    place = place_in(cause)
+    is_own = place is None or origins.program in ("", place[0])
+    named = [line.split(" ")[1] in (origins.program, "") if line.startswith("CALLER ") else is_own for line in cause]
+    return [origins.led_back(line) if is_led else line for line, is_led in zip(cause, named)]
+
+
+def each_shown(script: list[str], keys: list[str], cicslook: str, origins: Origins, *, with_fields: bool) -> Iterator[tuple[Pressed, list[str]]]:
+    """Runs a script, and gives what came of each key; of an abend also its cause."""
+    for number, pressed in enumerate(pressed_in(run_script(script, cicslook), keys)):
+        until = script[: len(script) - LINES_OF_KEY * (len(keys) - number - 1) - 1]
+        has_abended = pressed.last.startswith("Abended")
+        cause = cause_of(until, cicslook, with_fields=with_fields) if has_abended else []
+        yield pressed, led_back(cause, origins)
+
+
+def show(script: list[str], keys: list[str], cicslook: str, origins: Origins, *, with_fields: bool, as_json: bool = False) -> int:
+    """Runs a script, and writes what came of each key, as lines, or all as a list of objects."""
+    status, objects = DONE, list[dict[str, object]]()
+    for pressed, cause in each_shown(script, keys, cicslook, origins, with_fields=with_fields):
+        status = status if pressed.is_well() else FOUND
+        if as_json:
+            objects.append(pressed.as_object(cause))
+        else:
+            write_out(encoded([*pressed.lines(), *cause]))
+    if as_json:
+        say(json.dumps(objects, indent=1))
+    return status

@@ -1,0 +1,142 @@
+"""Scripts as tests: what their screens show, compared with what is kept of it beside them."""
+import difflib
+import os
+import re
+import xml.etree.ElementTree as xml
+from collections import Counter
+from collections.abc import Iterator, Sequence
+from dataclasses import asdict, dataclass, field
+
+from cics.child import Ended, decoded, lines_of
+from cics.cli import MISUSED, Failure, Paint, read_file, write_file
+from cics.shown import as_file, shown, with_screens
+from cics.together import Run, run_together
+
+SCRIPT, SCREENS = ".script", ".screens"
+UNWRITABLE = re.compile("[^\t\n\x20-\ud7ff\ue000-\ufffd]")  # what XML has no character for
+SAID = {"same": "ok", "written": "written", "unchanged": "unchanged", "differs": "differs", "missing": "has no .screens; write them by --write",
+        "failed": "isn't done to its end", "empty": "shows nothing: it has neither a key nor a terminal"}
+WELL = ("same", "written", "unchanged")
+
+
+@dataclass(frozen=True)
+class Outcome:
+    """What came of a script."""
+
+    script: str
+    outcome: str  # a word of SAID
+    seconds: float
+    why: str = ""
+    difference: list[str] = field(default_factory=list)
+
+    def is_well(self) -> bool:
+        return self.outcome in WELL
+
+    def said(self) -> str:
+        return f"{SAID[self.outcome]}: {self.why}" if self.why else SAID[self.outcome]
+
+    def lines(self, paint: Paint) -> list[str]:
+        said = paint.of(self.said(), "green" if self.is_well() else "red")
+        colours = {"-": "red", "+": "green", "@": "bold"}
+        return [f"{self.script}: {said}", *(paint.of(line, colours[line[0]]) if line[0] in colours else line for line in self.difference)]
+
+    def as_object(self) -> dict[str, object]:
+        return {**asdict(self), "seconds": round(self.seconds, 3)}
+
+
+def scripts_in(place: str) -> list[str]:
+    """The scripts of a folder and of the folders in it, in order; a script is itself."""
+    if place.endswith(SCRIPT) and not os.path.isdir(place):
+        return [place]
+    if not os.path.isdir(place):
+        raise Failure(f"{place}: no such folder, nor a file NAME{SCRIPT}")
+    found = [os.path.join(folder, name) for folder, _, names in os.walk(place) for name in names if name.endswith(SCRIPT)]
+    if not found:
+        raise Failure(f"{place}: no file NAME{SCRIPT} is in it, so nothing is tested", MISUSED)
+    return sorted(found)
+
+
+def screens_of(script: str) -> str:
+    return script.removesuffix(SCRIPT) + SCREENS
+
+
+def difference(script: str, kept: Sequence[str], lines: Sequence[str]) -> list[str]:
+    """What differs, as diff shows it: with a hyphen what is kept, with a plus sign what is shown now."""
+    return [line.rstrip("\n") for line in difflib.unified_diff(kept, lines, screens_of(script), script, lineterm="")]
+
+
+def why_not(ended: Ended | None, why: str) -> str:
+    """Why a script isn't done to its end; empty where it is."""
+    return why if ended is None else "" if ended.is_well() else ended.why().removeprefix("cicsedf: ")
+
+
+@dataclass(frozen=True)
+class Test:
+    """A script, and whether what it shows is written beside it."""
+
+    script: str
+    text: str
+    writes: bool
+
+    def outcome(self, run: Run) -> Outcome:
+        why = why_not(run.ended, run.why)
+        if why or run.ended is None:
+            return Outcome(self.script, "failed", run.seconds, why)
+        lines = shown(self.text, run.ended.lines())
+        if not lines:
+            return Outcome(self.script, "empty", run.seconds)
+        return self.kept(lines, run.seconds) if self.writes else self.compared(lines, run.seconds)
+
+    def compared(self, lines: list[str], seconds: float) -> Outcome:
+        if not os.path.exists(screens_of(self.script)):
+            return Outcome(self.script, "missing", seconds)
+        kept = [line.removesuffix("\r") for line in lines_of(decoded(read_file(screens_of(self.script))))]
+        differing = difference(self.script, kept, lines)
+        return Outcome(self.script, "differs" if kept != lines else "same", seconds, difference=differing)
+
+    def kept(self, lines: list[str], seconds: float) -> Outcome:
+        path, data = screens_of(self.script), as_file(lines)
+        is_there = os.path.exists(path) and read_file(path) == data
+        if not is_there:
+            write_file(path, data, [self.script])
+        return Outcome(self.script, "unchanged" if is_there else "written", seconds)
+
+
+def tested(scripts: Sequence[str], cicslook: str, at_once: int, *, writes: bool) -> Iterator[Outcome]:
+    """What comes of each script, where it is known."""
+    tests = [Test(path, decoded(read_file(path)), writes) for path in scripts]
+    for run in run_together([cicslook], [with_screens(test.text) for test in tests], at_once):
+        yield tests[run.number].outcome(run)
+
+
+def summary(outcomes: Sequence[Outcome]) -> str:
+    """How many there are of each kind, in a line."""
+    counts = Counter(one.outcome for one in outcomes)
+    words = {"same": "ok", "missing": "without .screens", "failed": "not done to the end", "empty": "showing nothing", "differs": "differing"}
+    found = ", ".join(f"{counts[kind]} {words.get(kind, kind)}" for kind in SAID if counts[kind])
+    return f"{len(outcomes)} script{'s' if len(outcomes) != 1 else ''}: {found}"
+
+
+def writable(text: str) -> str:
+    return UNWRITABLE.sub("?", text)
+
+
+def junit(outcomes: Sequence[Outcome]) -> bytes:
+    """The outcomes in the form of JUnit: what differs is a failure, what can't be tested an error."""
+    seconds = f"{sum(one.seconds for one in outcomes):.3f}"
+    failures = sum(one.outcome == "differs" for one in outcomes)
+    errors = sum(not one.is_well() for one in outcomes) - failures
+    counts = {"tests": str(len(outcomes)), "failures": str(failures), "errors": str(errors), "time": seconds}
+    top = xml.Element("testsuites", counts)
+    suite = xml.SubElement(top, "testsuite", {"name": "cics-test", **counts})
+    for one in outcomes:
+        folder, name = os.path.split(one.script)
+        words = {"classname": writable(folder.replace(os.sep, ".").strip(".")) or ".", "name": writable(name.removesuffix(SCRIPT)),
+                 "file": writable(one.script), "time": f"{one.seconds:.3f}"}
+        case = xml.SubElement(suite, "testcase", words)
+        if not one.is_well():
+            found = xml.SubElement(case, "failure" if one.outcome == "differs" else "error", {"type": one.outcome, "message": writable(one.said())})
+            found.text = writable("\n".join(one.difference))
+    xml.indent(top)
+    text = xml.tostring(top, encoding="unicode")
+    return f'<?xml version="1.0" encoding="utf-8"?>\n{text}\n'.encode()

@@ -1,0 +1,1 @@
+"""Stand-ins for what the region leaves out: maps, files and the rest, in what it takes, each told as one."""

@@ -1,0 +1,157 @@
+"""What `cics-adapt --stand-in` does: sources adapted with what stands for maps and files, and the programs that do it, into a folder."""
+import os
+from dataclasses import dataclass, field
+
+from cics.adapting import Adapted, adapted, with_told
+from cics.child import decoded, encoded
+from cics.cli import DONE, FOUND, MISUSED, STANDARD_INPUT, Failure, ended, name_of, read_file, say, write_file
+from cics.copying import Copying
+from cics.layout import Layout
+from cics.log import Log
+from cics.origins import text_of
+from cics.own_macros import Expansion
+from cics.plain_lines import without_tabs
+from cics.program import Program
+from cics.rewritings import Rewritings
+from cics.sources import read_source
+from cics.stand_in.file_commands import PROGRAM
+from cics.stand_in.file_programs import file_program, rest_program
+from cics.stand_in.map_programs import map_program
+from cics.stand_in.mapsets import read_mapset
+from cics.stand_in.other_commands import PROGRAM as REST
+from cics.stand_in.records import FileDefinition, GivenFile, Source, file_of, queue_lines, records_of
+from cics.stand_in.rewriting import Setting, StandIns
+from cics.statements import statements_of
+
+STANDING = 4  # the status where nothing is left, and something stands in
+FOLDER = "stand-in"
+LIST = "stand-in.list"  # in the folder: the names of what was written there, which may be written again
+
+
+@dataclass
+class Asked:
+    """What is asked: sources, folders of members, mapsets, files, and where all goes."""
+
+    sources: list[str]
+    copy: list[str]
+    mapsets: list[str]
+    files: list[str]
+    out: str
+    is_kept: bool = False
+    must_be_ebcdic: bool = False
+
+
+@dataclass
+class Output:
+    """The files that are written, by their names, and which of them are sources."""
+
+    texts: dict[str, str] = field(default_factory=dict)
+    programs: list[str] = field(default_factory=list)
+    queues: dict[str, str] = field(default_factory=dict)
+
+    def put(self, name: str, lines: list[str], *, is_program: bool = True) -> None:
+        if name in self.texts:
+            raise Failure(f"{name}: two of what is written have this name", MISUSED)
+        self.texts[name] = "".join(f"{line}\n" for line in lines)
+        self.programs += [name] if is_program else []
+
+
+def stem_of(path: str) -> str:
+    return os.path.splitext(os.path.basename(path))[0]
+
+
+def stand_in(asked: Asked) -> int:
+    """Adapts all sources; the status."""
+    if STANDARD_INPUT in asked.sources:
+        raise Failure("with --stand-in sources are files, by whose names what is written is named", MISUSED)
+    log, output, logs = Log(), Output(), []
+    setting = Setting([mapset for path in asked.mapsets if (mapset := read_mapset(path, log))])
+    setting.files = files_of(asked, setting)
+    if not log.has_left():
+        for path in asked.sources:
+            result = adapted_source(path, setting, asked)
+            logs.append(result.log)
+            output.put(f"{stem_of(path)}.asm", result.lines())
+            output.put(f"{stem_of(path)}.map", text_of(result.origins()).splitlines(), is_program=False)
+        for mapset in setting.mapsets:
+            output.put(f"{mapset.name.lower()}.asm", map_program(mapset))
+        put_files(setting.files, output)
+        if setting.has_rest:
+            output.put(f"{REST.strip('$').lower()}.asm", rest_program())
+        write_all(output, asked)
+    else:
+        ended("nothing is written: first the mapsets have to be taken whole", DONE)
+    for one in [log, *logs]:
+        for line in one.lines():
+            ended(line, DONE)
+    if any(one.has_left() for one in [log, *logs]):
+        return FOUND
+    return STANDING if any(one.has_stand_in() for one in logs) else DONE
+
+
+def files_of(asked: Asked, setting: Setting) -> dict[str, FileDefinition]:
+    """The files, with the records that the sources have."""
+    given = [GivenFile.of(word) for word in asked.files]
+    sources = [source_of(path, asked, setting) for path in asked.sources] if given else []
+    return {one.name: file_of(one, sources) for one in given}
+
+
+def source_of(path: str, asked: Asked, setting: Setting) -> Source:
+    """A source's statements with their places, its members copied."""
+    log, name = Log(), name_of(path)
+    read = statements_of(without_tabs(read_source(path, must_be_ebcdic=asked.must_be_ebcdic).lines, name, log), name)
+    macros = Rewritings(Program(Layout([]), log))
+    statements = [new for one in Expansion(log).expanded(Copying(asked.copy, log, setting.members()).expanded(read)) for new in with_told(one,
+        macros, log)]
+    return Source(statements, Layout(statements))
+
+
+def put_files(files: dict[str, FileDefinition], output: Output) -> None:
+    """The program of files, and each file's records as the items of a queue."""
+    if not files:
+        return
+    output.put(f"{PROGRAM.strip('$').lower()}.asm", file_program(files))
+    for one in files.values():
+        records = records_of(one)
+        if records:
+            output.put(f"{one.name}.queue", queue_lines(one, records), is_program=False)
+            output.queues[one.name] = f"{one.name}.queue"
+
+
+def adapted_source(path: str, setting: Setting, asked: Asked) -> Adapted:
+    source = read_source(path, must_be_ebcdic=asked.must_be_ebcdic)
+    return adapted(source, name_of(path), asked.copy, is_kept=asked.is_kept, stand_ins=StandIns(setting))
+
+
+def written_before(folder: str) -> set[str]:
+    """The names of what an earlier run wrote into a folder."""
+    path = os.path.join(folder, LIST)
+    return {*decoded(read_file(path)).split("\n")} if os.path.isfile(path) else set()
+
+
+def refuse_others(output: Output, asked: Asked) -> None:
+    """Refuses, before anything is written, to write over what is read, or over a file that is there and isn't of an earlier run."""
+    old = written_before(asked.out)
+    read = [os.path.realpath(path) for path in (*asked.sources, *asked.mapsets, *(GivenFile.of(word).path for word in asked.files))]
+    for name in (*output.texts, LIST):
+        path = os.path.join(asked.out, name)
+        if os.path.realpath(path) in read:
+            raise Failure(f"{path}: it is read, so it isn't written")
+        if os.path.lexists(path) and name not in old:
+            raise Failure(f"{path}: it is there, and {LIST} doesn't name it as written by an earlier run; write --out and another folder")
+
+
+def write_all(output: Output, asked: Asked) -> None:
+    """Writes all, and says how it is run."""
+    inputs = [*asked.sources, *asked.mapsets]
+    refuse_others(output, asked)
+    try:
+        os.makedirs(asked.out, exist_ok=True)
+    except OSError as why:
+        raise Failure(f"{asked.out}: {why.strerror}") from None
+    names = sorted({*output.texts, LIST, *(name for name in written_before(asked.out) if name)})
+    write_file(os.path.join(asked.out, LIST), encoded("".join(f"{name}\n" for name in names)), inputs)
+    for name, text in output.texts.items():
+        write_file(os.path.join(asked.out, name), text.encode("latin-1", errors="replace"), inputs)
+    queues = [word for name, file in output.queues.items() for word in ("--queue", f"{name}={os.path.join(asked.out, file)}")]
+    say(" ".join(["cics-run", *(os.path.join(asked.out, name) for name in output.programs), *queues]))

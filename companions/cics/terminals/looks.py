@@ -1,0 +1,153 @@
+"""Looks at the region from a terminal: which lines may be sent, and the pages that show what they answer (docs/LOOKS.md)."""
+import re
+from collections.abc import Mapping, Sequence
+from typing import NamedTuple
+
+from cics.scripts import OF_CICSLOOK
+from cics.terminals.data_stream import BRIGHT, COLUMNS, PAGE, ROWS, Painting
+from cics.terminals.region import Answer, Request, Work
+from cics.transcripts import of_look, place_in
+
+# The looks that may be sent, each of one line, and what an operator of CICS types for it. Nothing else is sent.
+LOOKS: dict[str, list[str]] = {
+    "QUEUES": ["CEMT INQUIRE TSQUEUE", "CEBR"],
+    "QUEUE queue": ["CEBR queue"],
+    "QUEUE queue number": [],
+    "PROGRAMS": ["CEMT INQUIRE PROGRAM", "CEMT INQUIRE TRANSACTION"],
+    "TASKS": ["CEMT INQUIRE TASK", "CEMT INQUIRE TERMINAL"],
+    "RESOURCES": ["CEMT INQUIRE ENQ"],
+    "COMMAND term": [],
+    "AHEAD term": [],
+    "AHEAD term instructions": [],
+    "AHEAD term AT program line": [],
+    "TASK term": [],
+    "AREAS": [],
+    "AREAS term": [],
+    "STORAGE address length": [],
+    "WHERE address": [],
+    "ABEND term": [],
+    "ABEND term STORAGE": [],
+    "ABEND term FIELDS": [],
+    "SYMBOL program program": [],
+    "SYMBOLS program": [],
+    "XREF program": [],
+    "TERMINALS": [],
+    "HELP": [],
+    "HELP word": [],
+    "FIELD term program": [],
+    "FIELD term program level": [],
+    "FIELDS term": [],
+    "FIELDS term level": [],
+}
+OPERANDS = {
+    "term": "[A-Z0-9@#$]{1,4}",
+    "program": "[A-Z0-9@#$]{1,8}",
+    "queue": "(?:[A-Z0-9@#$]{1,8}|[0-9A-F]{16})",
+    "address": "[0-9A-F]{6}",
+    "line": "[1-9][0-9]{0,4}",
+    "level": "(?:[1-9]|1[0-6])",
+    "instructions": "(?:[1-9][0-9]?|1[0-9]{2}|2[0-4][0-9]|25[0-6])",  # to 256
+    "word": f"(?:{'|'.join(OF_CICSLOOK)})",
+    "number": "(?:[1-9][0-9]{0,3}|[12][0-9]{4}|3[01][0-9]{3}|32[0-6][0-9]{2}|327[0-5][0-9]|3276[0-7])",  # to 32767
+    "length": "(?:[1-9][0-9]{0,2}|[1-3][0-9]{3}|40[0-8][0-9]|409[0-6])",  # to 4096
+}
+SHORTER = {"I": "INQUIRE", "INQ": "INQUIRE", "TAS": "TASK", "PROG": "PROGRAM", "TRAN": "TRANSACTION", "TERM": "TERMINAL",
+           "TSQ": "TSQUEUE", "UOWENQ": "ENQ"}
+
+WIDTH, CONTENT = COLUMNS - 1, ROWS - 2  # of a page: the first column has a row's attribute
+AROUND = 5  # lines of a source in front of the one that is looked for, and after it
+LONGEST = 4096  # bytes of one look
+HEAD, SHOWN = 80, 352  # of a working storage: what every program has, and what EDF's storage page shows
+IN_AREA, IN_FIELD = 64, 16  # bytes that are shown of each
+
+LEVEL = re.compile(r"LEVEL \d\d PROGRAM (\S+) .*DFHEISTG (\S+) LENGTH (\S+) .*")
+SYMBOL = re.compile(r"SYMBOL '(\S+)' VALUE ([0-9A-F]{6}) SECTION '(\S+)' LENGTH (\d+) LINE (\d+)( AT \S+)?")
+AREA = re.compile(r"AREA ([0-9A-F]{6}) LENGTH ([0-9A-F]{6}) (GETMAIN|OTHER) OWNER .*")
+Sources = Mapping[str, Sequence[str]]
+
+class Line(NamedTuple):
+    text: str
+    is_bright: bool = False
+
+def pattern(form: str) -> str:
+    """What fits a row of the table, whose words in lower case stand for operands."""
+    return " ".join(OPERANDS.get(word, word) for word in form.split())
+
+ALL_LOOKS = re.compile("|".join(map(pattern, LOOKS)))
+
+def is_look(line: str) -> bool:
+    return bool(ALL_LOOKS.fullmatch(line))
+
+def look_of(text: str) -> str | None:
+    """The look that an operator's words are."""
+    typed = text.split()
+    words = [SHORTER.get(word, word) for word in typed] if typed[:1] == ["CEMT"] else typed
+    found = [look for look, forms in LOOKS.items() if any(re.fullmatch(pattern(form), " ".join(words)) for form in forms)]
+    return found[0].replace("queue", words[-1]) if found else None
+
+def asked(look: str) -> Work:
+    """The lines of a look, without what they begin with."""
+    return [Line(line) for line in of_look((yield Request(look, Answer.LINES, is_kept=False)))]
+
+def here(name: str, has_task: bool, is_stopped: bool, is_abended: bool, sources: Sources) -> Work:
+    """What is due at a terminal; or why its task abended; and all tasks. At a stop also what EDF's pages leave out."""
+    lines: list[Line] = []
+    if has_task:
+        task = yield from asked(f"TASK {name}")
+        lines = (yield from asked(f"COMMAND {name}")) + source_at(task, sources)
+        lines += (yield from left_out(name, task)) if is_stopped else []
+    elif is_abended:
+        lines = yield from asked(f"ABEND {name}")
+        lines = lines + source_at(lines, sources)
+    tasks = [] if is_stopped else (yield from asked("TASKS"))  # and of the terminals that have none only this one
+    return lines + [line for line in tasks if not line.text.endswith(" NO TASK") or line.text.split()[0] == name]
+
+def source_at(lines: Sequence[Line], sources: Sources) -> list[Line]:
+    """The source around the line of the last command that lines of a look have, or else of the next instruction; that line bright."""
+    place = place_in([line.text for line in lines])
+    if not place or place[0] not in sources:
+        return []
+    source, line = sources[place[0]], place[1]
+    around = range(max(1, line - AROUND), min(len(source), line + AROUND) + 1)
+    return [Line(f"{at:5} {source[at - 1]}", at == line) for at in around]
+
+def symbols_of(program: str) -> Work:
+    found = [SYMBOL.fullmatch(line.text) for line in (yield from asked(f"SYMBOLS {program}"))]
+    return [it for it in found if it]
+
+def left_out(name: str, task: Sequence[Line]) -> Work:
+    """Of a stopped task: the fields of its working storage, what is after the storage page, its other areas, its levels."""
+    lines: list[Line] = []
+    level = [found for found in (LEVEL.fullmatch(line.text) for line in task) if found][-1]
+    start, rest = int(level[2], 16), int(level[3], 16) - SHOWN
+    for it in sorted((yield from symbols_of(level[1])), key=lambda it: str(it[2])):
+        if it[3] == "DFHEISTG" and int(it[2], 16) >= HEAD:
+            shown = yield from asked(f"STORAGE {start + int(it[2], 16):06X} {min(max(int(it[4]), 1), IN_FIELD)}")
+            lines.append(Line(f"{it[1]:8} {it[4]:>5} {shown[0].text}"))
+    if rest > 0:
+        lines += yield from asked(f"STORAGE {start + SHOWN:06X} {min(rest, LONGEST)}")
+    for area in (yield from asked(f"AREAS {name}")):
+        found = AREA.fullmatch(area.text)
+        if found:
+            lines += yield from asked(f"STORAGE {found[1]} {min(int(found[2], 16), IN_AREA)}")
+    return lines + [line for line in task if line.text.startswith("LEVEL ")]
+
+class Pages:
+    """What is shown of a look, and which page of it."""
+
+    def __init__(self, lines: Sequence[Line]) -> None:
+        cut = [Line(text[at : at + WIDTH], bright) for text, bright in lines for at in range(0, max(len(text), 1), WIDTH)]
+        self.pages = [cut[at : at + CONTENT] for at in range(0, len(cut), CONTENT)] or [[Line("NOTHING")]]
+        self.at = 0
+
+    def leaf(self, key: str | None) -> None:
+        self.at = min(max(self.at + {"PF19": -1, "PF20": 1}.get(key or "", 0), 0), len(self.pages) - 1)
+
+    def painting(self, message: str) -> Painting:
+        rows = [f" {line.text}" for line in self.pages[self.at]] + [""] * ROWS
+        leaves = f"PAGE {self.at + 1} OF {len(self.pages)}: PF19 BACK, PF20 ON  " if len(self.pages) > 1 else ""
+        painting = Painting(rows[:ROWS], range(CONTENT, ROWS), message or f"{leaves}CLEAR: THE SCREEN AS IT WAS")
+        for at, line in enumerate(self.pages[self.at]):
+            if line.is_bright:
+                painting.attributes.update({at * COLUMNS: BRIGHT, at * COLUMNS + COLUMNS: PAGE})
+        return painting

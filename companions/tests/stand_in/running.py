@@ -1,0 +1,36 @@
+"""Programs as a user writes them, adapted with stand-ins and run by keys: what each leaves in a queue, and what is told."""
+from dataclasses import dataclass
+
+from cics.adapting import adapted
+from cics.assembler_files import run_script
+from cics.sources import SourceText
+from cics.stand_in.file_programs import file_program, rest_program
+from cics.stand_in.map_programs import map_program
+from cics.stand_in.rewriting import Setting, StandIns
+from tests.case import CICSLOOK
+
+
+@dataclass(frozen=True)
+class Ran:
+    """What came of a program: what was told of it, its new lines, and the transcript."""
+
+    told: list[str]
+    lines: list[str]
+    transcript: list[str]
+
+    def ending(self) -> str:
+        """How its last task ended."""
+        ends = [line.split(" ", 2)[2] for line in self.transcript if line.startswith("TURN T001 ") and ("Ended" in line or "Abended" in line)]
+        return ends[-1] if ends else ""
+
+
+def ran(source: list[str], setting: Setting, keys: list[str], after: list[str]) -> Ran:
+    """Runs the program P by keys, each run to rest, with lines in front and after them."""
+    new = adapted(SourceText(source), "p.asm", [], stand_ins=StandIns(setting))
+    made = [(mapset.name, map_program(mapset)) for mapset in setting.mapsets]
+    made += [("$SFILE", file_program(setting.files))] if setting.files else []
+    made += [("$SREST", rest_program())] if setting.has_rest else []
+    blocks = [line for name, lines in [*made, ("P", new.lines())] for line in (f"SOURCE {name}", *lines, "/*")]
+    events = [line for key in keys for line in (f"KEY T001 {key}", "RUN T001 4096")]
+    script = [*blocks, "CLOCK 130509 84060", "TRANSACTION TRAN P", "TERMINAL T001", *events, *after]
+    return Ran([str(told).split(":", 2)[2].strip() for told in new.log.told], new.lines(), run_script(script, CICSLOOK))

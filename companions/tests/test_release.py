@@ -1,0 +1,162 @@
+"""The archive of a release: the same content gives the same bytes; from it alone, in an empty folder where the PATH has nothing but
+coreutils and Python, the first lesson runs, and the companions do; its sums are those of its files, each link of the manual's one page
+within it leads to a place of it, and pages of man and the completion have each option."""
+import glob
+import io
+import os
+import re
+import shutil
+import subprocess
+import sys
+import tarfile
+import tempfile
+import unittest
+from dataclasses import dataclass
+
+from archive import FOLDERS, SINGLE, Content, manual_of, needed_of, of_repository, packed, programs_of
+from cics.child import TOP, lines_of, read
+from manual import converter
+from cics.cli import Failure
+from cics.programs import beside
+from tests.case import CICSLOOK, TestCase
+
+COREUTILS = ("cat", "cp", "dirname", "env", "ls", "mkdir", "rm", "sha256sum", "sort", "uname")
+FOLDER = "cicsedf-test"
+MANUAL = "docs/manual.html"
+LESSON = "examples/lessons/01-inquiry/inquiry"
+COMPANIONS = ("cics-adapt", "cics-check", "cics-film", "cics-look", "cics-run", "cics-same", "cics-test", "cics-terminals")
+
+
+@dataclass(frozen=True)
+class Command:
+    """A command in the unpacked archive, the file whose text it writes (in this repository), and what else it has to write."""
+
+    words: list[str]
+    writes: str = ""
+    has: str = ""
+
+
+OPTION = re.compile(r"(?<![\w-])--[a-z-]+")
+
+COMMANDS = [
+    Command(["bin/cicslook", f"{LESSON}.script"], f"{LESSON}.transcript"),
+    Command(["crates/cicslook/out/cicslook", f"{LESSON}.script"], f"{LESSON}.transcript"),
+    Command(["bin/cicsedf", "examples/return.script"], "examples/return.transcript"),
+    Command(["companions/cics-adapt", "examples/adapt/stkbrws.asm"], has="BNH   SHOWPAGE"),
+    Command(["companions/cics-check", "examples/lessons/changing/pgm7.asm"]),
+    Command(["companions/cics-run", "examples/lessons/changing/pgm7.asm", "--tran", "TICK=PGM7", "--key", "TICK"], has="01|TICKET 00001"),
+    Command(["companions/cics-same", "examples/lessons/changing/pgm7.script", "PGM7", *["examples/lessons/changing/pgm7.asm"] * 2], has="after each of 2 keys"),
+    Command(["companions/cics-look", f"{LESSON}.script"], f"{LESSON}.transcript"),
+    Command(["companions/cics-test", "examples/lessons/changing"], has="3 scripts: 3 ok"),
+    Command(["companions/cics-film", f"{LESSON}.script", "-o", "-"], has="</html>"),
+    Command(["companions/cics-terminals", "--version"], has="cics-terminals "),
+    Command(["sha256sum", "-c", "--quiet", "SHA256SUMS"]),
+]
+
+
+def paths() -> list[str]:
+    """The files of the folders that a release is made of."""
+    found = [path for folder in FOLDERS for path in glob.glob(f"{folder}**/*", root_dir=TOP, recursive=True)]
+    return sorted(path for path in [*found, *SINGLE] if os.path.isfile(os.path.join(TOP, path)) and "__pycache__" not in path)
+
+
+def contents_of(cicslook: str) -> list[Content]:
+    programs = {"cicslook": cicslook, "cicsedf": beside(cicslook, "cicsedf")}
+    contents = of_repository(paths())
+    contents += programs_of(programs)
+    try:
+        converter()
+    except Failure as why:
+        print(f"the manual's one page isn't made: {why}")
+        return contents
+    return [*contents, manual_of(contents, "test")]
+
+
+def failure_of(command: Command, folder: str, path: str) -> str | None:
+    ran = subprocess.run([os.path.join(path, command.words[0]) if "/" not in command.words[0] else command.words[0], *command.words[1:]],
+                         cwd=folder, env={"PATH": path}, capture_output=True, timeout=300, check=False)
+    is_due = not command.writes or ran.stdout == read(os.path.join(TOP, command.writes))
+    if ran.returncode == 0 and is_due and command.has in ran.stdout.decode():
+        return None
+    return f"from the archive, {' '.join(command.words)}: status {ran.returncode}, {ran.stdout[:100]!r}, {ran.stderr[:200]!r}"
+
+
+def failures_unpacked(archive: bytes) -> list[str]:
+    with tempfile.TemporaryDirectory() as folder, tempfile.TemporaryDirectory() as path:
+        for name in COREUTILS:
+            os.symlink(os.path.realpath(shutil.which(name) or f"/bin/{name}"), os.path.join(path, name))
+        os.symlink(os.path.realpath(sys.executable), os.path.join(path, "python3"))
+        with tarfile.open(fileobj=io.BytesIO(archive)) as file:
+            file.extractall(folder)
+        found = [failure_of(command, os.path.join(folder, FOLDER), path) for command in COMMANDS]
+    return [failure for failure in found if failure]
+
+
+def options_of(companion: str) -> set[str]:
+    command = os.path.join(TOP, "companions", companion)
+    ran = subprocess.run([command, "--help"], capture_output=True, text=True, check=False)
+    return set(OPTION.findall(ran.stdout.partition("options:")[2])) - {"--help"} | {"--version"}
+
+
+def failures_of_links(page: bytes) -> list[str]:
+    """Links of the manual's one page to places that it doesn't have."""
+    text = page.decode()
+    places = set(re.findall(r'id="([^"]*)"', text))
+    return [f"the manual's one page has no place {link}" for link in sorted(set(re.findall(r'href="#([^"]*)"', text)) - places)]
+
+
+def failures_of_versions() -> list[str]:
+    """Companions that don't say which version they are."""
+    due = read(os.path.join(TOP, "VERSION")).decode()
+    wrong = []
+    for companion in COMPANIONS:
+        ran = subprocess.run([os.path.join(TOP, "companions", companion), "--version"], capture_output=True, text=True, check=False)
+        wrong += [] if ran.stdout == f"{companion} {due}" else [f"{companion} --version: {ran}"]
+    return wrong
+
+
+def failures_of_pages() -> list[str]:
+    """Options that a page of man or the completion lacks, or has without need."""
+    wrong = []
+    completion = read(os.path.join(TOP, "completion/cicsedf.bash")).decode()
+    for companion in COMPANIONS:
+        options = options_of(companion)
+        line = next((line for line in lines_of(completion) if line.strip().startswith(f"{companion})")), "")
+        if set(OPTION.findall(line)) - {"--help"} != options:
+            wrong.append(f"the completion of {companion}: {line.strip()}, where due is {sorted(options)}")
+        page = read(os.path.join(TOP, f"docs/man/{companion}.1")).decode().replace("\\-", "-")
+        lacking = {option for option in options if option not in page} - {"--cicsedf"}
+        wrong += [f"the page of man of {companion} lacks {option}" for option in sorted(lacking)]
+    return wrong
+
+
+def failures_of_others() -> list[str]:
+    """./release refuses programs that ./prove didn't build of these sources, or makes an archive of those that it did."""
+    with tempfile.TemporaryDirectory() as folder:
+        ran = subprocess.run([os.path.join(TOP, "release"), "--out", folder], capture_output=True, text=True, timeout=300, check=False)
+        made = os.listdir(folder)
+    lines = ran.stderr.splitlines()
+    is_refused = ran.returncode == 1 and len(lines) == 1 and lines[0].startswith("release: ") and not made
+    return [] if is_refused or ran.returncode == 0 and len(made) == 1 else [f"./release: status {ran.returncode}, {lines}, {made}"]
+
+
+class ReleaseTest(TestCase):
+    def test_unpacked(self) -> None:
+        contents = contents_of(CICSLOOK)
+        archive = packed(FOLDER, contents, 500_000_000)
+        self.none_of(failures_unpacked(archive))
+        self.none_of([failure for one in contents if one.path == MANUAL for failure in failures_of_links(one.data)])
+        self.assertEqual(packed(FOLDER, list(reversed(contents)), 500_000_000), archive, "the same content gives other bytes")
+
+    def test_pages(self) -> None:
+        self.none_of(failures_of_pages())
+
+    def test_versions(self) -> None:
+        self.none_of(failures_of_versions())
+
+    def test_others(self) -> None:
+        self.none_of(failures_of_others())
+
+    @unittest.skipUnless(shutil.which("objdump"), "objdump isn't installed")
+    def test_needed(self) -> None:
+        self.assertTrue(needed_of(CICSLOOK))
