@@ -19,6 +19,8 @@ from checks.examples import path_of, wanted
 
 MOST = 2_000  # of more calls not each is refused in turn, unless all are asked for
 FIRST = 500  # how many of them are, after which a fixed choice is
+MANY = 100_000  # of more calls only so few, evenly spread: each run takes seconds
+FEW = 50
 SOURCE = os.path.join(TOP, "checks/refuse.c")
 ALL = {"all": f"of more than {MOST:,} calls each fails in turn, not a fixed choice"}
 
@@ -64,10 +66,13 @@ class Sweep:
         return self.wanted.out.startswith(out) and (out == b"" or out.endswith(b"\n"))
 
     def numbers(self, is_all: bool) -> list[int]:
-        """The numbers of the calls to be refused: each; of very many the first, a fixed choice of those after, and the last."""
+        """The numbers of the calls to be refused: each; of very many the first, a fixed choice of those after, and the last; of more still a
+        few from the first to the last."""
         every = range(1, self.count + 1)
         if is_all or self.count <= MOST:
             return list(every)
+        if self.count > MANY:
+            return [1 + (self.count - 1) * nth // FEW for nth in range(FEW + 1)]
         return [n for n in every if n <= FIRST or n * 7919 % 101 < 4 or n == self.count]
 
     def run_whole(self) -> Ended:
