@@ -1,40 +1,49 @@
 """How many lines a reader of a statement has to read: its own definition and each that it reaches, word by word, in the definitions of
 whatever crates, with the types of sources that these cite; without comments, imports and blank lines, as `.ci/trusted.py` counts them.
-Words at which he may stop are not entered."""
+Words at which he may stop are not entered, and have no lines."""
 import functools
 import os
 import re
+import textwrap
 from collections.abc import Collection, Iterable
 
 from trusted import cites, filled, imports_of, paths_in, types_in, without_comments, without_imports
 from repository import Repository, text_of
 
 DEFINED = re.compile(r"(?:(?:abbrev|unfoldable|pub|record|data) )*([^\W\d][\w'-]*)")
+HEAD = re.compile(r"module _ .*? where\n", re.S)  # of a module whose words all have its parameters
 
 
-def blocks_in(text: str) -> dict[str, str]:
-    """Returns the text of each word that a file defines."""
-    found: dict[str, str] = {}
-    for block in re.split(r"(?m)^(?=[^\s)\]}])", without_imports(text)):
-        name = DEFINED.match(block)
-        if name:
-            found[name[1]] = found.get(name[1], "") + block
+def blocks_in(text: str) -> dict[str, tuple[str, list[str]]]:
+    """Returns the text of each word that a text defines, and the heads of the modules that the word stands in."""
+    found: dict[str, tuple[str, list[str]]] = {}
+    for block in re.split(r"(?m)^(?=[^\s)\]}])", text):
+        head = HEAD.match(block)
+        if head:
+            for word, (inner, heads) in blocks_in(textwrap.dedent(block[head.end() :])).items():
+                found[word] = inner, [head[0], *heads]
+        elif name := DEFINED.match(block):
+            found[name[1]] = found.get(name[1], ("", []))[0] + block, []
     return found
 
 
 class Module:
-    """A file of definitions: the text of each word, and where each word comes from that it imports."""
+    """A file of definitions: the text of each word, the heads that it stands under, and where each word comes from that it imports."""
 
     def __init__(self, path: str) -> None:
         text = without_comments(text_of(path))
-        self.blocks = blocks_in(text)
+        defined = blocks_in(without_imports(text))
+        names = {head: f"module {n}" for n, head in enumerate(dict.fromkeys(it for _, heads in defined.values() for it in heads))}
+        self.heads = {word: [names[head] for head in heads] for word, (_, heads) in defined.items()}
+        self.blocks = {word: block for word, (block, _) in defined.items()} | {name: head for head, name in names.items()}
         self.imports = {name: (crate, module) for crate, module, name in imports_of(text)}
         self.passed = {name: (crate, module) for crate, module, name in imports_of(text)}
 
     def cited(self, word: str) -> list[tuple[str | None, str]]:
-        """Returns what the text of a word cites: words of this file, and crates with paths."""
+        """Returns what the text of a word cites: words and heads of this file, and crates with paths."""
         block = self.blocks[word]
-        found: list[tuple[str | None, str]] = [(None, it) for it in self.blocks if it != word and cites(block, it)]
+        found: list[tuple[str | None, str]] = [(None, it) for it in self.heads if it != word and cites(block, it)]
+        found += [(None, it) for it in self.heads.get(word, [])]
         found += [at for name, at in self.imports.items() if cites(block, name.partition("◌")[0] or name)]
         return found + [(crate, path) for crate, path, _ in paths_in(block)]
 
@@ -67,7 +76,7 @@ class Reading:
         return (f"{crate}/{found[2]}", filled(types[found[2]], ("//", "#["))) if found[2] in types else None
 
     def reached(self, begin: Iterable[tuple[str, str]], stops: Collection[str] = ()) -> dict[str, int]:
-        """Returns the lines of each word reached from these (crate, path), by where it stands; a word of `stops` is left unread."""
+        """Returns the lines of each word reached from these (crate, path), by where it stands; a word of `stops` is left unread, with 0."""
         found, waiting = dict[str, int](), [*begin]
         while waiting:
             crate, path = waiting.pop()
@@ -80,7 +89,10 @@ class Reading:
             if there is None:
                 continue
             module, at, word = there
-            if word not in module.blocks or f"{at}: {word}" in found or word in stops:
+            if word not in module.blocks or f"{at}: {word}" in found:
+                continue
+            if word in stops:
+                found[f"{at}: {word}"] = 0
                 continue
             found[f"{at}: {word}"] = filled(module.blocks[word])
             here = "specs." + at.partition("/")[2].replace("/", ".")
