@@ -54,6 +54,8 @@ OWN = [
     Step(".ci/release-test"),
     Step(".ci/typed"),
     Step("checks/pictures"),
+    Step("checks/recipes"),
+    Step("checks/recipes --test"),
     Step(".ci/wrong --check --due"),
     Step(".ci/assumed proof.log", after=(PROOF,)),
 ]
