@@ -1,6 +1,6 @@
 """Scripts of `cicslook` as scripts of `cicsedf`: without the looks, and with the turns in place of each RUN that it did.
 
-What RUN did is read from the transcript: each of its turns wrote a TURN line. It ended (docs/LOOKS.md, "RUN") at one that was answered Idle,
+What RUN did is read from the transcript: each of its turns wrote a TURN line. It ended (docs/LOOKS-RUNS.md, "RUN") at one that was answered Idle,
 Waiting, Held, Ended, Abended or NoSuchTerminal; at one after which EDF stopped the task, so that a further turn would be answered Held; or
 where it says that the task is still running, that it stopped in front of an abend or of a line, or that the line has no statement.
 """

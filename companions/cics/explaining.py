@@ -10,7 +10,7 @@ from cics.child import TOP
 from cics.cli import MISUSED, Failure
 from cics.from_cics import plain
 
-NOTE, OF_NOTES = "note", "LOOKS.md"
+NOTE, OF_NOTES = "note", "LOOKS-SOURCES.md"
 PAGES = ("ASSEMBLER.md", "TRANSLATOR.md", "SCRIPT.md")  # those that have tables of faults
 KIND = re.compile(r"[A-Z][a-z]+(?:[A-Z][a-z]+)*")
 WHEN = ("When", "First pass", "Second pass", "Meaning")

@@ -1,4 +1,4 @@
-"""Scripts of `cicslook` as scripts of `cicsedf`: where each RUN ended, by docs/LOOKS.md; what is left of looks; and the number of each line."""
+"""Scripts of `cicslook` as scripts of `cicsedf`: where each RUN ended, by docs/LOOKS-RUNS.md; what is left of looks; and the number of each line."""
 from dataclasses import dataclass
 
 from cics.child import lines_of

@@ -1,6 +1,6 @@
 """The archive of a release: the same content gives the same bytes; from it alone, in an empty folder where the PATH has nothing but
 coreutils and Python, the first lesson runs, and the companions do; its sums are those of its files, each link of the manual's one page
-within it leads to a place of it, and pages of man and the completion have each option."""
+within it leads to a place of it, pages of man and the completion have each option, and that of `cicslook` each of its lines."""
 import glob
 import io
 import os
@@ -130,6 +130,15 @@ def failures_of_pages() -> list[str]:
     return wrong
 
 
+def failures_of_lines() -> list[str]:
+    """Lines of `cicslook` that its page of man lacks, or has without need, by what HELP writes."""
+    ran = subprocess.run([CICSLOOK], input="HELP\n", capture_output=True, text=True, check=False)
+    due = [line.removeprefix("> ") for line in ran.stdout.splitlines()]
+    page = read(os.path.join(TOP, "docs/man/cicslook.1")).decode().replace("\\-", "-")
+    shown = page.partition(".nf\n")[2].partition("\n.fi")[0].split("\n")
+    return [f"the page of man of cicslook: {line}" for line in sorted({*due} ^ {*shown})]
+
+
 def failures_of_others() -> list[str]:
     """./release refuses programs that ./prove didn't build of these sources, or makes an archive of those that it did."""
     with tempfile.TemporaryDirectory() as folder:
@@ -150,6 +159,9 @@ class ReleaseTest(TestCase):
 
     def test_pages(self) -> None:
         self.none_of(failures_of_pages())
+
+    def test_lines(self) -> None:
+        self.none_of(failures_of_lines())
 
     def test_versions(self) -> None:
         self.none_of(failures_of_versions())
