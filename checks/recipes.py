@@ -35,6 +35,7 @@ LEFT_OUT = {
     r"checks/statements\.vectors": "statements that were drawn, and assembled by GNU as",
     r"bench/loop-images/|.*\.asm": "assembler texts, which use what is there",
     r"docs/CHANGING\.md|checks/(?:recipes|places)\.py": "the recipes and this check themselves",
+    r"docs/CHANGES\.md": "what has changed, version by version",
     r".*\.png": "pictures",
 }
 
