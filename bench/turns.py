@@ -1,6 +1,6 @@
 """Measures how many machine instructions `cicslook` takes for each that `cicsedf` takes. By callgrind it counts them for a script whose turns
-run some 60,000 instructions each: without a look, while a WATCH is on whose bytes stay, and while one is on whose bytes each turn changes.
-A turn should be run once, and with WATCH at most twice: a ratio above its limit is a fault. Where valgrind isn't installed, that is said.
+run some 60,000 instructions each: without a look, while a WATCH is on whose bytes stay, while one is on whose bytes each turn changes, and
+while COVER is on. A turn should be run once, and with WATCH or COVER at most twice: a ratio above its limit is a fault. Where valgrind isn't installed, that is said.
 No part of the gate."""
 import re
 import shutil
@@ -15,10 +15,10 @@ TURNS = 20
 
 
 class Measure(NamedTuple):
-    """A script's line with WATCH, and how many times as much it may take."""
+    """A script's line with WATCH or COVER, and how many times as much it may take."""
 
     what: str
-    watch: str
+    line: str
     limit: float
 
 
@@ -26,6 +26,7 @@ MEASURES = [
     Measure("no look", "", 1.05),
     Measure("WATCH of bytes that stay", "WATCH T001 STAYS\n", 1.05),
     Measure("WATCH of bytes that change", "WATCH T001 COUNT\n", 2.2),
+    Measure("COVER ON", "COVER ON\n", 2.5),
 ]
 SCRIPT = """SOURCE LONG
 DFHEISTG DSECT
@@ -47,20 +48,20 @@ KEY T001 ENTER LONG
 """
 
 
-def script(watch: str) -> str:
+def script(line: str) -> str:
     """So many turns of instructions, each with its command's turn after it."""
-    return SCRIPT + watch + "TURN T001\n" * (2 * TURNS)
+    return SCRIPT + line + "TURN T001\n" * (2 * TURNS)
 
 
-def counted(valgrind: str, program: str, watch: str) -> int:
+def counted(valgrind: str, program: str, line: str) -> int:
     """How many machine instructions a program takes for a script."""
     words = [valgrind, "--tool=callgrind", "--callgrind-out-file=/dev/null", program]
-    ended = run(words, script(watch).encode(), seconds=SECONDS)
+    ended = run(words, script(line).encode(), seconds=SECONDS)
     collected = re.search(rb"Collected : (\d+)", ended.reported)
     if not collected:
         raise failing("valgrind", str(ended))
-    answers = [line for line in ended.lines() if line.startswith("TURN ")]
-    if answers[0::2] != ["TURN T001 AtCommand"] * TURNS or not all(line.startswith("TURN T001 Performed ") for line in answers[1::2]):
+    answers = [it for it in ended.lines() if it.startswith("TURN ")]
+    if answers[0::2] != ["TURN T001 AtCommand"] * TURNS or not all(it.startswith("TURN T001 Performed ") for it in answers[1::2]):
         raise failing(program, f"the turns are answered otherwise: {answers[:4]}")
     return int(collected[1])
 
@@ -72,8 +73,8 @@ def main(words: list[str]) -> int:
         say("valgrind isn't installed: nothing is counted")
         return 0
     plain, faults = counted(valgrind, check.program(), ""), 0
-    for what, watch, limit in MEASURES:
-        ratio = counted(valgrind, check.program(1), watch) / plain
+    for what, line, limit in MEASURES:
+        ratio = counted(valgrind, check.program(1), line) / plain
         is_more = ratio > limit
         faults += is_more
         say(f"{what}: {ratio:.3f} of cicsedf's machine instructions, at most {limit}{', above it' if is_more else ''}")

@@ -33,12 +33,13 @@ def drawn(draw: random.Random, terminals: list[str], names: list[str], states: i
     kinds += ["AREAS", f"AREAS {terminal}", f"TASK {terminal}", f"STORAGE {place % 2**24:06X} {count}"]
     kinds += ["TERMINALS", "HELP", "HELP XREF", f"FIELD {terminal} {name}", f"FIELDS {terminal} {draw.randint(1, 3)}"]
     seldom = [f"AHEAD {terminal}{draw.choice(['', ' 1', ' 256'])}", f"AHEAD {terminal} AT {name} {draw.randint(1, 40)}"]
+    seldom += ["COVERED", f"COVERED {name}", f"COVERED {name} LINES"]
     seldom += [f"WHERE {place % 2**24:06X}", f"ABEND {terminal} STORAGE", f"ABEND {terminal} FIELDS"]
     if states:
         seldom.append(f"ORDERS {states}\nKEY {terminal} ENTER {draw.choice(names)[:4]}\nSCREEN {terminal}\nQUEUES\n/*")
     kinds += seldom if draw.randrange(SELDOM if states else SELDOM * FOUR) == 0 else []
     kinds += [f"WATCH {place % 2**24:06X} {draw.randint(1, 64)}", f"WATCH {terminal} {name}"]
-    kinds += ["WATCH OFF"] * (draw.randrange(4) == 0)
+    kinds += ["WATCH OFF"] * (draw.randrange(4) == 0) + [f"COVER {draw.choice(['ON', 'ON', 'OFF'])}"]
     kinds += [f"SYMBOL {draw.choice(names)} {name}", f"SYMBOLS {name}", f"XREF {name}"]
     load, last = f"         L     4,{draw.choice(names)}", f"         {draw.choice(['END', 'LTORG'])}"
     kinds.append(f"FAULTS {name}\n{name[:7]:8} CSECT\n{load}\n{last}\n/*")

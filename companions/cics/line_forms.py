@@ -26,6 +26,8 @@ FORMS = {
     "DISPLAY": ["term", "term k"],
     "RUN": [f"term{turns}{stop}" for stop in ("", " BEFORE ABEND", " TO program line") for turns in ("", " turns")],
     "WATCH": ["OFF", "aaaaaa bytes", "term field"],
+    "COVER": ["ON", "OFF"],
+    "COVERED": ["", "program", "program LINES"],
     "QUEUES": [""],
     "QUEUE": ["queue", "queue item"],
     "PROGRAMS": [""],
@@ -62,7 +64,7 @@ SAID = {  # the lines that cicsedf has too, as HELP has those of cicslook
     "DISPLAY": ("DISPLAY term [k]", "what EDF shows there, or the display that is k before"),
 }
 BLOCK_LOOKS = ("FAULTS", "ORDERS")  # words of looks that begin a block: a bad one of these ends a script
-UNSEEN = ("ABEND", "AHEAD", "FAULTS", "HELP", "ORDERS", "RUN", "WATCH")  # looks that no block of ORDERS may have
+UNSEEN = ("ABEND", "AHEAD", "COVER", "COVERED", "FAULTS", "HELP", "ORDERS", "RUN", "WATCH")  # looks that no block of ORDERS may have
 MISSING = "; is /* missing above?"
 MOST_KEYS, MOST_SIGHTS = 256, 64  # in a block of ORDERS
 LOWER = str.maketrans(SMALL, SMALL.upper())

@@ -33,6 +33,8 @@ subject_name subject.Field = codes "FIELD"
 subject_name subject.Fields = codes "FIELDS"
 subject_name subject.Run = codes "RUN"
 subject_name subject.Watch = codes "WATCH"
+subject_name subject.Cover = codes "COVER"
+subject_name subject.Covered = codes "COVERED"
 subject_name subject.Faults = codes "FAULTS"
 subject_name subject.Orders = codes "ORDERS"
 subject_name subject.Help = codes "HELP"
@@ -42,7 +44,7 @@ subjects =
     subject.Storage ∷ subject.Where ∷ subject.Areas ∷ subject.Task ∷ subject.Tasks ∷ subject.Abend ∷ subject.Queues
     ∷ subject.Queue ∷ subject.Resources ∷ subject.Programs ∷ subject.Command ∷ subject.Ahead ∷ subject.Symbol
     ∷ subject.Symbols ∷ subject.Xref ∷ subject.Terminals ∷ subject.Field ∷ subject.Fields ∷ subject.Run
-    ∷ subject.Watch ∷ subject.Faults ∷ subject.Orders ∷ subject.Help ∷ []
+    ∷ subject.Watch ∷ subject.Cover ∷ subject.Covered ∷ subject.Faults ∷ subject.Orders ∷ subject.Help ∷ []
 
 unfoldable pub subject_of : List ℕ → Option Subject
 subject_of text = find (λ s. bytes_eq (subject_name s) text) subjects
@@ -98,6 +100,11 @@ abend_look name (Some text) =
     if bytes_eq text (codes "STORAGE") then Some (look.AbendStorage name)
     else if bytes_eq text (codes "FIELDS") then Some (look.AbendFields name) else None
 
+-- what was run of a program: a summary, or each of its lines
+abbrev pub covered_look : List ℕ → Option (List ℕ) → Option Look
+covered_look program None = Some (look.Covered program)
+covered_look program (Some text) = if bytes_eq text (codes "LINES") then Some (look.CoveredLines program) else None
+
 -- a look by its first word, and by the words after it where there are some
 unfoldable pub look_by_word : Subject → Option (List ℕ) → Option Look
 look_by_word subject.Storage (Some text) = two_words look.Storage (hex_number 3) (count_up_to 4096) text
@@ -124,6 +131,9 @@ look_by_word subject.Field (Some text) =
     option_and_then (λ term. option_and_then (field_look term) (after_first_blank text)) (padded_name 4 (word text))
 look_by_word subject.Fields (Some text) =
     option_and_then (λ term. fields_look term (after_first_blank text)) (padded_name 4 (word text))
+look_by_word subject.Covered None = Some look.CoveredAll
+look_by_word subject.Covered (Some text) =
+    option_and_then (λ program. covered_look program (after_first_blank text)) (padded_name 8 (word text))
 look_by_word subject.Help None = Some (look.Help None)
 look_by_word subject.Help (Some text) = option_map (λ s. look.Help (Some s)) (subject_of text)
 look_by_word _ _ = None

@@ -55,6 +55,9 @@ is_sight (look.Ahead name n) = false
 is_sight (look.AheadAt name program line) = false
 is_sight (look.Faults source) = false
 is_sight (look.Help word) = false
+is_sight look.CoveredAll = false
+is_sight (look.Covered program) = false
+is_sight (look.CoveredLines program) = false
 is_sight _ = true
 
 abbrev pub screen_of : List ℕ → Option Sight

@@ -4,7 +4,7 @@ ghost use Rattle.std.specs.List.{find};
 ghost use Rattle.std.specs.Option.{option_copied};
 ghost use Rattle.std.specs.Str.{bytes_eq};
 ghost use Rattle.cx_script_actions.specs.Words.{hex_bytes};
-ghost use Rattle.cx_look.specs.Looks.{abend_look, ahead_look, ahead_with, count_up_to, field_look, level_asked_for, line_look, look_of, look_by_word, queue_look, queue_name_of, subject_name, subject_of};
+ghost use Rattle.cx_look.specs.Looks.{abend_look, ahead_look, ahead_with, count_up_to, covered_look, field_look, level_asked_for, line_look, look_of, look_by_word, queue_look, queue_name_of, subject_name, subject_of};
 ghost use Rattle.cx_look.specs.declared.look.Subject.TheVariants as subject;
 
 use cx_base::List;
@@ -96,6 +96,12 @@ pub enum Look {
     /// All fields of a level of a terminal's task: the terminal, and the level's number, 1 to 16; without one the
     /// current level.
     Fields(Name4, Option<u8>),
+    /// How much was run of each program that a source defined.
+    CoveredAll,
+    /// What of a program was never run, and which of its conditional branches went one way only.
+    Covered(Name8),
+    /// How often each statement of a program was run.
+    CoveredLines(Name8),
     /// The table of lines, or the line of a word in it.
     Help(Option<Subject>),
     /// The faulty lines of a source, and notes on the others.
@@ -145,6 +151,10 @@ pub enum Subject {
     Run,
     /// WATCH: each change of some bytes.
     Watch,
+    /// COVER: what is run from here on is counted, or no more.
+    Cover,
+    /// COVERED: what was run since then, and what never was.
+    Covered,
     /// FAULTS: the faulty lines of a source that follows.
     Faults,
     /// ORDERS: what every order of turns and keys leads to.
@@ -155,7 +165,7 @@ pub enum Subject {
 
 impl Subject {
     /// Each of these words once, in the order in which they are declared.
-    pub const ALL: [Subject; 23] = [
+    pub const ALL: [Subject; 25] = [
         Subject::Storage,
         Subject::Where,
         Subject::Areas,
@@ -176,6 +186,8 @@ impl Subject {
         Subject::Fields,
         Subject::Run,
         Subject::Watch,
+        Subject::Cover,
+        Subject::Covered,
         Subject::Faults,
         Subject::Orders,
         Subject::Help,
@@ -206,6 +218,8 @@ impl Subject {
             Subject::Fields => b"FIELDS",
             Subject::Run => b"RUN",
             Subject::Watch => b"WATCH",
+            Subject::Cover => b"COVER",
+            Subject::Covered => b"COVERED",
             Subject::Faults => b"FAULTS",
             Subject::Orders => b"ORDERS",
             Subject::Help => b"HELP",
@@ -433,6 +447,27 @@ fn ahead(text: &[u8]) -> Option<Look>
     ahead_look(term, rest)
 }
 
+/// What was run of a program, by what follows its name.
+fn covered_look(program: Name8, rest: Option<&[u8]>) -> Option<Look>
+    ensures { result ≡ covered_look program (option_copied rest.entry) }
+{
+    match rest {
+        None => Some(Look::Covered(program)),
+        Some(text) if text == b"LINES".as_slice() => Some(Look::CoveredLines(program)),
+        Some(_) => None,
+    }
+}
+
+/// COVERED, by what follows it.
+#[tactic(auto, unfolding(crate::specs::Looks::look_by_word))]
+fn covered(text: &[u8]) -> Option<Look>
+    ensures { result ≡ look_by_word subject.Covered (Some text.now) }
+{
+    let (word, rest) = split_word(text);
+    let program = name8(word)?;
+    covered_look(program, rest)
+}
+
 /// HELP, by what follows it.
 #[tactic(auto, unfolding(crate::specs::Looks::look_by_word))]
 fn help(text: &[u8]) -> Option<Look>
@@ -454,6 +489,7 @@ fn alone(subject: Subject) -> Option<Look>
         Subject::Resources => Some(Look::Resources),
         Subject::Programs => Some(Look::Programs),
         Subject::Terminals => Some(Look::Terminals),
+        Subject::Covered => Some(Look::CoveredAll),
         Subject::Help => Some(Look::Help(None)),
         _ => None,
     }
@@ -478,6 +514,7 @@ fn at(subject: Subject, text: &[u8]) -> Option<Look>
         Subject::Xref => name8(text).map(|name| Look::Xref(name)),
         Subject::Field => field(text),
         Subject::Fields => fields(text),
+        Subject::Covered => covered(text),
         Subject::Help => help(text),
         _ => None,
     }

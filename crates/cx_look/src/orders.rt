@@ -169,6 +169,9 @@ fn is_sight(look: &Look) -> bool
             | Look::AbendStorage(_)
             | Look::Ahead(_, _)
             | Look::AheadAt(_, _, _)
+            | Look::Covered(_)
+            | Look::CoveredAll
+            | Look::CoveredLines(_)
             | Look::Faults(_)
             | Look::Help(_)
     )

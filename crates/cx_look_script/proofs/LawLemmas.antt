@@ -151,6 +151,7 @@ did old (action.Source name lines a) text watched new p =
 did old (action.Run name n s) text watched new p = did_turn old name n s text watched new p
 did old (action.RunOn name n s) text watched new p = did_more old name n s text watched new old.goes_on refl p
 did old (action.Watch w) text watched new p = did_nothing old (action.Watch w) text watched new (refl, p.0) p.1
+did old (action.Cover on) text watched new p = did_nothing old (action.Cover on) text watched new (refl, p.0) p.1
 did old (action.Look l) text watched new p = did_nothing old (action.Look l) text watched new (refl, p.0) p.1
 did old (action.Orders block) text watched new p = did_nothing old (action.Orders block) text watched new (refl, p.0) p.1
 did old (action.BadLook number s) text watched new p = did_nothing old (action.BadLook number s) text watched new (refl, p.0) p.1
@@ -175,6 +176,7 @@ kept_same old (action.Run name n s) plain done = after_same plain done
 kept_same old (action.RunOn name n s) plain done = after_same plain done
 kept_same old (action.BadLook number s) plain done = refl
 kept_same old (action.Watch w) plain done = refl
+kept_same old (action.Cover on) plain done = refl
 kept_same old (action.Look l) plain done = refl
 kept_same old (action.Orders block) plain done = refl
 

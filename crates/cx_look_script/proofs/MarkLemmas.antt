@@ -46,6 +46,9 @@ same_lines tasks resources ahead at look.Terminals state one other p q = p ∙ s
 same_lines tasks resources ahead at (look.Field term name k) state one other p q = p ∙ sym q
 same_lines tasks resources ahead at (look.Fields term k) state one other p q = p ∙ sym q
 same_lines tasks resources ahead at (look.Help word) state one other p q = p ∙ sym q
+same_lines tasks resources ahead at look.CoveredAll state one other p q = p ∙ sym q
+same_lines tasks resources ahead at (look.Covered program) state one other p q = p ∙ sym q
+same_lines tasks resources ahead at (look.CoveredLines program) state one other p q = p ∙ sym q
 
 pub looks_are_reported_once : TasksTextsDecide → ResourcesTextsDecide → AheadDecides → AtDecides → LooksAreReportedOnce
 looks_are_reported_once tasks resources ahead at look state one other p q =

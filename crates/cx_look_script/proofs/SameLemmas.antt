@@ -141,6 +141,7 @@ same_one a (action.Source name lines b) e = record { actions = ap (λ (o : Optio
 same_one a (action.Run name n s) e = cc
 same_one a (action.RunOn name n s) e = cc
 same_one a (action.Watch w) e = cc
+same_one a (action.Cover on) e = cc
 same_one a (action.Look l) e = cc
 same_one a (action.Orders block) e = cc
 same_one a (action.BadLook number s) e = cc
@@ -235,6 +236,7 @@ acts_same old (action.Run name n s) b text new e p = cc
 acts_same old (action.RunOn name n s) b text new e p = cc
 acts_same old (action.BadLook number s) b text new e p = cc
 acts_same old (action.Watch w) b text new e p = cc
+acts_same old (action.Cover on) b text new e p = cc
 acts_same old (action.Look l) b text new e p = cc
 acts_same old (action.Orders block) b text new e p = cc
 
@@ -251,6 +253,7 @@ no_watch (action.Run name n s) b e = refl
 no_watch (action.RunOn name n s) b e = refl
 no_watch (action.BadLook number s) b e = refl
 no_watch (action.Watch w) b e = cc
+no_watch (action.Cover on) b e = refl
 no_watch (action.Look l) b e = refl
 no_watch (action.Orders block) b e = refl
 

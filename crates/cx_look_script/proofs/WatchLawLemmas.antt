@@ -23,12 +23,12 @@ noted : (old : LookState) (a : Action) (text : List ℕ) (new : LookState) (rang
     → NotedPerforms (watching old ranges) a text (watching new ranges)
 unfolding NotedPerforms
 noted old (script.Event e) text new ranges p =
-    (p.0, record { noted = p.1.noted; sources = p.1.sources; watched = refl; goes_on = p.1.goes_on }, p.2)
-noted old (script.Image name image) text new ranges p = (p.0, p.1, p.2, refl, p.4)
-noted old (script.Source name before image) text new ranges p = (p.0, p.1, p.2, refl, p.4)
-noted old (script.Screen name) text new ranges p = (p.0, p.1, p.2, refl, p.4)
-noted old (script.Display name) text new ranges p = (p.0, p.1, p.2, refl, p.4)
-noted old (script.Previous name k) text new ranges p = (p.0, p.1, p.2, refl, p.4)
+    (p.0, record { noted = p.1.noted; sources = p.1.sources; watched = refl; covered = p.1.covered; goes_on = p.1.goes_on }, p.2)
+noted old (script.Image name image) text new ranges p = (p.0, p.1, p.2, refl, p.4, p.5)
+noted old (script.Source name before image) text new ranges p = (p.0, p.1, p.2, refl, p.4, p.5)
+noted old (script.Screen name) text new ranges p = (p.0, p.1, p.2, refl, p.4, p.5)
+noted old (script.Display name) text new ranges p = (p.0, p.1, p.2, refl, p.4, p.5)
+noted old (script.Previous name k) text new ranges p = (p.0, p.1, p.2, refl, p.4, p.5)
 
 turn_done : (old : LookState) (name text : List ℕ) (new : LookState) (ranges : List Row) (line : Option (List ℕ))
     → MatchOption line (NotedPerforms old (turn_action name) text new) (λ l. (text ≡ l) × (new ≡ run_over old))
@@ -78,6 +78,9 @@ same_lines look.Terminals state lines ranges p = p
 same_lines (look.Field term name k) state lines ranges p = p
 same_lines (look.Fields term k) state lines ranges p = p
 same_lines (look.Help word) state lines ranges p = p
+same_lines look.CoveredAll state lines ranges p = p
+same_lines (look.Covered program) state lines ranges p = p
+same_lines (look.CoveredLines program) state lines ranges p = p
 
 -- at a state and its own region
 pub same_at : (l : Look) (state : LookState) (lines : Lines) → AreLookLines l (at_region state state.edf.region) lines → AreLookLines l state lines
@@ -95,6 +98,7 @@ watches_change_nothing old (action.Source name lines a) own new ranges e p =
 watches_change_nothing old (action.Run name n s) own new ranges e p = turn old name s own new ranges p
 watches_change_nothing old (action.RunOn name n s) own new ranges e p = one_more old name n s own new ranges old.goes_on p
 watches_change_nothing old (action.Watch w) own new ranges e p = cc
+watches_change_nothing old (action.Cover on) own new ranges e p = (p.0, same_watching new _ ranges p.1)
 watches_change_nothing old (action.Look l) own new ranges e p =
     (record { lines = p.0.lines; are = same_lines l old p.0.lines ranges p.0.are; is = p.0.is }, same_watching new old ranges p.1)
 watches_change_nothing old (action.Orders block) own new ranges e p = (p.0, same_watching new old ranges p.1)
@@ -132,6 +136,7 @@ watches_stay old (action.Source name lines a) own new e p =
 watches_stay old (action.Run name n s) own new e p = turn_stay old name own new p.line p.does
 watches_stay old (action.RunOn name n s) own new e p = more_stay old name n s own new old.goes_on p
 watches_stay old (action.Watch w) own new e p = cc
+watches_stay old (action.Cover on) own new e p = same_watched new _ p.1
 watches_stay old (action.Look l) own new e p = same_watched new old p.1
 watches_stay old (action.Orders block) own new e p = same_watched new old p.1
 watches_stay old (action.BadLook number s) own new e p = same_watched new old p.1

@@ -10,6 +10,9 @@ use Rattle.cx_look_tables.specs.Words.{look_line, Lines}
 abbrev pub help_row : Subject → List ℕ
 help_row subject.Run = codes "RUN term [n] [stop]  at most n turns of the terminal; stop: BEFORE ABEND, TO program line"
 help_row subject.Watch = codes "WATCH aaaaaa n       each change of one of n bytes; also WATCH term name, WATCH OFF"
+help_row subject.Cover = codes "COVER ON             counts from here on how often each instruction is run; also COVER OFF"
+help_row subject.Covered =
+    codes "COVERED [program]    what was run since then, and what never was; also COVERED program LINES"
 help_row subject.Queues = codes "QUEUES               the temporary storage queues"
 help_row subject.Queue = codes "QUEUE name [k]       a queue with its items, or its item k as a whole"
 help_row subject.Programs = codes "PROGRAMS             the programs"
@@ -37,7 +40,7 @@ help_row subject.Help = codes "HELP [word]          this table, or the line of a
 -- the words in the order of the table
 abbrev pub help_table : List Subject
 help_table =
-    subject.Run ∷ subject.Watch ∷ subject.Queues ∷ subject.Queue ∷ subject.Programs ∷ subject.Tasks
+    subject.Run ∷ subject.Watch ∷ subject.Cover ∷ subject.Covered ∷ subject.Queues ∷ subject.Queue ∷ subject.Programs ∷ subject.Tasks
     ∷ subject.Resources ∷ subject.Terminals ∷ subject.Command ∷ subject.Ahead ∷ subject.Task ∷ subject.Field
     ∷ subject.Fields ∷ subject.Areas ∷ subject.Storage ∷ subject.Where ∷ subject.Abend ∷ subject.Symbol
     ∷ subject.Symbols ∷ subject.Xref ∷ subject.Faults ∷ subject.Orders ∷ subject.Help ∷ []

@@ -1,6 +1,7 @@
 -- The definitions, in reading order.
 pub mod State
 pub mod Sources
+pub mod Covered
 pub mod Runs
 pub mod Watched
 pub mod Reading

@@ -27,6 +27,8 @@ use Rattle.cx_look_levels.specs.Tasks.{task_text}
 use Rattle.cx_look_levels.specs.FieldTexts.{field_text, fields_text}
 use Rattle.cx_look_tasks.specs.Tasks.{ResourcesText, TasksText}
 use Rattle.cx_look_abend.specs.Texts.{abend_fields_text, abend_storage_text, abend_text}
+use Rattle.cx_look_cover.specs.Texts.{covered_all_text, covered_lines_text, covered_text}
+use Rattle.cx_look_script.specs.Covered.{cover_lines, covered_from}
 use Rattle.cx_look_script.specs.State.{LookState}
 use Rattle.cx_look_script.specs.Sources.{level_lines, with_source}
 use Rattle.cx_look_script.specs.Runs.{AppliesAtLooks, StopsWith, run_over, still_running, turn_of}
@@ -70,6 +72,11 @@ AreLookLines look.Terminals state lines = lines ≡ terminals_text state.edf
 AreLookLines (look.Field term name k) state lines =
     lines ≡ field_text state.edf.region (level_lines state term k) term name k
 AreLookLines (look.Help word) state lines = lines ≡ help_text word
+AreLookLines look.CoveredAll state lines = lines ≡ covered_all_text state.sources state.edf.region state.covered
+AreLookLines (look.Covered program) state lines =
+    lines ≡ covered_text state.sources state.edf.region state.covered program
+AreLookLines (look.CoveredLines program) state lines =
+    lines ≡ covered_lines_text state.sources state.edf.region state.covered program
 AreLookLines (look.Fields term k) state lines = lines ≡ fields_text state.edf.region (level_lines state term k) term k
 
 -- the state, with another region in place of its own; nothing is watched there
@@ -94,7 +101,7 @@ NotedPerforms old (edf_action.Event e) text new =
     (given : Answer) × AppliesAtLooks old e given new × (text ≡ answer_text e given)
 NotedPerforms old a text new =
     Performs old.edf a text new.edf × (new.abends ≡ old.abends) × (new.sources ≡ old.sources)
-    × (new.watched ≡ old.watched)
+    × (new.watched ≡ old.watched) × (new.covered ≡ old.covered)
     × (new.goes_on ≡ old.goes_on)
 
 -- a source's end: what it does in `cicsedf`, and after that the source's lines are kept, where it defined its program
@@ -129,6 +136,8 @@ Acts old (action.RunOn name n s) text new =
     MatchBool old.goes_on (TakesOneMore old name n s text new) ((text ≡ []) × (new ≡ old))
 Acts old (action.Watch w) text new =
     (text ≡ marked (watch_lines old w)) × (new ≡ record old { watched = watched_after old w })
+Acts old (action.Cover on) text new =
+    (text ≡ marked (cover_lines on)) × (new ≡ record old { covered = covered_from on })
 Acts old (action.Look l) text new = IsLookText l old text × (new ≡ old)
 Acts old (action.Orders block) text new = ShowsOrders block old text × (new ≡ old)
 Acts old (action.BadLook number s) text new = (text ≡ marked (bad_look_text number s)) × (new ≡ old)

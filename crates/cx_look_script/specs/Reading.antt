@@ -68,10 +68,16 @@ abbrev pub watch_of : List ℕ → Option WatchLine
 watch_of text =
     if bytes_eq text (codes "OFF") then Some watch.Off else option_or (watched_range text) (watched_field text)
 
+-- COVER: to count what is run from here on, or no more
+abbrev pub cover_of : List ℕ → Option Bool
+cover_of text =
+    if bytes_eq text (codes "ON") then Some true else (if bytes_eq text (codes "OFF") then Some false else None)
+
 -- what a line asks that begins with one of these words, where it is as it should be
 abbrev pub asked_by : Subject → List ℕ → Option LookAction
 asked_by subject.Run text = option_and_then run_of (after_first_blank text)
 asked_by subject.Watch text = option_map (λ w. action.Watch w) (option_and_then watch_of (after_first_blank text))
+asked_by subject.Cover text = option_map (λ on. action.Cover on) (option_and_then cover_of (after_first_blank text))
 asked_by _ text = option_map (λ l. action.Look l) (look_of text)
 
 -- the line that begins a block of FAULTS

@@ -20,6 +20,7 @@ use Rattle.cx_look_ahead.specs.Arrivals.{ComesTo, has_statement}
 use Rattle.cx_look_ahead.specs.declared.arrivals.SourceLine.{SourceLine}
 use Rattle.cx_look_abend.specs.Abends.{abend_code_in}
 use Rattle.cx_look_abend.specs.Noting.{AppliesWithAbends}
+use Rattle.cx_look_script.specs.Covered.{Covers, machine_run}
 use Rattle.cx_look_script.specs.State.{LookState}
 use Rattle.cx_look_script.specs.declared.action.LookAction.{LookAction}
 use Rattle.cx_look_script.specs.declared.action.LookAction.TheVariants as action
@@ -48,11 +49,13 @@ turn_of name = edf_event.Plain (event.Turn name)
 abbrev pub still_running : List ℕ → List ℕ
 still_running name = marked (look_line (codes "RUN" ∷ shown_name name ∷ codes "STILL" ∷ codes "RUNNING" ∷ []))
 
--- an event at a region that is looked at: its answer, the region after it, and the last abends that are kept
+-- an event at a region that is looked at: its answer, the region after it, the last abends that are kept, and what is
+-- counted of the instructions that it runs
 pub record AppliesAtLooks (old : LookState) (e : EdfEvent) (given : Answer) (new : LookState) : Type 0 where
   pub noted : AppliesWithAbends old.edf old.abends e given new.edf new.abends
   pub sources : new.sources ≡ old.sources
   pub watched : new.watched ≡ old.watched
+  pub covered : Covers (machine_run old.edf e) old.covered new.covered
   pub goes_on : new.goes_on ≡ turn_goes_on new.edf e given
 
 -- RUN is over: its last turn isn't to be followed by one more

@@ -5,7 +5,7 @@ ghost use Rattle.std.specs.Option.{option_copied, option_map_or};
 ghost use Rattle.cx_script_actions.specs.Allowed.{IsAllowedAction, IsAllowedLine};
 ghost use Rattle.cx_look.specs.Looks.{count_up_to};
 ghost use Rattle.cx_look_script.specs.Allowed.{IsAllowedLook};
-ghost use Rattle.cx_look_script.specs.Reading.{asked_by, faults_line, look_language, look_line_of, line_of_subject, orders_line, own_line, run_of, run_with, source_line_of, stop_at_line, stop_asked_for, as_look_line, turns_of, watch_of, watched_field, watched_range};
+ghost use Rattle.cx_look_script.specs.Reading.{asked_by, cover_of, faults_line, look_language, look_line_of, line_of_subject, orders_line, own_line, run_of, run_with, source_line_of, stop_at_line, stop_asked_for, as_look_line, turns_of, watch_of, watched_field, watched_range};
 ghost use Rattle.cx_look_script.specs.Runs.{look_actions_of};
 
 use cx_base::List;
@@ -71,6 +71,8 @@ pub enum LookAction {
     RunOn(Name4, u16, Stop),
     /// WATCH: what is watched from here on.
     Watch(WatchLine),
+    /// COVER: what is run from here on is counted, or no more.
+    Cover(bool),
     /// A look.
     Look(Look),
     /// ORDERS: what its block asks.
@@ -196,6 +198,19 @@ fn watch_of(text: &[u8]) -> Option<WatchLine>
     }
 }
 
+/// COVER, by what follows it: whether what is run is counted from here on.
+fn cover_of(text: &[u8]) -> Option<bool>
+    ensures { result ≡ cover_of text.now }
+{
+    if text == b"ON".as_slice() {
+        Some(true)
+    } else if text == b"OFF".as_slice() {
+        Some(false)
+    } else {
+        None
+    }
+}
+
 /// What a line asks that begins with one of these words, where it is as it should be.
 fn asked_by(subject: Subject, text: &[u8]) -> Option<LookAction>
     ensures value { result ≡ asked_by subject text.now }
@@ -209,6 +224,11 @@ fn asked_by(subject: Subject, text: &[u8]) -> Option<LookAction>
         let (_word, rest) = split_word(text);
         let watch = watch_of(rest?)?;
         return Some(LookAction::Watch(watch));
+    }
+    if subject == Subject::Cover {
+        let (_word, rest) = split_word(text);
+        let on = cover_of(rest?)?;
+        return Some(LookAction::Cover(on));
     }
     let look = look_of(text)?;
     Some(LookAction::Look(look))

@@ -8,9 +8,11 @@ use cx_look_tables::{Report, decimal};
 use std::alloc::{AllocError, Global};
 
 /// The words in the order of the table.
-const TABLE: [Subject; 23] = [
+const TABLE: [Subject; 25] = [
     Subject::Run,
     Subject::Watch,
+    Subject::Cover,
+    Subject::Covered,
     Subject::Queues,
     Subject::Queue,
     Subject::Programs,
@@ -43,6 +45,10 @@ fn help_row(subject: Subject) -> &'static [u8]
             b"RUN term [n] [stop]  at most n turns of the terminal; stop: BEFORE ABEND, TO program line",
         Subject::Watch =>
             b"WATCH aaaaaa n       each change of one of n bytes; also WATCH term name, WATCH OFF",
+        Subject::Cover =>
+            b"COVER ON             counts from here on how often each instruction is run; also COVER OFF",
+        Subject::Covered =>
+            b"COVERED [program]    what was run since then, and what never was; also COVERED program LINES",
         Subject::Queues => b"QUEUES               the temporary storage queues",
         Subject::Queue => b"QUEUE name [k]       a queue with its items, or its item k as a whole",
         Subject::Programs => b"PROGRAMS             the programs",

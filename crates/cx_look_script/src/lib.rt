@@ -2,6 +2,7 @@
 #![tactic(auto)]
 
 mod action;
+mod covered;
 mod faults;
 mod help;
 pub mod laws;

@@ -11,6 +11,7 @@ use cx_ebcdic::Name4;
 use cx_look::Look;
 use cx_look_abend::{abend_fields_text, abend_storage_text, abend_text};
 use cx_look_ahead::{SourceLine, ahead_text, at_text};
+use cx_look_cover::{covered_all_text, covered_lines_text, covered_text};
 use cx_look_levels::{FieldLook, field_text, fields_text, level_program, task_text, where_text};
 use cx_look_storage::{areas_text, storage_text, task_areas_text};
 use cx_look_symbols::{symbol_text, symbols_text};
@@ -99,6 +100,13 @@ pub(crate) fn look_lines<S: Store + Drop>(
         Look::Xref(program) => xref_text(alloc, program, looking.sources.source_lines(program)),
         Look::Terminals => terminals_text(alloc, region, &looking.state),
         Look::Help(word) => help_text(alloc, word),
+        Look::CoveredAll => { covered_all_text(alloc, &looking.sources, region, &looking.covered) }
+        Look::Covered(program) => {
+            covered_text(alloc, &looking.sources, region, &looking.covered, program)
+        }
+        Look::CoveredLines(program) => {
+            covered_lines_text(alloc, &looking.sources, region, &looking.covered, program)
+        }
         Look::Field(term, name, k) => {
             let lines = level_lines(looking, region, term, k);
             field_text(alloc, region, lines, FieldLook { term, name, k })

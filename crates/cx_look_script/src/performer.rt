@@ -1,10 +1,11 @@
 //! What a script with looks is performed on.
-ghost use Rattle.std.specs.Prelude.{◌≡◌, [], false, IfOk, MatchBool, length};
+ghost use Rattle.std.specs.Prelude.{◌≡◌, [], false, IfOk, MatchBool, None, OnOk, length};
 ghost use Rattle.cx_edf.specs.Runs.{IsAllowedEdf};
 ghost use Rattle.cx_script_actions.specs.Allowed.{IsAllowedAction};
 ghost use Rattle.cx_script_actions.specs.declared.actions.Action.TheVariants as edf_action;
 ghost use Rattle.cx_look_script.specs.declared.action.WatchLine.TheVariants as watch;
 ghost use Rattle.cx_look_script.specs.Looking.{Acts, LookPerforms, NotedPerforms, RunsTurn, SourcePerforms, TakesOneMore, TakesNotedTurn};
+ghost use Rattle.cx_look_script.specs.Covered.{Covers, cover_lines, covered_from, machine_run};
 ghost use Rattle.cx_look_script.specs.Runs.{AppliesAtLooks, run_over};
 ghost use Rattle.cx_look_script.specs.State.{fresh_look_state};
 ghost use Rattle.cx_look_script.specs.Watched.{ShowsChanges, watch_lines, watched_after};
@@ -13,6 +14,7 @@ ghost use Rattle.cx_look_ahead.specs.Watching.{ActionEffect, begun_watch, with_r
 ghost use Rattle.cx_look_tables.specs.Words.{marked};
 
 use crate::action::{LookAction, Stop, WatchLine};
+use crate::covered::{cover_line, tally};
 use crate::help::bad_look_text;
 use crate::looks::look_text;
 use crate::orders::orders_written;
@@ -24,6 +26,7 @@ use cx_ebcdic::{Name4, Name8};
 use cx_edf::{Answer, Debugged, EdfEvent};
 use cx_look_abend::{LastAbends, apply_keeping_abends};
 use cx_look_ahead::{Cause, Done, Kept, Row, Watches, Work, change_lines, work_of};
+use cx_look_cover::Tallies;
 use cx_look_symbols::{Sources, statement_places};
 use cx_look_tables::Report;
 use cx_region::Event;
@@ -37,13 +40,15 @@ use std::alloc::{AllocError, Global};
 use std::marker::Model;
 
 /// A region under EDF that is looked at, with each terminal's last abend, what is kept of the sources that defined
-/// programs, the ranges of bytes that are watched, and whether the last event was a turn that one more turn follows.
+/// programs, the ranges of bytes that are watched, how often instructions were run since COVER ON, while it is on, and
+/// whether the last event was a turn that one more turn follows.
 #[derive(Drop)]
 pub struct LookedRegion<S: Store + Drop> {
     pub(crate) state: Debugged<S>,
     pub(crate) abends: LastAbends,
     pub(crate) sources: Sources,
     pub(crate) watches: Watches,
+    pub(crate) covered: Option<Tallies>,
     pub(crate) goes_on: bool,
 }
 
@@ -58,6 +63,7 @@ impl<S: Store + Drop> Model for LookedRegion<S> {
           abends = held.abends.entries;
           sources = held.sources;
           watched = held.watches;
+          covered = held.covered;
           goes_on = held.goes_on;
         } };
 }
@@ -71,6 +77,7 @@ impl<S: Store + Drop> LookedRegion<S> {
               abends = [];
               sources = record { lines = []; places = [] };
               watched = [];
+              covered = None;
               goes_on = false;
             } }
     {
@@ -79,15 +86,32 @@ impl<S: Store + Drop> LookedRegion<S> {
             abends: IndexMap::new(alloc),
             sources: Sources::new(alloc),
             watches: Watches::new(alloc),
+            covered: None,
             goes_on: false,
         }
     }
 
-    /// Does an event, keeps the abend that it led to, and whether it was a turn that one more follows.
+    /// Counts the instructions that an event is going to run, while COVER is on.
+    #[tactic(auto, unfolding(crate::specs::Covered::Covers))]
+    fn cover(&mut self, event: &EdfEvent) -> Result<(), AllocError>
+        ensures { OnOk result
+            (Covers (machine_run self.old.edf event.now) self.old.covered self.new.covered
+            × (self.new ≡ record self.old { covered = self.new.covered })) }
+    {
+        let alloc = self.state.region().shared().alloc;
+        match &mut self.covered {
+            Some(tallies) => tally(alloc, &self.state, event, tallies),
+            None => Ok(()),
+        }
+    }
+
+    /// Does an event, keeps the abend that it led to, and whether it was a turn that one more follows; what it runs is
+    /// counted, while COVER is on.
     pub(crate) fn apply(&mut self, event: &EdfEvent) -> Result<Answer, AllocError>
         requires { IsAllowedEdf event.now }
         ensures { IfOk result (λ given. AppliesAtLooks self.old event.now given self.new) }
     {
+        self.cover(event)?;
         let answer = apply_keeping_abends(&mut self.state, &mut self.abends, event)?;
         self.goes_on = turn_goes_on(&self.state, event, &answer);
         Ok(answer)
@@ -231,6 +255,17 @@ impl<S: Store + Drop> LookedRegion<S> {
         report.marked()
     }
 
+    /// Does what COVER asks.
+    fn cover_from(&mut self, alloc: Global, on: bool) -> Result<Vec<u8>, AllocError>
+        ensures { IfOk result (λ text.
+            (text.items ≡ marked (cover_lines on))
+            × (self.new ≡ record self.old { covered = covered_from on })) }
+    {
+        let report = cover_line(alloc, on)?;
+        self.covered = if on { Some(Tallies::new(alloc)) } else { None };
+        report.marked()
+    }
+
     /// The lines of the ranges whose bytes aren't as they were kept, after what was done.
     fn changed(
         &self,
@@ -271,6 +306,7 @@ impl<S: Store + Drop> LookedRegion<S> {
             LookAction::Run(name, _, stop) => self.run_turn(alloc, name, stop),
             LookAction::RunOn(name, n, stop) => self.run_on(alloc, name, n, stop),
             LookAction::Watch(line) => self.watch(alloc, line),
+            LookAction::Cover(on) => self.cover_from(alloc, on),
             LookAction::Look(look) => look_text(alloc, self, look),
             LookAction::Orders(block) => orders_written(alloc, self, block),
             LookAction::BadLook(number, subject) => bad_look_text(alloc, number, subject),

@@ -85,7 +85,7 @@ fn next_abend<S: Store + Drop>(
 }
 
 /// Whether EDF holds the turns of a terminal.
-fn is_held<S: Store + Drop>(state: &Debugged<S>, name: Name4) -> bool
+pub(crate) fn is_held<S: Store + Drop>(state: &Debugged<S>, name: Name4) -> bool
     ensures { result ≡ holds state.now name }
 {
     state.display(name).is_some() && state.task(name).is_some()

@@ -10,6 +10,7 @@ use Rattle.cx_look.specs.declared.look.Look.{Look}
 use Rattle.cx_look.specs.declared.orders.OrdersBlock.{OrdersBlock}
 use Rattle.cx_look_script.specs.Looking.{IsLookText, LookPerforms, NotedPerforms, ShowsOrders}
 use Rattle.cx_look_tables.specs.Words.{marked}
+use Rattle.cx_look_script.specs.Covered.{cover_lines, covered_from}
 use Rattle.cx_look_script.specs.Help.{bad_look_text}
 use Rattle.cx_look_script.specs.Runs.{StopsWith, run_over, still_running, turn_of}
 use Rattle.cx_look_script.specs.Sources.{with_source}
@@ -52,6 +53,7 @@ IsPart there (action.Run name n s) part = IsTurnOfRun there name s part
 IsPart there (action.RunOn name n s) part =
     MatchBool there.goes_on (IsMoreOfRun there name n s part) ((part.plain ≡ []) × (part.looked ≡ []))
 IsPart there (action.Watch w) part = (part.plain ≡ []) × (part.looked ≡ marked (watch_lines there w))
+IsPart there (action.Cover on) part = (part.plain ≡ []) × (part.looked ≡ marked (cover_lines on))
 IsPart there (action.Look look) part = (part.plain ≡ []) × IsLookText look there part.looked
 IsPart there (action.Orders block) part = (part.plain ≡ []) × ShowsOrders block there part.looked
 IsPart there (action.BadLook number s) part = (part.plain ≡ []) × (part.looked ≡ marked (bad_look_text number s))
@@ -61,12 +63,13 @@ abbrev pub after_turns : List Action → LookState → LookState
 after_turns [] new = run_over new
 after_turns (turn ∷ turns) new = new
 
--- after the actions of a source's part its lines are kept, and after WATCH what it watches
+-- after the actions of a source's part its lines are kept, after WATCH what it watches, and after COVER what is counted
 abbrev pub state_kept_after : LookState → LookAction → List Action → LookState → LookState
 state_kept_after old (action.Source name lines a) plain new = with_source old name lines new
 state_kept_after old (action.Run name n s) plain new = after_turns plain new
 state_kept_after old (action.RunOn name n s) plain new = after_turns plain new
 state_kept_after old (action.Watch w) plain new = record new { watched = watched_after old w }
+state_kept_after old (action.Cover on) plain new = record new { covered = covered_from on }
 state_kept_after old _ plain new = new
 
 -- a part for each action, from the state that those before leave, with the last abends that their events lead to

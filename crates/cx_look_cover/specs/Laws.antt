@@ -1,0 +1,99 @@
+-- What follows from the definitions: the passages of a run are decided by it, and are those of its visits; targets are
+-- those of EX; a tally counts them; ranges name exactly their lines.
+use Rattle.std.specs.Prelude.{◌≡◌, ◌≢◌, ◌↔◌, ℕ, zero, suc, ◌+◌, ◌-◌, ◌<◌, ◌^◌, ◌==◌, ⊤, Some, List, [], ◌∷◌, map}
+use Rattle.std.specs.List.{count_by, filter, flat_map}
+use Rattle.cx_code.specs.Reading.{reading}
+use Rattle.cx_code.specs.Spelling.{instruction}
+use Rattle.cx_code.specs.declared.instruction.Fields.TheVariants.{Rx}
+use Rattle.cx_code.specs.declared.table.Op.TheVariants.{Ex}
+use Rattle.cx_exec.specs.Fetch.{code_bytes}
+use Rattle.cx_exec.specs.Machine.{Machine, effective}
+use Rattle.cx_look_turn.specs.Traces.{Visits, visit}
+use Rattle.cx_look_turn.specs.declared.traces.Visit.{Visit}
+use Rattle.cx_look_cover.specs.Passages.{Passage, Passages, places_run, target_of, went_away}
+use Rattle.cx_look_cover.specs.Ranges.{ranges_of}
+use Rattle.cx_look_cover.specs.Tallies.{IsTallied, capped, tally_at}
+use Rattle.cx_look_cover.specs.declared.ranges.LineRange.{LineRange}
+use Rattle.cx_look_cover.specs.declared.tallies.Tally.{Tally}
+
+abbrev pub PassagesDecide : Type 0
+PassagesDecide = (limit : ℕ) (m : Machine) (passages others : List Passage)
+    → Passages limit m passages → Passages limit m others → passages ≡ others
+
+-- each count is one of visits
+abbrev pub PassagesAreVisits : Type 0
+PassagesAreVisits = (limit : ℕ) (m : Machine) (passages : List Passage) (visits : List Visit)
+    → Passages limit m passages → Visits limit m visits → map (λ p. visit p.before) passages ≡ visits
+
+abbrev pub TalliesDecide : Type 0
+TalliesDecide = (limit : ℕ) (m : Machine) (old new other : List Tally)
+    → IsTallied limit m old new → IsTallied limit m old other → new ≡ other
+
+-- ---- targets
+-- the next instruction reads as an EX, and this is the address of its target (GA22-7000, "Execute")
+pub record LeadsTo (m : Machine) (address : ℕ) : Type 0 where
+  pub code : List ℕ
+  pub are : code_bytes m.storage m.next ≡ Some code
+  pub r1 : ℕ
+  pub x2 : ℕ
+  pub b2 : ℕ
+  pub d2 : ℕ
+  pub reads : reading code ≡ Some (instruction Ex (Rx r1 x2 b2 d2))
+  pub is : address ≡ effective m.regs x2 b2 d2
+
+-- a target is counted where there is one, and there alone
+abbrev pub TargetsAreOfExecutes : Type 0
+TargetsAreOfExecutes = (m : Machine) (address : ℕ) → (target_of m ≡ Some address) ↔ LeadsTo m address
+
+-- ---- what a tally counts
+-- how often an address is among places
+abbrev pub times_in : ℕ → List ℕ → ℕ
+times_in address places = count_by (λ place. place == address) places
+
+-- and among those where passages run an instruction
+abbrev pub times_at : ℕ → List Passage → ℕ
+times_at address passages = times_in address (flat_map places_run passages)
+
+-- Of each address the runs are those before and one for each time that a passage runs the instruction there; and
+-- likewise of the passages that go elsewhere.
+pub record CountsThem (passages : List Passage) (old new : List Tally) (address : ℕ) : Type 0 where
+  pub runs : (tally_at new address).runs ≡ capped ((tally_at old address).runs + times_at address passages)
+  pub away :
+      (tally_at new address).away
+      ≡ capped ((tally_at old address).away + times_at address (filter went_away passages))
+
+-- counts as they are kept
+pub record IsInRange (tallies : List Tally) (address : ℕ) : Type 0 where
+  pub runs : (tally_at tallies address).runs < 2 ^ 64
+  pub away : (tally_at tallies address).away < 2 ^ 64
+
+abbrev pub TalliesCount : Type 0
+TalliesCount = (limit : ℕ) (m : Machine) (old new : List Tally) (passages : List Passage) (address : ℕ)
+    → Passages limit m passages → IsTallied limit m old new → IsInRange old address
+    → CountsThem passages old new address
+
+-- ---- ranges
+-- the numbers of a range
+abbrev pub numbers_from : ℕ → ℕ → List ℕ
+numbers_from first zero = []
+numbers_from first (suc n) = first ∷ numbers_from (suc first) n
+
+abbrev pub numbers_in : LineRange → List ℕ
+numbers_in it = numbers_from it.first (suc it.last - it.first)
+
+-- no range goes on where the one in front of it ends
+abbrev pub AreApartAfter : ℕ → List LineRange → Type 0
+AreApartAfter last [] = ⊤
+AreApartAfter last (next ∷ ranges) = (next.first ≢ last + 1) × AreApartAfter next.last ranges
+
+abbrev pub AreApart : List LineRange → Type 0
+AreApart [] = ⊤
+AreApart (one ∷ ranges) = AreApartAfter one.last ranges
+
+-- Ranges have the numbers that they are made of, in their order, and there are no fewer of them that have.
+pub record IsOfNumbers (lines : List ℕ) : Type 0 where
+  pub numbers : flat_map numbers_in (ranges_of lines) ≡ lines
+  pub apart : AreApart (ranges_of lines)
+
+abbrev pub RangesName : Type 0
+RangesName = (lines : List ℕ) → IsOfNumbers lines

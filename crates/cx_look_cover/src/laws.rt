@@ -1,0 +1,48 @@
+//! What follows from the definitions of what was run.
+ghost use Rattle.cx_look_cover.specs.Laws.{PassagesAreVisits, PassagesDecide, RangesName, TalliesCount, TalliesDecide, TargetsAreOfExecutes};
+
+use cx_code::laws::read_by_first_byte;
+use cx_exec_laws::laws::steps_decide;
+
+/// A machine and a limit have one list of passages.
+pub fn passages_decide()
+    ensures { PassagesDecide }
+{
+    steps_decide();
+}
+
+/// The passages of a run are at the instructions that it comes to, in their order: so each count is a number of these.
+pub fn passages_are_visits()
+    ensures { PassagesAreVisits }
+{
+    steps_decide();
+}
+
+/// The address that is counted as that of a target is the second operand's of an EX, where the next instruction reads
+/// as one.
+pub fn targets_are_of_executes()
+    ensures { TargetsAreOfExecutes }
+{
+    read_by_first_byte();
+}
+
+/// A machine, a limit and the tallies before have one list of tallies after the run.
+pub fn tallies_decide()
+    ensures { TalliesDecide }
+{
+    passages_decide();
+}
+
+/// After a run the runs of each address are those before it and one for each time that a passage runs the instruction
+/// there, up to 2^64 - 1; and likewise those after which the machine went elsewhere.
+pub fn tallies_count()
+    ensures { TalliesCount }
+{
+    passages_decide();
+}
+
+/// Ranges of lines name exactly the lines that they are made of, in their order, and none goes on where the one in
+/// front of it ends.
+pub fn ranges_name()
+    ensures { RangesName }
+{}
