@@ -10,6 +10,7 @@ _cics_words() {
   case ${COMP_WORDS[0]##*/} in
     cics-adapt) options="-h --help --version --copy --keep --ebcdic --map --stand-in --bms --file --out" ;;
     cics-check) options="-h --help --version --script --explain --marks --watch --json --map --cicslook" ;;
+    cics-cover) options="-h --help --version --html --lcov --json --at-least --cicslook" ;;
     cics-film) options="-h --help --version -o --map --open --cicslook" ;;
     cics-look) options="-h --help --version --keep --keep-typed --cicslook" ;;
     cics-run) options="-h --help --version --key --mixed --tran --queue --fields --script --json --film --map --cicslook" ;;
@@ -29,4 +30,4 @@ _cics_words() {
     mapfile -t COMPREPLY < <(compgen -f -- "$word")
   fi
 }
-complete -o filenames -F _cics_words cicsedf cicslook cics-adapt cics-check cics-film cics-look cics-run cics-same cics-terminals cics-test
+complete -o filenames -F _cics_words cicsedf cicslook cics-adapt cics-check cics-cover cics-film cics-look cics-run cics-same cics-terminals cics-test

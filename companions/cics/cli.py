@@ -19,6 +19,7 @@ from cics.child import TOP, Overdue
 from cics.programs import Identity, found_program, identify, is_executable, places_of_program
 
 DONE, FOUND, MISUSED, FAILED = 0, 1, 2, 3  # statuses; of a signal it is 128 and its number
+UNRUN = 4  # that of what says how much was run, where it isn't all that is asked for
 STANDARD_INPUT = "-"
 VERSION_FILE = os.path.join(TOP, "VERSION")
 

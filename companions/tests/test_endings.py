@@ -24,7 +24,7 @@ SCRIPT = f"SOURCE P\n{SOURCE}/*\nTRANSACTION P P\nTERMINAL T001\nKEY T001 ENTER 
 CALLS = {  # of each companion one that writes something on standard output
     "cics-adapt": ["p.asm"], "cics-check": ["f.asm", *PROGRAMS], "cics-film": ["s.script", "-o", "-", *PROGRAMS],
     "cics-run": ["p.asm", "--key", "P", *PROGRAMS], "cics-same": ["s.script", "s.script", *PROGRAMS], "cics-test": ["s.script", *PROGRAMS],
-    "cics-look": ["s.script", *PROGRAMS], "cics-terminals": ["--help"]}
+    "cics-look": ["s.script", *PROGRAMS], "cics-cover": ["s.script", *PROGRAMS], "cics-terminals": ["--help"]}
 ASKING = [name for name in CALLS if name not in ("cics-adapt", "cics-terminals")]  # those that ask a program
 
 

@@ -24,7 +24,7 @@ COREUTILS = ("cat", "cp", "dirname", "env", "ls", "mkdir", "rm", "sha256sum", "s
 FOLDER = "cicsedf-test"
 MANUAL = "docs/manual.html"
 LESSON = "examples/lessons/01-inquiry/inquiry"
-COMPANIONS = ("cics-adapt", "cics-check", "cics-film", "cics-look", "cics-run", "cics-same", "cics-test", "cics-terminals")
+COMPANIONS = ("cics-adapt", "cics-check", "cics-cover", "cics-film", "cics-look", "cics-run", "cics-same", "cics-test", "cics-terminals")
 
 
 @dataclass(frozen=True)

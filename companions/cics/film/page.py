@@ -117,6 +117,6 @@ def page_of(films: list[Film]) -> tuple[str, list[int]]:
     if len(films) == 2:
         data[0]["pairs"] = asdict(pairs_of(*films))
     page = part("page.html")
-    for name, text in (("STYLE", part("page.css")), ("SCRIPT", part("page.js")), ("DATA", json_of(data))):
+    for name, text in (("STYLE", part("colours.css") + part("page.css")), ("SCRIPT", part("page.js")), ("DATA", json_of(data))):
         page = page.replace(f"/*{name}*/", text, 1)
     return page, left_out

@@ -1,0 +1,1 @@
+"""What scripts run of programs, and what they never do: by the looks COVER and COVERED of `cicslook`."""
