@@ -173,8 +173,9 @@ def each_shown(script: list[str], keys: list[str], cicslook: str, origins: Origi
         yield pressed, led_back(cause, origins)
 
 
-def show(script: list[str], keys: list[str], cicslook: str, origins: Origins, *, with_fields: bool, as_json: bool = False) -> int:
-    """Runs a script, and writes what came of each key, as lines, or all as a list of objects."""
+def show(script: list[str], keys: list[str], cicslook: str, origins: Origins, *, with_fields: bool, as_json: bool = False,
+         cover: dict[str, object] | None = None) -> int:
+    """Runs a script, and writes what came of each key, as lines, or all as a list of objects; with what was run, as an object of both."""
     status, objects = DONE, list[dict[str, object]]()
     for pressed, cause in each_shown(script, keys, cicslook, origins, with_fields=with_fields):
         status = status if pressed.is_well() else FOUND
@@ -183,5 +184,5 @@ def show(script: list[str], keys: list[str], cicslook: str, origins: Origins, *,
         else:
             write_out(encoded([*pressed.lines(), *cause]))
     if as_json:
-        say(json.dumps(objects, indent=1))
+        say(json.dumps(objects if cover is None else {"keys": objects, "cover": cover}, indent=1))
     return status
