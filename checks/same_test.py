@@ -14,6 +14,8 @@ from checks.examples import FOLDER
 
 CHANGING, LAYOUT = os.path.join(FOLDER, "lessons/changing"), os.path.join(FOLDER, "lessons/14-layout")
 OLD = read(f"{CHANGING}/pgm7.asm").decode()
+SAME = (0, 4)  # statuses: nothing differs, but by cicsedf it isn't known whether changed lines were run
+SCREENS = "compared after each key: answers, ends of tasks and screens; *"
 LOOP = "L1       EXEC  CICS SUSPEND\n         B     L1\nL3       MVC   W4"
 
 
@@ -30,12 +32,12 @@ class Due:
         lines = ended.lines()
         is_told = len(patterns) == len(lines) and all(map(re.fullmatch, patterns, lines))
         require(ended.status == self.status and is_told, str(ended))
-        return Counter({"the same" if self.status == 0 else "otherwise": 1})
+        return Counter({"the same" if self.status in SAME else "otherwise": 1})
 
 
 SOURCES = {  # what a new source is, its text, and what is printed
-    "equal": (OLD, Due(0, ["after each of 2 keys *"])),
-    "longer": (read(f"{CHANGING}/pgm7-enq.asm").decode(), Due(0, ["after each of 2 keys *"])),
+    "equal": (OLD, Due(0, ["same after 2 keys; no line is changed", SCREENS])),
+    "longer": (read(f"{CHANGING}/pgm7-enq.asm").decode(), Due(4, ["same after 2 keys; 3 changed lines, *", SCREENS])),
     "a wrong digit": (OLD.replace("LA    4,1(0,4)", "LA    4,2(0,4)"),
                       Due(1, ["line *, KEY T002 ENTER TICK: SCREEN T002 differs", "old: 01|TICKET 00002", "new: 01|TICKET 00003"])),
     "an abend": (OLD.replace("L1       MVC", "L1       DC    H'0'\n         MVC"),
@@ -47,7 +49,7 @@ SOURCES = {  # what a new source is, its text, and what is printed
     "faulty": (OLD.replace("CVB ", "CVX "), Due(2, ["* can't be run: cicsedf: line *: UnknownOperation"])),
 }
 LAYOUTS = {  # in which programs the layout is changed, and what is printed
-    ("ADD", "SHOW"): Due(0, ["after each of 4 keys the same answers, ends of tasks and screens; *"]),
+    ("ADD", "SHOW"): Due(4, ["same after 4 keys; * changed lines, *", SCREENS]),
     ("ADD",): Due(1, ["line *, KEY T001 ENTER SHOW 1: SCREEN T001 differs", "old: 01|BOLTS    00400 00250", "new: 01|BOLTS    00004 0.002"]),
 }
 

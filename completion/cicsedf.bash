@@ -14,7 +14,7 @@ _cics_words() {
     cics-film) options="-h --help --version -o --map --open --cicslook" ;;
     cics-look) options="-h --help --version --keep --keep-typed --cicslook" ;;
     cics-run) options="-h --help --version --key --mixed --tran --queue --fields --script --json --cover --html --lcov --film --map --cicslook" ;;
-    cics-same) options="-h --help --version --source --shown --screens --orders --json --queue --cicslook --cicsedf" ;;
+    cics-same) options="-h --help --version --source --shown --screens --orders --even-unrun --json --queue --cicslook --cicsedf" ;;
     cics-terminals) options="-h --help --version --resume --back --tran --queue --port --session --mixed --clock --idle --any-user --cicslook" ;;
     cics-test) options="-h --help --version --write --junit --json --watch --jobs --cicslook" ;;
   esac

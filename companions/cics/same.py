@@ -9,6 +9,8 @@ from dataclasses import dataclass, field
 from enum import IntEnum
 
 from cics.child import Child, Gone, Overdue, text_of
+from cics.cover.asking import ON
+from cics.cover.changes import Ran, ran_of
 from cics.queues import TERMINAL, Loader
 from cics.scripts import BLOCK_END, Action, actions_of, free_name
 from cics.transcripts import CWA, RESTS, reply_of
@@ -209,8 +211,6 @@ def pages_of(region: Region, steps: list[Action], loaders: list[Loader]) -> Iter
         yield page
         if not page.is_at_rest:
             return
-    if last := region.last_commareas():
-        yield Page(steps[-1].line, f"after {steps[-1].lines[0]}", last)
 
 
 def child_of(command: list[str], steps: list[Action]) -> Child:
@@ -218,11 +218,29 @@ def child_of(command: list[str], steps: list[Action]) -> Child:
     return Child(command, free_name("".join(text_of(step.lines) for step in steps)) or "")
 
 
-def seen(command: list[str], steps: list[Action], loaders: list[Loader], depth: Depth) -> list[Page]:
-    """What is seen after each key of a script."""
+@dataclass(frozen=True)
+class Run:
+    """What is seen after each key of a script, and what the keys ran of its sources; none where the program doesn't count that."""
+
+    pages: list[Page]
+    ran: list[Ran] | None
+
+
+def run_of(region: Region, steps: list[Action], loaders: list[Loader], *, counts: bool) -> Run:
+    """Presses the keys, asks what they ran, and looks at what only one more key shows."""
+    if counts:
+        region.child.ask(ON)
+    pages = [*pages_of(region, steps, loaders)]
+    ran = ran_of(region.child, steps) if counts else None
+    last = region.last_commareas() if pages and pages[-1].is_at_rest else []
+    return Run([*pages, *([Page(steps[-1].line, f"after {steps[-1].lines[0]}", last)] if last else [])], ran)
+
+
+def seen(command: list[str], steps: list[Action], loaders: list[Loader], depth: Depth, *, counts: bool) -> Run:
+    """What is seen after each key of a script, and what they run where the program counts it."""
     with child_of(command, steps) as child:
         try:
-            return [*pages_of(Region(child, depth), [step for step in steps if step.word in TAKEN], loaders)]
+            return run_of(Region(child, depth), [step for step in steps if step.word in TAKEN], loaders, counts=counts)
         except Overdue as why:
             raise Fault(why_of(why)) from None
 
@@ -237,19 +255,26 @@ def difference(old: list[Seen], new: list[Seen]) -> tuple[Seen | None, Seen | No
     return next(((before, after) for before, after in pairs if before != after), None)
 
 
-def report_of(old: list[Page], new: list[Page], depth: Depth) -> tuple[bool, list[str]]:
-    """Whether nothing differs, and the lines on the first key after which something does, or on there being none. A fault where no key shows
-    it."""
+def count_keys(pages: list[Page]) -> int:
+    return sum(not page.key.startswith("after ") for page in pages)
+
+
+def report_of(old: list[Page], new: list[Page]) -> list[str]:
+    """The lines on the first key after which something differs; none where nothing does. A fault where no key shows it."""
     if not old:
         raise Fault("no key is pressed, so nothing is compared")
     for before, after in zip(old, new):
         if found := difference(before.seen, after.seen):
             of = next((it.of for it in found if it and it.of), "")
             lines = [it.line if it else "" for it in found]
-            return False, [f"line {before.number}, {before.key}: {f'{of} differs' if of else ''}".rstrip(), f"old: {lines[0]}", f"new: {lines[1]}"]
+            return [f"line {before.number}, {before.key}: {f'{of} differs' if of else ''}".rstrip(), f"old: {lines[0]}", f"new: {lines[1]}"]
     if not old[-1].is_at_rest:
         raise Fault(f"line {old[-1].number}, {old[-1].key}: {old[-1].seen[-1].line}, with both, so nothing is known of what follows")
     if len(old) != len(new):
         raise Fault("a COMMAREA that is kept after the last key can be seen of one alone")
-    count = sum(not page.key.startswith("after ") for page in old)
-    return True, [f"after each of {count} keys the same {SAID[depth]}; the script's own turns were left out"]
+    return []
+
+
+def compared_of(depth: Depth) -> str:
+    """What was compared, where nothing differs."""
+    return f"compared after each key: {SAID[depth]}; the script's own turns were left out"

@@ -45,7 +45,7 @@ COMMANDS = [
     Command(["companions/cics-adapt", "examples/adapt/stkbrws.asm"], has="BNH   SHOWPAGE"),
     Command(["companions/cics-check", "examples/lessons/changing/pgm7.asm"]),
     Command(["companions/cics-run", "examples/lessons/changing/pgm7.asm", "--tran", "TICK=PGM7", "--key", "TICK"], has="01|TICKET 00001"),
-    Command(["companions/cics-same", "examples/lessons/changing/pgm7.script", "PGM7", *["examples/lessons/changing/pgm7.asm"] * 2], has="after each of 2 keys"),
+    Command(["companions/cics-same", "examples/lessons/changing/pgm7.script", "PGM7", *["examples/lessons/changing/pgm7.asm"] * 2], has="same after 2 keys"),
     Command(["companions/cics-look", f"{LESSON}.script"], f"{LESSON}.transcript"),
     Command(["companions/cics-test", "examples/lessons/changing"], has="3 scripts: 3 ok"),
     Command(["companions/cics-film", f"{LESSON}.script", "-o", "-"], has="</html>"),

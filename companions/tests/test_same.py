@@ -1,7 +1,13 @@
 """What cics-same tells of two versions of programs, beyond what checks/same-test sees: several sources, two scripts, queues, test
 data."""
-from tests.calling import Call, failures_of
-from tests.case import PROGRAMS, TestCase
+import json
+import os
+import tempfile
+
+from cics.assembler_files import sources_of_file
+from cics.child import TOP, lines_of, read
+from tests.calling import Call, called, failures_of
+from tests.case import CICSEDF, PROGRAMS, TestCase
 
 WRITER = """P        CSECT
          EXEC  CICS WRITEQ TS QUEUE('LOG') FROM(TEXT) LENGTH(=H'3')
@@ -45,9 +51,22 @@ def script(*sources: str) -> str:
     return f"{blocks}TRANSACTION T {names[0]}\nTERMINAL T001\nKEY T001 ENTER T\nTURN T001\n"
 
 
-SAME = ["after each of 1 keys the same answers, ends of tasks, screens, next transactions and COMMAREAs, held input, resources, the common "
-        "work area, and queues with the item last read; the script's own turns were left out"]
-SHOWN = ["after each of * keys the same answers, ends of tasks, screens and queues; *"]
+COMPARED = ("compared after each key: answers, ends of tasks, screens, next transactions and COMMAREAs, held input, resources, the common work "
+            "area, and queues with the item last read; the script's own turns were left out")
+SHOWN_ALONE = "compared after each key: answers, ends of tasks, screens and queues; the script's own turns were left out"
+SCREENS_ALONE = "compared after each key: answers, ends of tasks and screens; the script's own turns were left out"
+UNCHANGED = "same after 1 key; no line is changed"
+
+
+def ran(program: str, old: str, new: str) -> str:
+    return f"{program}: {old} statements of the old source were run, {new} of the new"
+
+
+def same(program: str, count: str) -> list[str]:
+    """What is said of two sources without a change, all of whose statements are run."""
+    return [UNCHANGED, ran(program, f"{count} of {count}", f"{count} of {count}"), COMPARED]
+
+
 COUNTER = """DFHEISTG DSECT
 KEPT     DS    CL%d
 C        CSECT
@@ -90,16 +109,17 @@ CALLS = [
     Call("a queue", "cics-same", ["w.script", "P", "w.asm", "o.asm"], 1,
          ["line 10, KEY T001 ENTER T: item 1 of queue 'LOG' differs", "old: > 0000 D6D5C5 *", "new: > 0000 E3E6D6 *"], FILES),
     Call("queues left out", "cics-same", ["--screens", "w.script", "P", "w.asm", "o.asm"], 0,
-         ["after each of 1 keys the same answers, ends of tasks and screens; *"], FILES),
+         ["same after 1 key; the one changed line was run", ran("P", "2 of 2", "2 of 2"), SCREENS_ALONE], FILES),
     Call("two scripts", "cics-same", ["w.script", "o.script"], 1, ["line *", "old: *", "new: *"], FILES),
-    Call("a script and itself", "cics-same", ["w.script", "w.script"], 0, SAME, FILES),
-    Call("several sources", "cics-same", ["c.script", "--source", "CALLER=caller.asm:later.asm", "--source", "CALLEE=callee.asm:called.asm"], 0, SAME, FILES),
+    Call("a script and itself", "cics-same", ["w.script", "w.script"], 0, same("P", "2"), FILES),
+    Call("several sources", "cics-same", ["c.script", "--source", "CALLER=caller.asm:later.asm", "--source", "CALLEE=callee.asm:called.asm"], 0,
+         ["same after 1 key; all 4 changed lines were run", ran("CALLER", "3 of 3", "3 of 3"), ran("CALLEE", "3 of 3", "3 of 3"), COMPARED], FILES),
     Call("one of two", "cics-same", ["c.script", "--source", "CALLEE=callee.asm:called.asm"], 1,
          ["line *, KEY T001 ENTER T:", "old: T001 Ended", "new: T001 Abended ASRA"], FILES),
-    Call("test data", "cics-same", ["s.script", "S", "s.asm", "s.asm", "--queue", "Q=q"], 0, SAME, FILES),
+    Call("test data", "cics-same", ["s.script", "S", "s.asm", "s.asm", "--queue", "Q=q"], 0, same("S", "4"), FILES),
     Call("test data that is shown", "cics-same", ["s.script", "S", "s.asm", "t.asm", "--queue", "Q=q"], 1,
          ["line *SCREEN T001 differs", "old: 01|IT'S &", "new: 01|ONE"], FILES),
-    Call("no test data", "cics-same", ["s.script", "S", "s.asm", "s.asm"], 0, SAME, FILES),
+    Call("no test data", "cics-same", ["s.script", "S", "s.asm", "s.asm"], 0, [UNCHANGED, ran("S", "2 of 4", "2 of 4"), COMPARED], FILES),
     Call("other keys", "cics-same", ["w.script", "c2.script"], 2, [], {**FILES, "c2.script": script(WRITER) + "KEY T001 ENTER T\n"}, "different keys"),
     Call("a source that isn't there", "cics-same", ["w.script", "X", "w.asm", "o.asm"], 2, [], FILES, "w.script: it has no SOURCE X"),
     Call("a file that isn't there", "cics-same", ["w.script", "P", "w.asm", "n.asm"], 2, [], FILES, "n.asm: No such file"),
@@ -110,7 +130,8 @@ CALLS = [
          ["line 14, KEY T001 ENTER T: what is kept for a terminal differs", "old: * COMMAREA 8 X'0000D6D5C5400000' *",
           "new: * COMMAREA 8 X'0000E3E6D6400000' *"],
          {"k.script": script(counter(8, 2, "ONE ")), "k.asm": counter(8, 2, "ONE "), "k1.asm": counter(8, 2, "TWO ")}),
-    Call("what is shown of it", "cics-same", ["--shown", "k.script", "C", "k.asm", "k1.asm"], 0, SHOWN,
+    Call("what is shown of it", "cics-same", ["--shown", "k.script", "C", "k.asm", "k1.asm"], 0,
+         ["same after 1 key; the one changed line was run", ran("C", "5 of 5", "5 of 5"), SHOWN_ALONE],
          {"k.script": script(counter(8, 2, "ONE ")), "k.asm": counter(8, 2, "ONE "), "k1.asm": counter(8, 2, "TWO ")}),
     Call("the end of a long one", "cics-same", ["k.script", "C", "k.asm", "k1.asm"], 1,
          ["line 14, after KEY T001 ENTER T: the COMMAREA for T001 differs", "old: > 0012C0  * D6D5C540*", "new: > 0012C0  * E3E6D640*"],
@@ -118,7 +139,7 @@ CALLS = [
     Call("the end of a long one, at the next key", "cics-same", ["k.script", "C", "k.asm", "k1.asm"], 1,
          ["line 16, KEY T001 ENTER: the COMMAREA for T001 differs", "old: > 000040 * C5400000 *", "new: > 000040 * D6400000 *"],
          {"k.script": script(counter(80, 70, "ONE ")) + "KEY T001 ENTER\n", "k.asm": counter(80, 70, "ONE "), "k1.asm": counter(80, 70, "TWO ")}),
-    Call("a long one that is the same", "cics-same", ["k.script", "k.script"], 0, SAME, {"k.script": script(counter(80, 70, "ONE "))}),
+    Call("a long one that is the same", "cics-same", ["k.script", "k.script"], 0, same("C", "5"), {"k.script": script(counter(80, 70, "ONE "))}),
     Call("the item last read", "cics-same", ["r.script", "R", "r.asm", "u.asm"], 1,
          ["line *, KEY T001 ENTER T: a queue differs", "old: > QUEUE 'Q' ITEMS 1 BYTES 2 READ 1", "new: > QUEUE 'Q' ITEMS 1 BYTES 2 READ 0"],
          {"r.script": script(READER), "r.asm": READER, "u.asm": UNREAD}),
@@ -133,8 +154,113 @@ CALLS = [
                              .replace("FROM(TEXT)", "FROM(=C'ONE')")).replace("TURN T001\n", "")}),
     Call("no files", "cics-same", ["w.script", "--source", "P=w.asm"], 2, [], FILES, "write: cics-same"),
 ]
+BRANCHING = """DFHEISTG DSECT
+WORK     DS    CL8
+B        CSECT
+         USING AREA,7
+         CLI   EIBAID,X'F3'
+         BE    LAST
+         MVC   WORK,FIRST
+         EXEC  CICS RETURN
+LAST     MVC   WORK,SECOND
+         LA    4,NUMBER
+         MVC   0(2,7),INAREA
+         EXEC  CICS RETURN
+FIRST    DC    CL4'ONE'
+         DC    CL4'MORE'
+SECOND   DC    CL8'TWO'
+UNUSED   DC    CL8'THREE'
+FOUR     EQU   4
+NUMBER   EQU   FOUR+1
+AREA     DSECT
+INAREA   DS    CL2
+         END
+"""
+NEVER, RUN = "same after 1 key; the one changed line was never run: ", "same after 1 key; the one changed line was run"
+CHANGES = {  # of BRANCHING: what is changed for what, and what is said where ENTER is pressed
+    ("LA    4,NUMBER", "LA    4,1"): f"{NEVER}10",
+    ("MVC   WORK,FIRST", "MVC   WORK(8),FIRST"): RUN,
+    ("MVC   WORK,FIRST", "MVC   WORK,FIRST                 A REMARK"): UNCHANGED,
+    ("LAST     MVC   WORK,SECOND\n", "* A COMMENT\nLAST     MVC   WORK,SECOND\n"): UNCHANGED,
+    ("         CLI ", "         EJECT\n         CLI "): UNCHANGED,
+    ("         LA    4,NUMBER\n", ""): f"{NEVER}old 10",
+    ("         LA    4,NUMBER\n", "         LA    4,NUMBER\n         LA    5,1\n"): f"{NEVER}11",
+    ("CL8'TWO'", "CL8'NEW'"): f"{NEVER}15",
+    ("CL8'THREE'", "CL8'NEW'"): f"{NEVER}16",
+    ("FOUR     EQU   4", "FOUR     EQU   5"): f"{NEVER}17",
+    ("INAREA   DS    CL2", "INAREA   DS    CL3"): f"{NEVER}20",
+    ("WORK     DS    CL8", "WORK     DS    CL9"): RUN,
+    ("         USING AREA,7", "         USING AREA,8"): RUN,
+    ("         END", "         END   B"): RUN,
+    ("BE    LAST", "BE    LAST\n         BNE   *+4"): RUN,
+    ("         LA    4,NUMBER\n         MVC   0(2,7),INAREA\n", "         LA    4,1\n"): "same after 1 key; of 2 changed lines 2 were never run: 10, old 11",
+    ("         MVC   WORK,FIRST\n         EXEC  CICS RETURN\nLAST     MVC   WORK,SECOND\n", "         LA    3,0(,3)\n         MVC   WORK,FIRST\n"
+     "         EXEC  CICS RETURN\nLAST     LA    5,1\n"): "same after 1 key; of 2 changed lines 1 was never run: 10",
+}
+TWO_CHANGED = {"c.script": script(CALLER, CALLEE, WRITER), "n.script": script(CALLER.replace("ERASE", "NOHANDLE ERASE"), CALLEE, OTHER)}
+IMAGE = "IMAGE I 80\n4100F01C5000F0189680F0184110F018\n41E0080005EE0000000000000E080000\n/*\n"
+OF_CHANGES = [
+    Call("even unrun", "cics-same", ["b.script", "n.script", "--even-unrun"], 0, [f"{NEVER}10", ran("B", "4 of 8", "4 of 8"), COMPARED],
+         {"b.script": script(BRANCHING), "n.script": script(BRANCHING.replace("4,NUMBER", "4,1"))}),
+    Call("a program that isn't begun", "cics-same", ["c.script", "n.script"], 4,
+         ["same after 1 key; of 2 changed lines 1 was never run: P 4", ran("CALLER", "3 of 3", "3 of 3"), ran("P", "0 of 2", "0 of 2"), COMPARED], TWO_CHANGED),
+    Call("a program more", "cics-same", ["w.script", "n.script"], 4,
+         ["same after 1 key; of 5 changed lines 5 were never run: 1, 2, 3, 4, 5", ran("CALLEE", "0 of 0", "0 of 3"), COMPARED],
+         {"w.script": script(WRITER), "n.script": script(WRITER, CALLEE)}),
+    Call("an image", "cics-same", ["w.script", "n.script"], 4,
+         ["same after 1 key; the one changed line was never run: the image I", ran("P", "2 of 2", "2 of 2"), COMPARED],
+         {"w.script": IMAGE + script(WRITER), "n.script": IMAGE.replace("0E08", "0E07") + script(WRITER)}),
+]
 
 
 class SameTest(TestCase):
     def test_calls(self) -> None:
         self.none_of(failures_of(CALLS, PROGRAMS))
+
+
+class ChangesTest(TestCase):
+    """What "the same" stands on: which changed lines were run, and which never."""
+
+    def test_changes(self) -> None:
+        """No change of what isn't run is held to be the same."""
+        with tempfile.TemporaryDirectory() as folder:
+            for (old, new), due in CHANGES.items():
+                for name, text in (("b.script", script(BRANCHING)), ("b.asm", BRANCHING), ("n.asm", BRANCHING.replace(old, new, 1))):
+                    with open(os.path.join(folder, name), "w", encoding="ascii") as file:
+                        file.write(text)
+                ended = called("cics-same", ["b.script", "B", "b.asm", "n.asm", *PROGRAMS], folder)
+                self.assertEqual((ended.lines()[0], ended.status), (due, 4 if "never" in due else 0), (old, new, ended))
+
+    def test_calls(self) -> None:
+        self.none_of(failures_of(OF_CHANGES, PROGRAMS))
+
+    def test_json(self) -> None:
+        with tempfile.TemporaryDirectory() as folder:
+            for name, text in TWO_CHANGED.items():
+                with open(os.path.join(folder, name), "w", encoding="ascii") as file:
+                    file.write(text)
+            ended = called("cics-same", ["c.script", "n.script", "--json", *PROGRAMS], folder)
+            found = json.loads(ended.out)
+            self.assertEqual((ended.status, found["outcome"], found["changed"], found["never"]), (4, "same", 2, ["P 4"]))
+            by_cicsedf = called("cics-same", ["c.script", "n.script", "--cicsedf", CICSEDF], folder)
+            self.assertEqual((by_cicsedf.status, by_cicsedf.lines()[0]), (4, "same after 1 key; 2 changed lines, and cicsedf doesn't count what was run"))
+
+    def test_changes_of_shops_programs(self) -> None:
+        """In each of three programs of examples/adapt one line after the other that its keys never run is changed; each is told."""
+        folder = os.path.join(TOP, "examples/adapt")
+        for name, numbers in (("custinq-shop", (101, 116, 123)), ("datert", (40, 63, 180)), ("stkbrws", (60, 90, 155))):
+            words = lines_of(read(f"{folder}/{name}.run").decode())
+            with tempfile.TemporaryDirectory() as made:
+                with open(f"{made}/s.script", "wb") as file:
+                    file.write(called("cics-run", [*words, "--script"], folder).out)
+                for number in numbers:
+                    self.is_told(os.path.join(folder, words[0]), f"{made}/s.script", number)
+
+    def is_told(self, source: str, path: str, number: int) -> None:
+        lines = read(source).decode().split("\n")
+        program = sources_of_file(source)[0].name
+        new = f"{path}.asm"
+        with open(new, "w", encoding="latin-1") as file:
+            file.write("\n".join([*lines[: number - 1], f"{lines[number - 1][:9].strip():<9}LA    0,1", *lines[number:]]))
+        ended = called("cics-same", [path, program, source, new, *PROGRAMS], os.path.dirname(path))
+        self.assertEqual((ended.status, ended.lines()[0].split("; ")[-1]), (4, f"the one changed line was never run: {number}"), ended)
