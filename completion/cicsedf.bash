@@ -16,7 +16,7 @@ _cics_words() {
     cics-run) options="-h --help --version --key --mixed --tran --queue --fields --script --json --cover --html --lcov --film --map --cicslook" ;;
     cics-same) options="-h --help --version --source --shown --screens --orders --even-unrun --json --queue --cicslook --cicsedf" ;;
     cics-terminals) options="-h --help --version --resume --back --tran --queue --port --session --mixed --clock --idle --any-user --cicslook" ;;
-    cics-test) options="-h --help --version --write --junit --json --watch --jobs --cicslook" ;;
+    cics-test) options="-h --help --version --write --junit --cover --json --watch --jobs --cicslook" ;;
   esac
   case $before in
     --explain) mapfile -t COMPREPLY < <(compgen -W "TooLong BadCharacter BadContinuation BadName NoEnd BadOperand ValueOutOfRange NotRelocatable UnknownOperation UndefinedSymbol DuplicateSymbol NoAddressability TooLarge UnknownCommand UnknownOption BadArgument TooManyConditions Conflict MissingOption Memory BadLength EntryOutside StgLength Duplicate Full NoProgram NoRoom RelocOutside Overlap BadLine BadLook note" -- "$word"); return ;;

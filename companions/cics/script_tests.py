@@ -7,8 +7,10 @@ from collections import Counter
 from collections.abc import Iterator, Sequence
 from dataclasses import asdict, dataclass, field
 
-from cics.child import Ended, decoded, lines_of
+from cics.child import decoded, lines_of
 from cics.cli import MISUSED, Failure, Paint, read_file, write_file
+from cics.cover.asking import Asked, as_alone, coverage_in, why_not
+from cics.cover.counts import Coverage
 from cics.shown import as_file, shown, with_screens
 from cics.together import Run, run_together
 
@@ -65,11 +67,6 @@ def difference(script: str, kept: Sequence[str], lines: Sequence[str]) -> list[s
     return [line.rstrip("\n") for line in difflib.unified_diff(kept, lines, screens_of(script), script, lineterm="")]
 
 
-def why_not(ended: Ended | None, why: str) -> str:
-    """Why a script isn't done to its end; empty where it is."""
-    return why if ended is None else "" if ended.is_well() else ended.why().removeprefix("cicsedf: ")
-
-
 @dataclass(frozen=True)
 class Test:
     """A script, and whether what it shows is written beside it."""
@@ -102,10 +99,14 @@ class Test:
         return Outcome(self.script, "unchanged" if is_there else "written", seconds)
 
 
-def tested(scripts: Sequence[str], cicslook: str, at_once: int, *, writes: bool) -> Iterator[Outcome]:
-    """What comes of each script, where it is known."""
+def tested(scripts: Sequence[str], cicslook: str, at_once: int, *, writes: bool, covered: dict[str, Coverage] | None = None) -> Iterator[Outcome]:
+    """What comes of each script, where it is known; `covered` takes what each runs."""
     tests = [Test(path, decoded(read_file(path)), writes) for path in scripts]
-    for run in run_together([cicslook], [with_screens(test.text) for test in tests], at_once):
+    asked = [Asked(test.script, with_screens(test.text)) for test in tests]
+    for run in run_together([cicslook], [one.text if covered is None else one.script() for one in asked], at_once):
+        if covered is not None:
+            covered[scripts[run.number]] = coverage_in(asked[run.number], run)
+            run = as_alone(asked[run.number], run)
         yield tests[run.number].outcome(run)
 
 

@@ -47,6 +47,19 @@ CALLS = [
     Call("nothing shown", "cics-test", ["."], 1, ["./a.script: shows nothing: *", "1 script: 1 showing nothing"], {"a.script": SOURCE,
                                                                                                                    "a.screens": ""}),
     Call("a fault isn't written", "cics-test", [".", "--write"], 1, ["./a.script: isn't done *", "1 script: *"], {"a.script": SCRIPT + "NONE\n"}),
+    Call("what is run", "cics-test", [".", "--cover"], 0,
+         ["./a.script: ok", "P: 2 of 2 statements run, 100 %; 0 of 0 branches both ways", "1 script: 1 ok"], {"a.script": SCRIPT, "a.screens": SCREENS}),
+    Call("what is run of two sources", "cics-test", [".", "--cover"], 1,
+         ["./a.script: ok", "./b.script: differs", *["*"] * 7, "./c.script: ok",
+          "P of ./a.script: 2 of 2 statements run, 100 %; 0 of 0 branches both ways", "P of ./b.script: 1 of 2 statements run, 50 %; 0 of 0 branches both ways",
+          "  never run: 4", "2 programs: 3 of 4 statements run, 75 %; 0 of 0 branches both ways", "3 scripts: 2 ok, 1 differing"],
+         {"a.script": SCRIPT, "a.screens": SCREENS, "b.script": SCRIPT.replace("         EXEC  CICS RETURN", "         DC    H'0'\n         EXEC  CICS RETURN"),
+          "b.screens": SCREENS, "c.script": f"{SCRIPT}COVER OFF\n", "c.screens": SCREENS}),
+    Call("what doesn't count", "cics-test", [".", "--cover"], 1,
+         ["./a.script: isn't done to its end: line 12: BadLine", "./b.script: ok",
+          "./a.script: it isn't done to its end: line 12: BadLine; nothing of it is counted",
+          "./b.script: it defines no source, so nothing of it is counted", "2 scripts: 1 ok, 1 not done to the end"],
+         {"a.script": SCRIPT + "NONE\n", "b.script": "TERMINAL T001\n", "b.screens": "SCREEN T001\n"}),
     Call("no end of the last line", "cics-test", ["."], 0, ["./a.script: ok", "1 script: 1 ok"], {"a.script": SCRIPT[:-1], "a.screens": SCREENS}),
 ]
 TWO = "DC    H'0'"
@@ -87,6 +100,14 @@ class ScriptTestsTest(TestCase):
             self.assertEqual(read(os.path.join(folder, "a.screens")).decode(), SCREENS)
             self.assertEqual(os.stat(os.path.join(folder, "a.screens")).st_mode & 0o777, 0o600)
 
+    def test_json_with_cover(self) -> None:
+        with tempfile.TemporaryDirectory() as folder:
+            for name, text in (("a.script", SCRIPT), ("a.screens", SCREENS)):
+                with open(os.path.join(folder, name), "w", encoding="ascii") as file:
+                    file.write(text)
+            found = json.loads(called("cics-test", ["a.script", "--cover", "--json", *PROGRAMS], folder).out)
+        self.assertEqual(([one["outcome"] for one in found["tests"]], found["cover"]["programs"][0]["run"]), (["same"], 2))
+
     def test_runs_that_do_not_end(self) -> None:
         """One that doesn't end, and one that writes without end, are told, and the others are run."""
         with tempfile.TemporaryDirectory() as folder:
@@ -110,7 +131,9 @@ class LessonsTest(TestCase):
             written = called("cics-test", ["lessons", "--write", *PROGRAMS], folder)
             count = len(lines_of(written.out.decode())) - 1
             self.assertEqual((written.status, written.reported), (0, b""), written)
-            self.assertEqual(called("cics-test", ["lessons", *PROGRAMS], folder).lines()[-1], f"{count} scripts: {count} ok")
+            again = called("cics-test", ["lessons", "--cover", *PROGRAMS], folder)
+            self.assertEqual(again.lines()[-1], f"{count} scripts: {count} ok")
+            self.assertEqual(len([line for line in again.lines() if line.startswith("BOOK of lessons/06-lost-update/")]), 3)
             self.one_fails(folder, count)
 
     def one_fails(self, folder: str, count: int) -> None:

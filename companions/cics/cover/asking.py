@@ -1,10 +1,10 @@
 """Scripts that are asked what they run of programs, and what they answer: COVER ON in front of the first line, and COVERED at the end."""
 import re
-from collections.abc import Iterator, Sequence
-from dataclasses import dataclass
+from collections.abc import Iterable, Iterator, Sequence
+from dataclasses import dataclass, replace
 from functools import cached_property
 
-from cics.child import Ended, text_of
+from cics.child import Ended, decoded, encoded, text_of
 from cics.cli import Failure, name_of
 from cics.cover.branches import branches_of
 from cics.cover.counts import Branch, Coverage, Covered, Line
@@ -12,7 +12,7 @@ from cics.origins import Place
 from cics.queues import LOADER
 from cics.scripts import Action, actions_of, free_name
 from cics.stand_in.counts import is_made
-from cics.together import processors, run_together
+from cics.together import Run, processors, run_together
 
 ON, OFF = "COVER ON", "COVER OFF"
 STATEMENT = re.compile(r"> (?P<line>\d{5}) +(?P<runs>\d+|-----)(?: .*)?")
@@ -79,10 +79,9 @@ class Asked:
         own = {action.line for action in self.actions if action.text in (ON, OFF)}
         yield from ("*" if number in own else line for number, line in enumerate(self.text.removesuffix("\n").split("\n"), 1))
 
-    def script(self, end: str = "") -> str:
-        """The script that is run; `end` is put at its own end."""
-        looks = [line for name in self.names for line in (*looks_of(name), self.mark)]
-        return text_of([ON, *self.lines()]) + end + text_of([self.mark, *looks])
+    def script(self) -> str:
+        """The script that is run."""
+        return text_of([ON, *self.lines(), self.mark, *(line for name in self.names for line in (*looks_of(name), self.mark))])
 
     def own(self, transcript: Sequence[str]) -> list[str]:
         """What its own lines write."""
@@ -134,17 +133,33 @@ def why_not(ended: Ended | None, why: str) -> str:
     return why if ended is None else "" if ended.is_well() else ended.why().removeprefix("cicsedf: ")
 
 
+def coverage_in(asked: Asked, run: Run) -> Coverage:
+    """What a run says of its script."""
+    name, why = name_of(asked.path), why_not(run.ended, run.why)
+    if why or run.ended is None:
+        return Coverage(faults={name: f"it isn't done to its end: {asked.why(why)}; nothing of it is counted"})
+    lines = run.ended.lines()
+    found, refused = asked.answered(lines), asked.refused(lines)
+    return Coverage(found, {name: refused[0]} if refused else {} if found else {name: NO_SOURCE})
+
+
+def as_alone(asked: Asked, run: Run) -> Run:
+    """The run as that of the script alone."""
+    if run.ended is None:
+        return run
+    transcript = text_of(asked.own(run.ended.lines())) if run.ended.is_well() else ""
+    reported = "\n".join(map(asked.why, decoded(run.ended.reported).split("\n")))
+    return replace(run, ended=Ended(run.ended.status, encoded(transcript), encoded(reported)))
+
+
 def coverage_of(scripts: Sequence[Asked], cicslook: str) -> Coverage:
     """Runs scripts, and adds what they run, in their order."""
-    runs = {run.number: run for run in run_together([cicslook], [one.script() for one in scripts], processors())}
+    found = {run.number: coverage_in(scripts[run.number], run) for run in run_together([cicslook], [one.script() for one in scripts], processors())}
+    return added([found[number] for number in sorted(found)])
+
+
+def added(parts: Iterable[Coverage]) -> Coverage:
     coverage = Coverage()
-    for number, asked in enumerate(scripts):
-        ended, name = runs[number].ended, name_of(asked.path)
-        if why := why_not(ended, runs[number].why):
-            coverage.faults[name] = f"it isn't done to its end: {asked.why(why)}; nothing of it is counted"
-        elif ended:
-            found = asked.answered(ended.lines())
-            coverage.add(found)
-            refused = asked.refused(ended.lines())
-            coverage.faults |= {name: refused[0]} if refused else {} if found else {name: NO_SOURCE}
+    for part in parts:
+        coverage.merge(part)
     return coverage

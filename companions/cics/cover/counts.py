@@ -107,6 +107,10 @@ class Coverage:
             else:
                 self.programs.append(one)
 
+    def merge(self, other: "Coverage") -> None:
+        self.add(other.programs)
+        self.faults |= other.faults
+
     def of_name(self, name: str) -> list[Covered]:
         return [one for one in self.programs if one.name == name]
 
