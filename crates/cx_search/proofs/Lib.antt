@@ -8,3 +8,4 @@ mod PathLemmas
 mod PlaceLemmas
 mod RestLemmas
 mod SearchLemmas
+mod WithinLemmas

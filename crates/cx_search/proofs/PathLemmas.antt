@@ -291,12 +291,26 @@ module _ {State : Type 0} (Goes : State → ℕ → State → Type 0) (found : L
           let it = h.closed was.place m is.between v was.is.origin (inl (omega (arith, l, all))) was.is.there is.goes in
           record { place = it.place; is = record { origin = it.origin; there = it.there } }
 
+  -- where all moves of all before a place were tried, all is found of at most as many moves as the place's state has
+  pub finds_near : (from : State) (by : Origin) → slice_get found done ≡ Some (from, by) → (list : List ℕ) (s : State) → Leads Goes h.start list s
+      → length list ≤ by.moves → IsFound found s
+  finds_near from by at list s leads short = near (reached (reverse list) s (back_of Goes h.start list s leads)).met
+    where
+      p : (b : List ℕ) × Spells found b done
+      p = spelled done (slice_get_within found done (from, by) at)
+
+      near : IsFound found s ⊎ ((k : ℕ) (b : List ℕ) → k ≤ done → Spells found b k → length b < length (reverse list)) → IsFound found s
+      near (inl was) = was
+      near (inr long) =
+          let l : length p.0 < length (reverse list) = long done p.0 (omega arith) p.1 in
+          absurd (omega (arith, l, short, (spelled_leads p.0 done from by p.1 at).1, length-reverse list))
+
 module _ {State : Type 0} (Goes : State → ℕ → State → Type 0) (found : List (State × Origin)) (done most : ℕ) (h : IsCut Goes found done most) where
   -- where it was cut: all of at most so many moves as the state's that was next
   pub finds_nearest : FindsNearest Goes h.searched.start found most h.by.moves
   unfolding LeadsBack
   finds_nearest = record {
-    near = λ list s leads short. near list s short (reached Goes found done h.tried h.searched (reverse list) s (back_of Goes h.searched.start list s leads)).met;
+    near = λ list s leads short. finds_near Goes found done h.tried h.searched h.from h.by h.at list s leads short;
     far = λ place s o there. far place s o there (cases_lt 0 place);
     full = h.full;
     list = reverse (h.tried ∷ p.0);
@@ -314,13 +328,6 @@ module _ {State : Type 0} (Goes : State → ℕ → State → Type 0) (found : L
 
       last : LeadsBack Goes h.searched.start (h.tried ∷ p.0) h.more
       last = record { between = h.from; before = is.0; goes = h.goes }
-
-      near : (list : List ℕ) (s : State) → length list ≤ h.by.moves
-          → IsFound found s ⊎ ((k : ℕ) (b : List ℕ) → k ≤ done → Spells found b k → length b < length (reverse list)) → IsFound found s
-      near list s short (inl was) = was
-      near list s short (inr long) =
-          let l : length p.0 < length (reverse list) = long done p.0 (omega arith) p.1 in
-          absurd (omega (arith, l, short, is.1, length-reverse list))
 
       far : (place : ℕ) (s : State) (o : Origin) → slice_get found place ≡ Some (s, o) → (0 < place) ⊎ (place ≤ 0) → o.moves ≤ h.by.moves + 1
       far place s o there (inr none) =
@@ -356,6 +363,11 @@ module _ {State : Type 0} (Goes : State → ℕ → State → Type 0) (start : S
 
   pub finds_all_from : (done tried : ℕ) → Searched Goes found done tried → length found ≤ done → FindsAll Goes start found
   finds_all_from done tried h all = subst (λ s. FindsAll Goes s found) (starts done tried h) (finds_all Goes found done tried h all)
+
+  pub finds_near_from : (done tried : ℕ) → Searched Goes found done tried → (from : State) (by : Origin) → slice_get found done ≡ Some (from, by)
+      → (list : List ℕ) (s : State) → Leads Goes start list s → length list ≤ by.moves → IsFound found s
+  finds_near_from done tried h from by at list s leads short =
+      finds_near Goes found done tried h from by at list s (subst (λ x. Leads Goes x list s) (sym (starts done tried h)) leads) short
 
   pub finds_nearest_from : (done most : ℕ) (h : IsCut Goes found done most) → FindsNearest Goes start found most h.by.moves
   finds_nearest_from done most h = subst (λ s. FindsNearest Goes s found most h.by.moves) (starts done h.tried h.searched) (finds_nearest Goes found done most h)

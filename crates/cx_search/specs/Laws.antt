@@ -3,6 +3,8 @@ use Rattle.std.specs.Prelude.{◌≡◌, ℕ, ◌⊎◌, List}
 use Rattle.cx_search.specs.declared.found.Origin.{Origin}
 use Rattle.cx_search.specs.Forever.{CanRest, IsBounded, IsFirstPlaceOf, IsLong, Loops}
 use Rattle.cx_search.specs.Moves.{IsFirst, IsSooner, Leads}
+use Rattle.cx_search.specs.Within.{Reaches}
+use Rattle.cx_search.specs.declared.within.Reach.{Reach}
 
 -- of two lists one is the sooner, or they are equal; and so in a row
 pub record SoonerOrders : Type 0 where
@@ -35,3 +37,9 @@ module _ {State : Type 0} (Goes : State → ℕ → State → Type 0) where
     pub restless : (found : List (State × Origin)) (one other : ℕ)
         → IsFirstPlaceOf (λ state. CanRest Goes state → ⊥) found one
         → IsFirstPlaceOf (λ state. CanRest Goes state → ⊥) found other → one ≡ other
+
+  -- how far a search within so many moves came is one
+  abbrev pub ReachesDecide : Type 0
+  ReachesDecide =
+      (start : State) (found : List (State × Origin)) (links : List (List ℕ)) (most moves : ℕ) (one other : Reach)
+      → Reaches Goes start found links most moves one → Reaches Goes start found links most moves other → one ≡ other

@@ -2,6 +2,7 @@ pub mod Moves
 pub mod Found
 pub mod Nexts
 pub mod Finds
+pub mod Within
 pub mod Forever
 pub mod Rest
 pub mod Laws

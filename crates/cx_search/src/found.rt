@@ -48,7 +48,7 @@ impl<T: Space> Found<T> {
     /// The first state alone.
     ///
     /// An error comes only where an allocation failed.
-    fn begin(alloc: Global, start: T::State) -> Result<Found<T>, AllocError>
+    pub(crate) fn begin(alloc: Global, start: T::State) -> Result<Found<T>, AllocError>
         ensures one { IfOk result (λ found. length found.states.entries ≡ 1) }
         ensures unlinked { IfOk result (λ found. found.links.items ≡ []) }
         ensures begun { IfOk result (λ found. IsAt found.states.entries 0 start) }
@@ -70,7 +70,7 @@ impl<T: Space> Found<T> {
     }
 
     /// How many moves lead to the state at a place; `None` where none is there.
-    fn moves(&self, place: usize) -> Option<usize>
+    pub(crate) fn moves(&self, place: usize) -> Option<usize>
         ensures { result ≡ option_map (λ entry. entry.1.moves) (slice_get self.now.states.entries place) }
     {
         let (_, origin) = self.states.get_index(place)?;
@@ -168,7 +168,7 @@ impl<T: Space> Found<T> {
     /// Tries all moves from the state at a place; false where one leads to a new one, and no more may be kept.
     ///
     /// An error comes only where an allocation failed.
-    fn expand(
+    pub(crate) fn expand(
         &mut self,
         space: &T,
         work: &mut T::Work,

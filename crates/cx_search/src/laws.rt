@@ -1,5 +1,5 @@
 //! What holds of lists of moves.
-ghost use Rattle.cx_search.specs.Laws.{BoundedNeverLoop, FirstIsOne, FirstPlacesDecide, LoopsLeadOn, SoonerOrders};
+ghost use Rattle.cx_search.specs.Laws.{BoundedNeverLoop, FirstIsOne, FirstPlacesDecide, LoopsLeadOn, ReachesDecide, SoonerOrders};
 
 use crate::space::Space;
 
@@ -27,4 +27,9 @@ pub fn a_loop_leads_on<T: Space>()
 /// can be reached.
 pub fn first_places_decide<T: Space>()
     ensures { (space : T) → FirstPlacesDecide (T.goes space) }
+{}
+
+/// Why a search within so many moves ended is one: of what it found, and of the limits that it was given.
+pub fn reaches_decide<T: Space>()
+    ensures { (space : T) → ReachesDecide (T.goes space) }
 {}

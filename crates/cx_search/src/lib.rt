@@ -7,8 +7,10 @@ pub mod laws;
 mod marks;
 mod rest;
 mod space;
+mod within;
 
 pub use found::{Found, Origin, Outcome, search};
 #[doc(hidden)]
 pub use marks::Rule;
 pub use space::Space;
+pub use within::{Near, Reach, search_within};
