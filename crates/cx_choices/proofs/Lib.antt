@@ -1,0 +1,5 @@
+mod ActingLemmas
+mod MoveLemmas
+mod NumberLemmas
+mod RunLemmas
+mod SettlingLemmas
