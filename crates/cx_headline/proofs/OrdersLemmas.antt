@@ -1,5 +1,5 @@
 -- What ORDERS writes, by the laws of its report.
-use Rattle.std.proofs.Common.{Bool, List, None, Option, Some, [], cond, false, filter, is_some, refl, sym, true, true≢false, ℕ, ◌∷◌, ◌≡◌}
+use Rattle.std.proofs.Common.{Bool, List, None, Option, Some, [], false, refl, sym, true, true≢false, ℕ, ◌∷◌, ◌≡◌}
 use Rattle.std.specs.Prelude.{◌↔◌, IsSome, IsTrue, MatchBool}
 use Rattle.std.specs.List.{AllByRecursion}
 use Rattle.cx_region.specs.State.{RegionState}
@@ -18,13 +18,11 @@ use Rattle.cx_look_orders.specs.Laws.{LoopsAreEndless, ScriptsAskForSteps, Steps
 use Rattle.cx_look_orders.specs.Outcomes.{AllCanRest, AreOutcomes, IsOutcome, IsStuck, MayLoop}
 use Rattle.cx_look_orders.specs.declared.outcomes.Outcome.{Outcome}
 use Rattle.cx_look_orders.specs.declared.steps.Step.{Step}
-use Rattle.cx_headline.specs.Laws.Orders.{AreAll, AreTrue, IsReal, LinesAskForSteps}
-use Rattle.std.specs.Map.{keys_of as names_of}
-use Rattle.cx_edf.specs.State.{session_at}
+use Rattle.cx_headline.specs.Laws.Orders.{AreAll, AreTrue, IsReal, LinesLeadThere}
 use Rattle.cx_look.specs.Laws.{KeysAreAskedByTheirLines}
 use Rattle.cx_look.specs.Orders.{orders_block}
-use Rattle.cx_look_script.specs.Laws.Orders.{HasSpelling, ScriptsAskForEvents}
-use Rattle.cx_look_script.specs.Orders.{names_with_edf}
+use Rattle.cx_look_script.specs.Laws.Orders.{ScriptsLeadThere}
+use Rattle.cx_look_script.specs.Laws.Outcomes.{ScriptsNameTheirTerminals}
 
 -- ---- turns and keys alter nothing
 plain : (e : Event) → IsOrder e → is_alteration e ≡ false
@@ -89,15 +87,6 @@ module _ (off : TheRegionIsOff) (runs : StepsAreRuns) (scripts : ScriptsAskForSt
   }
 
 -- ---- the lines that are written
-spelled_among : (p : List ℕ → Bool) (names : List (List ℕ)) → AllByRecursion HasSpelling names → AllByRecursion HasSpelling (filter p names)
-spelled_among p [] all = tt
-spelled_among p (name ∷ names) all = by (p name) (spelled_among p names all.1)
-  where
-    by : (b : Bool) → AllByRecursion HasSpelling (filter p names) → AllByRecursion HasSpelling (cond b (name ∷ filter p names) (filter p names))
-    by true others = (all.0, others)
-    by false others = others
-
-pub lines_ask : ScriptsAskForEvents → KeysAreAskedByTheirLines → LinesAskForSteps
-lines_ask scripts keys most lines state steps to names run =
-    scripts state.edf.region (orders_block most lines).keys (names_with_edf state.edf) steps run.events names
-    (spelled_among (λ name. is_some (session_at state.edf name)) (names_of state.edf.region.terminals) names) (keys most lines) run.are
+pub lines_lead : ScriptsLeadThere → ScriptsNameTheirTerminals → KeysAreAskedByTheirLines → LinesLeadThere
+lines_lead scripts named keys state it most lines steps to run =
+    scripts state (orders_block most lines).keys steps to (named state it).spelled (keys most lines) run

@@ -8,7 +8,7 @@ ghost use Rattle.cx_edf.specs.Laws.Watched.{RunsCanBeWatched};
 ghost use Rattle.cx_headline.specs.Laws.Due.{AlwaysKeepsWhatIsDue, EventsKeepWhatIsDue, KeepsWhatIsDue, RunsKeepWhatIsDue, StillKeepsWhatIsDue};
 ghost use Rattle.cx_headline.specs.Laws.Entries.{EntriesHoldTheirBases, TasksBeginSo};
 ghost use Rattle.cx_headline.specs.Laws.Looks.{ScriptsAreLookedOver};
-ghost use Rattle.cx_headline.specs.Laws.Orders.{LinesAskForSteps, OrdersAreTrue};
+ghost use Rattle.cx_headline.specs.Laws.Orders.{BlocksAreTrue, LinesLeadThere, OrdersAreTrue};
 ghost use Rattle.cx_headline.specs.Laws.Pointers.{PointersAreGiven};
 ghost use Rattle.cx_headline.specs.Laws.Rows.{EachIsItsRow};
 ghost use Rattle.cx_headline.specs.Laws.Runs.{OfEachRun, OfEachScript};
@@ -16,7 +16,11 @@ ghost use Rattle.cx_headline.specs.Laws.Sources.{BlocksComeBack};
 ghost use Rattle.cx_headline.specs.Laws.Watching.{IsAsUnwatched, ShowingChangesNothing};
 ghost use Rattle.cx_look_script.specs.Laws.Looks.{LooksAreMarked, LooksAreReportedOnce, LooksChangeNothing};
 ghost use Rattle.cx_look_script.specs.Laws.Orders.{OrdersAreReportedOnce};
+ghost use Rattle.cx_look_script.specs.Laws.Outcomes.{LookInputsDecide};
 ghost use Rattle.cx_region.specs.Defining.{fresh_region};
+
+use cx_look_orders::Seen;
+use cx_storage::Store;
 
 /// Each event of a run changes the region exactly as its row says. A turn is one half-turn of the terminal's task: the
 /// instructions up to its next command, or that command. The region has the task and what it reaches as the half-turn
@@ -74,16 +78,19 @@ pub fn there_are_runs()
 /// A look changes nothing. In each run of a script with looks each action has a part: one of `cicsedf` stands for
 /// itself, RUN for the turns that it did, and a look for nothing. What they stand for, in order, is a run of `cicsedf`
 /// from the same state to the same state, and the text is that run's, with each look's at its place. A look's text is a
-/// function of the state there, and is lines that begin with `> `, with no other LF than that at their ends.
+/// function of the state there, and is lines that begin with `> `, with no other LF than that at their ends. And what
+/// the reads give decides the answer of a run of `cicslook` and its transcript, in whatever pieces they give it.
 pub fn looking_changes_nothing()
     ensures runs { LooksChangeNothing }
     ensures scripts { ScriptsAreLookedOver }
     ensures reported { LooksAreReportedOnce }
     ensures marked { LooksAreMarked }
+    ensures decided { LookInputsDecide }
 {
     cx_look_script::laws::looks_change_nothing();
     cx_look_script::laws::looks_are_reported_once();
     cx_look_script::laws::looks_are_marked();
+    cx_look_script::laws::a_transcript_is_one();
     cx_script::laws::a_script_runs_its_events();
 }
 
@@ -91,14 +98,17 @@ pub fn looking_changes_nothing()
 /// length, ends with one of the outcomes that are written; else each list of so many moves as were tried. Each outcome
 /// is real: its steps end at rest, what is seen there is its text, their turns and keys lead there in `cicsedf` with
 /// EDF Off too, and no other list is sooner. No text stands twice. SOME NEVER REST and SOME CANNOT REST stand exactly
-/// where that is so.
+/// where that is so. All of this holds whatever is to be seen of a region, and so of a block of ORDERS.
 ///
 /// The lines that are written of steps are read as lines of a script, and ask for EDF OFF where EDF is on, and then for
-/// the steps' turns, by RUN with their number, and keys, in their order. And of a region in which no two terminals
-/// share a name what is written for a block is one text.
-pub fn no_order_is_missed()
-    ensures missed { OrdersAreTrue }
-    ensures read { LinesAskForSteps }
+/// the steps' turns, by RUN with their number, and keys, in their order. Done one after another, wherever a script may
+/// be, they lead to the region to which the steps lead, of which screens and looks show there what they show of the
+/// outcome; but TERMINALS, which shows EDF. And of a region in which no two terminals share a name, as in each state of
+/// a script, what is written for a block is one text.
+pub fn no_order_is_missed<S: Store + Drop, V: Seen<S>>()
+    ensures missed { (seen : V) → OrdersAreTrue (V.shows seen) }
+    ensures blocks { BlocksAreTrue }
+    ensures led { LinesLeadThere }
     ensures reported { OrdersAreReportedOnce }
 {
     cx_edf::laws::off_is_the_region();
@@ -106,7 +116,8 @@ pub fn no_order_is_missed()
     cx_look_orders::laws::steps_are_runs();
     cx_look_orders::laws::scripts_ask_for_steps();
     cx_look_orders::laws::loops_are_endless();
-    cx_look_script::laws::scripts_ask_for_events();
+    cx_look_script::laws::scripts_lead_there();
+    cx_look_script::laws::scripts_name_their_terminals();
     cx_look_script::laws::orders_are_reported_once();
     cx_search::laws::one_list_is_sooner();
 }

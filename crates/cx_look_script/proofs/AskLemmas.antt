@@ -1,6 +1,6 @@
 -- The lines of a script of ORDERS are read, and ask for the events that its steps are.
 use Rattle.std.proofs.Common.{◌≡◌, ℕ, zero, suc, ◌≤◌, true, Option, Some, None, List, [], ◌∷◌, ◌++◌, codes, length, map, nat_le, arith, ap, refl, sym, subst, ◌∙◌, append-nil, cond, length-append}
-use Rattle.std.specs.Prelude.{drop, option_map, replicate, slice_get, unwrap_or}
+use Rattle.std.specs.Prelude.{⊤, drop, option_map, replicate, slice_get, unwrap_or}
 use Rattle.std.specs.Char.{is_ascii_digit, to_ascii_uppercase}
 use Rattle.std.specs.Fmt.{decimal}
 use Rattle.std.specs.List.{AllByRecursion, flat_map, list_all}
@@ -145,29 +145,49 @@ unfolding look_line_of
 key_read number key is = ap (λ o. line_by o (own_line number key.line)) is
 
 -- ---- lines one after another
-ask_nothing : AskForEvents [] []
-ask_nothing = record { actions = []; read = λ number. refl; ask = refl }
+-- an action that asks for an event, or for turns of a terminal
+abbrev pub IsAsking : LookAction → Type 0
+IsAsking (action.Script (edf_action.Event e)) = ⊤
+IsAsking (action.Run name n stop.Never) = 1 ≤ n
+IsAsking _ = ⊥
 
-ask_one : (l : List ℕ) (a : LookAction) → ((number : ℕ) → look_line_of number l ≡ Some (line.Action a)) → AskForEvents (l ∷ []) (asked_events a)
-ask_one l a read = record { actions = a ∷ []; read = λ number. ap (λ o. o ∷ []) (read number); ask = append-nil (asked_events a) }
+pub record Asks (lines : Lines) (events : List EdfEvent) : Type 0 where
+  pub asked : AskForEvents lines events
+  pub each : AllByRecursion IsAsking asked.actions
 
-ask_both : (ones others : Lines) (es fs : List EdfEvent) → AskForEvents ones es → AskForEvents others fs → AskForEvents (ones ++ others) (es ++ fs)
+ask_nothing : Asks [] []
+ask_nothing = record { asked = record { actions = []; read = λ number. refl; ask = refl }; each = tt }
+
+ask_one : (l : List ℕ) (a : LookAction) → IsAsking a → ((number : ℕ) → look_line_of number l ≡ Some (line.Action a)) → Asks (l ∷ []) (asked_events a)
+ask_one l a asking read =
+    record { asked = record { actions = a ∷ []; read = λ number. ap (λ o. o ∷ []) (read number); ask = append-nil (asked_events a) }; each = (asking, tt) }
+
+asking_both : (one other : List LookAction) → AllByRecursion IsAsking one → AllByRecursion IsAsking other → AllByRecursion IsAsking (one ++ other)
+asking_both [] other h k = k
+asking_both (a ∷ one) other h k = (h.0, asking_both one other h.1 k)
+
+ask_both : (ones others : Lines) (es fs : List EdfEvent) → Asks ones es → Asks others fs → Asks (ones ++ others) (es ++ fs)
 ask_both ones others es fs p q =
+    let one : List LookAction = p.asked.actions in
+    let other : List LookAction = q.asked.actions in
     record {
-      actions = p.actions ++ q.actions;
-      read = λ number.
-          map-append (look_line_of number) ones others ∙ ap (λ l. l ++ map (look_line_of number) others) (p.read number)
-          ∙ ap (λ l. map (λ (a : LookAction). Some (line.Action a)) p.actions ++ l) (q.read number)
-          ∙ sym (map-append (λ (a : LookAction). Some (line.Action a)) p.actions q.actions);
-      ask = flat_map-append asked_events p.actions q.actions ∙ ap (λ l. l ++ flat_map asked_events q.actions) p.ask ∙ ap (λ l. es ++ l) q.ask;
+      asked = record {
+        actions = one ++ other;
+        read = λ number.
+            map-append (look_line_of number) ones others ∙ ap (λ l. l ++ map (look_line_of number) others) (p.asked.read number)
+            ∙ ap (λ l. map (λ (a : LookAction). Some (line.Action a)) one ++ l) (q.asked.read number)
+            ∙ sym (map-append (λ (a : LookAction). Some (line.Action a)) one other);
+        ask = flat_map-append asked_events one other ∙ ap (λ l. l ++ flat_map asked_events other) p.asked.ask ∙ ap (λ l. es ++ l) q.asked.ask;
+      };
+      each = asking_both one other p.each q.each;
     }
 
 -- EDF OFF of each
-offs_ask : ShownAsItself → (edf : List (List ℕ)) → AllByRecursion HasSpelling edf → AskForEvents (flat_map off_line edf) (map edf_event.Off edf)
+offs_ask : ShownAsItself → (edf : List (List ℕ)) → AllByRecursion HasSpelling edf → Asks (flat_map off_line edf) (map edf_event.Off edf)
 offs_ask itself [] all = ask_nothing
 offs_ask itself (name ∷ edf) all =
     ask_both (off_line name) (flat_map off_line edf) (edf_event.Off name ∷ []) (map edf_event.Off edf)
-    (ask_one (words_line (codes "EDF" ∷ shown_name name ∷ codes "OFF" ∷ [])) (action.Script (edf_action.Event (edf_event.Off name))) (λ number. off_read itself number name all.0))
+    (ask_one (words_line (codes "EDF" ∷ shown_name name ∷ codes "OFF" ∷ [])) (action.Script (edf_action.Event (edf_event.Off name))) tt (λ number. off_read itself number name all.0))
     (offs_ask itself edf all.1)
 
 -- ---- steps
@@ -245,34 +265,34 @@ module _ (itself : ShownAsItself) (region : RegionState) (keys : List KeyLine) (
 
   -- the line of a key
   key_asks : (number came : ℕ) (name : List ℕ) (what : Event) → IsTerminal region number name → event_at keys name (Some came) ≡ Some what
-      → AskForEvents (option_map_or (λ (key : KeyLine). key.line ∷ []) (key_at region keys number came) []) (edf_event.Plain what ∷ [])
+      → Asks (option_map_or (λ (key : KeyLine). key.line ∷ []) (key_at region keys number came) []) (edf_event.Plain what ∷ [])
   key_asks number came name what it is =
-      subst (λ (o : Option KeyLine). AskForEvents (option_map_or (λ (key : KeyLine). key.line ∷ []) o []) (edf_event.Plain what ∷ [])) (sym (it.keys keys came))
+      subst (λ (o : Option KeyLine). Asks (option_map_or (λ (key : KeyLine). key.line ∷ []) o []) (edf_event.Plain what ∷ [])) (sym (it.keys keys came))
       (by (slice_get (keys_of keys name) came) refl is)
     where
       by : (found : Option KeyLine) → slice_get (keys_of keys name) came ≡ found
           → option_map (λ (key : KeyLine). event.Key name key.aid key.bytes) found ≡ Some what
-          → AskForEvents (option_map_or (λ (key : KeyLine). key.line ∷ []) found []) (edf_event.Plain what ∷ [])
+          → Asks (option_map_or (λ (key : KeyLine). key.line ∷ []) found []) (edf_event.Plain what ∷ [])
       by None at is = absurd (none-some what is)
       by (Some key) at is =
           let own : key.name ≡ name = (is_name-decides key.name name).0 (is_of_terminal name key keys came at) in
           let same = ap (λ n. event.Key n key.aid key.bytes) own ∙ same_Some (event.Key name key.aid key.bytes) what is in
-          subst (λ e. AskForEvents (key.line ∷ []) (edf_event.Plain e ∷ [])) same
-          (ask_one key.line (action.Script (edf_action.Event (edf_event.Plain (event.Key key.name key.aid key.bytes))))
+          subst (λ e. Asks (key.line ∷ []) (edf_event.Plain e ∷ [])) same
+          (ask_one key.line (action.Script (edf_action.Event (edf_event.Plain (event.Key key.name key.aid key.bytes)))) tt
           (λ number. key_read number key (of_terminal IsAskedByItsLine name key keys came read at)))
 
   -- the line of so many turns
   turns_ask : (number many : ℕ) (name : List ℕ) → IsTerminal region number name → 1 ≤ many → many ≤ 4096
-      → AskForEvents (look_line (codes "RUN" ∷ terminal_name_at region number ∷ decimal many ∷ [])) (map edf_event.Plain (replicate many (event.Turn name)))
+      → Asks (look_line (codes "RUN" ∷ terminal_name_at region number ∷ decimal many ∷ [])) (map edf_event.Plain (replicate many (event.Turn name)))
   turns_ask number many name it least most =
-      subst (λ es. AskForEvents (look_line (codes "RUN" ∷ terminal_name_at region number ∷ decimal many ∷ [])) es) (plains many (event.Turn name))
-      (subst (λ s. AskForEvents (look_line (codes "RUN" ∷ s ∷ decimal many ∷ [])) (replicate many (turn_of name))) (sym it.shown)
-      (ask_one (words_line (codes "RUN" ∷ shown_name name ∷ decimal many ∷ [])) (action.Run name many stop.Never)
+      subst (λ es. Asks (look_line (codes "RUN" ∷ terminal_name_at region number ∷ decimal many ∷ [])) es) (plains many (event.Turn name))
+      (subst (λ s. Asks (look_line (codes "RUN" ∷ s ∷ decimal many ∷ [])) (replicate many (turn_of name))) (sym it.shown)
+      (ask_one (words_line (codes "RUN" ∷ shown_name name ∷ decimal many ∷ [])) (action.Run name many stop.Never) least
       (λ at. run_read itself at name many it.spelled least most)))
 
   -- a step so many times
   abbrev Asked : ℕ → Option ℕ → ℕ → Event → Type 0
-  Asked number key many what = AskForEvents (asked_lines region keys (step_of number key, suc many)) (map edf_event.Plain (replicate (suc many) what))
+  Asked number key many what = Asks (asked_lines region keys (step_of number key, suc many)) (map edf_event.Plain (replicate (suc many) what))
 
   step_asks : (number : ℕ) (key : Option ℕ) (many : ℕ) (what : Event) (name : List ℕ) → IsStepAsked (step_of number key, suc many) → IsTerminal region number name
       → event_at keys name key ≡ Some what → Asked number key many what
@@ -289,21 +309,28 @@ module _ (itself : ShownAsItself) (region : RegionState) (keys : List KeyLine) (
 
   all_ask : (asked : List (Step × ℕ)) (events : List Event) → AllByRecursion IsStepAsked asked
       → map (event_of_step names keys) (flat_map asked_steps asked) ≡ map Some events
-      → AskForEvents (flat_map (asked_lines region keys) asked) (map edf_event.Plain events)
+      → Asks (flat_map (asked_lines region keys) asked) (map edf_event.Plain events)
   all_ask [] [] each e = ask_nothing
   all_ask [] (what ∷ events) each e = absurd (none-some (Some what) (ap (λ l. slice_get l 0) e))
   all_ask ((step, zero) ∷ asked) events each e = absurd (omega (arith, each.0.0))
   all_ask ((step, suc many) ∷ asked) events each e =
       let it = split_off (event_of_step names keys) step many (flat_map asked_steps asked) events e in
-      subst (λ es. AskForEvents (asked_lines region keys (step, suc many) ++ flat_map (asked_lines region keys) asked) es)
+      subst (λ es. Asks (asked_lines region keys (step, suc many) ++ flat_map (asked_lines region keys) asked) es)
       (sym (ap (λ es. map edf_event.Plain es) it.whole ∙ map-append edf_event.Plain (replicate (suc many) it.what) it.others))
       (ask_both (asked_lines region keys (step, suc many)) (flat_map (asked_lines region keys) asked) (map edf_event.Plain (replicate (suc many) it.what)) (map edf_event.Plain it.others)
       (named_asks step.number step.key many it.what (slice_get names step.number) each.0 refl it.is) (all_ask asked it.others each.1 it.left))
 
-pub scripts_ask : ShownAsItself → ScriptsAskForSteps → ScriptsAskForEvents
+-- the lines of a script
+pub scripts_asks : ShownAsItself → ScriptsAskForSteps → (region : RegionState) (keys : List KeyLine) (edf : List (List ℕ)) (steps : List Step) (events : List Event)
+    → AllByRecursion HasSpelling (names_of region.terminals) → AllByRecursion HasSpelling edf → AllByRecursion IsAskedByItsLine keys
+    → map (event_of_step (names_of region.terminals) keys) steps ≡ map Some events
+    → Asks (script_lines region keys edf steps) (map edf_event.Off edf ++ map edf_event.Plain events)
 unfolding script_lines
-scripts_ask itself scripts region keys edf steps events all offs read are =
+scripts_asks itself scripts region keys edf steps events all offs read are =
     let it = scripts region keys steps in
     let lines = all_ask itself region keys all read it.asked events it.each (ap (λ ss. map (event_of_step (names_of region.terminals) keys) ss) it.done ∙ are) in
     ask_both (flat_map off_line edf) (steps_lines region keys None steps) (map edf_event.Off edf) (map edf_event.Plain events) (offs_ask itself edf offs)
-    (subst (λ ls. AskForEvents ls (map edf_event.Plain events)) (sym it.written) lines)
+    (subst (λ ls. Asks ls (map edf_event.Plain events)) (sym it.written) lines)
+
+pub scripts_ask : ShownAsItself → ScriptsAskForSteps → ScriptsAskForEvents
+scripts_ask itself scripts region keys edf steps events all offs read are = (scripts_asks itself scripts region keys edf steps events all offs read are).asked

@@ -11,3 +11,8 @@ mod SameLemmas
 mod SpotLemmas
 mod SpellingLemmas
 mod AskLemmas
+mod LeadLemmas
+mod NameLemmas
+mod LineLemmas
+mod NamedLemmas
+mod OutcomeLemmas

@@ -20,7 +20,7 @@ one_left name s zero h = let none : ⊥ = omega (arith, h) in absurd none
 one_left name s (suc n) h =
     let same : n ≡ suc n - 1 = omega arith in ap (λ (k : ℕ). action.RunOn name (suc n) s ∷ turns_left name s k) same
 
-by_bool : (b : Bool) (X Y : Type 0) → MatchBool b X Y → b ≡ true → X
+pub by_bool : (b : Bool) (X Y : Type 0) → MatchBool b X Y → b ≡ true → X
 by_bool true X Y h e = h
 by_bool false X Y h e = cc
 

@@ -6,7 +6,14 @@ use Rattle.cx_script_actions.specs.declared.actions.Action.TheVariants as script
 use Rattle.cx_look.specs.declared.look.Look.{Look}
 use Rattle.cx_look.specs.declared.look.Look.TheVariants as look
 use Rattle.cx_look_tables.specs.Words.{Lines}
+use Rattle.cx_edf.specs.Sessions.{Sessions}
+use Rattle.cx_look_abend.specs.Noting.{KeptAbends}
+use Rattle.cx_look_abend.specs.Texts.{abend_fields_text, abend_storage_text, abend_text}
 use Rattle.cx_look_ahead.specs.declared.rows.Row.{Row}
+use Rattle.cx_look_cover.specs.Texts.{covered_all_text, covered_lines_text, covered_text}
+use Rattle.cx_look_cover.specs.declared.tallies.Tally.{Tally}
+use Rattle.cx_look_tables.specs.Terminals.{terminals_text}
+use Rattle.cx_look_script.specs.Laws.Orders.{is_of_region}
 use Rattle.cx_look_script.specs.Laws.Looks.{turn_action}
 use Rattle.cx_look_script.specs.Laws.Watches.{WatchesChangeNothing, WatchesStay, watching}
 use Rattle.cx_look_script.specs.Looking.{Acts, AreLookLines, NotedPerforms, RunsTurn, TakesOneMore, at_region}
@@ -50,41 +57,51 @@ one_more old name zero s text new ranges true p = (p.0, same_watching new (run_o
 one_more old name (suc n) s text new ranges true p = turn old name s text new ranges p
 one_more old name n s text new ranges false p = (p.0, same_watching new old ranges p.1)
 
-same_lines : (l : Look) (state : LookState) (lines : Lines) (ranges : List Row) → AreLookLines l state lines
-    → AreLookLines l (watching state ranges) lines
+-- a state with the region and the sources of another
+abbrev pub seen_as : LookState → LookState → LookState
+seen_as state other = record other { edf = record other.edf { region = state.edf.region }; sources = state.sources }
+
+-- what a look shows is the same there; where it shows EDF, a kept abend or what is counted, if these are the same too
+pub same_lines : (l : Look) (state other : LookState) (lines : Lines) → (is_of_region l ≡ false → (state.edf.sessions ≡ other.edf.sessions) × (state.abends ≡ other.abends) × (state.covered ≡ other.covered))
+    → AreLookLines l state lines → AreLookLines l (seen_as state other) lines
 unfolding AreLookLines
-same_lines look.Queues state lines ranges p = p
-same_lines (look.Queue name) state lines ranges p = p
-same_lines (look.Item name n) state lines ranges p = p
-same_lines look.Programs state lines ranges p = p
-same_lines look.Tasks state lines ranges p = p
-same_lines look.Resources state lines ranges p = p
-same_lines (look.Command name) state lines ranges p = p
-same_lines (look.Ahead name n) state lines ranges p = p
-same_lines (look.AheadAt name program line) state lines ranges p = p
-same_lines (look.Storage at n) state lines ranges p = p
-same_lines (look.Where at) state lines ranges p = p
-same_lines look.Areas state lines ranges p = p
-same_lines (look.AreasOf name) state lines ranges p = p
-same_lines (look.Task name) state lines ranges p = p
-same_lines (look.Abend name) state lines ranges p = p
-same_lines (look.AbendStorage name) state lines ranges p = p
-same_lines (look.AbendFields name) state lines ranges p = p
-same_lines (look.Faults source) state lines ranges p = p
-same_lines (look.Symbol program name) state lines ranges p = p
-same_lines (look.Symbols program) state lines ranges p = p
-same_lines (look.Xref program) state lines ranges p = p
-same_lines look.Terminals state lines ranges p = p
-same_lines (look.Field term name k) state lines ranges p = p
-same_lines (look.Fields term k) state lines ranges p = p
-same_lines (look.Help word) state lines ranges p = p
-same_lines look.CoveredAll state lines ranges p = p
-same_lines (look.Covered program) state lines ranges p = p
-same_lines (look.CoveredLines program) state lines ranges p = p
+same_lines look.Queues state other lines alike p = p
+same_lines (look.Queue name) state other lines alike p = p
+same_lines (look.Item name n) state other lines alike p = p
+same_lines look.Programs state other lines alike p = p
+same_lines look.Tasks state other lines alike p = p
+same_lines look.Resources state other lines alike p = p
+same_lines (look.Command name) state other lines alike p = p
+same_lines (look.Ahead name n) state other lines alike p = p
+same_lines (look.AheadAt name program line) state other lines alike p = p
+same_lines (look.Storage at n) state other lines alike p = p
+same_lines (look.Where at) state other lines alike p = p
+same_lines look.Areas state other lines alike p = p
+same_lines (look.AreasOf name) state other lines alike p = p
+same_lines (look.Task name) state other lines alike p = p
+same_lines (look.Abend name) state other lines alike p =
+    p ∙ ap (λ (a : KeptAbends). abend_text state.sources state.edf.region.shared.programs a name) (alike refl).1
+same_lines (look.AbendStorage name) state other lines alike p = p ∙ ap (λ (a : KeptAbends). abend_storage_text a name) (alike refl).1
+same_lines (look.AbendFields name) state other lines alike p = p ∙ ap (λ (a : KeptAbends). abend_fields_text state.sources a name) (alike refl).1
+same_lines (look.Faults source) state other lines alike p = p
+same_lines (look.Symbol program name) state other lines alike p = p
+same_lines (look.Symbols program) state other lines alike p = p
+same_lines (look.Xref program) state other lines alike p = p
+same_lines look.Terminals state other lines alike p =
+    p ∙ ap (λ (s : Sessions). terminals_text (record state.edf { sessions = s })) (alike refl).0
+same_lines (look.Field term name k) state other lines alike p = p
+same_lines (look.Fields term k) state other lines alike p = p
+same_lines (look.Help word) state other lines alike p = p
+same_lines look.CoveredAll state other lines alike p =
+    p ∙ ap (λ (c : Option (List Tally)). covered_all_text state.sources state.edf.region c) (alike refl).2
+same_lines (look.Covered program) state other lines alike p =
+    p ∙ ap (λ (c : Option (List Tally)). covered_text state.sources state.edf.region c program) (alike refl).2
+same_lines (look.CoveredLines program) state other lines alike p =
+    p ∙ ap (λ (c : Option (List Tally)). covered_lines_text state.sources state.edf.region c program) (alike refl).2
 
 -- at a state and its own region
 pub same_at : (l : Look) (state : LookState) (lines : Lines) → AreLookLines l (at_region state state.edf.region) lines → AreLookLines l state lines
-same_at l state lines p = same_lines l (at_region state state.edf.region) lines state.watched p
+same_at l state lines p = same_lines l (at_region state state.edf.region) state lines (λ no. (refl, refl, refl)) p
 
 pub watches_change_nothing : WatchesChangeNothing
 unfolding Acts
@@ -100,7 +117,7 @@ watches_change_nothing old (action.RunOn name n s) own new ranges e p = one_more
 watches_change_nothing old (action.Watch w) own new ranges e p = cc
 watches_change_nothing old (action.Cover on) own new ranges e p = (p.0, same_watching new _ ranges p.1)
 watches_change_nothing old (action.Look l) own new ranges e p =
-    (record { lines = p.0.lines; are = same_lines l old p.0.lines ranges p.0.are; is = p.0.is }, same_watching new old ranges p.1)
+    (record { lines = p.0.lines; are = same_lines l old (watching old ranges) p.0.lines (λ no. (refl, refl, refl)) p.0.are; is = p.0.is }, same_watching new old ranges p.1)
 watches_change_nothing old (action.Orders block) own new ranges e p = (p.0, same_watching new old ranges p.1)
 watches_change_nothing old (action.BadLook number s) own new ranges e p = (p.0, same_watching new old ranges p.1)
 

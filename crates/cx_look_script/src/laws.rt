@@ -3,7 +3,8 @@
 ghost use Rattle.cx_look_script.specs.Laws.Looks.{LooksAreMarked, LooksAreReportedOnce, LooksChangeNothing, OrdersAreMarked};
 ghost use Rattle.cx_look_script.specs.Laws.Marks.{FaultsAreMarked};
 ghost use Rattle.cx_look_script.specs.Laws.Notes.{NotesRefuseNothing, RefusalsAreWritten};
-ghost use Rattle.cx_look_script.specs.Laws.Orders.{OrdersAreReportedOnce, ScriptsAskForEvents};
+ghost use Rattle.cx_look_script.specs.Laws.Orders.{OrdersAreReportedOnce, ScriptsAskForEvents, ScriptsLeadThere};
+ghost use Rattle.cx_look_script.specs.Laws.Outcomes.{LookActionsDecide, LookInputsDecide, LookTranscriptsDecide, ScriptsNameTheirTerminals};
 ghost use Rattle.cx_look_script.specs.Laws.Scripts.{ActionsStay, ScriptsStay};
 ghost use Rattle.cx_look_script.specs.Laws.Turns.{RunsEndBeforeAbends, RunsEndBeforeLines, RunsTakeTurns, StopsDecide};
 ghost use Rattle.cx_look_script.specs.Laws.Watches.{WatchedTextsDecide, WatchesChangeNothing, WatchesStay};
@@ -59,6 +60,57 @@ pub fn scripts_ask_for_events()
 pub fn runs_take_turns()
     ensures { RunsTakeTurns }
 {}
+
+/// The lines that ORDERS writes of steps, done one after another in the place of ORDERS, lead to a state with the region
+/// to which the steps lead, whatever is written for them. There screens show what they show of that region, and so
+/// does each look at the region and the sources: of those that a block of ORDERS may have each but TERMINALS, which
+/// shows EDF.
+pub fn scripts_lead_there()
+    ensures { ScriptsLeadThere }
+{
+    cx_ebcdic::laws::shown_as_itself();
+    cx_look_orders::laws::scripts_ask_for_steps();
+    cx_region_laws::laws::events_decide();
+    cx_edf::laws::what_is_erased_changes_nothing();
+    cx_edf::laws::sessions_keep_apart();
+}
+
+/// In a state in which a script may be each terminal's name has a spelling, that of its line TERMINAL, and no two
+/// terminals share a name.
+pub fn scripts_name_their_terminals()
+    ensures { ScriptsNameTheirTerminals }
+{
+    cx_region_laws::laws::a_turn_keeps_to_its_task();
+    cx_region_laws::laws::a_key_keeps_to_its_terminal();
+    cx_region_laws::laws::an_alteration_keeps_to_its_task();
+}
+
+/// An action of a script with looks has one outcome: where no two terminals share a name, the state and the action
+/// determine what is written, and the state afterwards.
+pub fn an_action_has_one_outcome()
+    ensures { LookActionsDecide }
+{
+    cx_look_abend::laws::noted_events_decide();
+    cx_script::laws::an_action_has_one_outcome();
+    runs_end_before_abends();
+    looks_are_reported_once();
+    orders_are_reported_once();
+    watched_texts_decide();
+    cx_look_cover::laws::tallies_decide();
+}
+
+/// A list of actions has one outcome: where no two terminals share a name, the state and the list determine the
+/// transcript, and the state afterwards. And what the reads give decides the answer of a run of `cicslook` and its
+/// transcript, in whatever pieces they give it, unless lack of memory or the writer stops the run.
+pub fn a_transcript_is_one()
+    ensures transcripts { LookTranscriptsDecide }
+    ensures inputs { LookInputsDecide }
+{
+    an_action_has_one_outcome();
+    cx_region_laws::laws::a_turn_keeps_to_its_task();
+    cx_region_laws::laws::a_key_keeps_to_its_terminal();
+    cx_region_laws::laws::an_alteration_keeps_to_its_task();
+}
 
 /// A RUN BEFORE ABEND ends in front of a turn exactly where that turn, when it is done, is answered as an abend, and
 /// its line names the code. Whether a RUN ends in front of a turn is a function of the state.

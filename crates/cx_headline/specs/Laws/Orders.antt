@@ -1,7 +1,5 @@
 -- What any order of turns and keys can do is what ORDERS writes of it.
 use Rattle.std.specs.Prelude.{◌≡◌, ◌↔◌, ℕ, List, ◌++◌, Option, Some, None, IsSome, IsTrue, length, map, slice_get, Bool}
-use Rattle.std.specs.List.{AllByRecursion}
-use Rattle.std.specs.Map.{keys_of as names_of}
 use Rattle.cx_search.specs.Forever.{AtRest, IsLong}
 use Rattle.cx_search.specs.Moves.{Leads}
 use Rattle.cx_search.specs.Rest.{IsNear}
@@ -23,7 +21,8 @@ use Rattle.cx_look_orders.specs.declared.outcomes.Outcome.{Outcome}
 use Rattle.cx_look_orders.specs.declared.steps.Step.{Step}
 use Rattle.cx_look.specs.Orders.{orders_block}
 use Rattle.cx_look.specs.declared.orders.OrdersBlock.{OrdersBlock}
-use Rattle.cx_look_script.specs.Laws.Orders.{AskForEvents, HasSpelling}
+use Rattle.cx_look_script.specs.Laws.Orders.{LeadThere}
+use Rattle.cx_look_script.specs.Laws.Outcomes.{IsScriptState}
 use Rattle.cx_look_script.specs.Looking.{AreLookLines, ShowsOrders, at_region}
 use Rattle.cx_look_script.specs.Orders.{AreSeen, names_with_edf, sights_of}
 use Rattle.cx_look_script.specs.State.{LookState}
@@ -75,16 +74,22 @@ abbrev pub Seen : OrdersBlock → LookState → RegionState → Lines → Type 0
 Seen block state region =
     AreSeen (λ look. AreLookLines look (at_region state region)) region (sights_of block.sights state.edf.region)
 
--- whatever `cicslook` writes for a block of ORDERS is true, and misses no order
-abbrev pub OrdersAreTrue : Type 0
-OrdersAreTrue = (block : OrdersBlock) (state : LookState) (text : List ℕ) (is : ShowsOrders block state text)
+-- Whatever is written of every order is true, and misses none, whatever is to be seen of a region.
+abbrev pub OrdersAreTrue : (RegionState → Lines → Type 0) → Type 0
+OrdersAreTrue Shows = (keys : List KeyLine) (region : RegionState) (edf : List (List ℕ)) (most : ℕ) (lines : Lines)
+    → AreTrue Shows keys region edf most lines
+
+-- so is whatever `cicslook` writes for a block of ORDERS
+abbrev pub BlocksAreTrue : Type 0
+BlocksAreTrue = (block : OrdersBlock) (state : LookState) (text : List ℕ) (is : ShowsOrders block state text)
     → AreTrue (Seen block state) block.keys state.edf.region (names_with_edf state.edf) block.most is.lines
 
--- The lines that are written of steps are read as lines of a script, and ask for EDF OFF where EDF is on, and then for
--- the very events that the steps are: where a text spells each terminal's name, of the keys of a block's lines.
-abbrev pub LinesAskForSteps : Type 0
-LinesAskForSteps = (most : ℕ) (lines : List (List ℕ)) (state : LookState) (steps : List Step) (to : OrdersState)
-    → AllByRecursion HasSpelling (names_of state.edf.region.terminals)
+-- Where a script may be, the lines that are written of steps are read as lines of a script. They ask for EDF OFF where
+-- EDF is on, and then for the very events that the steps are; and done one after another they lead to the region to
+-- which the steps lead: of the keys of a block's lines.
+abbrev pub LinesLeadThere : Type 0
+LinesLeadThere = (state : LookState) → IsScriptState state
+    → (most : ℕ) (lines : List (List ℕ)) (steps : List Step) (to : OrdersState)
     → (run : IsRunOf (orders_block most lines).keys (begun state.edf.region) steps to)
-    → AskForEvents (script_lines state.edf.region (orders_block most lines).keys (names_with_edf state.edf) steps)
-    (map event.Off (names_with_edf state.edf) ++ map event.Plain run.events)
+    → LeadThere state (script_lines state.edf.region (orders_block most lines).keys (names_with_edf state.edf) steps)
+    (map event.Off (names_with_edf state.edf) ++ map event.Plain run.events) to.region
