@@ -18,10 +18,10 @@ use Rattle.cx_look_cover.specs.Laws.{LeadsTo, TargetsAreOfExecutes}
 use Rattle.cx_look_cover.specs.Passages.{is_execute_next, operand_in, target_of}
 
 -- what is known of reading by a first byte
-abbrev IsKnown : Type 0
+abbrev pub IsKnown : Type 0
 IsKnown = (bytes : List ℕ) (op : Op) → slice_index bytes 0 ≡ code_of op → length_of op ≤ length bytes → reading bytes ≡ Some (instruction op (fields_at op bytes))
 
-abbrev IsOnly : Type 0
+abbrev pub IsOnly : Type 0
 IsOnly = (bytes : List ℕ) (i : Instruction) → reading bytes ≡ Some i → (slice_index bytes 0 ≡ code_of i.op) × (length_of i.op ≤ length bytes)
 
 -- the first byte of a span

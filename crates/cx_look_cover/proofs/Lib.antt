@@ -1,7 +1,8 @@
 mod PassageLemmas
 pub mod MarkLemmas
 mod TallyLemmas
-mod ExecuteLemmas
+pub mod ExecuteLemmas
+mod BranchLemmas
 mod RangeLemmas
 pub mod CountLemmas
 pub mod StatementLemmas

@@ -1,15 +1,17 @@
 -- What follows from the definitions: the passages of a run are decided by it, and are those of its visits; targets are
--- those of EX; a tally counts them; ranges name exactly their lines.
-use Rattle.std.specs.Prelude.{◌≡◌, ◌≢◌, ◌↔◌, ℕ, zero, suc, ◌+◌, ◌-◌, ◌<◌, ◌^◌, ◌==◌, ⊤, Some, List, [], ◌∷◌, map}
+-- those of EX, and conditional branches those of the table; a tally counts passages; ranges name exactly their lines.
+use Rattle.std.specs.Prelude.{◌≡◌, ◌≢◌, ◌↔◌, ◌⊎◌, Bool, true, ◌&&◌, not, slice_index, ℕ, zero, suc, ◌+◌, ◌-◌, ◌<◌, ◌^◌, ◌==◌, ⊤, Some, List, [], ◌∷◌, map}
 use Rattle.std.specs.List.{count_by, filter, flat_map}
 use Rattle.cx_code.specs.Reading.{reading}
-use Rattle.cx_code.specs.Spelling.{instruction}
-use Rattle.cx_code.specs.declared.instruction.Fields.TheVariants.{Rx}
-use Rattle.cx_code.specs.declared.table.Op.TheVariants.{Ex}
+use Rattle.cx_code.specs.Spelling.{Instruction, instruction}
+use Rattle.cx_code.specs.declared.instruction.Fields.TheVariants.{Rr, Rx}
+use Rattle.cx_code.specs.declared.table.Op.{Op}
+use Rattle.cx_code.specs.declared.table.Op.TheVariants.{Bc, Bcr, Bct, Bctr, Ex}
 use Rattle.cx_exec.specs.Fetch.{code_bytes}
 use Rattle.cx_exec.specs.Machine.{Machine, effective}
 use Rattle.cx_look_turn.specs.Traces.{Visits, visit}
 use Rattle.cx_look_turn.specs.declared.traces.Visit.{Visit}
+use Rattle.cx_look_cover.specs.Counts.{is_conditional, is_of_some_codes}
 use Rattle.cx_look_cover.specs.Passages.{Passage, Passages, places_run, target_of, went_away}
 use Rattle.cx_look_cover.specs.Ranges.{ranges_of}
 use Rattle.cx_look_cover.specs.Tallies.{IsTallied, capped, tally_at}
@@ -44,6 +46,28 @@ pub record LeadsTo (m : Machine) (address : ℕ) : Type 0 where
 -- a target is counted where there is one, and there alone
 abbrev pub TargetsAreOfExecutes : Type 0
 TargetsAreOfExecutes = (m : Machine) (address : ℕ) → (target_of m ≡ Some address) ↔ LeadsTo m address
+
+-- ---- conditional branches (GA22-7000, "Branch on Condition", "Branch on Count")
+-- what bytes are looked at by
+abbrev pub is_looked_at : List ℕ → Bool
+is_looked_at code = is_conditional (slice_index code 0) (slice_index code 1)
+
+abbrev pub IsBranchOp : Op → Type 0
+IsBranchOp op = (op ≡ Bc) ⊎ ((op ≡ Bcr) ⊎ ((op ≡ Bct) ⊎ (op ≡ Bctr)))
+
+-- What reads as BC, BCR, BCT or BCTR is a conditional branch by its mask and by its second register, and nothing else
+-- that reads as an instruction is one.
+pub record IsByTable (code : List ℕ) : Type 0 where
+  pub bc : (m1 x2 b2 d2 : ℕ) → reading code ≡ Some (instruction Bc (Rx m1 x2 b2 d2))
+      → is_looked_at code ≡ is_of_some_codes m1
+  pub bcr : (m1 r2 : ℕ) → reading code ≡ Some (instruction Bcr (Rr m1 r2))
+      → is_looked_at code ≡ (is_of_some_codes m1 && not (r2 == 0))
+  pub bct : (r1 x2 b2 d2 : ℕ) → reading code ≡ Some (instruction Bct (Rx r1 x2 b2 d2)) → is_looked_at code ≡ true
+  pub bctr : (r1 r2 : ℕ) → reading code ≡ Some (instruction Bctr (Rr r1 r2)) → is_looked_at code ≡ not (r2 == 0)
+  pub others : (i : Instruction) → reading code ≡ Some i → is_looked_at code ≡ true → IsBranchOp i.op
+
+abbrev pub BranchesAreOfTable : Type 0
+BranchesAreOfTable = (code : List ℕ) → IsByTable code
 
 -- ---- what a tally counts
 -- how often an address is among places

@@ -1,7 +1,7 @@
 //! What follows from the definitions of what was run.
-ghost use Rattle.cx_look_cover.specs.Laws.{PassagesAreVisits, PassagesDecide, RangesName, TalliesCount, TalliesDecide, TargetsAreOfExecutes};
+ghost use Rattle.cx_look_cover.specs.Laws.{BranchesAreOfTable, PassagesAreVisits, PassagesDecide, RangesName, TalliesCount, TalliesDecide, TargetsAreOfExecutes};
 
-use cx_code::laws::read_by_first_byte;
+use cx_code::laws::{one_row, read_by_first_byte};
 use cx_exec_laws::laws::steps_decide;
 
 /// A machine and a limit have one list of passages.
@@ -23,6 +23,15 @@ pub fn passages_are_visits()
 pub fn targets_are_of_executes()
     ensures { TargetsAreOfExecutes }
 {
+    read_by_first_byte();
+}
+
+/// What is looked at as a conditional branch reads as BC or BCR with a mask that some condition codes meet and others
+/// don't, as BCT or as BCTR; the last and BCR with a second register that isn't 0.
+pub fn branches_are_of_table()
+    ensures { BranchesAreOfTable }
+{
+    one_row();
     read_by_first_byte();
 }
 
