@@ -73,6 +73,7 @@ BUILT = [
     Sweep("checks/refuse-memory crates/cicsedf/out/cicsedf", 1_500),
     Sweep("checks/refuse-memory crates/cicslook/out/cicslook --looks", 900),
     Sweep("checks/refused-events crates/tool_refusals/out/tool_refusals", 900),
+    Sweep("checks/event-lists crates/tool_refusals/out/tool_refusals"),
     Sweep("checks/refuse-places", 900, after=("tool_bench",)),
     Sweep("checks/refuse-tests", 900, after=(PROOF,)),
     Sweep("checks/failing-devices crates/cicsedf/out/cicsedf"),

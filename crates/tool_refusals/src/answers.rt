@@ -27,13 +27,20 @@ fn print_program(rt: &HostRuntime, name: &Name8) -> io::Result<()> {
 fn print_event(rt: &HostRuntime, event: &EdfEvent) -> io::Result<()> {
     match event {
         EdfEvent::On(name) | EdfEvent::Off(name) => print_name4(rt, "EDF", name),
-        EdfEvent::Plain(Event::Program(name, _)) => print_program(rt, name),
-        EdfEvent::Plain(Event::Transaction(name, _)) => print_name4(rt, "TRANSACTION", name),
-        EdfEvent::Plain(Event::Terminal(name)) => print_name4(rt, "TERMINAL", name),
-        EdfEvent::Plain(Event::Clock(_, _)) => print!(rt; "CLOCK"),
-        EdfEvent::Plain(Event::Key(name, _, _)) => print_name4(rt, "KEY", name),
-        EdfEvent::Plain(Event::Turn(name)) => print_name4(rt, "TURN", name),
-        EdfEvent::Plain(Event::Alter(name, _)) => print_name4(rt, "ALTER", name),
+        EdfEvent::Plain(event) => print_plain(rt, event),
+    }
+}
+
+/// Prints what an event of the region is, up to its answer.
+fn print_plain(rt: &HostRuntime, event: &Event) -> io::Result<()> {
+    match event {
+        Event::Program(name, _) => print_program(rt, name),
+        Event::Transaction(name, _) => print_name4(rt, "TRANSACTION", name),
+        Event::Terminal(name) => print_name4(rt, "TERMINAL", name),
+        Event::Clock(_, _) => print!(rt; "CLOCK"),
+        Event::Key(name, _, _) => print_name4(rt, "KEY", name),
+        Event::Turn(name) => print_name4(rt, "TURN", name),
+        Event::Alter(name, _) => print_name4(rt, "ALTER", name),
     }
 }
 
@@ -86,6 +93,18 @@ pub fn print_answer(rt: &HostRuntime, event: &EdfEvent, answer: Answer) -> io::R
         Answer::NotStopped => println!(rt; " NotStopped"),
         Answer::Edf(reply) => println!(rt; " {}", reply.name()),
     }
+}
+
+/// Prints the reply to an event of a region without EDF, as a transcript has it.
+pub fn print_answer_of(rt: &HostRuntime, event: &Event, reply: Reply) -> io::Result<()> {
+    print_plain(rt, event)?;
+    print_reply(rt, reply)
+}
+
+/// Prints how many displays are kept of a terminal.
+pub fn print_kept(rt: &HostRuntime, name: Name4, count: usize) -> io::Result<()> {
+    print_name4(rt, "KEPT", &name)?;
+    println!(rt; " {count}")
 }
 
 /// Prints the line of a program whose image is refused before its definition.

@@ -35,6 +35,16 @@ pub fn begun_over_areas(alloc: Global) -> Result<Debugged<FlatStore>, AllocError
     }
 }
 
+/// A region without EDF over `PagedStore`.
+pub fn alone_over_pages(alloc: Global) -> Result<Region<PagedStore>, AllocError> {
+    Region::new(alloc, PagedStore::new(alloc))
+}
+
+/// A region without EDF over `FlatStore`.
+pub fn alone_over_areas(alloc: Global) -> Result<Region<FlatStore>, AllocError> {
+    Region::new(alloc, FlatStore::new(alloc))
+}
+
 /// What a line asks, as a region may be asked it; None where it is a bad line. Where memory is refused it is read once
 /// more.
 pub fn allowed_line(alloc: Global, line: &[u8]) -> Result<Option<Line<Action>>, AllocError>

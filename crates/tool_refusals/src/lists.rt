@@ -4,9 +4,12 @@ ghost use Rattle.cx_script_actions.specs.Allowed.{IsAllowedAction, IsAllowedLine
 ghost use Rattle.cx_edf.specs.Runs.{IsAllowedEdf};
 
 use crate::answers::{print_answer, print_refused};
-use crate::events::{allowed_line, begun_over_areas, begun_over_pages, done};
+use crate::events::{
+    allowed_line, alone_over_areas, alone_over_pages, begun_over_areas, begun_over_pages, done,
+};
 use crate::images::{image_of, split_block};
 use crate::pages::{print_all, print_displays, print_screen};
+use crate::runs::{do_alone, do_at_once};
 use crate::sources::program_of;
 use cx_code::Image;
 use cx_ebcdic::{Name4, Name8};
@@ -20,7 +23,17 @@ use std::alloc::AllocError;
 use std::io;
 
 /// No list has more lines.
-const MOST_LINES: usize = 65_536;
+pub const MOST_LINES: usize = 65_536;
+
+/// The terminal that an event defined, if its answer is that it did.
+pub fn terminal_of(event: &EdfEvent, answer: &Answer) -> Option<Name4> {
+    match (event, answer) {
+        (EdfEvent::Plain(Event::Terminal(name)), Answer::Region(Reply::Terminal(Ok(())))) => {
+            Some(*name)
+        }
+        _ => None,
+    }
+}
 
 /// A list up to some line of it.
 #[derive(Drop)]
@@ -52,10 +65,8 @@ impl<S: Store + Drop> List<S> {
         requires { IsAllowedEdf event.now }
     {
         let answer = done(&mut self.region, event)?;
-        if let (EdfEvent::Plain(Event::Terminal(name)), Answer::Region(Reply::Terminal(Ok(())))) = (
-            event, answer,
-        ) {
-            self.defined(*name)?;
+        if let Some(name) = terminal_of(event, &answer) {
+            self.defined(name)?;
         }
         print_answer(rt, event, answer)
     }
@@ -143,27 +154,55 @@ impl<S: Store + Drop> List<S> {
 }
 
 /// The lines of the block that a line begins, none where it begins none, and those after it.
-fn block_of<'a>(line: &Line<Action>, after: &'a [u8]) -> (&'a [u8], &'a [u8]) {
+pub fn block_of<'a>(line: &Line<Action>, after: &'a [u8]) -> (&'a [u8], &'a [u8]) {
     match line {
         Line::Image(_, _) | Line::Source(_, _) | Line::Lines(_) => split_block(after),
         Line::Blank | Line::Action(_) => (b"", after),
     }
 }
 
-/// Does a list, which may have a heading.
-fn do_list<S: Store + Drop>(rt: &HostRuntime, region: Debugged<S>, lines: &[u8]) -> io::Result<()> {
+/// What the first line of a list is, which says how its events are done: a line `LIST` with a name, each by itself;
+/// `AT ONCE` with a name, all by one call under EDF; `ALONE` with a name, all by one call of a region without EDF.
+#[derive(Clone, Copy, PartialEq, Eq)]
+enum Heading {
+    Each,
+    AtOnce,
+    Alone,
+}
+
+/// The heading that a line is, if it is one.
+fn heading_of(line: &[u8]) -> Option<Heading> {
+    if line.starts_with(b"LIST ") {
+        Some(Heading::Each)
+    } else if line.starts_with(b"AT ONCE ") {
+        Some(Heading::AtOnce)
+    } else if line.starts_with(b"ALONE ") {
+        Some(Heading::Alone)
+    } else {
+        None
+    }
+}
+
+/// The heading of a list, and the lines after it. One that has none is one of events that are done each by itself.
+fn split_heading(lines: &[u8]) -> (Heading, Option<&[u8]>, &[u8]) {
+    match split_line(lines) {
+        Some((line, after)) => match heading_of(line) {
+            Some(heading) => (heading, Some(line), after),
+            None => (Heading::Each, None, lines),
+        },
+        None => (Heading::Each, None, lines),
+    }
+}
+
+/// Does a list's events, each by itself.
+fn do_each<S: Store + Drop>(rt: &HostRuntime, region: Debugged<S>, lines: &[u8]) -> io::Result<()> {
     let mut list = List::new(rt, region);
     let mut rest = lines;
     for _ in 0..MOST_LINES {
         let Some((line, after)) = split_line(rest) else {
             break;
         };
-        if line.starts_with(b"LIST ") {
-            println!(rt; "{}", std::str::from_utf8(line).unwrap_or("LIST"))?;
-            rest = after;
-        } else {
-            rest = list.text(rt, line, after)?;
-        }
+        rest = list.text(rt, line, after)?;
     }
     list.end(rt)
 }
@@ -176,12 +215,43 @@ fn split_list(lines: &[u8]) -> (&[u8], &[u8]) {
             break;
         };
         rest = after;
-        if rest.starts_with(b"LIST ") {
+        if heading_of(rest).is_some() {
             let end = lines.len().saturating_sub(rest.len());
             return (lines.get(..end).unwrap_or(lines), rest);
         }
     }
     (lines, b"")
+}
+
+/// Does a list over pages.
+fn do_over_pages(rt: &HostRuntime, heading: Heading, lines: &[u8]) -> io::Result<()> {
+    match heading {
+        Heading::Each => do_each(rt, begun_over_pages(rt.alloc())?, lines),
+        Heading::AtOnce => do_at_once(rt, begun_over_pages(rt.alloc())?, lines),
+        Heading::Alone => do_alone(rt, alone_over_pages(rt.alloc())?, lines),
+    }
+}
+
+/// Does a list over the plain store.
+fn do_over_areas(rt: &HostRuntime, heading: Heading, lines: &[u8]) -> io::Result<()> {
+    match heading {
+        Heading::Each => do_each(rt, begun_over_areas(rt.alloc())?, lines),
+        Heading::AtOnce => do_at_once(rt, begun_over_areas(rt.alloc())?, lines),
+        Heading::Alone => do_alone(rt, alone_over_areas(rt.alloc())?, lines),
+    }
+}
+
+/// Does a list, which may have a heading, over the plain store or over pages.
+fn do_list(rt: &HostRuntime, is_flat: bool, list: &[u8]) -> io::Result<()> {
+    let (heading, line, lines) = split_heading(list);
+    if let Some(line) = line {
+        println!(rt; "{}", std::str::from_utf8(line).unwrap_or("LIST"))?;
+    }
+    if is_flat {
+        do_over_areas(rt, heading, lines)
+    } else {
+        do_over_pages(rt, heading, lines)
+    }
 }
 
 /// Does lists, one after the other: over the plain store where a line `FLAT` comes before them, else over pages.
@@ -195,11 +265,7 @@ pub fn do_lists(rt: &HostRuntime, input: &[u8]) -> io::Result<()> {
             break;
         }
         let (list, after) = split_list(rest);
-        if is_flat {
-            do_list(rt, begun_over_areas(rt.alloc())?, list)?;
-        } else {
-            do_list(rt, begun_over_pages(rt.alloc())?, list)?;
-        }
+        do_list(rt, is_flat, list)?;
         rest = after;
     }
     Ok(())

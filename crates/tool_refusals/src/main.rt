@@ -4,7 +4,13 @@
 //! it is the plain store. Answers are printed as in a transcript; at the end of a list also each terminal's task and
 //! screen, and all pages of the displays that EDF keeps of it.
 //!
+//! A list that begins with a line `AT ONCE` and a name has definitions, which are done by a call each, and after a line
+//! `RUN` events, all of which are done by one call; at its end the number of displays that are kept of each terminal is
+//! printed. One that begins with `ALONE` and a name is done by one call of a region without EDF. Programs of these lists
+//! are images.
+//!
 //! `checks/refused-events` runs it with each allocation refused in turn: what is printed must be as without a refusal.
+//! `checks/event-lists` runs lists of 5,000 events through it.
 //!
 //! In every module an error means that memory ran out, also when a call was given once more, or that printing failed.
 #![tactic(auto)]
@@ -14,6 +20,7 @@ mod events;
 mod images;
 mod lists;
 mod pages;
+mod runs;
 mod sources;
 
 use crate::lists::do_lists;
@@ -22,7 +29,7 @@ use std::io;
 use std::io::Read;
 
 /// The most bytes of input.
-const MOST: usize = 65_536;
+const MOST: usize = 524_288;
 
 /// Room for the input.
 fn room(alloc: Global) -> Result<Vec<u8>, AllocError> {
