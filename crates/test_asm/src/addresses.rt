@@ -1,8 +1,7 @@
 //! Implied addresses by the USINGs and DROPs before a statement.
-use crate::operand_tables::{assembled, end_use, is_refused, makes, put_in_use, table};
-use cx_asm_expressions::{FaultKind, SymbolTable, TermFault};
+use crate::operand_tables::{assembled, end_use, is_as_due, is_refused, makes, put_in_use, table};
+use cx_asm_expressions::{FaultKind, SymbolTable};
 use cx_asm_operands::Bases;
-use cx_code::CodeBytes;
 use std::alloc::Global;
 use std::test::Fail;
 
@@ -29,29 +28,25 @@ const NOT_REACHED: &[(&[u8], &[u8], &[u8])] = &[
     (b"P,5", b"P+4,5", b"1,P"),
 ];
 
-fn after_two(
-    alloc: Global,
-    symbols: &SymbolTable,
-    first: &[u8],
-    second: &[u8],
-    operand: &[u8],
-) -> Result<CodeBytes, TermFault> {
-    let mut bases = Bases::new();
-    put_in_use(alloc, symbols, &mut bases, first)?;
-    put_in_use(alloc, symbols, &mut bases, second)?;
-    assembled(alloc, symbols, &bases, b"LA", operand)
-}
-
 #[test]
 fn a_place_has_the_nearest_address(rt: HostRuntime) -> Result<(), Fail> {
     let alloc = rt.alloc();
     let symbols = table(alloc)?;
     for &(first, second, operand, bytes) in REACHED {
-        assert!(rt; makes(after_two(alloc, &symbols, first, second, operand), bytes));
+        let statement = (b"LA".as_slice(), operand);
+        assert!(rt; is_as_due(alloc, &symbols, (first, second), statement, Ok(bytes)));
     }
+    Ok(())
+}
+
+#[test]
+fn a_far_place_has_no_address(rt: HostRuntime) -> Result<(), Fail> {
+    let alloc = rt.alloc();
+    let symbols = table(alloc)?;
+    let due = Err(FaultKind::NoAddressability);
     for &(first, second, operand) in NOT_REACHED {
-        let made = after_two(alloc, &symbols, first, second, operand);
-        assert!(rt; is_refused(made, FaultKind::NoAddressability));
+        let statement = (b"LA".as_slice(), operand);
+        assert!(rt; is_as_due(alloc, &symbols, (first, second), statement, due));
     }
     Ok(())
 }

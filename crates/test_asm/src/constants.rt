@@ -26,35 +26,31 @@ const LENGTHS: &[(&[u8], bool, u32, u128, u128)] = &[
     (b"4294967295F'0'", false, 4, 4, 17_179_869_180),
 ];
 
-/// Items with their bytes.
-const BYTES: &[(&[u8], &[u8])] = &[
-    (b"C'A''B&&'", b"\xC1\x7D\xC2\x50"),
-    (b"CL2'ABC'", b"\xC1\xC2"),
-    (b"CL4'AB'", b"\xC1\xC2\x40\x40"),
-    (b"C'''&&'", b"\x7D\x50"),
-    (b"XL2'1ABCD'", b"\xAB\xCD"),
-    (b"X'ABC'", b"\x0A\xBC"),
-    (b"XL4'1A'", b"\x00\x00\x00\x1A"),
-    (b"BL3'101'", b"\x00\x00\x05"),
-    (b"B'100000001'", b"\x01\x01"),
-    (b"P'12345'", b"\x12\x34\x5C"),
-    (b"P'1,-22222'", b"\x1C\x22\x22\x2D"),
-    (b"PL2'12345'", b"\x34\x5C"),
-    (b"PL3'-7'", b"\x00\x00\x7D"),
-    (b"5H'+1,-2'", b"\x00\x01\xFF\xFE"),
-    (b"F'2147483647'", b"\x7F\xFF\xFF\xFF"),
-    (b"HL3'8388607'", b"\x7F\xFF\xFF"),
-    (b"AL1(255)", b"\xFF"),
-    (b"AL1(0-128)", b"\x80"),
-    (b"A(X-Y)", b"\x00\x00\x00\x08"),
-    (b"V(DFHEI1)", b"\x00\x00\x08\x00"),
-];
-
-/// Addresses to which the load address is added, with their bytes.
-const RELOCATED: &[(&[u8], &[u8])] = &[
-    (b"A(P+4)", b"\x00\x00\x00\x04"),
-    (b"2AL4(X)", b"\x00\x00\x00\x0C"),
-    (b"A(P-5)", b"\xFF\xFF\xFF\xFB"),
+/// Items with their bytes, and whether they are addresses to which the load address is added.
+const BYTES: &[(&[u8], &[u8], bool)] = &[
+    (b"C'A''B&&'", b"\xC1\x7D\xC2\x50", false),
+    (b"CL2'ABC'", b"\xC1\xC2", false),
+    (b"CL4'AB'", b"\xC1\xC2\x40\x40", false),
+    (b"C'''&&'", b"\x7D\x50", false),
+    (b"XL2'1ABCD'", b"\xAB\xCD", false),
+    (b"X'ABC'", b"\x0A\xBC", false),
+    (b"XL4'1A'", b"\x00\x00\x00\x1A", false),
+    (b"BL3'101'", b"\x00\x00\x05", false),
+    (b"B'100000001'", b"\x01\x01", false),
+    (b"P'12345'", b"\x12\x34\x5C", false),
+    (b"P'1,-22222'", b"\x1C\x22\x22\x2D", false),
+    (b"PL2'12345'", b"\x34\x5C", false),
+    (b"PL3'-7'", b"\x00\x00\x7D", false),
+    (b"5H'+1,-2'", b"\x00\x01\xFF\xFE", false),
+    (b"F'2147483647'", b"\x7F\xFF\xFF\xFF", false),
+    (b"HL3'8388607'", b"\x7F\xFF\xFF", false),
+    (b"AL1(255)", b"\xFF", false),
+    (b"AL1(0-128)", b"\x80", false),
+    (b"A(X-Y)", b"\x00\x00\x00\x08", false),
+    (b"V(DFHEI1)", b"\x00\x00\x08\x00", false),
+    (b"A(P+4)", b"\x00\x00\x00\x04", true),
+    (b"2AL4(X)", b"\x00\x00\x00\x0C", true),
+    (b"A(P-5)", b"\xFF\xFF\xFF\xFB", true),
 ];
 
 /// Items of a DC that are read, and the faults of their values.
@@ -120,12 +116,12 @@ fn has_lengths(row: (&[u8], bool, u32, u128, u128)) -> bool {
     }
 }
 
-fn is_made(alloc: Global, symbols: &SymbolTable, row: (&[u8], &[u8]), is_relocated: bool) -> bool {
+fn is_made(alloc: Global, symbols: &SymbolTable, row: (&[u8], &[u8], bool)) -> bool {
     let Ok(item) = Constant::read(row.0, false) else {
         return false;
     };
     match item.bytes(alloc, symbols, None, name(b"P")) {
-        Ok(copy) => copy.as_slice() == row.1 && copy.is_relocated() == is_relocated,
+        Ok(copy) => copy.as_slice() == row.1 && copy.is_relocated() == row.2,
         Err(_) => false,
     }
 }
@@ -159,10 +155,7 @@ fn constants_have_their_bytes(rt: HostRuntime) {
     let alloc = rt.alloc();
     let symbols = table(alloc).expect(&rt, "the symbols");
     for &row in BYTES {
-        assert!(rt; is_made(alloc, &symbols, row, false));
-    }
-    for &row in RELOCATED {
-        assert!(rt; is_made(alloc, &symbols, row, true));
+        assert!(rt; is_made(alloc, &symbols, row));
     }
 }
 

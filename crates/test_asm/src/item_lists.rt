@@ -4,9 +4,12 @@ use cx_source::{Item, Items, Source, Stmt, Text};
 use std::alloc::{AllocError, Global};
 use std::test::Fail;
 
-/// Statements with their lines' numbers, and the fault of all: line, name, operation, operand.
+/// A statement: line, name, operation, operand.
+pub(crate) type Row = (usize, &'static [u8], &'static [u8], &'static [u8]);
+
+/// Statements with their lines' numbers, and the fault of all.
 #[rattlefmt::skip]
-const LISTS: &[(&[(usize, &[u8], &[u8], &[u8])], AsmFault)] = &[
+const LISTS: &[(&[Row], AsmFault)] = &[
     (&[(1, b"P", b"CSECT", b""), (5, b"", b"LR", b"16,1"), (3, b"", b"LR", b"1,"), (5, b"", b"LR", b"1,NONE")], AsmFault::UndefinedSymbol(5)),
     (&[(1, b"P", b"CSECT", b""), (5, b"", b"LR", b"16,1"), (5, b"", b"USING", b"8,5"), (3, b"", b"LR", b"1,NONE")], AsmFault::ValueOutOfRange(5)),
     // a line that the first pass refuses has the faults of the first pass alone
@@ -31,18 +34,22 @@ fn item(
     })
 }
 
+/// The source that these statements are.
+pub(crate) fn source_of(alloc: Global, statements: &[Row]) -> Result<Source, AllocError> {
+    let mut items = Vec::new(alloc);
+    for &(line, name, operation, operand) in statements {
+        items.push(item(alloc, line, name, operation, operand)?)?;
+    }
+    Ok(Source {
+        items: Items::from_vec(items),
+    })
+}
+
 #[test]
 fn statements_of_one_line_count_together(rt: HostRuntime) -> Result<(), Fail> {
     let alloc = rt.alloc();
     for &(statements, fault) in LISTS {
-        let mut items = Vec::new(alloc);
-        for &(line, name, operation, operand) in statements {
-            items.push(item(alloc, line, name, operation, operand)?)?;
-        }
-        let source = Source {
-            items: Items::from_vec(items),
-        };
-        let found = assemble(alloc, &source);
+        let found = assemble(alloc, &source_of(alloc, statements)?);
         assert!(rt; found.err() == Some(fault));
     }
     Ok(())

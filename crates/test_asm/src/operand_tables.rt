@@ -89,6 +89,34 @@ pub(crate) fn assembled(
     Ok(encode(&inst))
 }
 
+/// The bytes of a statement at P+20 after two USINGs, each perhaps left out.
+fn after_two(
+    alloc: Global,
+    symbols: &SymbolTable,
+    (first, second): (&[u8], &[u8]),
+    (operation, operand): (&[u8], &[u8]),
+) -> Result<CodeBytes, TermFault> {
+    let mut bases = Bases::new();
+    put_in_use(alloc, symbols, &mut bases, first)?;
+    put_in_use(alloc, symbols, &mut bases, second)?;
+    assembled(alloc, symbols, &bases, operation, operand)
+}
+
+/// Whether a statement after two USINGs, each perhaps left out, makes these bytes, or has this fault.
+pub(crate) fn is_as_due(
+    alloc: Global,
+    symbols: &SymbolTable,
+    usings: (&[u8], &[u8]),
+    statement: (&[u8], &[u8]),
+    due: Result<&[u8], FaultKind>,
+) -> bool {
+    let made = after_two(alloc, symbols, usings, statement);
+    match due {
+        Ok(bytes) => makes(made, bytes),
+        Err(fault) => is_refused(made, fault),
+    }
+}
+
 /// Whether a statement makes these bytes.
 pub(crate) fn makes(made: Result<CodeBytes, TermFault>, bytes: &[u8]) -> bool {
     match made {

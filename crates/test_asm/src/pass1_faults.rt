@@ -1,8 +1,8 @@
 //! Which sources are refused, at which line, and as what.
+use crate::item_lists::{Row, source_of};
 use crate::pass1_texts::placed;
 use cx_asm_expressions::FaultKind;
 use cx_asm_pass1::place_all;
-use cx_source::{Item, Items, Source, Stmt, Text};
 use std::alloc::{AllocError, Global};
 use std::test::Fail;
 
@@ -59,27 +59,9 @@ fn sources_are_refused_so(rt: HostRuntime) -> Result<(), Fail> {
     Ok(())
 }
 
-fn item(
-    alloc: Global,
-    line: usize,
-    name: &[u8],
-    operation: &[u8],
-    operand: &[u8],
-) -> Result<Item, AllocError> {
-    Ok(Item {
-        line,
-        text: Text::from_slice(alloc, b"")?,
-        stmt: Some(Stmt {
-            name: Text::from_slice(alloc, name)?,
-            operation: Text::from_slice(alloc, operation)?,
-            operand: Text::from_slice(alloc, operand)?,
-        }),
-    })
-}
-
-/// Statements of lists made by hand: line, name, operation, operand.
+/// Lists of statements made by hand, with the line of the fault and its kind.
 #[rattlefmt::skip]
-const LISTS: &[(&[(usize, &[u8], &[u8], &[u8])], usize, FaultKind)] = &[
+const LISTS: &[(&[Row], usize, FaultKind)] = &[
     // statements of one line count together, wherever they are
     (&[(7, b"", b"DS", b"F"), (3, b"", b"NOTHING", b""), (7, b"E", b"EQU", b"NONE")], 7, FaultKind::UndefinedSymbol),
     (&[(7, b"P", b"CSECT", b""), (3, b"NINELONGS", b"DS", b"F"), (3, b"", b"NOTHING", b"")], 3, FaultKind::UnknownOperation),
@@ -87,22 +69,23 @@ const LISTS: &[(&[(usize, &[u8], &[u8], &[u8])], usize, FaultKind)] = &[
     (&[(1, b"", b"END", b""), (2, b"", b"END", b""), (0, b"", b"", b"")], 0, FaultKind::UnknownOperation),
 ];
 
+/// Whether the first pass refuses a list of statements at this line, and as this.
+fn is_refused(
+    alloc: Global,
+    statements: &[Row],
+    line: usize,
+    kind: FaultKind,
+) -> Result<bool, AllocError> {
+    match place_all(alloc, &source_of(alloc, statements)?)? {
+        Err(first) => Ok(first.line == line && first.kind == kind),
+        Ok(_) => Ok(false),
+    }
+}
+
 #[test]
 fn lists_are_refused_so(rt: HostRuntime) -> Result<(), Fail> {
-    let alloc = rt.alloc();
     for &(statements, line, kind) in LISTS {
-        let mut items = Vec::new(alloc);
-        for &(line, name, operation, operand) in statements {
-            items.push(item(alloc, line, name, operation, operand)?)?;
-        }
-        let source = Source {
-            items: Items::from_vec(items),
-        };
-        let is_so = match place_all(alloc, &source)? {
-            Err(first) => first.line == line && first.kind == kind,
-            Ok(_) => false,
-        };
-        assert!(rt; is_so);
+        assert!(rt; is_refused(rt.alloc(), statements, line, kind)?);
     }
     Ok(())
 }

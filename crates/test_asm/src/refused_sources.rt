@@ -1,6 +1,6 @@
 //! Which sources are refused, at which line, and as what.
 use crate::whole_images::PROGRAM;
-use crate::whole_texts::{assembled, line_without_end};
+use crate::whole_texts::{Part, assembled, line_without_end};
 use std::test::Fail;
 
 #[rattlefmt::skip]
@@ -30,7 +30,7 @@ const REFUSED: &[(&[u8], &str)] = &[
 #[test]
 fn sources_are_refused_so(rt: HostRuntime) -> Result<(), Fail> {
     for &(source, fault) in REFUSED {
-        let found = assembled(rt.alloc(), source)?;
+        let found = assembled(rt.alloc(), Part::Image, source)?;
         assert!(rt; found.as_str() == fault, "{found}");
     }
     Ok(())

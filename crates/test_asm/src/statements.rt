@@ -1,8 +1,7 @@
 //! Instructions of single statements, with `USING P,5` before them.
-use crate::operand_tables::{assembled, is_refused, makes, put_in_use, table};
-use cx_asm_expressions::{FaultKind, SymbolTable};
-use cx_asm_operands::{Bases, literal_in};
-use std::alloc::Global;
+use crate::operand_tables::{is_as_due, table};
+use cx_asm_expressions::FaultKind;
+use cx_asm_operands::literal_in;
 use std::test::Fail;
 
 /// Statements with their bytes.
@@ -114,19 +113,15 @@ fn a_literal_is_the_last_operand(rt: HostRuntime) -> Result<(), Fail> {
     Ok(())
 }
 
+/// The USING before each statement.
+const USED: (&[u8], &[u8]) = (b"P,5", b"");
+
 #[test]
 fn a_statement_makes_its_instruction(rt: HostRuntime) -> Result<(), Fail> {
     let alloc = rt.alloc();
     let symbols = table(alloc)?;
-    let mut bases = Bases::new();
-    put_in_use(alloc, &symbols, &mut bases, b"P,5")?;
     for &(operation, operand, bytes) in MADE {
-        assert!(rt;
-            makes(
-                assembled(alloc, &symbols, &bases, operation, operand),
-                bytes
-            )
-        );
+        assert!(rt; is_as_due(alloc, &symbols, USED, (operation, operand), Ok(bytes)));
     }
     Ok(())
 }
@@ -135,11 +130,8 @@ fn a_statement_makes_its_instruction(rt: HostRuntime) -> Result<(), Fail> {
 fn a_faulty_statement_has_its_lowest_fault(rt: HostRuntime) -> Result<(), Fail> {
     let alloc = rt.alloc();
     let symbols = table(alloc)?;
-    let mut bases = Bases::new();
-    put_in_use(alloc, &symbols, &mut bases, b"P,5")?;
     for &(operation, operand, fault) in FAULTY {
-        let made = assembled(alloc, &symbols, &bases, operation, operand);
-        assert!(rt; is_refused(made, fault));
+        assert!(rt; is_as_due(alloc, &symbols, USED, (operation, operand), Err(fault)));
     }
     Ok(())
 }

@@ -1,5 +1,5 @@
 //! Images, listings and disassemblies, written out by hand.
-use crate::whole_texts::{assembled, disassembled, listing, text_length};
+use crate::whole_texts::{Part, assembled};
 use std::test::Fail;
 
 pub(crate) const PROGRAM: &[u8] =
@@ -30,79 +30,34 @@ const ASSEMBLED: &[(&[u8], &str)] = &[
     (b"P CSECT\n DC P'-1',P'123',PL3'-12',PL1'123',P'1,-23'\n END\n", "1D123C00012D3C1C023D E0 S80"),
 ];
 
+/// Parts of sources' assemblies: disassemblies, of a program and of instructions of two lengths and masks; listings, of
+/// a program, of comments, sections and gaps, of a continuation and a pool; and lengths about the greatest.
+#[rattlefmt::skip]
+const PARTS: &[(Part, &[u8], &str)] = &[
+    (Part::Disassembly, PROGRAM, "MVC 8(2,13),28(15);L 1,24(0,15);LH 2,30(0,15);A 1,24(0,15);DC X'00000001';DC X'C1C2';DC X'0002';"),
+    (Part::Disassembly, b"P CSECT\n PACK 8(3,5),0(5,5)\n ICM 1,7,0(5)\n END\n", "PACK 8(3,5),0(5,5);ICM 1,7,0(5);"),
+    (Part::Listing, PROGRAM, "                        00001 P        CSECT\n                        00002          USING P,15\n000000 D201D008F01C     00003          MVC   8(2,13),=C'AB'\n000006 5810F018         00004          L     1,=F'1'\n00000A 4820F01E         00005          LH    2,=H'2'\n00000E 5A10F018         00006          A     1,=F'1'\n                        00007          END\n"),
+    (Part::Listing, b"* NOTE\nD        DSECT\nX        DS    F\n         DS    H\nP        CSECT\n         DC    C'A',F'1',C'B'\n         DC    C'ABCDEFGHI'\n         DS    XL2\n         END\n", "                        00001 * NOTE\n                        00002 D        DSECT\n000000                  00003 X        DS    F\n000004                  00004          DS    H\n                        00005 P        CSECT\n000000 C100000000000001 00006          DC    C'A',F'1',C'B'\n000009 C1C2C3C4C5C6C7C8 00007          DC    C'ABCDEFGHI'\n000012                  00008          DS    XL2\n                        00009          END\n"),
+    (Part::Listing, b"P        CSECT\n         USING P,15\n         L     1,=F'5'\n         LTORG\n         DC    C'AAAAAAAAAAAAAAAAAAAAAAAAAAAAAAAAAAAAAAAAAAAAAAAAAAAAAAX\n               B'\n         END\n", "                        00001 P        CSECT\n                        00002          USING P,15\n000000 5810F008         00003          L     1,=F'5'\n                        00004          LTORG\n00000C C1C1C1C1C1C1C1C1 00005          DC    C'AAAAAAAAAAAAAAAAAAAAAAAAAAAAAAAAAAAAAAAAAAAAAAAAAAAAAAX\n                        00006                B'\n                        00007          END\n"),
+    (Part::Length, b"P CSECT\n DS 65536X\n END\n", "65536"),
+    (Part::Length, b"P CSECT\n DS 65537X\n END\n", "line 3: TooLarge"),
+    (Part::Length, b"P CSECT\n DS 4294967295XL256\n DS X\n END\n", "line 4: TooLarge"),
+];
+
 #[test]
 fn sources_are_assembled_so(rt: HostRuntime) -> Result<(), Fail> {
     for &(source, image) in ASSEMBLED {
-        let made = assembled(rt.alloc(), source)?;
+        let made = assembled(rt.alloc(), Part::Image, source)?;
         assert!(rt; made.as_str() == image, "{made}");
     }
     Ok(())
 }
 
 #[test]
-fn a_program_is_disassembled(rt: HostRuntime) -> Result<(), Fail> {
-    let lines = disassembled(rt.alloc(), PROGRAM)?;
-    assert!(rt;
-        lines.as_str()
-            == "MVC 8(2,13),28(15);L 1,24(0,15);LH 2,30(0,15);A 1,24(0,15);DC X'00000001';DC X'C1C2';DC X'0002';"
-    );
-    Ok(())
-}
-
-#[test]
-fn instructions_of_two_lengths_and_masks_are_disassembled(rt: HostRuntime) -> Result<(), Fail> {
-    let lines = disassembled(
-        rt.alloc(),
-        b"P CSECT\n PACK 8(3,5),0(5,5)\n ICM 1,7,0(5)\n END\n",
-    )?;
-    assert!(rt; lines.as_str() == "PACK 8(3,5),0(5,5);ICM 1,7,0(5);");
-    Ok(())
-}
-
-#[test]
-fn a_program_is_listed(rt: HostRuntime) -> Result<(), Fail> {
-    let lines = listing(rt.alloc(), PROGRAM)?;
-    assert!(rt;
-        lines.as_slice()
-            == b"                        00001 P        CSECT\n                        00002          USING P,15\n000000 D201D008F01C     00003          MVC   8(2,13),=C'AB'\n000006 5810F018         00004          L     1,=F'1'\n00000A 4820F01E         00005          LH    2,=H'2'\n00000E 5A10F018         00006          A     1,=F'1'\n                        00007          END\n".as_slice()
-    );
-    Ok(())
-}
-
-#[test]
-fn comments_sections_and_gaps_are_listed(rt: HostRuntime) -> Result<(), Fail> {
-    let lines = listing(
-        rt.alloc(),
-        b"* NOTE\nD        DSECT\nX        DS    F\n         DS    H\nP        CSECT\n         DC    C'A',F'1',C'B'\n         DC    C'ABCDEFGHI'\n         DS    XL2\n         END\n",
-    )?;
-    assert!(rt;
-        lines.as_slice()
-            == b"                        00001 * NOTE\n                        00002 D        DSECT\n000000                  00003 X        DS    F\n000004                  00004          DS    H\n                        00005 P        CSECT\n000000 C100000000000001 00006          DC    C'A',F'1',C'B'\n000009 C1C2C3C4C5C6C7C8 00007          DC    C'ABCDEFGHI'\n000012                  00008          DS    XL2\n                        00009          END\n".as_slice()
-    );
-    Ok(())
-}
-
-#[test]
-fn a_continuation_and_a_pool_are_listed(rt: HostRuntime) -> Result<(), Fail> {
-    let lines = listing(
-        rt.alloc(),
-        b"P        CSECT\n         USING P,15\n         L     1,=F'5'\n         LTORG\n         DC    C'AAAAAAAAAAAAAAAAAAAAAAAAAAAAAAAAAAAAAAAAAAAAAAAAAAAAAAX\n               B'\n         END\n",
-    )?;
-    assert!(rt;
-        lines.as_slice()
-            == b"                        00001 P        CSECT\n                        00002          USING P,15\n000000 5810F008         00003          L     1,=F'5'\n                        00004          LTORG\n00000C C1C1C1C1C1C1C1C1 00005          DC    C'AAAAAAAAAAAAAAAAAAAAAAAAAAAAAAAAAAAAAAAAAAAAAAAAAAAAAAX\n                        00006                B'\n                        00007          END\n".as_slice()
-    );
-    Ok(())
-}
-
-#[test]
-fn a_text_has_65_536_bytes_at_most(rt: HostRuntime) -> Result<(), Fail> {
-    let alloc = rt.alloc();
-    assert!(rt; text_length(alloc, b"P CSECT\n DS 65536X\n END\n")?.as_str() == "65536");
-    assert!(rt; text_length(alloc, b"P CSECT\n DS 65537X\n END\n")?.as_str() == "line 3: TooLarge");
-    assert!(rt;
-        text_length(alloc, b"P CSECT\n DS 4294967295XL256\n DS X\n END\n")?.as_str()
-            == "line 4: TooLarge"
-    );
+fn sources_are_listed_and_disassembled_so(rt: HostRuntime) -> Result<(), Fail> {
+    for &(part, source, text) in PARTS {
+        let made = assembled(rt.alloc(), part, source)?;
+        assert!(rt; made.as_str() == text, "{made}");
+    }
     Ok(())
 }

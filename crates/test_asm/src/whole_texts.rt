@@ -5,12 +5,25 @@ use cx_source::{SourceFault, read_source};
 use std::alloc::Global;
 use std::test::Fail;
 
-/// A fault as text.
-fn fault_text(alloc: Global, fault: AsmFault) -> Result<String, Fail> {
-    Ok(format!(in alloc; "{fault}")?)
+/// What of an assembly is looked at.
+#[derive(Clone, Copy)]
+pub(crate) enum Part {
+    /// The text as hexadecimal digits, the relocated words, the entry and the working storage.
+    Image,
+    /// How many bytes the text has.
+    Length,
+    /// The listing, each line ended by a line feed.
+    Listing,
+    /// The disassembly, each line ended by a semicolon.
+    Disassembly,
 }
 
-/// The text as hexadecimal digits, the relocated words, the entry and the working storage.
+/// The assembly of a source, or its fault.
+fn assembly_of(alloc: Global, source: &[u8]) -> Result<Result<Assembly, AsmFault>, Fail> {
+    let source = read_source(alloc, source)?;
+    Ok(assemble(alloc, &source))
+}
+
 fn image_text(alloc: Global, assembly: &Assembly) -> Result<String, Fail> {
     let image = assembly.image();
     let mut text = hex::encode_upper(alloc, image.text.as_slice())?;
@@ -21,12 +34,37 @@ fn image_text(alloc: Global, assembly: &Assembly) -> Result<String, Fail> {
     Ok(text)
 }
 
-/// What a source is assembled to, or its fault.
-pub(crate) fn assembled(alloc: Global, source: &[u8]) -> Result<String, Fail> {
-    let source = read_source(alloc, source)?;
-    match assemble(alloc, &source) {
-        Ok(assembly) => image_text(alloc, &assembly),
-        Err(fault) => fault_text(alloc, fault),
+fn length_text(alloc: Global, assembly: &Assembly) -> Result<String, Fail> {
+    let length = assembly.image().text.as_slice().len();
+    Ok(format!(in alloc; "{length}")?)
+}
+
+fn listing_text(alloc: Global, assembly: &Assembly) -> Result<String, Fail> {
+    let mut text = String::new(alloc);
+    for line in assembly.listing() {
+        text.push_str(std::str::from_utf8(line.as_slice()).unwrap_or("no text"))?;
+        text.push_str("\n")?;
+    }
+    Ok(text)
+}
+
+fn disassembly_text(alloc: Global, assembly: &Assembly) -> Result<String, Fail> {
+    let mut text = String::new(alloc);
+    for line in disassembly(alloc, assembly)? {
+        text.push_str(line_text(alloc, &line)?.as_str())?;
+        text.push_str(";")?;
+    }
+    Ok(text)
+}
+
+/// A part of what a source is assembled to, or its fault.
+pub(crate) fn assembled(alloc: Global, part: Part, source: &[u8]) -> Result<String, Fail> {
+    match (assembly_of(alloc, source)?, part) {
+        (Ok(assembly), Part::Image) => image_text(alloc, &assembly),
+        (Ok(assembly), Part::Length) => length_text(alloc, &assembly),
+        (Ok(assembly), Part::Listing) => listing_text(alloc, &assembly),
+        (Ok(assembly), Part::Disassembly) => disassembly_text(alloc, &assembly),
+        (Err(fault), _) => Ok(format!(in alloc; "{fault}")?),
     }
 }
 
@@ -36,40 +74,4 @@ pub(crate) fn line_without_end(alloc: Global, source: &[u8]) -> Option<usize> {
         Err(SourceFault::NoEnd(line)) => Some(line),
         _ => None,
     }
-}
-
-/// How many bytes the text of a source has, or its fault.
-pub(crate) fn text_length(alloc: Global, source: &[u8]) -> Result<String, Fail> {
-    let source = read_source(alloc, source)?;
-    match assemble(alloc, &source) {
-        Ok(assembly) => {
-            let length = assembly.image().text.as_slice().len();
-            Ok(format!(in alloc; "{length}")?)
-        }
-        Err(fault) => fault_text(alloc, fault),
-    }
-}
-
-/// The listing of a source, each line ended by a line feed.
-pub(crate) fn listing(alloc: Global, source: &[u8]) -> Result<Vec<u8>, Fail> {
-    let source = read_source(alloc, source)?;
-    let assembly = assemble(alloc, &source)?;
-    let mut text = Vec::new(alloc);
-    for line in assembly.listing() {
-        text.extend_from_slice(line.as_slice())?;
-        text.push(b'\n')?;
-    }
-    Ok(text)
-}
-
-/// The disassembly of a source, each line ended by a semicolon.
-pub(crate) fn disassembled(alloc: Global, source: &[u8]) -> Result<String, Fail> {
-    let source = read_source(alloc, source)?;
-    let assembly = assemble(alloc, &source)?;
-    let mut text = String::new(alloc);
-    for line in disassembly(alloc, &assembly)? {
-        text.push_str(line_text(alloc, &line)?.as_str())?;
-        text.push_str(";")?;
-    }
-    Ok(text)
 }
