@@ -178,49 +178,33 @@ fn a_source_without_its_end_is_refused_after_its_last_line(rt: HostRuntime) {
     }
 }
 
+/// Sources with their faults.
+#[rattlefmt::skip]
+const FAULTS: &[(&str, SourceFault)] = &[
+    ("*{\n END", SourceFault::BadCharacter(1)),
+    (" DS F\r\r\n END", SourceFault::BadCharacter(1)),
+    (" DS F\n END\r", SourceFault::BadCharacter(2)),
+    ("1A DS F\n END", SourceFault::BadName(1)),
+    ("*\nABCDEFGHI DS F\n END", SourceFault::BadName(2)),
+    ("a DS F\n END", SourceFault::BadName(1)),
+    ("", SourceFault::NoEnd(1)),
+    ("* END\n", SourceFault::NoEnd(2)),
+    // a line of more than 80 columns
+    ("*{                                                                               \n END", SourceFault::TooLong(1)),
+    // a character without a code, and bytes in columns 1 to 15, on a line that continues a statement
+    (" DS F\n DC C'A'                                                               X\n    B          {\n END", SourceFault::BadCharacter(3)),
+    // a byte in columns 1 to 15 of a line that continues a statement
+    (" DC C'A'                                                               X\n              B\n END", SourceFault::BadContinuation(2)),
+];
+
 #[test]
 fn each_fault_has_its_line(rt: HostRuntime) {
-    for (source, fault) in [
-        ("*{\n END", SourceFault::BadCharacter(1)),
-        (" DS F\r\r\n END", SourceFault::BadCharacter(1)),
-        (" DS F\n END\r", SourceFault::BadCharacter(2)),
-        ("1A DS F\n END", SourceFault::BadName(1)),
-        ("*\nABCDEFGHI DS F\n END", SourceFault::BadName(2)),
-        ("a DS F\n END", SourceFault::BadName(1)),
-        ("", SourceFault::NoEnd(1)),
-        ("* END\n", SourceFault::NoEnd(2)),
-    ] {
+    for &(source, fault) in FAULTS {
         assert!(rt;
             fault_of(rt.alloc(), source.as_bytes()) == Some(fault),
             "{source}"
         );
     }
-}
-
-/// A line of more than 80 columns.
-fn long_line(alloc: Global) -> Result<Option<SourceFault>, AllocError> {
-    let source = format!(in alloc; "*{:<80}\n END", "{")?;
-    Ok(fault_of(alloc, source.as_bytes()))
-}
-
-/// A character without a code, and bytes in columns 1 to 15, on a line that continues a statement.
-fn bad_character(alloc: Global) -> Result<Option<SourceFault>, AllocError> {
-    let source = format!(in alloc; " DS F\n{:<71}X\n    {:<11}{{\n END", " DC C'A'", "B")?;
-    Ok(fault_of(alloc, source.as_bytes()))
-}
-
-/// A byte in columns 1 to 15 of a line that continues a statement.
-fn bad_continuation(alloc: Global) -> Result<Option<SourceFault>, AllocError> {
-    let source = format!(in alloc; "{:<71}X\n{:14}B\n END", " DC C'A'", "")?;
-    Ok(fault_of(alloc, source.as_bytes()))
-}
-
-#[test]
-fn faults_of_columns_have_their_lines(rt: HostRuntime) -> Result<(), Fail> {
-    assert!(rt; long_line(rt.alloc())? == Some(SourceFault::TooLong(1)));
-    assert!(rt; bad_character(rt.alloc())? == Some(SourceFault::BadCharacter(3)));
-    assert!(rt; bad_continuation(rt.alloc())? == Some(SourceFault::BadContinuation(2)));
-    Ok(())
 }
 
 /// `count` empty lines.
@@ -256,79 +240,34 @@ fn begins_with(
     })
 }
 
+/// Sources, and the name, the operation and the operand of the first statement of each.
+#[rattlefmt::skip]
+const RULES: &[(&str, (&str, &str, &str))] = &[
+    ("* DS F\n\n  \n DS F\r\n END\r\n", ("", "DS", "F")),
+    ("A1  MVC X,=C'A''B C' IT'S ONE\n END", ("A1", "MVC", "X,=C'A''B C'")),
+    ("@ LA 1,L'X+L'$ 'A\n END", ("@", "LA", "1,L'X+L'$")),
+    ("#9 DC CL'X Y'\n END\n1BAD {\n", ("#9", "DC", "CL'X Y'")),
+    (" EXEC CICS  A  \n END", ("", "EXEC", "CICS  A")),
+    ("ONLYNAME\n END", ("ONLYNAME", "", "")),
+    // an operand of an unfinished text goes on in column 16, and columns 73 to 80 don't count
+    ("A DC C'AB                                                              X12345678\n               CD' REST\n END", ("A", "DC", "C'AB                                                              CD'")),
+    // an operand goes on over two lines
+    ("A DC C'AAAAAAAAAAAAAAAAAAAAAAAAAAAAAAAAAAAAAAAAAAAAAAAAAAAAAAAAAAAAAAAAXY\n               BBBBBBBBBBBBBBBBBBBBBBBBBBBBBBBBBBBBBBBBBBBBBBBBBBBBBBBBX\n               C' D\n END", ("A", "DC", "C'AAAAAAAAAAAAAAAAAAAAAAAAAAAAAAAAAAAAAAAAAAAAAAAAAAAAAAAAAAAAAAAABBBBBBBBBBBBBBBBBBBBBBBBBBBBBBBBBBBBBBBBBBBBBBBBBBBBBBBBC'")),
+    // a command's blanks are kept
+    (" EXEC CICS  ABEND                                                      X\n               'A B'\n END", ("", "EXEC", "CICS  ABEND                                                      'A B'")),
+    // the source ends at an END that is marked as continued
+    (" END                                                                   X\n{", ("", "END", "")),
+    // an empty line continues a statement
+    (" DC C'A'                                                               X\n\n END", ("", "DC", "C'A'")),
+    // a blank statement goes on with an operand
+    ("                                                                       X\n                MVC A\n END", ("", "", "MVC")),
+];
+
 #[test]
 fn each_rule_of_lines_holds(rt: HostRuntime) -> Result<(), Fail> {
-    for (source, expected) in [
-        ("* DS F\n\n  \n DS F\r\n END\r\n", ("", "DS", "F")),
-        (
-            "A1  MVC X,=C'A''B C' IT'S ONE\n END",
-            ("A1", "MVC", "X,=C'A''B C'"),
-        ),
-        ("@ LA 1,L'X+L'$ 'A\n END", ("@", "LA", "1,L'X+L'$")),
-        ("#9 DC CL'X Y'\n END\n1BAD {\n", ("#9", "DC", "CL'X Y'")),
-        (" EXEC CICS  A  \n END", ("", "EXEC", "CICS  A")),
-        ("ONLYNAME\n END", ("ONLYNAME", "", "")),
-    ] {
+    for &(source, expected) in RULES {
         assert!(rt; begins_with(rt.alloc(), source, expected)?, "{source}");
     }
-    Ok(())
-}
-
-/// Whether an operand of an unfinished text goes on in column 16, and columns 73 to 80 don't count.
-fn text_goes_on(alloc: Global) -> Result<bool, SourceFault> {
-    let source = format!(in alloc; "A DC {:<66}X12345678\n{:15}CD' REST\n END", "C'AB", "")?;
-    let operand = format!(in alloc; "C'AB{:62}CD'", "")?;
-    begins_with(alloc, source.as_str(), ("A", "DC", operand.as_str()))
-}
-
-/// Whether an operand goes on over two lines.
-fn line_goes_on_twice(alloc: Global) -> Result<bool, SourceFault> {
-    let source = format!(in alloc;
-        "A DC C'{:A<64}XY\n{:15}{:B<56}X\n{:15}C' D\n END",
-        "", "", "", ""
-    )?;
-    let operand = format!(in alloc; "C'{:A<64}{:B<56}C'", "", "")?;
-    begins_with(alloc, source.as_str(), ("A", "DC", operand.as_str()))
-}
-
-/// Whether a command's blanks are kept.
-fn command_goes_on(alloc: Global) -> Result<bool, SourceFault> {
-    let source = format!(in alloc; "{:<71}X\n{:15}'A B'\n END", " EXEC CICS  ABEND", "")?;
-    let operand = format!(in alloc; "CICS  ABEND{:54}'A B'", "")?;
-    begins_with(alloc, source.as_str(), ("", "EXEC", operand.as_str()))
-}
-
-#[test]
-fn operands_go_on(rt: HostRuntime) -> Result<(), Fail> {
-    assert!(rt; text_goes_on(rt.alloc())?);
-    assert!(rt; line_goes_on_twice(rt.alloc())?);
-    assert!(rt; command_goes_on(rt.alloc())?);
-    Ok(())
-}
-
-/// Whether the source ends at an END that is marked as continued.
-fn ends_at_a_mark(alloc: Global) -> Result<bool, SourceFault> {
-    let source = format!(in alloc; "{:<71}X\n{{", " END")?;
-    begins_with(alloc, source.as_str(), ("", "END", ""))
-}
-
-/// Whether an empty line continues a statement.
-fn empty_line_continues(alloc: Global) -> Result<bool, SourceFault> {
-    let source = format!(in alloc; "{:<71}X\n\n END", " DC C'A'")?;
-    begins_with(alloc, source.as_str(), ("", "DC", "C'A'"))
-}
-
-/// Whether a blank statement goes on with an operand.
-fn blank_goes_on(alloc: Global) -> Result<bool, SourceFault> {
-    let source = format!(in alloc; "{:71}X\n{:15} MVC A\n END", "", "")?;
-    begins_with(alloc, source.as_str(), ("", "", "MVC"))
-}
-
-#[test]
-fn blank_lines_continue(rt: HostRuntime) -> Result<(), Fail> {
-    assert!(rt; ends_at_a_mark(rt.alloc())?);
-    assert!(rt; empty_line_continues(rt.alloc())?);
-    assert!(rt; blank_goes_on(rt.alloc())?);
     Ok(())
 }
 
@@ -339,17 +278,12 @@ fn kept(source: &Source, place: usize) -> Option<(usize, usize, bool)> {
 }
 
 /// A comment, a statement on two lines, and END.
-fn source_of_four_lines(alloc: Global) -> Result<Source, SourceFault> {
-    let text = format!(in alloc;
-        "* A  \n{:<71}X12345678\n{:15}'B'\n END\n{{",
-        " DC C'A'", ""
-    )?;
-    read_source(alloc, text.as_bytes())
-}
+#[rattlefmt::skip]
+const FOUR_LINES: &[u8] = b"* A  \n DC C'A'                                                               X12345678\n               'B'\n END\n{";
 
 #[test]
 fn lines_keep_their_texts(rt: HostRuntime) -> Result<(), Fail> {
-    let source = source_of_four_lines(rt.alloc())?;
+    let source = read_source(rt.alloc(), FOUR_LINES)?;
     assert!(rt; kept(&source, 0) == Some((1, 3, false)));
     assert!(rt; kept(&source, 1) == Some((2, 72, true)));
     assert!(rt; kept(&source, 2) == Some((3, 18, false)));
@@ -531,7 +465,7 @@ fn lines_and_statements_are_copied(rt: HostRuntime) -> Result<(), Fail> {
     let source = read_source(rt.alloc(), PROGRAM)?;
     assert!(rt; is_program(&copied(rt.alloc(), &source)?));
     assert!(rt; is_copied(rt.alloc(), &source, STATEMENTS[0])?);
-    let source = copied(rt.alloc(), &source_of_four_lines(rt.alloc())?)?;
+    let source = copied(rt.alloc(), &read_source(rt.alloc(), FOUR_LINES)?)?;
     assert!(rt; kept(&source, 0) == Some((1, 3, false)));
     assert!(rt; kept(&source, 1) == Some((2, 72, true)));
     assert!(rt; kept(&source, 4).is_none());

@@ -40,9 +40,19 @@ const TRANSLATED: &[u8] = b"01 DFHEISTG DSECT
 03          END
 ";
 
+/// Sources, and what each becomes.
+#[rattlefmt::skip]
+const WHOLE: &[(&[u8], &[u8])] = &[
+    (RETURNS, TRANSLATED),
+    // without EXEC it stays
+    (b"* NOTE\nDFHEISTG DSECT\nP        START\n         END\n", b"01 * NOTE\n02 DFHEISTG DSECT\n03 P        START\n04          END\n"),
+];
+
 #[test]
-fn a_section_that_returns(rt: HostRuntime) -> Result<(), Fail> {
-    assert!(rt; translated(rt.alloc(), RETURNS)?.as_slice() == TRANSLATED);
+fn sources_become_these(rt: HostRuntime) -> Result<(), Fail> {
+    for (i, (source, lines)) in WHOLE.iter().enumerate() {
+        assert!(rt; translated(rt.alloc(), source)?.as_slice() == *lines, "{i}");
+    }
     Ok(())
 }
 
@@ -51,45 +61,25 @@ fn begins(alloc: Global, source: &[u8], front: &[u8]) -> Result<bool, Fail> {
     Ok(translated(alloc, source)?.starts_with(front))
 }
 
-#[test]
-fn a_source_without_exec_stays(rt: HostRuntime) -> Result<(), Fail> {
-    let source: &[u8] = b"* NOTE\nDFHEISTG DSECT\nP        START\n         END\n";
-    let same: &[u8] = b"01 * NOTE\n02 DFHEISTG DSECT\n03 P        START\n04          END\n";
-    assert!(rt; translated(rt.alloc(), source)?.as_slice() == same);
-    Ok(())
-}
+/// Sources, and what the translation of each begins with.
+#[rattlefmt::skip]
+const FRONTS: &[(&[u8], &[u8])] = &[
+    // a name, continuations and comments
+    (b"P        START 0                                                       X\n               REMARK\nGO       EXEC  CICS                                                    X\n               RETURN                                                  X\n               NOHANDLE\n* NOTE\n         END\n", b"01 DFHEISTG DSECT\n01 DFHEIPL  DS    18F\n01 DFHEITP  DS    F\n01 DFHEICAP DS    A\n01 P        START 0                                                       X\n02                REMARK\n01          USING P,3\n01          USING DFHEISTG,13\n01          USING DFHEIBLK,11\n03 GO       DS    0H\n03          LA    0,=X'0E080080'\n03          ST    0,DFHEIPL+0\n03          OI    DFHEIPL+0,X'80'\n03          LA    1,DFHEIPL\n03          L     15,=V(DFHEI1)\n03          BALR  14,15\n06 * NOTE\n07 DFHEIBLK DSECT\n"),
+    // fields stand after the first DFHEISTG
+    (b"DFHEISTG DSECT\nX        DS    F\nP        CSECT\nDFHEISTG DSECT\nP        CSECT\n         EXEC  CICS SUSPEND\n         END\n", b"01 DFHEISTG DSECT\n01 DFHEIPL  DS    18F\n01 DFHEITP  DS    F\n01 DFHEICAP DS    A\n02 X        DS    F\n03 P        CSECT\n03          USING P,3\n03          USING DFHEISTG,13\n03          USING DFHEIBLK,11\n04 DFHEISTG DSECT\n05 P        CSECT\n06          LA    0,=X'12080000'\n"),
+    (b"P        CSECT\nDFHEISTG DSECT\nP        CSECT\n         EXEC  CICS SUSPEND\n         END\n", b"01 P        CSECT\n01          USING P,3\n01          USING DFHEISTG,13\n01          USING DFHEIBLK,11\n02 DFHEISTG DSECT\n02 DFHEIPL  DS    18F\n02 DFHEITP  DS    F\n02 DFHEICAP DS    A\n03 P        CSECT\n04          LA    0,"),
+    // without a section none is put
+    (b"         EXEC  CICS SUSPEND\n         END\n", b"01          LA    0,=X'12080000'\n01          ST    0,DFHEIPL+0\n01          OI    DFHEIPL+0,X'80'\n01          LA    1,DFHEIPL\n01          L     15,=V(DFHEI1)\n01          BALR  14,15\n02 DFHEIBLK DSECT\n"),
+    // conditions over three lines
+    (b"P        CSECT\n         EXEC  CICS HANDLE CONDITION ERROR(L1)                         X\n               PGMIDERR                                                X\n               QIDERR(L2) RESP(R)\n         END\n", b"01 DFHEISTG DSECT\n01 DFHEIPL  DS    18F\n01 DFHEITP  DS    F\n01 DFHEICAP DS    A\n01 P        CSECT\n01          USING P,3\n01          USING DFHEISTG,13\n01          USING DFHEIBLK,11\n02          LA    0,=X'0204034001801B002C80'\n02          ST    0,DFHEIPL+0\n02          LA    0,L1\n02          ST    0,DFHEIPL+4\n02          LA    0,L2\n02          ST    0,DFHEIPL+8\n02          LA    0,R\n02          ST    0,DFHEIPL+12\n02          OI    DFHEIPL+12,X'80'\n02          LA    1,DFHEIPL\n02          L     15,=V(DFHEI1)\n02          BALR  14,15\n05 DFHEIBLK DSECT\n"),
+];
 
 #[test]
-fn a_name_and_continuations_and_comments(rt: HostRuntime) -> Result<(), Fail> {
-    let source: &[u8] =
-        b"P        START 0                                                       X\n               REMARK\nGO       EXEC  CICS                                                    X\n               RETURN                                                  X\n               NOHANDLE\n* NOTE\n         END\n";
-    let front: &[u8] =
-        b"01 DFHEISTG DSECT\n01 DFHEIPL  DS    18F\n01 DFHEITP  DS    F\n01 DFHEICAP DS    A\n01 P        START 0                                                       X\n02                REMARK\n01          USING P,3\n01          USING DFHEISTG,13\n01          USING DFHEIBLK,11\n03 GO       DS    0H\n03          LA    0,=X'0E080080'\n03          ST    0,DFHEIPL+0\n03          OI    DFHEIPL+0,X'80'\n03          LA    1,DFHEIPL\n03          L     15,=V(DFHEI1)\n03          BALR  14,15\n06 * NOTE\n07 DFHEIBLK DSECT\n";
-    assert!(rt; begins(rt.alloc(), source, front)?);
-    Ok(())
-}
-
-#[test]
-fn fields_stand_after_the_first_dfheistg(rt: HostRuntime) -> Result<(), Fail> {
-    let source: &[u8] =
-        b"DFHEISTG DSECT\nX        DS    F\nP        CSECT\nDFHEISTG DSECT\nP        CSECT\n         EXEC  CICS SUSPEND\n         END\n";
-    let front: &[u8] =
-        b"01 DFHEISTG DSECT\n01 DFHEIPL  DS    18F\n01 DFHEITP  DS    F\n01 DFHEICAP DS    A\n02 X        DS    F\n03 P        CSECT\n03          USING P,3\n03          USING DFHEISTG,13\n03          USING DFHEIBLK,11\n04 DFHEISTG DSECT\n05 P        CSECT\n06          LA    0,=X'12080000'\n";
-    assert!(rt; begins(rt.alloc(), source, front)?);
-    let after: &[u8] =
-        b"P        CSECT\nDFHEISTG DSECT\nP        CSECT\n         EXEC  CICS SUSPEND\n         END\n";
-    let front: &[u8] =
-        b"01 P        CSECT\n01          USING P,3\n01          USING DFHEISTG,13\n01          USING DFHEIBLK,11\n02 DFHEISTG DSECT\n02 DFHEIPL  DS    18F\n02 DFHEITP  DS    F\n02 DFHEICAP DS    A\n03 P        CSECT\n04          LA    0,";
-    assert!(rt; begins(rt.alloc(), after, front)?);
-    Ok(())
-}
-
-#[test]
-fn without_a_section_none_is_put(rt: HostRuntime) -> Result<(), Fail> {
-    let source: &[u8] = b"         EXEC  CICS SUSPEND\n         END\n";
-    let front: &[u8] =
-        b"01          LA    0,=X'12080000'\n01          ST    0,DFHEIPL+0\n01          OI    DFHEIPL+0,X'80'\n01          LA    1,DFHEIPL\n01          L     15,=V(DFHEI1)\n01          BALR  14,15\n02 DFHEIBLK DSECT\n";
-    assert!(rt; begins(rt.alloc(), source, front)?);
+fn sources_begin_so(rt: HostRuntime) -> Result<(), Fail> {
+    for (i, (source, front)) in FRONTS.iter().enumerate() {
+        assert!(rt; begins(rt.alloc(), source, front)?, "{i}");
+    }
     Ok(())
 }
 
@@ -141,16 +131,6 @@ fn without_end_nothing_is_put_before_it(rt: HostRuntime) -> Result<(), Fail> {
 fn the_eib_stands_before_the_first_end(rt: HostRuntime) -> Result<(), Fail> {
     let made = suspended(rt.alloc(), &[3, 4])?;
     assert!(rt; made.strip_prefix(SUSPENDED) == Some(TWO_ENDS));
-    Ok(())
-}
-
-#[test]
-fn conditions_over_three_lines(rt: HostRuntime) -> Result<(), Fail> {
-    let source: &[u8] =
-        b"P        CSECT\n         EXEC  CICS HANDLE CONDITION ERROR(L1)                         X\n               PGMIDERR                                                X\n               QIDERR(L2) RESP(R)\n         END\n";
-    let front: &[u8] =
-        b"01 DFHEISTG DSECT\n01 DFHEIPL  DS    18F\n01 DFHEITP  DS    F\n01 DFHEICAP DS    A\n01 P        CSECT\n01          USING P,3\n01          USING DFHEISTG,13\n01          USING DFHEIBLK,11\n02          LA    0,=X'0204034001801B002C80'\n02          ST    0,DFHEIPL+0\n02          LA    0,L1\n02          ST    0,DFHEIPL+4\n02          LA    0,L2\n02          ST    0,DFHEIPL+8\n02          LA    0,R\n02          ST    0,DFHEIPL+12\n02          OI    DFHEIPL+12,X'80'\n02          LA    1,DFHEIPL\n02          L     15,=V(DFHEI1)\n02          BALR  14,15\n05 DFHEIBLK DSECT\n";
-    assert!(rt; begins(rt.alloc(), source, front)?);
     Ok(())
 }
 
