@@ -101,6 +101,7 @@ def filmed_alone(name: str, text: str, path: str, least_skipped: int = 0) -> Fil
         recorder = Recorder(child, film, skipped, progress(name, events))
         recorder.lines_left = MOST_LINES if has_look(path, "FIELDS TERM") else 0
         recorder.has_instructions = has_look(path, "AHEAD TERM 1")
+        recorder.lines_to_count = MOST_LINES if has_look(path, "COVER ON") else 0
         recorder.perform(actions)
     return film
 

@@ -327,7 +327,15 @@ function endOf(lines, line) {
   return end;
 }
 
-/** The source at which a task is: what comes next, or is due, is marked; what this half-turn surely did is tinted. */
+/** What is said of a statement that wasn't run up to the event, or in all of the film; nothing of others. */
+function unrun(film, source, line) {
+  const first = source.runs?.[line];
+  if (first === undefined || first < 0) return "";
+  return first === 0 ? "never" : first > film.data.leftOut + film.at + 1 ? "later" : "";
+}
+
+/** The source at which a task is: what comes next, or is due, is marked; what this half-turn surely did is tinted, and what wasn't run so far, or
+ * never, in other colours. */
 function sourceCard(film, terminal) {
   const event = film.data.events[film.at];
   const ran = film.states[film.at + 1]?.ran[terminal];
@@ -340,7 +348,9 @@ function sourceCard(film, terminal) {
   const width = Math.max(5, ...(source.from || []).map((it) => it.length));
   source.lines.forEach((line, at) => {
     const kind = event?.ran && isOf(ran[1], at + 1) ? "row here" : passed.concat(event?.ran ? [] : ran[1]).some((it) => isOf(it, at + 1)) ? "row ran" : "row";
-    text.append(make("span", kind, `${numberOf(at + 1).padStart(width)}  ${line.slice(0, 72)}`));
+    const missed = unrun(film, source, at + 1);
+    const mark = { never: "-", later: "." }[missed] || " ";
+    text.append(make("span", `${kind} ${missed}`.trim(), `${numberOf(at + 1).padStart(width)}${mark} ${line.slice(0, 72)}`));
   });
   setTimeout(() => middle(text, text.querySelector(".here") || text.querySelector(".ran")), 0);
   const what = !event?.ran ? ", where the task was last" : / Abended /.test(event.answer) ? ", where the task abended" : "";

@@ -43,7 +43,7 @@ def source_data(source: Source) -> dict[str, Any]:
     """What the page knows of a source, whose lines are the script's."""
     fields = {key: [asdict(it) for it in found] for key, found in (("fields", source.fields), ("cwa", source.cwa))}
     origins = {"from": source.origins} if source.origins else {}
-    return {"name": source.name, "first": source.first, "count": len(source.lines), "types": source.types, **fields, **origins}
+    return {"name": source.name, "first": source.first, "count": len(source.lines), "types": source.types, "runs": source.runs, **fields, **origins}
 
 
 def search_data(search: Search, before: int) -> dict[str, Any]:

@@ -7,6 +7,7 @@ from collections.abc import Callable
 from dataclasses import dataclass, field
 
 from cics.child import Child, Gone
+from cics.cover.asking import ON
 from cics.film.sources import Source, source_of, with_fields
 from cics.orders import SECONDS, Orders, read_orders
 from cics.scripts import RUN, Action
@@ -23,6 +24,8 @@ ITEM = re.compile(r"> ITEM (\d+) LENGTH (\d+) ")
 INSTRUCTION = re.compile(r"> INSTRUCTION [0-9A-F]{6} ([^ +]+)\+[0-9A-F]{6} \S+ LINE (\d+)")
 MOST_INSTRUCTIONS = 256  # of a half-turn, the last ones, whose statements are tinted
 BYTES = re.compile(r" BYTES (\d+) READ \d+$")
+COVERED = re.compile(r"> COVERED \S+ STATEMENTS (\d+) OF ")
+RAN = ("AtCommand", "Abended", "TookExit")  # answers to turns that run instructions
 NEXT = re.compile(r"> CC \d NEXT ([0-9A-F]{6}) ")
 SOURCE = re.compile(r"SOURCE ([A-Z0-9@#$]{1,8})( DISASM)?")  # without LIST
 
@@ -91,10 +94,19 @@ class Recorder:
         self.bytes: dict[str, int] = {}  # of each terminal's task: how many bytes its areas have
         self.lines_left, self.named = 0, set[str]()  # of sources that FIELDS may still look through; of which terminals it was asked
         self.has_instructions = False  # whether AHEAD has the instructions of the next turn
+        self.lines_to_count = 0  # of sources, whose statements COVERED may still count after turns
+        self.counted: dict[str, str] = {}  # of each program, how many of its statements were run
         self.done = 0
 
     def perform(self, actions: list[Action]) -> None:
         """Performs all, up to a fault of the script."""
+        if self.lines_to_count:
+            self.child.ask(ON)
+        self.perform_each(actions)
+        if self.lines_to_count and not self.film.fault:
+            self.note_runs([it.name for it in self.film.sources.values() if it.lines], -1)
+
+    def perform_each(self, actions: list[Action]) -> None:
         for action in actions:
             began = self.child.count
             try:
@@ -112,8 +124,8 @@ class Recorder:
             raise Gone("", self.child.end(*action.lines))
         elif action.word == "ORDERS":
             self.film.searches.append(Search(action.line, self.done, read_orders(self.child.ask(*action.lines, seconds=SECONDS))))
-        elif action.word == "WATCH":
-            pass  # a film shows what changes
+        elif action.word in ("WATCH", "COVER"):
+            pass  # a film shows what changes, and counts by itself
         elif not action.is_event:
             self.child.ask(*action.lines)
         elif action.turns:
@@ -164,7 +176,7 @@ class Recorder:
             self.note_terminal(action, answer)
             self.shown = {f"display {terminal}": it for it in display if is_there(it)}
             return answer
-        is_first = self.done == self.skipped + 1 and self.skipped > 0
+        level, is_first = self.levels.get(terminal or "", ("", 0))[0], self.done == self.skipped + 1 and self.skipped > 0
         self.shown = {} if is_first else self.shown
         asked = self.questions(set(self.film.terminals) if is_first else {terminal or ""} - {""})
         before_it = self.instructions_ahead(lines, terminal)
@@ -189,7 +201,20 @@ class Recorder:
         if terminal:
             self.note_place(event, terminal, without_looks(answer)[-1:], [it for it in map(INSTRUCTION.match, ahead) if it])
         self.film.events.append(event)
+        if lines[0].startswith("TURN ") and reply_of(event.answer[-1] if event.answer else "") in RAN and self.lines_to_count > 1:
+            self.note_runs([level], self.done)
         return answer
+
+    def note_runs(self, programs: Lines, number: int) -> None:
+        """Notes which statements of programs were run first by the event of a number; -1 where that isn't known."""
+        names = [it for it in programs if it in self.film.sources]
+        self.lines_to_count = max(1, self.lines_to_count - sum(len(self.film.sources[it].lines) for it in names))
+        counts = {it: found[1] for it, lines in self.asked({it: f"COVERED {it}" for it in names}).items() if (found := COVERED.match(lines[0]))}
+        new = {it: f"COVERED {it} LINES" for it, count in counts.items() if self.counted.get(it) != count}
+        left_out = set() if not self.skipped else {*counts} - {*self.counted}  # what these ran before isn't known
+        self.counted |= counts
+        for it, lines in self.asked(new).items():
+            self.film.sources[it].note_runs(lines, -1 if it in left_out else number)
 
     def instructions_ahead(self, lines: Lines, terminal: str | None) -> Lines:
         """What is asked in front of a turn that runs instructions: which these are."""

@@ -9,6 +9,8 @@ from dataclasses import dataclass, field
 from functools import cached_property
 from typing import NamedTuple
 
+from cics.cover.asking import STATEMENT as STATEMENT_RUN
+
 LISTED = re.compile(r"([0-9A-F]{6}| {6}) ([0-9A-F ]{16}) ([0-9]{5}) (.*)")
 SYMBOL = re.compile(r"> SYMBOL '(.+)' VALUE ([0-9A-F]{6}) SECTION '(.+)' LENGTH ([0-9]+) LINE ([0-9]+)")
 STATEMENT = re.compile(r"(\S*)\s+(\S+)\s*(.*)")
@@ -50,6 +52,7 @@ class Source:
     fields: list[Field] = field(default_factory=list)
     cwa: list[Field] = field(default_factory=list)
     types: dict[str, str] = field(default_factory=dict)  # of each field of a DSECT the letter of its type
+    runs: dict[int, int] = field(default_factory=dict)  # of each line with a statement the event that ran it first; 0: none; -1: not known
     origins: list[str] = field(default_factory=list)  # where each line comes from, where it was adapted
 
     def line_of(self, address: int) -> int | None:
@@ -59,6 +62,12 @@ class Source:
             return None
         at = bisect.bisect(self.places, (offset, 1 << 30)) - 1
         return self.places[at][1] if at >= 0 else None
+
+    def note_runs(self, lines: list[str], number: int) -> None:
+        """Notes that the statements which COVERED has as run, and that weren't before, were run by an event."""
+        for one in filter(None, map(STATEMENT_RUN.fullmatch, lines)):
+            line, was_run = int(one["line"]), not one["runs"].startswith("-")
+            self.runs[line] = self.runs.get(line) or (number if was_run else 0)
 
     def statements(self) -> Iterator[Statement]:
         """All statements; a line goes on in the next one where its column 72 isn't blank."""

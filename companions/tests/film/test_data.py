@@ -7,7 +7,7 @@ import subprocess
 from concurrent.futures import ThreadPoolExecutor
 
 from cics.child import TOP, Child, Gone, encoded
-from cics.film.command import filmed, has_look
+from cics.film.command import filmed, filmed_alone, has_look
 from cics.film.page import film_data, fit, json_of
 from cics.scripts import actions_of
 from checks.hostile_lines import HEAD
@@ -165,6 +165,19 @@ def statements_of_half_turns() -> None:
     expect("where a task abended", [it["ran"] for it in found if " Abended " in it["answer"]][:1] == [["PAY", 18]], found)
 
 
+def statements_run_first() -> None:
+    """Of each statement the event that ran it first; three that the script never runs; and what a film doesn't have, since its beginning is left
+    out, isn't known."""
+    path = f"{TOP}/examples/lessons/17-never-run/post.script"
+    data = film_of(path)
+    runs = {int(line): number for line, number in data["sources"]["POST"]["runs"].items()}
+    texts = {number: data["events"][number - 1]["text"] for number in runs.values() if number > 0}
+    expect("turns", all(text == "TURN T001" for text in texts.values()), texts)
+    expect("by the first task, by the third, and never", [runs[line] for line in (13, 16, 22, 29, 30, 31, 32)] == [5, 7, 21, 0, 0, 0, 7], runs)
+    cut = filmed_alone("cut", text_of(path), PROGRAM, 12).sources["POST"].runs
+    expect("of a cut film", [cut[line] for line in (13, 22, 29)] == [-1, 21, 0], cut)
+
+
 def queues_of_all_names() -> None:
     """A queue whose name is blank is asked for too; one is asked for again where its items can have changed."""
     source = ["SOURCE Q", "DFHEISTG DSECT", "N        DS    CL8", "Q        CSECT", "         MVC   N,=CL8' '"]
@@ -209,6 +222,9 @@ class DataTest(TestCase):
 
     def test_statements_of_half_turns(self) -> None:
         statements_of_half_turns()
+
+    def test_statements_run_first(self) -> None:
+        statements_run_first()
 
     def test_queues_of_all_names(self) -> None:
         queues_of_all_names()
