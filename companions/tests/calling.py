@@ -1,16 +1,50 @@
-"""Calls of the companions by their words, as a user has them."""
+"""Calls of the companions by their words, as a user has them, and files for them."""
+import contextlib
 import fnmatch
 import os
 import subprocess
 import tempfile
+from collections.abc import Iterator, Mapping, Sequence
 from dataclasses import dataclass, field
 
-from cics.child import TOP, Ended
+from cics.child import Ended
+from tests.case import CICSLOOK, COMPANIONS
+
+SOURCE = "P        CSECT\n         EXEC  CICS RETURN\n         END\n"
+FAULTY = SOURCE.replace("RETURN", "RETERN")
+SCRIPT = f"SOURCE P\n{SOURCE}/*\nTRANSACTION P P\nTERMINAL T001\nKEY T001 ENTER P\nRUN T001\n"
+FILES = {"p.asm": SOURCE, "f.asm": FAULTY, "s.script": SCRIPT}
 
 
-def called(companion: str, words: list[str], folder: str) -> Ended:
-    ran = subprocess.run([os.path.join(TOP, "companions", companion), *words], cwd=folder, stdin=subprocess.DEVNULL, capture_output=True,
-                         timeout=300, check=False)
+def put(folder: str, files: Mapping[str, str | bytes]) -> None:
+    """Writes files, a byte for each character of a text."""
+    for name, content in files.items():
+        path = os.path.join(folder, name)
+        os.makedirs(os.path.dirname(path), exist_ok=True)
+        with open(path, "wb") as file:
+            file.write(content.encode("latin-1") if isinstance(content, str) else content)
+
+
+@contextlib.contextmanager
+def folder_of(files: Mapping[str, str | bytes]) -> Iterator[str]:
+    with tempfile.TemporaryDirectory() as folder:
+        put(folder, files)
+        yield folder
+
+
+def program(folder: str, script: str) -> str:
+    """A program that answers to --version as cicslook does, and else runs a script of the shell."""
+    path = os.path.join(folder, "program")
+    put(folder, {"program": f'#!/bin/sh\n[ $# = 0 ] || exec {CICSLOOK} "$@"\n{script}\n'})
+    os.chmod(path, 0o755)
+    return path
+
+
+def called(companion: str, words: Sequence[str], folder: str, *, given: bytes = b"", redirected: str = "", largest: int | None = None) -> Ended:
+    """How a call ends, perhaps with a redirection of the shell, or with a limit of what a file may have."""
+    limit = f"ulimit -f {largest // 512}; " if largest else ""
+    command = ["/bin/sh", "-c", f'{limit}exec "$@" {redirected}', "sh", os.path.join(COMPANIONS, companion), *words]
+    ran = subprocess.run(command, cwd=folder, input=given, capture_output=True, timeout=300, check=False)
     return Ended(ran.returncode, ran.stdout, ran.stderr)
 
 
@@ -33,10 +67,7 @@ def is_line(due: str, line: str) -> bool:
 
 
 def failure_of(call: Call, programs: list[str]) -> str | None:
-    with tempfile.TemporaryDirectory() as folder:
-        for name, text in call.files.items():
-            with open(os.path.join(folder, name), "wb") as file:
-                file.write(text.encode("latin-1"))
+    with folder_of(call.files) as folder:
         ended = called(call.companion, [*call.words, *programs], folder)
     lines = ended.out.decode("latin-1").splitlines()
     is_out = len(lines) == len(call.out) and all(map(is_line, call.out, lines))
@@ -46,5 +77,4 @@ def failure_of(call: Call, programs: list[str]) -> str | None:
 
 
 def failures_of(calls: list[Call], programs: list[str]) -> list[str]:
-    found = [failure_of(call, programs) for call in calls]
-    return [failure for failure in found if failure]
+    return [failure for call in calls if (failure := failure_of(call, programs))]

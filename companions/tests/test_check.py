@@ -1,15 +1,13 @@
 """What cics-check tells of sources: of each its faults, by file, line and column."""
 import json
-import os
 import re
-import tempfile
 
 from cics.assembler_files import Source
 from cics.checking import Found
 from cics.cli import Paint
 from cics.explaining import explained
 from cics.faults import FAULT, Block, Fault
-from tests.calling import Call, called, failures_of
+from tests.calling import Call, called, failures_of, folder_of
 from tests.case import PROGRAMS, TestCase
 
 GOOD = "P        CSECT\n         USING P,3\n         BR    14\n         END\n"
@@ -71,13 +69,6 @@ FORMS = {
 }
 
 
-def failures_of_forms() -> list[str]:
-    block = Block(Source("p.asm", 0, ["P        CSECT"] * 3, "P"), 2)
-    found = {line: FAULT.fullmatch(line) for line in FORMS}
-    told = {line: str(block.fault(match)) if match else None for line, match in found.items()}
-    return [f"{line}: told as {told[line]}" for line, due in FORMS.items() if told[line] != due]
-
-
 class CheckTest(TestCase):
     def test_calls(self) -> None:
         self.none_of(failures_of(CALLS, PROGRAMS))
@@ -97,12 +88,11 @@ class CheckTest(TestCase):
         self.assertIn("\x1b[1;31m^^^^^^^\x1b[0m", painted[2])
 
     def test_forms(self) -> None:
-        self.none_of(failures_of_forms())
+        block = Block(Source("p.asm", 0, ["P        CSECT"] * 3, "P"), 2)
+        self.assertEqual({line: str(block.fault(found)) if (found := FAULT.fullmatch(line)) else None for line in FORMS}, FORMS)
 
     def test_json(self) -> None:
-        with tempfile.TemporaryDirectory() as folder:
-            with open(os.path.join(folder, "p.asm"), "w", encoding="utf-8") as file:
-                file.write(BAD)
+        with folder_of({"p.asm": BAD}) as folder:
             ended = called("cics-check", ["--json", "p.asm", *PROGRAMS], folder)
         found = [(one["file"], one["line"], one["column"], one["kind"]) for one in json.loads(ended.out)]
         self.assertEqual(found, [("p.asm", 3, 18, "UndefinedSymbol"), ("p.asm", 4, 16, "BadOperand")])

@@ -1,23 +1,18 @@
 """The completions of shells are as they are made of --help, and what bash completes by them; and --watch, --json and colours of the companions."""
-import contextlib
 import json
 import os
 import shutil
 import signal
 import subprocess
-import tempfile
 import time
 import unittest
-from collections.abc import Iterator
 
 from cics.child import TOP, read
 from cics.shells import completions, options_in
-from tests.calling import called
+from tests.calling import FAULTY, FILES, SCRIPT, called, folder_of, put
 from tests.case import COMPANIONS, PROGRAMS, TestCase
 
-SOURCE = "P        CSECT\n         EXEC  CICS RETURN\n         END\n"
-FAULTY = SOURCE.replace("RETURN", "RETERN")
-SCRIPT = f"SOURCE P\n{SOURCE}/*\nTRANSACTION PT P\nTERMINAL T001\nKEY T001 ENTER PT\nRUN T001\n"
+WITH_TRANSACTION = {**FILES, "s.script": SCRIPT.replace("TRANSACTION P", "TRANSACTION PT").replace("ENTER P", "ENTER PT")}
 COMPLETED = {  # words, the last of which is completed, and what it may become
     ("cics-run", "--j"): "--json", ("cics-check", "--explain", "Conf"): "Conflict", ("cics-run", "p.asm", "--tran", ""): "P",
     ("cics-same", "s.script", "P"): "P PT", ("cics-test", "--wat"): "--watch", ("cics-film", "s.s"): "s.script", ("cicslook", "s.s"): "s.script"}
@@ -32,15 +27,6 @@ options:
 """
 
 
-@contextlib.contextmanager
-def folder_of_files() -> Iterator[str]:
-    with tempfile.TemporaryDirectory() as folder:
-        for name, text in (("p.asm", SOURCE), ("f.asm", FAULTY), ("s.script", SCRIPT)):
-            with open(os.path.join(folder, name), "w", encoding="ascii") as file:
-                file.write(text)
-        yield folder
-
-
 class CompletionTest(TestCase):
     def test_made(self) -> None:
         for name, text in completions().items():
@@ -52,7 +38,7 @@ class CompletionTest(TestCase):
                                  (("--flag",), "", "a flag")])
 
     def test_bash(self) -> None:
-        with folder_of_files() as folder:
+        with folder_of(WITH_TRANSACTION) as folder:
             for words, due in COMPLETED.items():
                 script = f'. {TOP}/completion/cicsedf.bash; COMP_WORDS=("$@"); COMP_CWORD={len(words) - 1}; _cics_words; echo "${{COMPREPLY[*]}}"'
                 ran = subprocess.run(["bash", "-c", script, "bash", *words], cwd=folder, capture_output=True, text=True, check=False)
@@ -67,14 +53,14 @@ class CompletionTest(TestCase):
 
 class JsonTest(TestCase):
     def test_run(self) -> None:
-        with folder_of_files() as folder:
+        with folder_of(WITH_TRANSACTION) as folder:
             ended = called("cics-run", ["p.asm", "--key", "P", "--key", "X", "--json", *PROGRAMS], folder)
             found = [(one["key"], one["answer"], one["end"], len(one["screen"]), one["well"]) for one in json.loads(ended.out)]
             due = [("ENTER P", "Attached", "Ended", 24, True), ("ENTER X", "NoSuchTransaction", "Idle", 24, False)]
             self.assertEqual((ended.status, found), (1, due))
 
     def test_same(self) -> None:
-        with folder_of_files() as folder:
+        with folder_of(WITH_TRANSACTION) as folder:
             for words, status, outcome in ((["p.asm", "p.asm"], 0, "same"), (["p.asm", "f.asm"], 2, "unknown")):
                 ended = called("cics-same", ["s.script", "P", *words, "--json", *PROGRAMS], folder)
                 self.assertEqual((ended.status, json.loads(ended.out)["outcome"]), (status, outcome), ended)
@@ -93,26 +79,25 @@ class WatchTest(TestCase):
                     while read(told.name).decode().count(waits) < count and process.poll() is None and time.monotonic() < until:
                         time.sleep(0.1)
                     if count <= len(texts):
-                        with open(os.path.join(folder, path), "w", encoding="ascii") as file:
-                            file.write(texts[count - 1])
+                        put(folder, {path: texts[count - 1]})
                 process.send_signal(signal.SIGINT)
                 process.wait(60)
             return read(out.name).decode(), process.returncode
 
     def test_check(self) -> None:
-        with folder_of_files() as folder:
+        with folder_of(WITH_TRANSACTION) as folder:
             out, status = self.watched(folder, ["cics-check", "p.asm", "--watch"], "p.asm", [FAULTY, f"{FAULTY}* MORE\n" + FAULTY])
         self.assertEqual((out.count("p.asm:2:21: UnknownCommand: RETERN\n"), out.count("p.asm:6:21:"), status), (2, 1, 130), out)
 
     def test_tests(self) -> None:
-        with folder_of_files() as folder:
+        with folder_of(WITH_TRANSACTION) as folder:
             out, status = self.watched(folder, ["cics-test", ".", "--watch"], "s.screens", ["KEY T001 ENTER PT\nSCREEN T001\n"])
         self.assertEqual((out.split("\n")[:4], status),
                          (["./s.script: has no .screens; write them by --write", "1 script: 1 without .screens", "./s.script: ok", "1 script: 1 ok"],
                           130))
 
     def test_misused(self) -> None:
-        with folder_of_files() as folder:
+        with folder_of(WITH_TRANSACTION) as folder:
             for words in (["cics-check", "-", "--watch"], ["cics-test", ".", "--write", "--watch"]):
                 self.assertEqual(called(words[0], [*words[1:], *PROGRAMS], folder).status, 2)
 
@@ -120,7 +105,7 @@ class WatchTest(TestCase):
 class ColourTest(TestCase):
     @unittest.skipUnless(shutil.which("script"), "script, of util-linux, isn't installed")
     def test_at_a_terminal(self) -> None:
-        with folder_of_files() as folder:
+        with folder_of(WITH_TRANSACTION) as folder:
             for environment, is_coloured in (({"TERM": "xterm"}, True), ({"TERM": "xterm", "NO_COLOR": "1"}, False), ({"TERM": "dumb"}, False)):
                 command = " ".join([os.path.join(COMPANIONS, "cics-check"), "f.asm", *PROGRAMS])
                 ran = subprocess.run(["script", "-qc", command, "/dev/null"], cwd=folder, stdin=subprocess.DEVNULL, capture_output=True, check=False,

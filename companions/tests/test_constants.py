@@ -1,8 +1,8 @@
 """Drawn constants in the old form, and drawn overlays by ORG: their offsets, bytes and length attributes by a second reading of the assembler's
 manual, which is written here, against those that the program gives what cics-adapt makes of them."""
 import random
-from collections.abc import Callable
 import re
+from collections.abc import Callable
 from dataclasses import dataclass, field
 
 from cics.adapting import adapted
@@ -12,6 +12,7 @@ from cics.queues import statement_lines
 from cics.sources import SourceText
 from cics.texts import cut
 from tests.case import CICSLOOK, TestCase
+from tests.looks import Place, symbols_of
 
 SOURCES, BASE = 100, 0x10000  # how many are drawn, and where a region's first program is
 ALIGNED, IMPLIED = {"F": 4, "H": 2, "A": 4, "Y": 2, "D": 8}, {"F": 4, "H": 2, "A": 4, "Y": 2, "D": 8, "C": 1, "X": 1}
@@ -197,11 +198,7 @@ class Drawn:
         return found
 
 
-def after(words: list[str], word: str) -> str:
-    return words[words.index(word) + 1]
-
-
-def failure_of(seed: int, cicslook: str) -> tuple[bool, str | None]:
+def failure_of(seed: int) -> tuple[bool, str | None]:
     """Whether a drawn source is one of which nothing is left, and which is accepted; and what is wrong then."""
     statements = Drawn(seed).statements()
     old = ["P        CSECT", *(line for one in statements for line in statement_lines(*one)), "         END"]
@@ -210,13 +207,13 @@ def failure_of(seed: int, cicslook: str) -> tuple[bool, str | None]:
         return False, None
     due = assembled(statements)
     looks = [f"STORAGE {BASE:06X} {len(due.text)}"] if due.text else []
-    ended = run([cicslook], encoded(["SOURCE P", *result.lines(), "/*", "SYMBOLS P", *looks]))
+    ended = run([CICSLOOK], encoded(["SOURCE P", *result.lines(), "/*", *looks]))
     if not ended.is_well():
         return False, None
     text = "".join(line[10:45].replace(" ", "") for line in ended.lines() if line.startswith("> 0"))
-    symbols = {words[2].strip("'"): words for words in map(str.split, ended.lines()) if words[:2] == [">", "SYMBOL"]}
-    wrong = [name for name, _, _ in statements if int(symbols[name][4], 16) != due.values[name] - BASE]
-    wrong += [name for name, operation, _ in statements if operation != "EQU" and int(after(symbols[name], "LENGTH")) != due.lengths[name]]
+    symbols = symbols_of(result.lines())
+    wrong = [name for name, _, _ in statements if symbols[name].offset != due.values[name] - BASE]
+    wrong += [name for name, operation, _ in statements if operation != "EQU" and symbols[name].length != due.lengths[name]]
     if text == due.text.hex().upper() and not wrong:
         return True, None
     return True, "\n".join([f"the source drawn by {seed}: {text}, where {due.text.hex().upper()} is due; {wrong} differ", *old, *result.lines()])
@@ -239,47 +236,46 @@ FIELDS = [Field("CL5", 5, 1, 5), Field("F", 4, 4, 4), Field("3H", 2, 2, 6), Fiel
           Field("CL3,CL2", 3, 1, 5), Field("Y", 2, 2, 2), Field("2CL7", 7, 1, 14), Field("0D", 8, 8, 0), Field("C", 1, 1, 1)]
 
 
-def overlay_of(seed: int) -> tuple[list[str], dict[str, list[int]]]:
+def overlay_of(seed: int) -> tuple[list[str], dict[str, Place]]:
     """A section in which ORG goes back over fields and, at last, on after all; and each name's offset and length attribute."""
     draw = random.Random(f"overlay {seed}")
-    lines, places, at, highest = list[str](), dict[str, list[int]](), 0, 0
+    lines, places, at, highest = list[str](), dict[str, Place](), 0, 0
     for group in range(draw.randrange(1, 5)):
         if group:
             target = draw.choice([field for field in places if field.startswith("F")])
             more = draw.randrange(3)
             lines += statement_lines("", "ORG", f"{target}+{more}" if more else target)
-            at = places[target][0] + more
+            at = places[target].offset + more
             highest = max(highest, at)
         for _ in range(draw.randrange(1, 5)):
             name, one = f"F{len(places)}", draw.choice(FIELDS)
             at += -at % one.unit
-            places[name] = [at, one.length]
+            places[name] = Place(at, one.length)
             at += one.size
             highest = max(highest, at)
             lines += statement_lines(name, "DS", one.operand)
             if draw.random() < 0.2:
                 of = draw.choice([field for field in places if field.startswith("F")])
                 lines += statement_lines(f"E{len(places)}", "EQU", f"*-{of}")
-                places[f"E{len(places)}"] = [(at - places[of][0]) % 2**32, 1]
+                places[f"E{len(places)}"] = Place((at - places[of].offset) % 2**32, 1)
     lines += [*statement_lines("", "ORG", ""), *statement_lines("LAST", "DS", "C")]
-    places["LAST"] = [highest, 1]
+    places["LAST"] = Place(highest, 1)
     return lines, places
 
 
-def failure_of_overlay(seed: int, cicslook: str) -> tuple[bool, str | None]:
+def failure_of_overlay(seed: int) -> tuple[bool, str | None]:
     lines, due = overlay_of(seed)
     result = adapted(SourceText(["P        CSECT", "         BR    14", "D        DSECT", *lines, "         END"]), "OLD.asm", [])
     if result.log.has_left():
         return False, None
-    ended = run([cicslook], encoded(["SOURCE P", *result.lines(), "/*", "SYMBOLS P"]))
-    symbols = {words[2].strip("'"): words for words in map(str.split, ended.lines()) if words[:2] == [">", "SYMBOL"]}
-    wrong = [name for name, place in due.items() if [int(symbols[name][4], 16), int(after(symbols[name], "LENGTH"))] != place]
+    symbols = symbols_of(result.lines())
+    wrong = [name for name, place in due.items() if symbols[name] != place]
     return True, "\n".join([f"the overlay drawn by {seed}: {wrong} differ", *lines, *result.lines()]) if wrong else None
 
 
 class ConstantsTest(TestCase):
-    def drawn(self, failure_by: Callable[[int, str], tuple[bool, str | None]]) -> None:
-        results = [failure_by(seed, CICSLOOK) for seed in range(SOURCES)]
+    def drawn(self, failure_by: Callable[[int], tuple[bool, str | None]]) -> None:
+        results = [failure_by(seed) for seed in range(SOURCES)]
         self.none_of([failure for _, failure in results if failure])
         self.assertGreaterEqual(sum(is_tried for is_tried, _ in results), SOURCES // 4)
 

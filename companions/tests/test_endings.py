@@ -1,26 +1,20 @@
 """How the companions end, and what they leave: no file that is there is harmed, no program goes on, no traceback is shown, and none says that all
 is well where it wasn't done."""
 import ast
-import contextlib
 import glob
 import os
-import resource
 import shutil
 import signal
 import stat
 import subprocess
 import sys
-import tempfile
 import time
-from collections.abc import Iterator, Sequence
 
-from cics.child import TOP, Ended
+from cics.child import TOP, Ended, lines_of, read
 from cics.scripts import LETTERS, free_name
-from tests.case import CICSEDF, CICSLOOK, COMPANIONS, PROGRAMS, TestCase
+from tests.calling import FILES, SCRIPT, called, folder_of, program, put
+from tests.case import CICSEDF, COMPANIONS, PROGRAMS, TestCase
 
-SOURCE = "P        CSECT\n         EXEC  CICS RETURN\n         END\n"
-FAULTY = SOURCE.replace("RETURN", "RETERN")
-SCRIPT = f"SOURCE P\n{SOURCE}/*\nTRANSACTION P P\nTERMINAL T001\nKEY T001 ENTER P\nRUN T001\n"
 CALLS = {  # of each companion one that writes something on standard output
     "cics-adapt": ["p.asm"], "cics-check": ["f.asm", *PROGRAMS], "cics-film": ["s.script", "-o", "-", *PROGRAMS],
     "cics-run": ["p.asm", "--key", "P", *PROGRAMS], "cics-same": ["s.script", "s.script", *PROGRAMS], "cics-test": ["s.script", *PROGRAMS],
@@ -28,24 +22,8 @@ CALLS = {  # of each companion one that writes something on standard output
 ASKING = [name for name in CALLS if name not in ("cics-adapt", "cics-terminals")]  # those that ask a program
 
 
-@contextlib.contextmanager
-def folder_of_files() -> Iterator[str]:
-    with tempfile.TemporaryDirectory() as folder:
-        for name, text in (("p.asm", SOURCE), ("f.asm", FAULTY), ("s.script", SCRIPT)):
-            with open(os.path.join(folder, name), "w", encoding="ascii") as file:
-                file.write(text)
-        yield folder
-
-
-def called(folder: str, name: str, words: Sequence[str], *, redirected: str = "", largest: int | None = None) -> Ended:
-    """Calls a companion, perhaps with a redirection of the shell, or with a limit of what a file may have."""
-    def limit() -> None:
-        if largest is not None:
-            resource.setrlimit(resource.RLIMIT_FSIZE, (largest, largest))
-
-    ran = subprocess.run(["/bin/sh", "-c", f'exec "$@" {redirected}', "sh", os.path.join(COMPANIONS, name), *words], cwd=folder,
-                         stdin=subprocess.DEVNULL, capture_output=True, timeout=300, check=False, preexec_fn=limit)
-    return Ended(ran.returncode, ran.stdout, ran.stderr)
+def without_program(name: str) -> list[str]:
+    return [word for word in CALLS[name] if word not in PROGRAMS]
 
 
 class EndingTest(TestCase):
@@ -57,20 +35,20 @@ class EndingTest(TestCase):
 
 class OutputTest(EndingTest):
     def test_a_closed_output(self) -> None:
-        with folder_of_files() as folder:
+        with folder_of(FILES) as folder:
             for name, words in CALLS.items():
                 with self.subTest(name):
-                    self.ends_by_a_line(called(folder, name, words, redirected=">&-"), 3, f"{name}: standard output: Bad file descriptor")
+                    self.ends_by_a_line(called(name, words, folder, redirected=">&-"), 3, f"{name}: standard output: Bad file descriptor")
 
     def test_a_full_disk(self) -> None:
-        with folder_of_files() as folder:
+        with folder_of(FILES) as folder:
             for name, words in CALLS.items():
                 with self.subTest(name):
-                    self.ends_by_a_line(called(folder, name, words, redirected=">/dev/full"), 3, f"{name}: standard output: No space left on device")
+                    self.ends_by_a_line(called(name, words, folder, redirected=">/dev/full"), 3, f"{name}: standard output: No space left on device")
 
     def test_no_standard_file(self) -> None:
-        with folder_of_files() as folder:
-            self.assertEqual(called(folder, "cics-check", ["f.asm", *PROGRAMS], redirected="<&- >&- 2>&-").status, 3)
+        with folder_of(FILES) as folder:
+            self.assertEqual(called("cics-check", ["f.asm", *PROGRAMS], folder, redirected="<&- >&- 2>&-").status, 3)
 
 
 class FileTest(EndingTest):
@@ -79,55 +57,43 @@ class FileTest(EndingTest):
     OLD = "<p>a page</p>"
 
     def film(self, folder: str, out: str, *, largest: int | None = None) -> Ended:
-        return called(folder, "cics-film", ["s.script", "-o", out, *PROGRAMS], largest=largest)
-
-    def old_page(self, folder: str) -> str:
-        path = os.path.join(folder, "page.html")
-        with open(path, "w", encoding="ascii") as file:
-            file.write(self.OLD)
-        return path
-
-    def is_unharmed(self, path: str) -> None:
-        with open(path, encoding="ascii") as file:
-            self.assertEqual(file.read(), self.OLD)
-        self.assertEqual(sorted(os.listdir(os.path.dirname(path))), ["f.asm", "p.asm", "page.html", "s.script"])
+        return called("cics-film", ["s.script", "-o", out, *PROGRAMS], folder, largest=largest)
 
     def test_a_page_that_may_not_be_written(self) -> None:
-        with folder_of_files() as folder:
+        with folder_of(FILES) as folder:
             path = os.path.join(folder, "page.html")
             shutil.copy(shutil.which("sleep") or "/bin/sleep", path)
             with subprocess.Popen([path, "100"]) as process:  # a program that runs may not be written
                 self.ends_by_a_line(self.film(folder, "page.html"), 3, "cics-film: page.html: Text file busy")
                 process.kill()
-            with open(path, "rb") as file:
-                self.assertEqual(file.read(4), b"\x7fELF")
+            self.assertEqual(read(path)[:4], b"\x7fELF")
             self.assertEqual(sorted(os.listdir(folder)), ["f.asm", "p.asm", "page.html", "s.script"])
 
     def test_a_page_for_which_there_is_no_room(self) -> None:
-        with folder_of_files() as folder:
-            path = self.old_page(folder)
+        with folder_of(FILES) as folder:
+            put(folder, {"page.html": self.OLD})
             self.ends_by_a_line(self.film(folder, "page.html", largest=4096), 3, "cics-film: page.html: File too large")
-            self.is_unharmed(path)
+            self.assertEqual(read(os.path.join(folder, "page.html")).decode(), self.OLD)
+            self.assertEqual(sorted(os.listdir(folder)), ["f.asm", "p.asm", "page.html", "s.script"])
 
     def test_a_page_in_the_place_of_its_script(self) -> None:
-        with folder_of_files() as folder:
+        with folder_of(FILES) as folder:
             os.symlink("s.script", os.path.join(folder, "link.html"))
             for name in ("s.script", "./s.script", "link.html"):
                 self.ends_by_a_line(self.film(folder, name), 3, "it is read, so it isn't written")
-            with open(os.path.join(folder, "s.script"), encoding="ascii") as file:
-                self.assertEqual(file.read(), SCRIPT)
+            self.assertEqual(read(os.path.join(folder, "s.script")).decode(), SCRIPT)
 
     def test_who_may_read_it(self) -> None:
         """A kept session may hold passwords: who may not read it may not read its film."""
-        with folder_of_files() as folder:
+        with folder_of(FILES) as folder:
             for mode in (0o600, 0o640, 0o644):
                 os.chmod(os.path.join(folder, "s.script"), mode)
                 self.assertEqual(self.film(folder, f"{mode:o}.html").status, 0)
                 self.assertEqual(stat.S_IMODE(os.stat(os.path.join(folder, f"{mode:o}.html")).st_mode), mode)
 
     def test_what_stands_beside(self) -> None:
-        with folder_of_files() as folder:
-            self.old_page(folder)
+        with folder_of(FILES) as folder:
+            put(folder, {"page.html": self.OLD})
             self.assertEqual(self.film(folder, "page.html").status, 0)
             self.assertEqual(sorted(os.listdir(folder)), ["f.asm", "p.asm", "page.html", "s.script"])
 
@@ -135,30 +101,22 @@ class FileTest(EndingTest):
 class ProgramTest(EndingTest):
     """Programs that aren't what they should be, and those that end or don't."""
 
-    @contextlib.contextmanager
-    def program(self, folder: str, script: str) -> Iterator[list[str]]:
-        """A program that answers to --version as cicslook does, and else runs a script of the shell."""
-        path = os.path.join(folder, "program")
-        with open(path, "w", encoding="ascii") as file:
-            file.write(f'#!/bin/sh\n[ $# = 0 ] || exec {CICSLOOK} "$@"\n{script}\n')
-        os.chmod(path, 0o755)
-        yield ["--cicslook", path]
-
     def test_another_program(self) -> None:
-        with folder_of_files() as folder:
+        with folder_of(FILES) as folder:
             for name in ASKING:
                 for path in ("/bin/true", "/bin/cat", "/bin/false", CICSEDF):
                     if name == "cics-same" and path == CICSEDF:
                         continue
                     with self.subTest(name, path=path):
-                        ended = called(folder, name, [word for word in CALLS[name] if word not in PROGRAMS] + ["--cicslook", path])
+                        ended = called(name, [*without_program(name), "--cicslook", path], folder)
                         self.ends_by_a_line(ended, 2 if name == "cics-same" else 3, f"{path}: it isn't cicslook")
 
     def test_a_killed_program(self) -> None:
-        with folder_of_files() as folder, self.program(folder, "kill -9 $$") as words:
+        with folder_of(FILES) as folder:
+            words = ["--cicslook", program(folder, "kill -9 $$")]
             for name in ASKING:
                 with self.subTest(name):
-                    ended = called(folder, name, [word for word in CALLS[name] if word not in PROGRAMS] + words)
+                    ended = called(name, [*without_program(name), *words], folder)
                     self.assertNotEqual(ended.status, 0, ended)
                     self.assertIn(b"ended by SIGKILL", ended.reported + ended.out)
 
@@ -166,17 +124,16 @@ class ProgramTest(EndingTest):
         """A signal ends a companion by a line, and the program with it."""
         for number, status in ((signal.SIGINT, 130), (signal.SIGTERM, 143), (signal.SIGHUP, 129)):
             for name in ASKING:
-                with self.subTest(name, signal=number.name), folder_of_files() as folder:
-                    with self.program(folder, f"echo $$ > {folder}/part; mv {folder}/part {folder}/pid; exec sleep 100") as words:
-                        self.is_ended(folder, name, words, number, status)
+                with self.subTest(name, signal=number.name), folder_of(FILES) as folder:
+                    self.is_ended(folder, name, number, status)
 
-    def is_ended(self, folder: str, name: str, words: list[str], number: signal.Signals, status: int) -> None:
-        command = [os.path.join(COMPANIONS, name), *(word for word in CALLS[name] if word not in PROGRAMS), *words]
+    def is_ended(self, folder: str, name: str, number: signal.Signals, status: int) -> None:
+        path = program(folder, f"echo $$ > {folder}/part; mv {folder}/part {folder}/pid; exec sleep 100")
+        command = [os.path.join(COMPANIONS, name), *without_program(name), "--cicslook", path]
         with subprocess.Popen(command, cwd=folder, stdout=subprocess.PIPE, stderr=subprocess.PIPE) as process:
             while not os.path.exists(f"{folder}/pid"):
                 time.sleep(0.01)
-            with open(f"{folder}/pid", encoding="ascii") as file:
-                child = int(file.read())
+            child = int(read(f"{folder}/pid"))
             process.send_signal(number)
             _, reported = process.communicate(timeout=300)
         self.ends_by_a_line(Ended(process.returncode, b"", reported), status, f"{name}: ")
@@ -188,8 +145,7 @@ class WordsTest(EndingTest):
     def test_an_older_python(self) -> None:
         """What older ones read is of their language, and says which is needed."""
         for path in [os.path.join(COMPANIONS, name) for name in CALLS] + [os.path.join(COMPANIONS, "cics/__init__.py")]:
-            with open(path, encoding="utf-8") as file:
-                ast.parse(file.read(), feature_version=(3, 6))
+            ast.parse(read(path), feature_version=(3, 6))
         for name in CALLS:
             with self.subTest(name):
                 older = f"import sys, runpy; sys.version_info = (3, 8, 1); sys.argv = ['{name}']; runpy.run_path('{COMPANIONS}/{name}', run_name='__main__')"
@@ -199,22 +155,22 @@ class WordsTest(EndingTest):
     def test_keys(self) -> None:
         cases = {"A\nB": "'\\n' has no code", "A[": "'[' has no code", "A\xe9": "has no code", "PF13": "no key is PF13; write", "pa3": "no key is PA3",
                  "X" * 1921: "more than 1920 characters"}
-        with folder_of_files() as folder:
+        with folder_of(FILES) as folder:
             for key, said in cases.items():
                 with self.subTest(key):
-                    self.ends_by_a_line(called(folder, "cics-run", ["p.asm", "--key", key, *PROGRAMS]), 2, said)
+                    self.ends_by_a_line(called("cics-run", ["p.asm", "--key", key, *PROGRAMS], folder), 2, said)
 
     def test_capitals(self) -> None:
-        with folder_of_files() as folder:
+        with folder_of(FILES) as folder:
             for words, line in ((["--key", "p x"], b"KEY T001 ENTER P X\n"), (["--mixed", "--key", "P x"], b"KEY T001 ENTER P x\n"),
                                 (["--key", "P", "--key", "pf3"], b"KEY T001 PF3\n")):
-                self.assertIn(line, called(folder, "cics-run", ["p.asm", "--script", *words]).out)
+                self.assertIn(line, called("cics-run", ["p.asm", "--script", *words], folder).out)
 
     def test_minutes_and_ports(self) -> None:
-        with folder_of_files() as folder:
+        with folder_of(FILES) as folder:
             for words in (["--idle", "-1"], ["--idle", "nan"], ["--idle", "inf"], ["--port", "65536"], ["--port", "-1"], ["--back", "1"]):
                 with self.subTest(words):
-                    self.ends_by_a_line(called(folder, "cics-terminals", ["s.script", *words]), 2, "write: cics-terminals")
+                    self.ends_by_a_line(called("cics-terminals", ["s.script", *words], folder), 2, "write: cics-terminals")
 
     def test_names_of_terminals(self) -> None:
         """A mark is found where each of a thousand names is taken."""
@@ -223,12 +179,10 @@ class WordsTest(EndingTest):
         self.assertEqual(len({*LETTERS}), 39)
 
     def test_standard_input(self) -> None:
-        with folder_of_files() as folder:
-            with open(os.path.join(folder, "f.asm"), "rb") as file:
-                ran = subprocess.run([os.path.join(COMPANIONS, "cics-check"), "-", *PROGRAMS], stdin=file, capture_output=True, check=False)
-        self.assertEqual((ran.returncode, ran.stdout[:17]), (1, b"standard input:2:"))
+        with folder_of(FILES) as folder:
+            ended = called("cics-check", ["-", *PROGRAMS], folder, redirected="<f.asm")
+        self.assertEqual((ended.status, ended.out[:17]), (1, b"standard input:2:"))
 
     def test_one_shebang(self) -> None:
         for path in [*glob.glob(f"{TOP}/companions/cics-*"), f"{TOP}/companions/test"]:
-            with open(path, encoding="utf-8") as file:
-                self.assertEqual(file.readline(), "#!/usr/bin/env -S python3 -B\n", path)
+            self.assertEqual(lines_of(read(path).decode())[0], "#!/usr/bin/env -S python3 -B", path)

@@ -1,13 +1,9 @@
 """Bad input of cics-adapt: each gives lines and a status, and none a traceback."""
-import os
-import subprocess
-import tempfile
 from dataclasses import dataclass, field
 
-from cics.child import TOP, Ended
+from tests.calling import called, folder_of
 from tests.case import TestCase
 
-COMMAND = os.path.join(TOP, "companions/cics-adapt")
 PROGRAM = "P        CSECT\n         BER   14\n         END\n"
 NEW = "P        CSECT\n         BCR   8,14\n         END\n"
 CHANGED = "old.asm:2: changed: BER 14 is now BCR 8,14"
@@ -96,31 +92,13 @@ INPUTS = [
 ]
 
 
-def ended(words: list[str], folder: str, out: int = subprocess.PIPE) -> Ended:
-    ran = subprocess.run([COMMAND, *words], cwd=folder, stdin=subprocess.DEVNULL, stdout=out, stderr=subprocess.PIPE, timeout=300, check=False)
-    return Ended(ran.returncode, ran.stdout or b"", ran.stderr)
-
-
 def failure_of(one: Input) -> str | None:
-    with tempfile.TemporaryDirectory() as folder:
-        for name, data in one.files.items():
-            path = os.path.join(folder, name)
-            os.makedirs(os.path.dirname(path), exist_ok=True)
-            with open(path, "wb") as file:
-                file.write(data)
-        result = ended(one.words, folder)
+    with folder_of(one.files) as folder:
+        result = called("cics-adapt", one.words, folder)
     lines = result.reported.decode().splitlines()
     is_told = len(lines) == len(one.told) and all(word in line for word, line in zip(one.told, lines))
     is_out = one.out is None or one.out == result.out
     return None if result.status == one.status and is_told and is_out and "Traceback" not in "".join(lines) else f"{one.what}: {result}"
-
-
-def failure_of_a_full_disk() -> str | None:
-    with tempfile.TemporaryDirectory() as folder, open("/dev/full", "wb") as full:
-        with open(os.path.join(folder, "old.asm"), "w", encoding="utf-8") as file:
-            file.write(PROGRAM)
-        result = ended(["old.asm"], folder, full.fileno())
-    return None if result.status == 3 and result.reported == b"cics-adapt: standard output: No space left on device\n" else f"a full disk: {result}"
 
 
 class InputsTest(TestCase):
@@ -128,4 +106,6 @@ class InputsTest(TestCase):
         self.none_of([failure for one in INPUTS if (failure := failure_of(one))])
 
     def test_a_full_disk(self) -> None:
-        self.none_of([failure for failure in [failure_of_a_full_disk()] if failure])
+        with folder_of({"old.asm": PROGRAM}) as folder:
+            result = called("cics-adapt", ["old.asm"], folder, redirected=">/dev/full")
+        self.assertEqual((result.status, result.reported), (3, b"cics-adapt: standard output: No space left on device\n"))

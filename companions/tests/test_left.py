@@ -1,6 +1,4 @@
 """Constructs that have no exact equivalent, each planted in a source: each stays as it is, and is told. None is silent."""
-from dataclasses import dataclass
-
 from cics.adapting import adapted
 from cics.sources import SourceText
 from tests.case import TestCase
@@ -19,15 +17,7 @@ W        DS    CL16
          END""".split("\n")
 
 
-@dataclass(frozen=True)
-class Plant:
-    """A statement, and what is told of it at least."""
-
-    statement: str
-    told: str
-
-
-# A statement in its columns, and behind the bar what is told.
+# A statement in its columns, and behind the bar what is told of it at least.
 ROWS = r"""
          LA    1,T'F                                         | T'F: no operand that can be read here
          LA    1,K'F                                         | K'F: no operand that can be read here
@@ -175,18 +165,14 @@ AAAAAAAAA LR 4,5                                             | AAAAAAAAA: a name
 """.strip("\n").split("\n")
 
 
-def plants() -> list[Plant]:
-    return [Plant(statement.rstrip(), told) for statement, _, told in (row.partition(" | ") for row in ROWS)]
-
-
 class LeftTest(TestCase):
     def test_planted(self) -> None:
         wrong = []
-        for plant in plants():
-            result = adapted(SourceText(["P        CSECT", plant.statement, *TAIL]), "OLD.asm", [])
+        for row in ROWS:
+            statement, due = (part.rstrip() for part in row.split(" | "))
+            result = adapted(SourceText(["P        CSECT", statement, *TAIL]), "OLD.asm", [])
             told = [entry.text for entry in result.log.told if entry.is_left]
-            is_there = plant.statement in result.lines() or plant.statement.upper() in result.lines()
-            if not any(plant.told in text for text in told) or not is_there:
-                wrong.append(f"{plant.statement}: told {told}, where {plant.told} is due")
+            if not any(due in text for text in told) or not {statement, statement.upper()} & {*result.lines()}:
+                wrong.append(f"{statement}: told {told}, where {due} is due")
         self.none_of(wrong)
-        self.assertGreaterEqual(len(plants()), 60)
+        self.assertGreaterEqual(len(ROWS), 60)

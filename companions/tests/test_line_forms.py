@@ -45,8 +45,7 @@ SAID_OF = {  # lines, and what is said of each
 }
 BLOCK_LINES: dict[str, list[tuple[int, str]]] = {  # scripts, and each bad line of them
     "IMAGE A 80\n4100F\nKEY T001 ENTER\nTURN T001\n/*\n": [
-        (2, "an odd number of hexadecimal digits"), (3, "no hexadecimal digit; is /* missing above?"),
-        (5, "/* ends a block, and none has begun")],
+        (2, "an odd number of hexadecimal digits"), (3, "no hexadecimal digit; is /* missing above?"), (5, "/* ends a block, and none has begun")],
     "ORDERS\nKEY T001 ENTER A\nSCREEN T001\nTASKS\n* all\n\n/*\n": [],
     "ORDERS\nTURN T001\nSCREEN T001\n": [(2, "no TURN may stand in ORDERS, but KEY, SCREEN and looks; is /* missing above?")],
     "ORDERS\nTASK\n/*\n": [(2, "a terminal's name is missing; write: TASK term")],

@@ -6,6 +6,7 @@ from cics.child import TOP
 from tests.calling import Call, failures_of
 from tests.case import CICSEDF, CICSLOOK, PROGRAMS, TestCase
 
+STAND_IN = f"{TOP}/companions/tests/stand-in"
 ADDER = """DFHEISTG DSECT
 SUM      DS    F
 ADDER    CSECT
@@ -80,10 +81,9 @@ REAL = [
 
 class OrdersTest(TestCase):
     def test_answers_by_hand(self) -> None:
-        stand_in = os.path.join(os.path.dirname(os.path.abspath(__file__)), "stand-in")
         for old, new, call in CALLS:
             os.environ.update(CICSLOOK=CICSLOOK, OLD="\n".join(old), NEW="\n".join(new), OLD_SOURCE=ADDER)
-            self.none_of(failures_of([call], ["--cicslook", stand_in]))
+            self.none_of(failures_of([call], ["--cicslook", STAND_IN]))
 
     def test_real(self) -> None:
         self.none_of(failures_of(REAL, PROGRAMS))

@@ -8,6 +8,7 @@ from cics.adapting import Adapted, adapted
 from cics.assembler_files import encoded
 from cics.child import TOP, lines_of, read, run
 from cics.instructions import INSTRUCTIONS
+from cics.scripts import actions_of
 from cics.sources import SourceText, read_source
 from cics.statements import Statement, comment_of
 from tests.case import CICSLOOK, TestCase
@@ -16,11 +17,6 @@ FOLDER = os.path.join(TOP, "examples/adapt")
 ACCEPTED = os.path.join(TOP, "examples")
 TOLD = {"lessons/03-link/price": 3, "sources/absent-output": 1, "sources/without-an-end": 1, "sources/without-lines": 1}  # of accepted ones
 WRITE = "; write: "  # what follows it in a line that is told is from a page of the manual
-
-
-def told(result: Adapted) -> list[str]:
-    """The lines that are told, without what to write instead."""
-    return [line.split(WRITE)[0].replace(f"{FOLDER}/", "") for line in result.log.lines()]
 
 
 def stand_in(statement: Statement) -> str:
@@ -49,23 +45,19 @@ def lost_in(result: Adapted, lines: list[str], path: str) -> list[str]:
     return [line for number, line in enumerate(lines, 1) if line not in new and comment_of(line) not in new and firsts.get(number, number) not in told_lines]
 
 
-def kept_lists() -> list[str]:
-    return sorted(path.removesuffix(".asm") for path in glob.glob(f"{FOLDER}/*.asm"))
-
-
-def of_program(path: str, cicslook: str) -> list[str]:
+def of_program(path: str) -> list[str]:
     name = os.path.basename(path)
     folders = [f"{FOLDER}/copy"]
     source = read_source(f"{path}.asm")
     result = adapted(source, f"{path}.asm", folders)
     wrong = []
-    if told(result) != lines_of(read(f"{path}.told").decode()):
+    if [line.split(WRITE)[0].replace(f"{FOLDER}/", "") for line in result.log.lines()] != lines_of(read(f"{path}.told").decode()):
         wrong.append(f"{name}: told is not the list that is kept")
     if lost := lost_in(result, source.lines, f"{path}.asm"):
         wrong.append(f"{name}: neither written nor told: {lost}")
     if adapted(SourceText(result.lines()), f"{path}.asm", folders).lines() != result.lines():
         wrong.append(f"{name}: a second time it changes something")
-    ended = run([cicslook], encoded(["FAULTS P", *without_left(result), "/*"]))
+    ended = run([CICSLOOK], encoded(["FAULTS P", *without_left(result), "/*"]))
     if ended.lines() != ["> FAULTS P NONE"]:
         wrong.append(f"{name}: faults of what isn't left: {ended.lines()[:3]}")
     kept = adapted(source, f"{path}.asm", folders, is_kept=True)
@@ -75,39 +67,21 @@ def of_program(path: str, cicslook: str) -> list[str]:
     return wrong
 
 
-def blocks_of(path: str) -> list[list[str]]:
-    """The sources of a script."""
-    found: list[list[str]] = []
-    is_inside = False
-    for line in lines_of(read(path).decode()):
-        if line.startswith("SOURCE "):
-            is_inside = True
-            found.append([])
-        elif line == "/*":
-            is_inside = False
-        elif is_inside:
-            found[-1].append(line)
-    return found
-
-
-def of_accepted() -> list[str]:
-    """Scripts whose sources are changed, or of which more is told than is due."""
-    wrong = []
-    for path in sorted(glob.glob(f"{ACCEPTED}/lessons/*/*.script") + glob.glob(f"{ACCEPTED}/sources/*.script")):
-        name = path.removeprefix(f"{ACCEPTED}/").removesuffix(".script")
-        results = {tuple(block): adapted(SourceText(block), "OLD.asm", []) for block in blocks_of(path)}
-        count = sum(len(result.log.told) for result in results.values())
-        changed = [block for block, result in results.items() if list(block) != result.lines()]
-        if count != TOLD.get(name, 0) or changed and name not in TOLD:
-            wrong.append(f"{name}: {count} lines told, {len(changed)} sources changed")
-    return wrong
-
-
 class ProgramsTest(TestCase):
     def test_of_shops(self) -> None:
-        paths = kept_lists()
-        self.none_of([failure for path in paths for failure in of_program(path, CICSLOOK)])
+        paths = sorted(path.removesuffix(".asm") for path in glob.glob(f"{FOLDER}/*.asm"))
+        self.none_of([failure for path in paths for failure in of_program(path)])
         self.assertGreaterEqual(len(paths), 7)
 
     def test_accepted(self) -> None:
-        self.none_of(of_accepted())
+        """No source is changed, and no more is told than is due."""
+        wrong = []
+        for path in sorted(glob.glob(f"{ACCEPTED}/lessons/*/*.script") + glob.glob(f"{ACCEPTED}/sources/*.script")):
+            name = path.removeprefix(f"{ACCEPTED}/").removesuffix(".script")
+            blocks = [action.block for action in actions_of(read(path).decode()) if action.word == "SOURCE"]
+            results = {tuple(block): adapted(SourceText(block), "OLD.asm", []) for block in blocks}
+            count = sum(len(result.log.told) for result in results.values())
+            changed = [block for block, result in results.items() if list(block) != result.lines()]
+            if count != TOLD.get(name, 0) or changed and name not in TOLD:
+                wrong.append(f"{name}: {count} lines told, {len(changed)} sources changed")
+        self.none_of(wrong)

@@ -18,6 +18,7 @@ from cics.child import TOP, lines_of, read
 from manual import converter
 from cics.cli import Failure
 from cics.programs import beside
+from tests.calling import called
 from tests.case import CICSLOOK, TestCase
 
 COREUTILS = ("cat", "cp", "dirname", "env", "ls", "mkdir", "rm", "sha256sum", "sort", "uname")
@@ -93,9 +94,8 @@ def failures_unpacked(archive: bytes) -> list[str]:
 
 
 def options_of(companion: str) -> set[str]:
-    command = os.path.join(TOP, "companions", companion)
-    ran = subprocess.run([command, "--help"], capture_output=True, text=True, check=False)
-    return set(OPTION.findall(ran.stdout.partition("options:")[2])) - {"--help"} | {"--version"}
+    said = called(companion, ["--help"], TOP).out.decode()
+    return set(OPTION.findall(said.partition("options:")[2])) - {"--help"} | {"--version"}
 
 
 def failures_of_links(page: bytes) -> list[str]:
@@ -103,50 +103,6 @@ def failures_of_links(page: bytes) -> list[str]:
     text = page.decode()
     places = set(re.findall(r'id="([^"]*)"', text))
     return [f"the manual's one page has no place {link}" for link in sorted(set(re.findall(r'href="#([^"]*)"', text)) - places)]
-
-
-def failures_of_versions() -> list[str]:
-    """Companions that don't say which version they are."""
-    due = read(os.path.join(TOP, "VERSION")).decode()
-    wrong = []
-    for companion in COMPANIONS:
-        ran = subprocess.run([os.path.join(TOP, "companions", companion), "--version"], capture_output=True, text=True, check=False)
-        wrong += [] if ran.stdout == f"{companion} {due}" else [f"{companion} --version: {ran}"]
-    return wrong
-
-
-def failures_of_pages() -> list[str]:
-    """Options that a page of man or the completion lacks, or has without need."""
-    wrong = []
-    completion = read(os.path.join(TOP, "completion/cicsedf.bash")).decode()
-    for companion in COMPANIONS:
-        options = options_of(companion)
-        line = next((line for line in lines_of(completion) if line.strip().startswith(f"{companion})")), "")
-        if set(OPTION.findall(line)) - {"--help"} != options:
-            wrong.append(f"the completion of {companion}: {line.strip()}, where due is {sorted(options)}")
-        page = read(os.path.join(TOP, f"docs/man/{companion}.1")).decode().replace("\\-", "-")
-        lacking = {option for option in options if option not in page} - {"--cicsedf"}
-        wrong += [f"the page of man of {companion} lacks {option}" for option in sorted(lacking)]
-    return wrong
-
-
-def failures_of_lines() -> list[str]:
-    """Lines of `cicslook` that its page of man lacks, or has without need, by what HELP writes."""
-    ran = subprocess.run([CICSLOOK], input="HELP\n", capture_output=True, text=True, check=False)
-    due = [line.removeprefix("> ") for line in ran.stdout.splitlines()]
-    page = read(os.path.join(TOP, "docs/man/cicslook.1")).decode().replace("\\-", "-")
-    shown = page.partition(".nf\n")[2].partition("\n.fi")[0].split("\n")
-    return [f"the page of man of cicslook: {line}" for line in sorted({*due} ^ {*shown})]
-
-
-def failures_of_others() -> list[str]:
-    """./release refuses programs that ./prove didn't build of these sources, or makes an archive of those that it did."""
-    with tempfile.TemporaryDirectory() as folder:
-        ran = subprocess.run([os.path.join(TOP, "release"), "--out", folder], capture_output=True, text=True, timeout=300, check=False)
-        made = os.listdir(folder)
-    lines = ran.stderr.splitlines()
-    is_refused = ran.returncode == 1 and len(lines) == 1 and lines[0].startswith("release: ") and not made
-    return [] if is_refused or ran.returncode == 0 and len(made) == 1 else [f"./release: status {ran.returncode}, {lines}, {made}"]
 
 
 class ReleaseTest(TestCase):
@@ -158,16 +114,34 @@ class ReleaseTest(TestCase):
         self.assertEqual(packed(FOLDER, list(reversed(contents)), 500_000_000), archive, "the same content gives other bytes")
 
     def test_pages(self) -> None:
-        self.none_of(failures_of_pages())
+        """A page of man and the completion have each option, and the completion no other."""
+        completion = read(os.path.join(TOP, "completion/cicsedf.bash")).decode()
+        for companion in COMPANIONS:
+            options = options_of(companion)
+            line = next((line for line in lines_of(completion) if line.strip().startswith(f"{companion})")), "")
+            self.assertEqual(set(OPTION.findall(line)) - {"--help"}, options, f"the completion of {companion}")
+            page = read(os.path.join(TOP, f"docs/man/{companion}.1")).decode().replace("\\-", "-")
+            self.assertEqual({option for option in options if option not in page} - {"--cicsedf"}, set(), f"the page of man of {companion}")
 
     def test_lines(self) -> None:
-        self.none_of(failures_of_lines())
+        """The page of man of `cicslook` has its lines, and no others, by what HELP writes."""
+        ran = subprocess.run([CICSLOOK], input="HELP\n", capture_output=True, text=True, check=False)
+        page = read(os.path.join(TOP, "docs/man/cicslook.1")).decode().replace("\\-", "-")
+        shown = page.partition(".nf\n")[2].partition("\n.fi")[0].split("\n")
+        self.assertEqual({line.removeprefix("> ") for line in ran.stdout.splitlines()}, {*shown})
 
     def test_versions(self) -> None:
-        self.none_of(failures_of_versions())
+        due = read(os.path.join(TOP, "VERSION")).decode()
+        self.assertEqual([called(companion, ["--version"], TOP).out.decode() for companion in COMPANIONS], [f"{it} {due}" for it in COMPANIONS])
 
     def test_others(self) -> None:
-        self.none_of(failures_of_others())
+        """./release refuses programs that ./prove didn't build of these sources, or makes an archive of those that it did."""
+        with tempfile.TemporaryDirectory() as folder:
+            ran = subprocess.run([os.path.join(TOP, "release"), "--out", folder], capture_output=True, text=True, timeout=300, check=False)
+            made = os.listdir(folder)
+        lines = ran.stderr.splitlines()
+        is_refused = ran.returncode == 1 and len(lines) == 1 and lines[0].startswith("release: ") and not made
+        self.assertTrue(is_refused or ran.returncode == 0 and len(made) == 1, (ran, made))
 
     @unittest.skipUnless(shutil.which("objdump"), "objdump isn't installed")
     def test_needed(self) -> None:

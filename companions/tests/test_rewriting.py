@@ -6,8 +6,8 @@ from cics.adapting import Adapted, adapted
 from cics.assembler_files import encoded
 from cics.child import run
 from cics.sources import SourceText
-from tests.case import CICSLOOK
-from tests.case import TestCase
+from tests.case import CICSLOOK, TestCase
+from tests.looks import Place, keyed, symbols_of
 
 
 @dataclass(frozen=True)
@@ -129,8 +129,7 @@ CASES = [
          ["         EXEC  CICS HANDLE CONDITION QIDERR(F)   NO QUEUE".ljust(71) + "X", "               ERROR(G)".ljust(71) + "X",
           "               ITEMERR(W)   THE LAST ONE"],
          ["*        NO QUEUE", "*        THE LAST ONE", "         EXEC  CICS HANDLE CONDITION QIDERR(F)".ljust(71) + "X",
-          "               ERROR(G)".ljust(71) + "X",
-          "               ITEMERR(W)"]),
+          "               ERROR(G)".ljust(71) + "X", "               ITEMERR(W)"]),
     Case("a command's line that becomes full", ["         EXEC CICS WRITEQ TS    QUEUE(F) LENGTH(8) ITEM(W) NOHANDLE".ljust(71) + "X",
                                                 "               FROM(F)"],
          ["         EXEC CICS WRITEQ TS    QUEUE(F) LENGTH(=H'8') ITEM(W) NOHANDLEX", "                FROM(F)"]),
@@ -169,8 +168,7 @@ CASES = [
           "         MVC   F,=CL8'Z'               =CL(L'F)'Z'"]),
     Case("expressions of other operands",
          ["         SRL   4,2*2", "         BCR   2*4,14", "         CLI   F,2*3", "         USING P+2*4,5", "         LA    1,2*L'F(2)",
-          "         LA    1,(4)(2)",
-          "         LA    1,F+(N-1)", "         LA    1,-(1-5)", "         CLI   F,C'A'+1"],
+          "         LA    1,(4)(2)", "         LA    1,F+(N-1)", "         LA    1,-(1-5)", "         CLI   F,C'A'+1"],
          ["         SRL   4,4                     2*2", "         BCR   8,14                    2*4", "         CLI   F,6                     2*3",
           "         USING P+8,5                   P+2*4", "         LA    1,16(2)                 2*L'F(2)", "         LA    1,4(2)                  (4)(2)",
           "         LA    1,F+N-1                 F+(N-1)", "         LA    1,4                     -(1-5)", "         CLI   F,C'A'+1"]),
@@ -249,8 +247,7 @@ CASES = [
          ["A        DS    CL10", "B        DS    CL20", "         ORG   A+2", "* TWO PARTS", "C        DS    CL4", "D        DS    CL12",
           "DL       EQU   *-C", "         ORG ,"],
          ["A        DS    0CL10", "         DS    XL2", "* TWO PARTS", "C        DS    CL4", "D        DS    0CL12", "         DS    XL4",
-          "B        DS    0CL20",
-          "         DS    XL8", "DL       EQU   *-C", "         DS    XL12"]),
+          "B        DS    0CL20", "         DS    XL8", "DL       EQU   *-C", "         DS    XL12"]),
     Case("an overlay that goes back once more, and farther",
          ["A        DS    CL4", "B        DS    CL8", "         ORG   B+2", "C        DS    CL3", "         ORG   A+1", "D        DS    CL2", "         ORG"],
          ["A        DS    0CL4", "         DS    XL1", "D        DS    CL2", "         DS    XL1", "B        DS    0CL8", "         DS    XL2",
@@ -328,14 +325,6 @@ E2       EQU   (N2-N1)*2
          END""".split("\n")
 
 
-@dataclass(frozen=True)
-class Place:
-    """Where a name is, and its length attribute."""
-
-    offset: int
-    length: int
-
-
 # By the manual, from the first statement on: each item at the next multiple of its unit, its first value's length the attribute.
 FIRST = {"C1": Place(0x00, 1), "Y1": Place(0x02, 2), "C2": Place(0x04, 1), "Y2": Place(0x09, 1), "Y3": Place(0x0A, 2), "A1": Place(0x10, 4),
           "A2": Place(0x18, 1), "F1": Place(0x1C, 4), "H1": Place(0x24, 2), "P1": Place(0x2C, 1), "X1": Place(0x30, 1), "T1": Place(0x33, 1),
@@ -397,38 +386,6 @@ Z        DS    C
 OVERLAY = {"A": Place(0, 4), "B": Place(4, 20), "C": Place(2, 4), "X": Place(6, 2), "Y": Place(8, 8), "Z": Place(24, 1)}
 
 
-def symbols_of(name: str, lines: list[str], cicslook: str) -> dict[str, Place]:
-    """The symbols of a source, by SYMBOLS."""
-    ended = run([cicslook], encoded([f"SOURCE {name}", *lines, "/*", f"SYMBOLS {name}"]))
-    found = {}
-    for words in (line.split() for line in ended.lines() if line.startswith("> SYMBOL '")):
-        found[words[2].strip("'")] = Place(int(words[4], 16), int(words[words.index("LENGTH") + 1]))
-    return found
-
-
-def text_of(lines: list[str], length: int, cicslook: str) -> str:
-    """The bytes of a source's text, by STORAGE."""
-    ended = run([cicslook], encoded(["SOURCE P", *lines, "/*", f"STORAGE 010000 {length}"]))
-    rows = [line[10:45] for line in ended.lines() if line.startswith("> 0100")]
-    return "".join(rows).replace(" ", "")
-
-
-@dataclass(frozen=True)
-class Placing:
-    """A source in the old form, with the places of its names and its bytes by the manual."""
-
-    old: list[str]
-    places: dict[str, Place]
-    text: str
-
-    def failures(self, cicslook: str) -> list[str]:
-        new = adapted(SourceText(with_base(self.old)), "OLD.asm", []).lines()
-        found = symbols_of("P", new, cicslook)
-        wrong = [f"{name}: {found.get(name)}, where {due} is due" for name, due in self.places.items() if found.get(name) != due]
-        text = text_of(new, len(self.text) // 2, cicslook)
-        return wrong if text == self.text else [*wrong, f"the bytes {text}, where {self.text} are due"]
-
-
 # A program as shops have it, and what its terminal shows by the manuals.
 RUN_OLD = """         DFHEISTG
 INLEN    DS    H
@@ -467,22 +424,6 @@ END      EQU   *
 RUN = ["SCREEN T001", "01|********WO ORDS"]
 
 
-def failures_of_run(cicslook: str) -> list[str]:
-    new = adapted(SourceText(RUN_OLD), "OLD.asm", []).lines()
-    ended = run([cicslook], encoded(["SOURCE P", *new, "/*", "TRANSACTION P P", "TERMINAL T001", "KEY T001 ENTER P", "RUN T001", "SCREEN T001"]))
-    return [] if ended.lines()[-2:] == RUN else [f"a program that is run: {ended.lines()[-3:]}"]
-
-
-def failures_of_places(cicslook: str) -> list[str]:
-    wrong = [failure for one in (Placing(FIRST_OLD, FIRST, FIRST_BYTES), Placing(SECOND_OLD, SECOND, SECOND_BYTES)) for failure in one.failures(cicslook)]
-    overlay = symbols_of("P", adapted(SourceText(OVERLAY_OLD), "OLD.asm", []).lines(), cicslook)
-    return wrong + [f"{name}: {overlay.get(name)}, where {due} is due" for name, due in OVERLAY.items() if overlay.get(name) != due]
-
-
-def with_base(lines: list[str]) -> list[str]:
-    return [lines[0], "         USING P,3", *lines[1:]]
-
-
 class RewritingTest(TestCase):
     def test_cases(self) -> None:
         self.none_of([failure for case in CASES if (failure := failure_of(case))])
@@ -493,7 +434,15 @@ class RewritingTest(TestCase):
                 self.assertEqual(result_of(case, is_kept=True).lines()[len(HEAD) : -len(TAIL)], case.new)
 
     def test_places(self) -> None:
-        self.none_of(failures_of_places(CICSLOOK))
+        for old, places, text in ((FIRST_OLD, FIRST, FIRST_BYTES), (SECOND_OLD, SECOND, SECOND_BYTES)):
+            new = adapted(SourceText([old[0], "         USING P,3", *old[1:]]), "OLD.asm", []).lines()
+            found = symbols_of(new)
+            self.assertEqual({name: found.get(name) for name in places}, places)
+            ended = run([CICSLOOK], encoded(["SOURCE P", *new, "/*", f"STORAGE 010000 {len(text) // 2}"]))
+            self.assertEqual("".join(line[10:45] for line in ended.lines() if line.startswith("> 0100")).replace(" ", ""), text)
+        overlay = symbols_of(adapted(SourceText(OVERLAY_OLD), "OLD.asm", []).lines())
+        self.assertEqual({name: overlay.get(name) for name in OVERLAY}, OVERLAY)
 
     def test_run(self) -> None:
-        self.none_of(failures_of_run(CICSLOOK))
+        new = adapted(SourceText(RUN_OLD), "OLD.asm", []).lines()
+        self.assertEqual(keyed(new, "SCREEN T001")[-2:], RUN)

@@ -5,7 +5,7 @@ import os
 import tempfile
 
 from cics.child import TOP, lines_of, read
-from tests.calling import Call, called, failures_of
+from tests.calling import Call, called, failures_of, folder_of
 from tests.case import PROGRAMS, TestCase
 
 FOLDER = os.path.join(TOP, "examples/adapt")
@@ -40,32 +40,16 @@ SHOW     EXEC  CICS SEND TEXT FROM(ITEM) LENGTH(LAST) ERASE
          EXEC  CICS RETURN
          END
 """  # shows the last item
-COUNTER = """DFHEISTG DSECT
-LEN      DS    H
-N        DS    H
-D        DS    D
-ITEM     DS    CL100
-READER   CSECT
-         EXEC  CICS HANDLE CONDITION QIDERR(LAST) ITEMERR(LAST)
-NEXT     MVC   LEN,=H'100'
-         EXEC  CICS READQ TS QUEUE('DATA') INTO(ITEM) LENGTH(LEN)      X
-               NEXT NUMITEMS(N)
-         B     NEXT
-LAST     LH    4,N
+COUNTER = READER.replace("LENGTH(LAST)", "LENGTH(=H'7')").replace("SHOW     ", """SHOW     LH    4,N
          CVD   4,D
          OI    D+7,15
          UNPK  ITEM(7),D+4(4)
-         EXEC  CICS SEND TEXT FROM(ITEM) LENGTH(=H'7') ERASE
-         EXEC  CICS RETURN
-         END
-"""  # shows how many there are
-
+         """)  # shows how many there are
 CALLS = [
     Call("a text", "cics-run", ["h.asm", "--key", "HELLO YOU"], 0, ["KEY T001 ENTER HELLO YOU", "01|HELLO YOU"], {"h.asm": HELLO}),
     Call("an abend", "cics-run", ["h.asm", "--key", "HELL A", "--key", "PF3 B"], 1,
          ["KEY T001 ENTER HELL A", "01|HELL A", "KEY T001 PF3 B", "T001 Abended ASRA", "01|HELL A",
-          "ABEND T001 ASRA INTERRUPTION 1 OPERATION TRAN HELL TASK 0000002",
-          "NEXT *", "R00*", "R04*", "R08*", "R12*", "CC 0"], {"h.asm": HELLO}),
+          "ABEND T001 ASRA INTERRUPTION 1 OPERATION TRAN HELL TASK 0000002", "NEXT *", "R00*", "R04*", "R08*", "R12*", "CC 0"], {"h.asm": HELLO}),
     Call("the fields of an abend", "cics-run", ["h.asm", "--fields", "--key", "HELL A", "--key", "PF3 B"], 1,
          ["KEY T001 ENTER HELL A", "01|HELL A", "KEY T001 PF3 B", "T001 Abended ASRA", "01|HELL A", "ABEND T001 ASRA *", "NEXT *", *["R*"] * 4, "CC 0",
           "FIELD T001 'INLEN' AT 2000B0 LENGTH 2 0001 '..' VALUE 1", "FIELD T001 'INPUT' AT 2000B2 LENGTH 80 C240*"], {"h.asm": HELLO}),
@@ -92,51 +76,31 @@ CALLS = [
 MANY = 1800  # items of a queue, more than one program takes; in all more than 4,096 bytes
 
 
-def failures_of_many(programs: list[str]) -> list[str]:
-    """Many items: all are there."""
-    items = "".join(f"ITEM NUMBER {number} OF MANY\n" for number in range(MANY))
-    call = Call("many items", "cics-run", ["r.asm", "--queue", "DATA=q", "--key", "READ"], 0, ["KEY T001 ENTER READ", f"01|{MANY:07}"],
-                {"r.asm": COUNTER, "q": items})
-    return failures_of([call], programs)
-
-
-def failures_of_film(programs: list[str]) -> list[str]:
-    """The run as a page, which has the program's source."""
-    with tempfile.TemporaryDirectory() as folder:
-        with open(os.path.join(folder, "h.asm"), "w", encoding="utf-8") as file:
-            file.write(HELLO)
-        ended = called("cics-run", ["h.asm", "--key", "HELL A", "--film", *programs], folder)
-    is_page = ended.status == 0 and b"HELL A" in ended.out and ended.out.endswith(b"</html>\n")
-    return [] if is_page else [f"a film: {ended}"]
-
-
-def failures_of_programs(programs: list[str]) -> list[str]:
-    """Programs as shops have them: what cics-adapt makes of those of which nothing is left, and others with what is left by hand."""
-    wrong = []
-    for path in sorted(glob.glob(f"{FOLDER}/*.run")):
-        source, *words = lines_of(read(path).decode())
-        with tempfile.NamedTemporaryFile(suffix=".asm") as file:
-            if not source.startswith("by-hand/"):
-                new = called("cics-adapt", [source, "--copy", "copy"], FOLDER)
-                wrong += [f"{source}: {new}"] if new.status != 0 else []
-                file.write(new.out)
-                file.flush()
-                source = file.name
-            ended = called("cics-run", [source, *words, *programs], FOLDER)
-        if ended.status != 0 or ended.out != read(path.removesuffix(".run") + ".screens"):
-            wrong.append(f"{os.path.basename(path)}: {ended}")
-    return wrong
-
-
 class RunsTest(TestCase):
     def test_calls(self) -> None:
         self.none_of(failures_of(CALLS, PROGRAMS))
 
     def test_many(self) -> None:
-        self.none_of(failures_of_many(PROGRAMS))
+        items = "".join(f"ITEM NUMBER {number} OF MANY\n" for number in range(MANY))
+        call = Call("many items", "cics-run", ["r.asm", "--queue", "DATA=q", "--key", "READ"], 0, ["KEY T001 ENTER READ", f"01|{MANY:07}"],
+                    {"r.asm": COUNTER, "q": items})
+        self.none_of(failures_of([call], PROGRAMS))
 
     def test_film(self) -> None:
-        self.none_of(failures_of_film(PROGRAMS))
+        with folder_of({"h.asm": HELLO}) as folder:
+            ended = called("cics-run", ["h.asm", "--key", "HELL A", "--film", *PROGRAMS], folder)
+        self.assertTrue(ended.status == 0 and b"HELL A" in ended.out and ended.out.endswith(b"</html>\n"), ended)
 
     def test_programs(self) -> None:
-        self.none_of(failures_of_programs(PROGRAMS))
+        """Programs as shops have them: what cics-adapt makes of those of which nothing is left, and others with what is left by hand."""
+        for path in sorted(glob.glob(f"{FOLDER}/*.run")):
+            source, *words = lines_of(read(path).decode())
+            with self.subTest(path), tempfile.NamedTemporaryFile(suffix=".asm") as file:
+                if not source.startswith("by-hand/"):
+                    new = called("cics-adapt", [source, "--copy", "copy"], FOLDER)
+                    self.assertEqual(new.status, 0, new)
+                    file.write(new.out)
+                    file.flush()
+                    source = file.name
+                ended = called("cics-run", [source, *words, *PROGRAMS], FOLDER)
+                self.assertEqual((ended.status, ended.out), (0, read(path.removesuffix(".run") + ".screens")), ended)

@@ -32,7 +32,7 @@ CALLEE = """CALLEE   CSECT
 SHOWER = """DFHEISTG DSECT
 LEN      DS    H
 ITEM     DS    CL8
-S        CSECT
+SHOWER   CSECT
          MVC   LEN,=H'8'
          EXEC  CICS READQ TS QUEUE('Q') INTO(ITEM) ITEM(=H'2')         X
                LENGTH(LEN)
@@ -116,10 +116,10 @@ CALLS = [
          ["same after 1 key; all 4 changed lines were run", ran("CALLER", "3 of 3", "3 of 3"), ran("CALLEE", "3 of 3", "3 of 3"), COMPARED], FILES),
     Call("one of two", "cics-same", ["c.script", "--source", "CALLEE=callee.asm:called.asm"], 1,
          ["line *, KEY T001 ENTER T:", "old: T001 Ended", "new: T001 Abended ASRA"], FILES),
-    Call("test data", "cics-same", ["s.script", "S", "s.asm", "s.asm", "--queue", "Q=q"], 0, same("S", "4"), FILES),
-    Call("test data that is shown", "cics-same", ["s.script", "S", "s.asm", "t.asm", "--queue", "Q=q"], 1,
+    Call("test data", "cics-same", ["s.script", "SHOWER", "s.asm", "s.asm", "--queue", "Q=q"], 0, same("SHOWER", "4"), FILES),
+    Call("test data that is shown", "cics-same", ["s.script", "SHOWER", "s.asm", "t.asm", "--queue", "Q=q"], 1,
          ["line *SCREEN T001 differs", "old: 01|IT'S &", "new: 01|ONE"], FILES),
-    Call("no test data", "cics-same", ["s.script", "S", "s.asm", "s.asm"], 0, [UNCHANGED, ran("S", "2 of 4", "2 of 4"), COMPARED], FILES),
+    Call("no test data", "cics-same", ["s.script", "SHOWER", "s.asm", "s.asm"], 0, [UNCHANGED, ran("SHOWER", "2 of 4", "2 of 4"), COMPARED], FILES),
     Call("other keys", "cics-same", ["w.script", "c2.script"], 2, [], {**FILES, "c2.script": script(WRITER) + "KEY T001 ENTER T\n"}, "different keys"),
     Call("a source that isn't there", "cics-same", ["w.script", "X", "w.asm", "o.asm"], 2, [], FILES, "w.script: it has no SOURCE X"),
     Call("a file that isn't there", "cics-same", ["w.script", "P", "w.asm", "n.asm"], 2, [], FILES, "n.asm: No such file"),

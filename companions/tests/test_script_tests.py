@@ -9,7 +9,7 @@ import xml.etree.ElementTree as xml
 from cics.child import TOP, Ended, lines_of, read
 from cics.shown import shown, with_screens
 from cics.together import processors, run_together
-from tests.calling import Call, called, failures_of
+from tests.calling import Call, called, failures_of, folder_of, program, put
 from tests.case import CICSLOOK, PROGRAMS, TestCase
 
 LESSONS = os.path.join(TOP, "examples/lessons")
@@ -63,7 +63,6 @@ CALLS = [
     Call("no end of the last line", "cics-test", ["."], 0, ["./a.script: ok", "1 script: 1 ok"], {"a.script": SCRIPT[:-1], "a.screens": SCREENS}),
 ]
 TWO = "DC    H'0'"
-WAITS = "EXEC  CICS RECEIVE INTO(3) LENGTH(=H'1')"
 SHOWN = {  # scripts, by what stands in P in the place of SEND, and what they show
     f"{SCRIPT}SCREEN T001\n": ["KEY T001 ENTER P", "SCREEN T001", "01|OK"],
     f"{SCRIPT}KEY T001 ENTER NONE\n": ["KEY T001 ENTER P", "KEY T001 ENTER NONE", "T001 NoSuchTransaction", "SCREEN T001", "01|OK"],
@@ -90,10 +89,8 @@ class ScriptTestsTest(TestCase):
                 self.assertEqual((shown(script, run.ended.lines()), run.ended.reported), (due, b""))
 
     def test_written_and_tested(self) -> None:
-        with tempfile.TemporaryDirectory() as folder:
-            with open(os.path.join(folder, "a.script"), "w", encoding="ascii") as file:
-                file.write(SCRIPT)
-            os.chmod(file.name, 0o600)
+        with folder_of({"a.script": SCRIPT}) as folder:
+            os.chmod(os.path.join(folder, "a.script"), 0o600)
             for option, out in (("--write", "written"), ("--write", "unchanged"), ("--json", "["), ("--jobs=1", "ok")):
                 ended = called("cics-test", [".", option, *PROGRAMS], folder)
                 self.assertEqual((ended.status, ended.lines()[0].split(": ")[-1]), (0, out), ended)
@@ -111,11 +108,8 @@ class ScriptTestsTest(TestCase):
     def test_runs_that_do_not_end(self) -> None:
         """One that doesn't end, and one that writes without end, are told, and the others are run."""
         with tempfile.TemporaryDirectory() as folder:
-            program = os.path.join(folder, "program")
-            with open(program, "w", encoding="ascii") as file:
-                file.write(f'#!/bin/sh\nread line\ncase $line in Y*) exec yes;; K*) kill -9 $$;; esac\nexec {CICSLOOK} "$@"\n')
-            os.chmod(program, 0o755)
-            runs = {run.number: run for run in run_together([program], ["YES\n", "KILL\n", "* ALL\nTERMINAL T001\n"], 2)}
+            command = [program(folder, f"read line\ncase $line in Y*) exec yes;; K*) kill -9 $$;; esac\nexec {CICSLOOK}")]
+            runs = {run.number: run for run in run_together(command, ["YES\n", "KILL\n", "* ALL\nTERMINAL T001\n"], 2)}
         self.assertIn("it writes more than", runs[0].why)
         self.assertEqual(runs[1].ended and runs[1].ended.why(), "ended by SIGKILL")
         self.assertEqual(runs[2].ended, Ended(0, b"TERMINAL T001 DEFINED\n", b""))
@@ -138,9 +132,7 @@ class LessonsTest(TestCase):
 
     def one_fails(self, folder: str, count: int) -> None:
         path = os.path.join(folder, "lessons/06-lost-update/lost.screens")
-        kept = read(path).replace(b"LEFT: 07", b"LEFT: 06")
-        with open(path, "wb") as file:
-            file.write(kept)
+        put(folder, {path: read(path).replace(b"LEFT: 07", b"LEFT: 06")})
         begun = time.monotonic()
         ended = called("cics-test", ["lessons", "--junit", "found.xml", "--json", *PROGRAMS], folder)
         seconds = time.monotonic() - begun

@@ -6,7 +6,7 @@ import os
 import random
 import re
 import tempfile
-from collections.abc import Callable
+from collections.abc import Callable, Iterable
 from dataclasses import dataclass
 from functools import partial
 
@@ -97,24 +97,6 @@ def failure_of_source(data: bytes) -> str | None:
     return None if statements_in(kept) == statements_in(lines) else "with the old text kept the statements are others"
 
 
-def failures_of_sources() -> list[str]:
-    given = given_sources()
-    found = []
-    for seed in range(SOURCES):
-        drawing = Drawing(random.Random(seed))
-        data = drawing.spoilt(drawing.draw.choice(given))
-        found += caught(f"the source drawn by {seed}", partial(failure_of_source, data))
-    return found
-
-
-def failures_of_huge() -> list[str]:
-    found = []
-    for what, (operation, operand) in HUGE.items():
-        data = encoded([*HEAD, *statement_lines("T", operation, operand), *TAIL])
-        found += caught(what, partial(failure_of_source, data))
-    return found
-
-
 def caught(what: str, failure: Callable[[], str | None]) -> list[str]:
     """A failure, or any exception as one."""
     try:
@@ -124,26 +106,16 @@ def caught(what: str, failure: Callable[[], str | None]) -> list[str]:
     return [f"{what}: {found}"] if found else []
 
 
-def failure_of_check(data: bytes, cicslook: str) -> str | None:
+def failure_of_check(data: bytes) -> str | None:
     """A source whose lines can't be those of a block is refused by a line."""
     try:
         lines = [line for line in source_of(data, "OLD.asm").lines if line != "/*"]
-        for fault in faults_of(sources_of_lines("OLD.asm", lines), cicslook):
+        for fault in faults_of(sources_of_lines("OLD.asm", lines), CICSLOOK):
             if not 1 <= fault.line <= len(lines) + 1:
                 return f"a fault of line {fault.line}: {fault}"
     except Failure:
         return None
     return None
-
-
-def failures_of_checks(cicslook: str) -> list[str]:
-    given = given_sources()
-    found = []
-    for seed in range(CHECKED):
-        drawing = Drawing(random.Random(f"checked {seed}"))
-        data = drawing.spoilt(drawing.draw.choice(given))
-        found += caught(f"cics-check of the source drawn by {seed}", partial(failure_of_check, data, cicslook))
-    return found
 
 
 # ---- test data
@@ -167,37 +139,39 @@ def items_in(transcript: list[str]) -> list[bytes]:
     return found
 
 
-def failure_of_data(lines: list[bytes], cicslook: str) -> str | None:
+def failure_of_data(lines: list[bytes]) -> str | None:
     with tempfile.NamedTemporaryFile() as file:
         file.write(b"".join(line + b"\n" for line in lines))
         file.flush()
         loaders = loaders_of([Given(QUEUE, file.name)])
     looks = [f"QUEUE {QUEUE} {number}" for number in range(1, len(lines) + 1)]
-    ended = run([cicslook], encoded(["TERMINAL T001", *loading_lines(loaders, "T001"), *looks]))
+    ended = run([CICSLOOK], encoded(["TERMINAL T001", *loading_lines(loaders, "T001"), *looks]))
     if not ended.is_well():
         return str(ended)
     found, due = items_in(ended.lines()), [bytes_of(line) for line in lines]
     return None if found == due else f"{len(found)} items, where {len(due)} are due, or other bytes"
 
 
-def failures_of_data(cicslook: str) -> list[str]:
-    found = []
-    for seed in range(FILES):
-        drawing = Drawing(random.Random(f"data {seed}"))
-        lines = [drawing.line() for _ in range(drawing.draw.choice([1, 5, 40]))]
-        found += caught(f"the test data drawn by {seed}", partial(failure_of_data, lines, cicslook))
-    return found
-
-
 class SpoiltTest(TestCase):
+    def drawn(self, seeds: Iterable[int | str], failure_of: Callable[[bytes], str | None]) -> None:
+        given = given_sources()
+        drawings = {seed: Drawing(random.Random(seed)) for seed in seeds}
+        data = {seed: drawing.spoilt(drawing.draw.choice(given)) for seed, drawing in drawings.items()}
+        self.none_of([failure for seed, one in data.items() for failure in caught(f"what is drawn by {seed}", partial(failure_of, one))])
+
     def test_sources(self) -> None:
-        self.none_of(failures_of_sources())
+        self.drawn(range(SOURCES), failure_of_source)
 
     def test_huge(self) -> None:
-        self.none_of(failures_of_huge())
+        for what, (operation, operand) in HUGE.items():
+            data = encoded([*HEAD, *statement_lines("T", operation, operand), *TAIL])
+            self.none_of(caught(what, partial(failure_of_source, data)))
 
     def test_checks(self) -> None:
-        self.none_of(failures_of_checks(CICSLOOK))
+        self.drawn([f"checked {seed}" for seed in range(CHECKED)], failure_of_check)
 
     def test_data(self) -> None:
-        self.none_of(failures_of_data(CICSLOOK))
+        for seed in range(FILES):
+            drawing = Drawing(random.Random(f"data {seed}"))
+            lines = [drawing.line() for _ in range(drawing.draw.choice([1, 5, 40]))]
+            self.none_of(caught(f"the test data drawn by {seed}", partial(failure_of_data, lines)))

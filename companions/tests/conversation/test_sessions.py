@@ -4,7 +4,6 @@ import os
 import pty
 import re
 import select
-import subprocess
 import tempfile
 import time
 
@@ -14,6 +13,7 @@ from cics.conversation.session import Session
 from cics.conversation.talk import Talk
 from cics.line_forms import reason_of
 from cics.transcripts import without_looks
+from tests.calling import called, folder_of, program
 from tests.case import CICSEDF, CICSLOOK, PROGRAMS, TestCase
 
 PROMPT = b"cics> |IMAGE P 80> "
@@ -77,8 +77,7 @@ TERMINAL T001
 
 
 def held(typed: str, *words: str, folder: str = "/") -> Ended:
-    ran = subprocess.run([LOOK, *words, *PROGRAMS], cwd=folder, input=encoded(typed), capture_output=True, timeout=300, check=False)
-    return Ended(ran.returncode, ran.stdout, ran.stderr)
+    return called("cics-look", [*words, *PROGRAMS], folder, given=encoded(typed))
 
 
 class SessionTest(TestCase):
@@ -148,9 +147,7 @@ class SessionTest(TestCase):
                                          "? BadLine: the script ends before the /* of this ORDERS"])
 
     def test_load_and_keep(self) -> None:
-        with tempfile.TemporaryDirectory() as folder:
-            with open(os.path.join(folder, "p.asm"), "w", encoding="ascii") as file:
-                file.write("".join(f"{line}\n" for line in RETURN.split("\n")[1:6]))
+        with folder_of({"p.asm": text_of(RETURN.split("\n")[1:6])}) as folder:
             ended = held("load p.asm\nload q.asm\nTERMINAL T001\nKEY T001 ENTER P\ncontinue\nkeep k.script\nkeep\nquit\nTASKS\n", folder=folder)
             self.assertEqual(ended.lines(), ["PROGRAM P AT 010000 LENGTH 000028", "TRANSACTION P DEFINED", "? q.asm: No such file or directory",
                                              "TERMINAL T001 DEFINED", "KEY T001 Attached", "TURN T001 AtCommand", "TURN T001 Ended",
@@ -160,14 +157,10 @@ class SessionTest(TestCase):
     def test_a_program_that_ends(self) -> None:
         """Where cicslook ends by itself, a line says so, and what was done before is kept."""
         with tempfile.TemporaryDirectory() as folder:
-            program = os.path.join(folder, "program")
-            with open(program, "w", encoding="ascii") as file:
-                file.write(f'#!/bin/sh\n[ $# = 0 ] || exec {CICSLOOK} "$@"\nhead -n 2 | {CICSLOOK}\nkill -9 $$\n')
-            os.chmod(program, 0o755)
-            ran = subprocess.run([LOOK, "--keep", "k", "--cicslook", program], cwd=folder, input=b"TERMINAL T001\nTERMINAL T002\nTASKS\n",
-                                 capture_output=True, timeout=300, check=False)
-            self.assertEqual((ran.returncode, ran.stdout), (3, b"TERMINAL T001 DEFINED\n"), ran.stderr)
-            self.assertIn(b"ended by SIGKILL, after 'TERMINAL T002'", ran.stderr)
+            words = ["--keep", "k", "--cicslook", program(folder, f"head -n 2 | {CICSLOOK}\nkill -9 $$")]
+            ended = called("cics-look", words, folder, given=b"TERMINAL T001\nTERMINAL T002\nTASKS\n")
+            self.assertEqual((ended.status, ended.out), (3, b"TERMINAL T001 DEFINED\n"), ended.reported)
+            self.assertIn(b"ended by SIGKILL, after 'TERMINAL T002'", ended.reported)
             self.assertEqual(read(os.path.join(folder, "k")), b"TERMINAL T001\n")
 
     def test_names_of_the_mark(self) -> None:
@@ -176,9 +169,7 @@ class SessionTest(TestCase):
         self.assertEqual(lines, ["TERMINAL @@@@ DEFINED", "SCREEN @@@@", "TERMINAL @@@A DEFINED", "SCREEN @@@@", "> @@@@ NO TASK", "> @@@A NO TASK"])
 
     def test_endings(self) -> None:
-        with tempfile.TemporaryDirectory() as folder:
-            with open(os.path.join(folder, "bad.script"), "w", encoding="ascii") as file:
-                file.write("TERMINAL T001\nTURN  T001\nNONE\n")
+        with folder_of({"bad.script": "TERMINAL T001\nTURN  T001\nNONE\n", "good.script": "TERMINAL T001\n"}) as folder:
             for words, status, said in ((["bad.script"], 1, "bad.script:2:5: BadLine: two blanks\nbad.script:3:1: BadLine: no such"),
                                         (["none.script"], 3, "none.script: No such file"), (["--none"], 2, "write: cics-look"),
                                         (["bad.script", "--keep", "bad.script"], 1, "cics-look: bad.script: a bad script is no beginning")):
@@ -186,8 +177,6 @@ class SessionTest(TestCase):
                 self.assertEqual(ended.status, status, ended)
                 self.assertIn(said, ended.reported.decode())
             self.assertEqual(read(os.path.join(folder, "bad.script")), b"TERMINAL T001\nTURN  T001\nNONE\n")
-            with open(os.path.join(folder, "good.script"), "w", encoding="ascii") as file:
-                file.write("TERMINAL T001\n")
             ended = held("TASKS\n", "good.script", "--keep", "good.script", folder=folder)
             self.assertEqual((ended.status, b"it is read, so it isn't written" in ended.reported), (3, True), ended)
 
@@ -231,7 +220,7 @@ class CompletionTest(TestCase):
         if child == 0:
             os.environ.update(XDG_STATE_HOME=folder, TERM="xterm", INPUTRC="/dev/null")
             os.execv(LOOK, [LOOK, *PROGRAMS])
-        shown, until, prompts = b"", time.monotonic() + 120, 0
+        shown, until, prompts = b"", time.monotonic() + 300, 0
         try:
             while time.monotonic() < until:
                 if pieces and len(re.findall(PROMPT, shown)) > prompts:
@@ -241,5 +230,6 @@ class CompletionTest(TestCase):
                     shown += os.read(terminal, 4096)
         except OSError:  # it has ended
             pass
+        os.close(terminal)
         self.assertEqual(os.waitstatus_to_exitcode(os.waitpid(child, 0)[1]), 0, shown)
         return shown.decode()

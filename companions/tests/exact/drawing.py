@@ -113,6 +113,27 @@ def two_lengths(drawn: Drawn, operation: str, first: int, second: int, at: int, 
     return drawn.case(operation, f"{one[1]}({first},{one[0]}),{two[1]}({second},{two[0]})", code)
 
 
+def one_length(drawn: Drawn, operation: str, length: int, at: int, other: int) -> Case:
+    one, two = drawn.base(at), drawn.base(other)
+    code = bytes([CODES[operation], length - 1]) + address(*one) + address(*two)
+    return drawn.case(operation, f"{one[1]}({length},{one[0]}),{two[1]}({two[0]})", code)
+
+
+def with_register(drawn: Drawn, operation: str, first: int, second: int, one: tuple[int, int]) -> Case:
+    """An instruction with two registers, or a register and a mask, and a place."""
+    return drawn.case(operation, f"{first},{second},{one[1]}({one[0]})", bytes([CODES[operation], first * 16 + second]) + address(*one))
+
+
+def shift_by(drawn: Drawn, amount: int, others: tuple[int, ...]) -> tuple[int, int, str]:
+    """A register, or none, and a displacement, which are an amount together, and the operand."""
+    draw = drawn.draw
+    register = draw.of((0, *others))
+    part = draw.between(0, amount) if register else amount
+    if register:
+        drawn.registers[register] = draw.below(1024) * 64 + amount - part
+    return register, part, f"{part}({register})" if register else str(part)
+
+
 def places_for(drawn: Drawn, first: int, second: int) -> tuple[int, int]:
     """Two places for operands, which overlap at times."""
     at = drawn.draw.between(8, drawn.size // 2 - first)
@@ -149,12 +170,8 @@ def shifted(drawn: Drawn, operation: str) -> Case:
     at = draw.between(0, drawn.size - first)
     drawn.put(at, packed_number(draw, first))
     one = drawn.base(at)
-    register = draw.of((0, draw.of([number for number in BASES if number not in drawn.used])))
-    part = draw.between(0, amount) if register else amount
-    if register:
-        drawn.registers[register] = draw.below(1024) * 64 + amount - part
+    register, part, second = shift_by(drawn, amount, (draw.of([number for number in BASES if number not in drawn.used]),))
     code = bytes([CODES[operation], (first - 1) * 16 + added]) + address(*one) + address(register, part)
-    second = f"{part}({register})" if register else str(part)
     return drawn.case(operation, f"{one[1]}({first},{one[0]}),{second},{added}", code)
 
 
@@ -171,9 +188,7 @@ def edited(drawn: Drawn, operation: str) -> Case:
         drawn.used.add(1)
         drawn.places.add(1)
         drawn.registers[1] = draw.below(64)
-    one, two = drawn.base(at), drawn.base(other)
-    code = bytes([CODES[operation], length - 1]) + address(*one) + address(*two)
-    return drawn.case(operation, f"{one[1]}({length},{one[0]}),{two[1]}({two[0]})", code)
+    return one_length(drawn, operation, length, at, other)
 
 
 def bytes_of(drawn: Drawn, operation: str) -> Case:
@@ -188,9 +203,7 @@ def bytes_of(drawn: Drawn, operation: str) -> Case:
         drawn.put(other, bytes(min(length, drawn.size - other)))
     if draw.once_in(6) and operation != "MVCIN":
         other = at
-    one, two = drawn.base(at), drawn.base(other)
-    code = bytes([CODES[operation], length - 1]) + address(*one) + address(*two)
-    return drawn.case(operation, f"{one[1]}({length},{one[0]}),{two[1]}({two[0]})", code)
+    return one_length(drawn, operation, length, at, other)
 
 
 def immediate(drawn: Drawn, operation: str) -> Case:
@@ -241,8 +254,7 @@ def masked(drawn: Drawn, operation: str) -> Case:
     taken = bytes(byte for bit, byte in zip((8, 4, 2, 1), drawn.registers[register].to_bytes(4, "big")) if mask & bit)
     if draw.once_in(2):
         drawn.put(at, taken)
-    code = bytes([CODES[operation], register * 16 + mask]) + address(*one)
-    return drawn.case(operation, f"{register},{mask},{one[1]}({one[0]})", code)
+    return with_register(drawn, operation, register, mask, one)
 
 
 def branched(drawn: Drawn, operation: str) -> Case:
@@ -264,12 +276,8 @@ def pair_shifted(drawn: Drawn, operation: str) -> Case:
     drawn.registers[first + 1] = special_word(draw, 7)
     if draw.once_in(2):
         drawn.registers[first] = draw.of((0, WORD - 1, draw.below(16), WORD - draw.below(16) - 1))
-    register = draw.of((0, *(number for number in BASES if number not in (first, first + 1))))
-    part = draw.between(0, amount) if register else amount
-    if register:
-        drawn.registers[register] = draw.below(1024) * 64 + amount - part
-    code = bytes([CODES[operation], first * 16]) + address(register, part)
-    return drawn.case(operation, f"{first},{part}({register})" if register else f"{first},{part}", code)
+    register, part, second = shift_by(drawn, amount, tuple(number for number in BASES if number not in (first, first + 1)))
+    return drawn.case(operation, f"{first},{second}", bytes([CODES[operation], first * 16]) + address(register, part))
 
 
 def long_of(drawn: Drawn, operation: str) -> Case:
@@ -304,8 +312,7 @@ def swapped(drawn: Drawn, operation: str) -> Case:
     first, third = (draw.of([number for number in range(16) if number not in (*KEPT, *drawn.used)]) for _ in range(2))
     if draw.once_in(2):
         drawn.put(at, drawn.registers[first].to_bytes(4, "big"))
-    code = bytes([CODES[operation], first * 16 + third]) + address(*one)
-    return drawn.case(operation, f"{first},{third},{one[1]}({one[0]})", code)
+    return with_register(drawn, operation, first, third, one)
 
 
 def swapped_double(drawn: Drawn, operation: str) -> Case:
@@ -319,8 +326,7 @@ def swapped_double(drawn: Drawn, operation: str) -> Case:
         drawn.put(at, word)
     elif draw.once_in(2):
         drawn.put(at, draw.of((word[:4] + drawn.storage[at + 4 : at + 8], drawn.storage[at : at + 4] + word[4:])))
-    code = bytes([CODES[operation], first * 16 + third]) + address(*one)
-    return drawn.case(operation, f"{first},{third},{one[1]}({one[0]})", code)
+    return with_register(drawn, operation, first, third, one)
 
 
 FORMS: dict[str, Form] = {"AP": packed, "SP": packed, "ZAP": packed, "CP": packed, "MVO": packed, "MP": product, "DP": product, "SRP": shifted,

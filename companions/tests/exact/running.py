@@ -2,10 +2,9 @@
 from dataclasses import dataclass
 
 from cics.adapting import adapted
-from cics.assembler_files import encoded
-from cics.child import run
 from cics.sources import SourceText
 from tests.exact.drawing import KEPT, Case
+from tests.looks import keyed, symbols_of
 
 CODE, STORAGE = 64, 76  # where a case's record has the code and the storage, after the registers
 PROGRAM, WORKING = 0x010000, 0x200060  # where the program is, and its working storage
@@ -75,50 +74,37 @@ def program_of(cases: list[Case]) -> list[str]:
     return [*lines, *BACK, *saved, *TAIL, f"STORAGE  DS    CL{size}", f"RECORD   EQU   {record}", f"COUNT    EQU   {record * len(cases)}", "         END"]
 
 
-def data_lines(data: bytes) -> list[str]:
-    return [f"         DC    X'{data[at : at + PIECE].hex().upper()}'" for at in range(0, len(data), PIECE)]
-
-
 def record_lines(number: int, case: Case, storage: int) -> list[str]:
     """A case's record: registers 14 to 12 as LM loads them, the word that sets the code, its statement's address, its storage."""
     registers = [(value + storage) % 2**32 if at in case.places else value for at, value in enumerate(case.registers)]
     words = ["A(P)" if at == 3 else f"XL4'{registers[at]:X}'" for at in (14, 15, *range(13))]
     constants = [*words, "F'0'", f"XL4'{CODES[case.condition]:X}'", f"A(S{number})", "F'0'"]
-    return [*(f"         DC    {one}" for one in constants), *data_lines(bytes(case.storage))]
+    constants += [f"X'{case.storage[at : at + PIECE].hex().upper()}'" for at in range(0, len(case.storage), PIECE)]
+    return [f"         DC    {one}" for one in constants]
 
 
-def symbols_of(lines: list[str], names: list[str], cicslook: str) -> list[int]:
-    ended = run([cicslook], encoded(["SOURCE P", *lines, "/*", *(f"SYMBOL P {name}" for name in names)]))
-    found = [int(line.split()[4], 16) for line in ended.lines() if line.startswith("> SYMBOL '")]
-    if len(found) != len(names):
-        raise ValueError("\n".join([*ended.lines()[-3:], ended.reported.decode()]))
-    return found
-
-
-def results_of(cases: list[Case], cicslook: str) -> list[Result]:
+def results_of(cases: list[Case]) -> list[Result]:
     """What cases leave, done here."""
     most = min(MOST, MOST_BYTES // (STORAGE + len(cases[0].storage)))
-    return [result for at in range(0, len(cases), most) for result in results_of_program(cases[at : at + most], cicslook)]
+    return [result for at in range(0, len(cases), most) for result in results_of_program(cases[at : at + most])]
 
 
-def results_of_program(cases: list[Case], cicslook: str) -> list[Result]:
+def results_of_program(cases: list[Case]) -> list[Result]:
     new = adapted(SourceText(program_of(cases)), "P.asm", [])
     left = [str(entry) for entry in new.log.told if entry.is_left and not entry.text.startswith("TABLE: not defined")]
     if left:
         raise ValueError(left[0])
     head = new.lines()[:-1]
     empty = [*head, "P        CSECT", "TABLE    DS    0F", "         END"]
-    begin, offset = symbols_of(empty, ["TABLE", "STORAGE"], cicslook)
-    storage = WORKING + offset
+    symbols = symbols_of(empty, "SYMBOL P TABLE", "SYMBOL P STORAGE")
+    begin, storage = symbols["TABLE"].offset, WORKING + symbols["STORAGE"].offset
     table = [line for number, case in enumerate(cases) for line in record_lines(number, case, storage)]
-    made = [*empty[:-1], *table, "         END"]
     length = (STORAGE + len(cases[0].storage)) * len(cases)
     looks = [f"STORAGE {PROGRAM + begin + at:06X} {min(MOST_SHOWN, length - at)}" for at in range(0, length, MOST_SHOWN)]
-    script = ["SOURCE P", *made, "/*", "TRANSACTION P P", "TERMINAL T001", "KEY T001 ENTER P", "RUN T001 4096", *looks]
-    ended = run([cicslook], encoded(script))
-    if not any(line.startswith("TURN T001 Ended") for line in ended.lines()):
-        raise ValueError("\n".join([*ended.lines()[:12], ended.reported.decode()]))
-    text = dumped(ended.lines())
+    lines = keyed([*empty[:-1], *table, "         END"], *looks)
+    if not any(line.startswith("TURN T001 Ended") for line in lines):
+        raise ValueError("\n".join(lines[:12]))
+    text = dumped(lines)
     size = length // len(cases)
     return [result_in(text[number * size : (number + 1) * size], case, storage) for number, case in enumerate(cases)]
 

@@ -1,10 +1,9 @@
 """Interruptions of instructions that the region hasn't: they are at the statement, with its registers and code, also where a byte of an
 operand isn't there."""
 from cics.adapting import Adapted, adapted
-from cics.assembler_files import encoded
-from cics.child import run
 from cics.sources import SourceText
-from tests.case import CICSLOOK, TestCase
+from tests.case import TestCase
+from tests.looks import keyed
 
 HEAD = """P        CSECT
          MVC   A,=PL4'12345'
@@ -45,23 +44,15 @@ def result_of(statement: str) -> Adapted:
     return adapted(SourceText([*HEAD, *using, f"         {statement}", *TAIL]), "OLD.asm", [])
 
 
-def shown(new: list[str]) -> list[str]:
-    script = ["SOURCE P", *new, "/*", "TRANSACTION P P", "TERMINAL T001", "KEY T001 ENTER P", "RUN T001 4096", "ABEND T001"]
-    return run([CICSLOOK], encoded(script)).lines()
-
-
-def registers_in(lines: list[str]) -> list[int]:
-    return [int(word, 16) for line in lines if line.startswith("> R") for word in line.split()[2:]]
-
-
 def failure_of(statement: str, code: int) -> str | None:
     """What isn't as if the instruction itself had been interrupted with a code."""
     result = result_of(statement)
     old = next(number for number, line in enumerate([*HEAD, *TAIL], 1) if line == TAIL[0]) + ("FIELD" in statement)
-    lines = shown(result.lines())
+    lines = keyed(result.lines(), "ABEND T001")
+    registers = [int(word, 16) for line in lines if line.startswith("> R") for word in line.split()[2:]]
     where: list[str] = next((line.split() for line in lines if line.startswith("> NEXT")), [])
     line = int(where[where.index("LINE") + 1]) if "LINE" in where else 0
-    found = (result.origins()[line - 1].number if line else 0, f"INTERRUPTION {code} " in " ".join(lines), registers_in(lines), "> CC 1" in lines)
+    found = (result.origins()[line - 1].number if line else 0, f"INTERRUPTION {code} " in " ".join(lines), registers, "> CC 1" in lines)
     due = (old, True, REGISTERS, True)
     return None if found == due and not result.log.has_left() else f"{statement}: {found}, where {due} is due; {lines[-9:-7]}"
 

@@ -1,14 +1,11 @@
 """What cics-adapt writes for instructions that the region hasn't: its form, its limits, and programs that run with it."""
-import os
-import tempfile
-from dataclasses import dataclass
-
 from cics.adapting import Adapted, adapted
 from cics.assembler_files import encoded
 from cics.child import run
 from cics.sources import SourceText
-from tests.calling import Call, called, failures_of
+from tests.calling import Call, called, failures_of, folder_of, put
 from tests.case import CICSLOOK, PROGRAMS, TestCase
+from tests.looks import keyed
 
 TAIL = """         EXEC  CICS RETURN
 TABLE    DC    XL20'00'
@@ -32,40 +29,32 @@ def left_in(result: Adapted) -> list[str]:
     return [entry.text for entry in result.log.told if entry.is_left]
 
 
-@dataclass(frozen=True)
-class Limit:
-    """Statements of which one can't be exact, and words of what is told."""
-
-    lines: list[str]
-    told: str
+def one(statement: str, told: str, *others: str) -> tuple[list[str], str]:
+    return [f"         {statement}", *others], told
 
 
-def one(statement: str, told: str, *others: str) -> Limit:
-    return Limit([f"         {statement}", *others], told)
-
-
-# Statements that have to be left, each with what is told of it.
+# Statements of which one can't be exact, each with words of what is told.
 LIMITS = [
-    Limit(["         EX    4,X", "X        AP    A,B"], "target of the EX"), Limit(["         EX    4,X", "X        OC    W,F"], "target of the EX"),
-    Limit(["         EX    4,X", "X        MVCL  4,6"], "target of the EX"), Limit(["         EX    4,X", "X        ED    W,A"], "target of the EX"),
-    Limit(["         EX    4,X", "X        MVZ   W,F"], "target of the EX"),
-    Limit(["         EX    4,X", "X        CLM   4,1,F"], "target of the EX"),
-    Limit(["         EX    4,X+2", "         LR    1,2", "X        AP    A,B"], "it is between"),
-    Limit(["         BE    *+10", "         AP    A,B"], "it is between"), Limit(["         BNE   *+8", "         N     4,F"], "it is between"),
-    Limit(["         B     *+16", "         LR    1,2", "         SLR   4,5", "         LA    5,1", "         LR    1,1"], "it is between"),
-    Limit(["L        AP    A,B", "         B     L+6"], "it is between"),
-    Limit(["L        LR    4,5", "         OC    W,F", "         B     L+8"], "it is between"),
-    Limit(["         AP    A,B", "         B     *-6"], "it is between"),
-    Limit(["         LA    5,*+12", "         ZAP   A,B", "         BR    5"], "it is between"),
-    Limit(["         L     5,=A(L+6)", "L        AP    A,B"], "it is between"),
-    Limit(["L        AP    A,B", "T        DC    A(L+6)"], "it is between"),
-    Limit(["L        AP    A,B", "M        EQU   L+6", "         B     M"], "it is between"),
-    Limit(["         STC   4,L+1", "L        AP    A,B"], "bytes are used"), Limit(["         MVI   L,5", "L        OC    W,F"], "bytes are used"),
-    Limit(["         OI    L+1,1", "L        NC    W,F"], "bytes are used"),
-    Limit(["         MVC   W(6),L", "L        MP    A,=P'1'"], "bytes are used"),
-    Limit(["         XC    L(6),L", "L        CP    A,B"], "bytes are used"), Limit(["         LA    4,L'L", "L        MVN   W,F"], "length is used"),
-    Limit(["         LA    5,L", "         EX    4,0(,5)", "L        AP    A,B"], "a target that isn't known"),
-    Limit(["         L     5,=A(L)", "         EX    4,0(5)", "L        SP    A,B"], "a target that isn't known"),
+    (["         EX    4,X", "X        AP    A,B"], "target of the EX"), (["         EX    4,X", "X        OC    W,F"], "target of the EX"),
+    (["         EX    4,X", "X        MVCL  4,6"], "target of the EX"), (["         EX    4,X", "X        ED    W,A"], "target of the EX"),
+    (["         EX    4,X", "X        MVZ   W,F"], "target of the EX"),
+    (["         EX    4,X", "X        CLM   4,1,F"], "target of the EX"),
+    (["         EX    4,X+2", "         LR    1,2", "X        AP    A,B"], "it is between"),
+    (["         BE    *+10", "         AP    A,B"], "it is between"), (["         BNE   *+8", "         N     4,F"], "it is between"),
+    (["         B     *+16", "         LR    1,2", "         SLR   4,5", "         LA    5,1", "         LR    1,1"], "it is between"),
+    (["L        AP    A,B", "         B     L+6"], "it is between"),
+    (["L        LR    4,5", "         OC    W,F", "         B     L+8"], "it is between"),
+    (["         AP    A,B", "         B     *-6"], "it is between"),
+    (["         LA    5,*+12", "         ZAP   A,B", "         BR    5"], "it is between"),
+    (["         L     5,=A(L+6)", "L        AP    A,B"], "it is between"),
+    (["L        AP    A,B", "T        DC    A(L+6)"], "it is between"),
+    (["L        AP    A,B", "M        EQU   L+6", "         B     M"], "it is between"),
+    (["         STC   4,L+1", "L        AP    A,B"], "bytes are used"), (["         MVI   L,5", "L        OC    W,F"], "bytes are used"),
+    (["         OI    L+1,1", "L        NC    W,F"], "bytes are used"),
+    (["         MVC   W(6),L", "L        MP    A,=P'1'"], "bytes are used"),
+    (["         XC    L(6),L", "L        CP    A,B"], "bytes are used"), (["         LA    4,L'L", "L        MVN   W,F"], "length is used"),
+    (["         LA    5,L", "         EX    4,0(,5)", "L        AP    A,B"], "a target that isn't known"),
+    (["         L     5,=A(L)", "         EX    4,0(5)", "L        SP    A,B"], "a target that isn't known"),
     one("LA    13,W", "register 13", "         AP    A,B"), one("L     13,4(,13)", "register 13", "         OC    W,F"),
     one("LM    12,14,W", "register 13", "         N     4,F"), one("LM    14,0,W", "register 13", "         SLDL  12,1"),
     one("LR    13,4", "register 13", "         MVCL  4,6"), one("USING W,13", "register 13", "         AP    A,B"),
@@ -81,36 +70,36 @@ LIMITS = [
     one("BXLE  5,6,0(5)", "register that it changes"), one("BXH   13,6,X", "register 13", "X        DS    0H"), one("AP    A", "operands"),
     one("AP    A,*+6", "the place"), one("STCK  D", "STCK"), one("CDS   5,6,D", "an odd register"), one("CDS   12,6,D", "register 13"),
     one("SPM   4", "SPM"), one("SVC   1", "SVC"),
-    one("AD    0,D", "AD"), one("LCTL  0,0,F", "LCTL"), Limit(["$XMINE   DS    0H", "         AP    A,B"], "names that begin with $X"),
-    Limit(["         DC    5C(N)'X'", "         AP    A,B"], "isn't known before"),
-    Limit(["M        EQU   *+10", "         AP    A,B", "         LR    1,2", "         B     M"], "it is between"),
-    Limit(["         B     12(,3)", "         OC    W,F", "         LR    1,2"], "it is between"),
-    Limit(["         OC    W,F", "L        LR    1,2", "         L     5,8(3)"], "it is between"),
-    Limit(["         BALR  12,0", "         OC    W,F", "         USING *-6,12"], "it is between"),
-    Limit(["         AP    A,B", "         ST    5,DFHEIPL"], "DFHEIPL"), Limit(["         OC    W,F", "         MVC   DFHEITP,F"], "DFHEITP"),
-    Limit(["         ZAP   A,B", "         STM   14,12,12(13)"], "what register 13 addresses"),
-    Limit(["         MVN   W,F", "R13      EQU   13", "         LM    14,12,12(R13)"], "what register 13 addresses"),
-    Limit(["         NC    12(4,13),F"], "what register 13 addresses"),
-    Limit(["         EX    0,T(5)", "T        DS    0H", "         AP    A,B", "         SP    A,B"], "a target that isn't known"),
-    Limit(["         LA    5,T", "         EX    0,6(5)", "T        DS    0H", "         AP    A,B", "         SP    A,B"], "a target that isn't known"),
-    Limit(["         L     5,=A(T)", "         EX    0,0(5)", "T        EQU   *", "         AP    A,B"], "a target that isn't known"),
-    Limit(["         BAL   14,S", "         OC    W,F", "         LR    1,2", "S        B     6(,14)"], "may come back behind it"),
-    Limit(["         BALR  14,5", "         AP    A,B", "S        BC    15,6(14)"], "may come back behind it"),
-    Limit(["         B     T(5)", "T        DS    0H", "         BR    14", "         OC    W,F", "         BR    14"], "by an index"),
-    Limit(["         B     *+4(5)", "         BR    14", "         OC    W,F", "         BR    14"], "by an index"),
-    Limit(["         LA    5,L", "         MVI   1(5),X'10'", "L        AP    A,B"], "bytes may be used"),
-    Limit(["         L     5,=A(L)", "         LR    1,2", "         MVC   0(2,5),F", "L        OC    W,F"], "bytes may be used"), one("CS    4,5,", "is empty"),
-    Limit(["         MVC   W,L", "L        DS    0H", "         AP    A,B"], "bytes are used"),
-    Limit(["         MVC   W,P", "         LR    1,2", "         AP    A,B"], "bytes are used"),
-    Limit(["         CLC   L(8),W", "L        LR    1,2", "         NC    W,F"], "bytes are used"),
-    Limit(["L        AP    A,B", "         DC    AL4(L+6)"], "it is between"),
-    Limit(["L        AP    A,B", "         DC    2A(L+6)"], "it is between"),
-    Limit(["L        AP    A,B", "         EXEC  CICS HANDLE CONDITION ERROR(L+6)"], "it is between"),
-    Limit(["L        AP    A,B", "         EXEC  CICS SEND TEXT FROM(L) LENGTH(=H'6')"], "bytes are used"),
-    Limit(["         AP    A,B", "         B     *+12", "         LR    1,2", "         DC    F'1'", "         LR    1,2", "         LR    1,2"], "is moved"),
-    Limit(["         MVI   M,5", "L        OC    W,F", "M        EQU   L+1"], "bytes are used"),
-    Limit(["         BCT   4,L-2", "         SLDL  4,1", "L        DS    0H"], "it is between"),
-    Limit(["         AP    A,NONE"], "length isn't known"), Limit(["         AP    A(17),B"], "no packed field"),
+    one("AD    0,D", "AD"), one("LCTL  0,0,F", "LCTL"), (["$XMINE   DS    0H", "         AP    A,B"], "names that begin with $X"),
+    (["         DC    5C(N)'X'", "         AP    A,B"], "isn't known before"),
+    (["M        EQU   *+10", "         AP    A,B", "         LR    1,2", "         B     M"], "it is between"),
+    (["         B     12(,3)", "         OC    W,F", "         LR    1,2"], "it is between"),
+    (["         OC    W,F", "L        LR    1,2", "         L     5,8(3)"], "it is between"),
+    (["         BALR  12,0", "         OC    W,F", "         USING *-6,12"], "it is between"),
+    (["         AP    A,B", "         ST    5,DFHEIPL"], "DFHEIPL"), (["         OC    W,F", "         MVC   DFHEITP,F"], "DFHEITP"),
+    (["         ZAP   A,B", "         STM   14,12,12(13)"], "what register 13 addresses"),
+    (["         MVN   W,F", "R13      EQU   13", "         LM    14,12,12(R13)"], "what register 13 addresses"),
+    (["         NC    12(4,13),F"], "what register 13 addresses"),
+    (["         EX    0,T(5)", "T        DS    0H", "         AP    A,B", "         SP    A,B"], "a target that isn't known"),
+    (["         LA    5,T", "         EX    0,6(5)", "T        DS    0H", "         AP    A,B", "         SP    A,B"], "a target that isn't known"),
+    (["         L     5,=A(T)", "         EX    0,0(5)", "T        EQU   *", "         AP    A,B"], "a target that isn't known"),
+    (["         BAL   14,S", "         OC    W,F", "         LR    1,2", "S        B     6(,14)"], "may come back behind it"),
+    (["         BALR  14,5", "         AP    A,B", "S        BC    15,6(14)"], "may come back behind it"),
+    (["         B     T(5)", "T        DS    0H", "         BR    14", "         OC    W,F", "         BR    14"], "by an index"),
+    (["         B     *+4(5)", "         BR    14", "         OC    W,F", "         BR    14"], "by an index"),
+    (["         LA    5,L", "         MVI   1(5),X'10'", "L        AP    A,B"], "bytes may be used"),
+    (["         L     5,=A(L)", "         LR    1,2", "         MVC   0(2,5),F", "L        OC    W,F"], "bytes may be used"), one("CS    4,5,", "is empty"),
+    (["         MVC   W,L", "L        DS    0H", "         AP    A,B"], "bytes are used"),
+    (["         MVC   W,P", "         LR    1,2", "         AP    A,B"], "bytes are used"),
+    (["         CLC   L(8),W", "L        LR    1,2", "         NC    W,F"], "bytes are used"),
+    (["L        AP    A,B", "         DC    AL4(L+6)"], "it is between"),
+    (["L        AP    A,B", "         DC    2A(L+6)"], "it is between"),
+    (["L        AP    A,B", "         EXEC  CICS HANDLE CONDITION ERROR(L+6)"], "it is between"),
+    (["L        AP    A,B", "         EXEC  CICS SEND TEXT FROM(L) LENGTH(=H'6')"], "bytes are used"),
+    (["         AP    A,B", "         B     *+12", "         LR    1,2", "         DC    F'1'", "         LR    1,2", "         LR    1,2"], "is moved"),
+    (["         MVI   M,5", "L        OC    W,F", "M        EQU   L+1"], "bytes are used"),
+    (["         BCT   4,L-2", "         SLDL  4,1", "L        DS    0H"], "it is between"),
+    (["         AP    A,NONE"], "length isn't known"), (["         AP    A(17),B"], "no packed field"),
 ]
 
 NEAR, FAR = 24, 26  # bytes of a call of two packed fields: through a base, and by an address in a literal
@@ -119,12 +108,12 @@ NEAR, FAR = 24, 26  # bytes of a call of two packed fields: through a base, and 
 class LimitsTest(TestCase):
     def test_left(self) -> None:
         wrong = []
-        for limit in LIMITS:
-            result = result_of(limit.lines)
+        for lines, due in LIMITS:
+            result = result_of(lines)
             told = left_in(result)
-            if not any(limit.told in text for text in told):
-                wrong.append(f"{limit.lines}: told {told}, where {limit.told} is due")
-            wrong += [f"{limit.lines}: {line} isn't in the new source" for line in limit.lines if line not in result.lines() and "*" not in line]
+            if not any(due in text for text in told):
+                wrong.append(f"{lines}: told {told}, where {due} is due")
+            wrong += [f"{lines}: {line} isn't in the new source" for line in lines if line not in result.lines() and "*" not in line]
         self.none_of(wrong)
         self.assertGreaterEqual(len(LIMITS), 60)
 
@@ -144,13 +133,12 @@ class LimitsTest(TestCase):
 
     def test_many_routines(self) -> None:
         """All routines together are longer than a base reaches, so they stand in two parts: none is left, and there is no fault."""
-        lines = ["         AP    A,B", "         SP    A,B", "         CP    A,B", "         ZAP   A,B", "         MP    W,B",
-                 "         DP    W,B", "         SRP   A,1,5",
-                 "         ED    W,A", "         EDMK  W,A", "         MVO   A,B", "         OC    W,F", "         NC    W,F", "         MVZ   W,F",
-                 "         MVN   W,F", "         MVCIN W,F", "         N     4,F", "         O     4,F", "         X     4,F(5)", "         NR    4,5",
-                 "         OR    4,5", "         AL    4,F", "         ALR   4,5", "         SL    4,F", "         SLR   4,5", "         MH    4,F",
-                 "         SLDL  4,1", "         SRDL  4,1", "         SLDA  4,1", "         MVCL  4,6", "         CLCL  4,6", "         CS    4,5,F",
-                 "         CDS   4,6,D"]
+        lines = ["         AP    A,B", "         SP    A,B", "         CP    A,B", "         ZAP   A,B", "         MP    W,B", "         DP    W,B",
+                 "         SRP   A,1,5", "         ED    W,A", "         EDMK  W,A", "         MVO   A,B", "         OC    W,F", "         NC    W,F",
+                 "         MVZ   W,F", "         MVN   W,F", "         MVCIN W,F", "         N     4,F", "         O     4,F",
+                 "         X     4,F(5)", "         NR    4,5", "         OR    4,5", "         AL    4,F", "         ALR   4,5",
+                 "         SL    4,F", "         SLR   4,5", "         MH    4,F", "         SLDL  4,1", "         SRDL  4,1", "         SLDA  4,1",
+                 "         MVCL  4,6", "         CLCL  4,6", "         CS    4,5,F", "         CDS   4,6,D"]
         result = result_of([*lines, *lines[:12]])
         self.assertEqual(left_in(result), [])
         written = [line for line in result.lines() if line not in lines]
@@ -198,17 +186,11 @@ class FormTest(TestCase):
         self.none_of([line for line in lines if line not in new and f"*L       {line[9:]}" not in new])
 
 
-def shown(lines: list[str], *looks: str) -> list[str]:
-    """What a program shows that has been adapted, run by one key."""
-    script = ["SOURCE P", *lines, "/*", "TRANSACTION P P", "TERMINAL T001", "KEY T001 ENTER P", "RUN T001 4096", *looks]
-    return run([CICSLOOK], encoded(script)).lines()
-
-
 class RunTest(TestCase):
     def test_place_of_interruption(self) -> None:
         """Bad digits are an interruption at the statement, with code 7."""
         result = result_of(["         MVC   A,=X'0000FF1C'", "         MVC   B,=P'1'", "L        AP    A,B"])
-        lines = shown(result.lines(), "ABEND T001")
+        lines = keyed(result.lines(), "ABEND T001")
         said = next((line for line in lines if "INTERRUPTION" in line), "")
         where = next((line for line in lines if line.startswith("> NEXT")), "")
         due = result.lines().index("         EX    0,$XF") + 1
@@ -218,7 +200,7 @@ class RunTest(TestCase):
         """A thousand sums of four bytes between two commands."""
         result = result_of(["         MVC   A,=PL4'0'", "         MVC   B,=PL3'7'", "         LA    5,1000", "L        AP    A,B", "         BCT   5,L",
                             "         UNPK  W(7),A", "         OI    W+6,X'F0'", "         EXEC  CICS SEND TEXT FROM(W) LENGTH(7) ERASE"])
-        self.assertIn("01|0007000", shown(result.lines(), "SCREEN T001"))
+        self.assertIn("01|0007000", keyed(result.lines(), "SCREEN T001"))
 
     def test_links(self) -> None:
         """BAS and BASR leave the address alone in their register, and the code as it was."""
@@ -228,7 +210,7 @@ class RunTest(TestCase):
         good = result_of(["         BAS   5,L", "N        BR    7", "L        LA    6,N", "         CR    5,6", "         BNE   BAD",
                           "         LA    4,M", "         BASR  5,4", "O        BR    7", "BAD      EXEC  CICS ABEND ABCODE('BAD')", "M        LA    6,O",
                           "         CR    5,6", "         BNE   BAD", "         EXEC  CICS SEND TEXT FROM(=C'GOOD') LENGTH(4) ERASE"])
-        self.assertIn("01|GOOD", shown(good.lines(), "SCREEN T001"))
+        self.assertIn("01|GOOD", keyed(good.lines(), "SCREEN T001"))
 
     def test_keys(self) -> None:
         """HANDLE AID, with keys of their own and any other; a field that is cleared counts no more."""
@@ -241,9 +223,7 @@ class RunTest(TestCase):
         new = result_of(lines)
         self.assertEqual(left_in(new), [])
         for key, text in texts.items():
-            script = ["SOURCE P", *new.lines(), "/*", "TRANSACTION P P", "TERMINAL T001", f"KEY T001 {key} P", "RUN T001 4096", "SCREEN T001"]
-            self.assertIn(f"01|{text}", run([CICSLOOK], encoded(script)).lines(), key)
-
+            self.assertIn(f"01|{text}", keyed(new.lines(), "SCREEN T001", key=f"{key} P"), key)
 
     def test_pushed_keys(self) -> None:
         """PUSH HANDLE keeps the keys, and POP HANDLE gets them back."""
@@ -256,9 +236,8 @@ class RunTest(TestCase):
         self.assertEqual(left_in(new), [])
         due = {("P", "ENTER"): "NONE", ("P", "PF3"): "NONE", ("P", "PF7"): "PF07", ("P", "PF5"): "NONE", ("Q", "PF3"): "PF03", ("Q", "PF7"): "ANYK"}
         for (transaction, key), text in due.items():
-            script = ["SOURCE P", *new.lines(), "/*", f"TRANSACTION {transaction} P", "TERMINAL T001", f"KEY T001 {key} {transaction}", "RUN T001 4096",
-                      "SCREEN T001"]
-            self.assertIn(f"01|{text}", run([CICSLOOK], encoded(script)).lines(), (transaction, key))
+            lines = keyed(new.lines(), "SCREEN T001", key=f"{key} {transaction}", transaction=transaction)
+            self.assertIn(f"01|{text}", lines, (transaction, key))
 
     def test_full_stack(self) -> None:
         """What PUSH HANDLE refuses changes no key, and no field behind the stack."""
@@ -266,8 +245,7 @@ class RunTest(TestCase):
                  "         LA    5,16", "M        EXEC  CICS POP HANDLE", "         BCT   5,M", "         EXEC  CICS RECEIVE INTO(W)",
                  "         EXEC  CICS SEND TEXT FROM(=C'NONE') LENGTH(4) ERASE", "         EXEC  CICS RETURN",
                  "P3       EXEC  CICS SEND TEXT FROM(=C'PF03') LENGTH(4) ERASE", "         EXEC  CICS RETURN"]
-        script = ["SOURCE P", *result_of(lines).lines(), "/*", "TRANSACTION P P", "TERMINAL T001", "KEY T001 PF3 P", "RUN T001 4096", "SCREEN T001"]
-        self.assertIn("01|PF03", run([CICSLOOK], encoded(script)).lines())
+        self.assertIn("01|PF03", keyed(result_of(lines).lines(), "SCREEN T001", key="PF3 P"))
 
     def test_lengths(self) -> None:
         """RECEIVE and READQ TS without LENGTH take as much as the area has."""
@@ -276,8 +254,7 @@ class RunTest(TestCase):
                  "         EXEC  CICS SEND TEXT FROM(W) LENGTH(7) ERASE"]
         new = result_of(lines)
         self.assertEqual(left_in(new), [])
-        script = ["SOURCE P", *new.lines(), "/*", "TRANSACTION P P", "TERMINAL T001", "KEY T001 ENTER P TEXT", "RUN T001 4096", "SCREEN T001"]
-        self.assertIn("01|P TE P", run([CICSLOOK], encoded(script)).lines())
+        self.assertIn("01|P TE P", keyed(new.lines(), "SCREEN T001", key="ENTER P TEXT"))
         far = result_of(["         EXEC  CICS RECEIVE INTO(W)", "DFHEISTG DSECT", "PAGE     DS    4100C", "P        CSECT"])
         self.assertIn("register 13 doesn't reach $XLEN", " ".join(left_in(far)))
 
@@ -288,22 +265,17 @@ class MapTest(TestCase):
     def test_led_back(self) -> None:
         old = ["P        CSECT", "         MVC   A,=X'0000FF1C'", "         AP    A,=P'1'", "         EXEC  CICS RETURN", "DFHEISTG DSECT",
                "A        DS    PL4", "         END"]
-        with tempfile.TemporaryDirectory() as folder:
-            with open(os.path.join(folder, "old.asm"), "w", encoding="ascii") as file:
-                file.writelines(f"{line}\n" for line in old)
+        with folder_of({"old.asm": "".join(f"{line}\n" for line in old)}) as folder:
             new = called("cics-adapt", ["old.asm", "--map", "old.map"], folder)
-            with open(os.path.join(folder, "new.asm"), "wb") as made:
-                made.write(new.out.replace(b"EXEC  CICS RETURN", b"EXEC  CICS RETRUN"))
+            put(folder, {"new.asm": new.out.replace(b"EXEC  CICS RETURN", b"EXEC  CICS RETRUN")})
             checked = called("cics-check", ["new.asm", "--map", "old.map", *PROGRAMS], folder)
             self.assertEqual((new.status, checked.lines()), (0, ["old.asm:4:0: UnknownCommand: RETRUN"]))
-            with open(os.path.join(folder, "new.asm"), "wb") as made:
-                made.write(new.out)
+            put(folder, {"new.asm": new.out})
             ran = called("cics-run", ["new.asm", "--key", "P", "--map", "old.map", *PROGRAMS], folder)
             self.assertTrue(any(line.startswith("NEXT ") and line.endswith(" OF old.asm:3") for line in ran.lines()), ran.lines())
             page = called("cics-run", ["new.asm", "--key", "P", "--map", "old.map", "--film", *PROGRAMS], folder)
             self.assertIn(b'"from":["old.asm:1","old.asm:2","old.asm:3","old.asm:3"', page.out)
-            with open(os.path.join(folder, "p.script"), "wb") as script:
-                script.write(called("cics-run", ["new.asm", "--key", "P", "--script"], folder).out)
+            put(folder, {"p.script": called("cics-run", ["new.asm", "--key", "P", "--script"], folder).out})
             for word in ("old.map", "P=old.map"):
                 film = called("cics-film", ["p.script", "--map", word, "-o", "-", *PROGRAMS], folder)
                 self.assertIn(b'"from":["old.asm:1"', film.out)

@@ -5,6 +5,7 @@ import unittest
 from typing import Any
 
 from cics.film.command import has_look
+from tests.calling import put
 from tests.case import CICSLOOK as PROGRAM
 from tests.case import TestCase, expect
 from tests.film.browser import ELEMENT, Browser, NoBrowser, is_there
@@ -70,11 +71,10 @@ class Pages:
 
     def show(self, made: str, at: str = "") -> str:
         self.count += 1
-        path = f"{self.folder}/{self.count}.html"
-        with open(path, "w", encoding="utf-8") as file:
-            file.write(made)
-        self.browser.open(f"file://{path}{at}")
-        return f"file://{path}"
+        put(self.folder, {f"{self.count}.html": made.encode()})
+        address = f"file://{self.folder}/{self.count}.html"
+        self.browser.open(address + at)
+        return address
 
     def lesson(self, *names: str, at: str = "") -> str:
         return self.open(*((name, text_of(f"{LESSONS}/{name}.script")) for name in names), at=at)
@@ -187,9 +187,8 @@ def values_by_their_types(pages: Pages) -> None:
     """What a field's value is, by its type and its bytes."""
     pages.lesson("08-overwrite/overwrite")
     for kind, digits, value in (("F", "FFFFFFFB", "-5"), ("H", "8000", "-32768"), ("H", "0007", "7"), ("P", "00123D", "-123"), ("P", "0012", ""),
-                                ("P", "1C", "1"),
-                                ("C", "F0F1F2D2", "zoned -122"), ("C", "F1F2C3", "zoned 123"), ("C", "C1C2", ""), ("C", "F0", "zoned 0"), ("X", "F0", ""),
-                                ("F", "0000--", "")):
+                                ("P", "1C", "1"), ("C", "F0F1F2D2", "zoned -122"), ("C", "F1F2C3", "zoned 123"), ("C", "C1C2", ""),
+                                ("C", "F0", "zoned 0"), ("X", "F0", ""), ("F", "0000--", "")):
         expect(f"the value of {kind} {digits}", pages.state("return worded(arguments[0], arguments[1])", kind, digits) == value,
                pages.state("return worded(arguments[0], arguments[1])", kind, digits))
 
@@ -237,7 +236,7 @@ def orders_and_their_films(pages: Pages) -> None:
     marked = pages.state("return [...document.querySelectorAll('.orders .new')].map((it) => it.textContent.trim().slice(0, 16))")
     expect("what outcomes don't share is marked", marked == ["001000  00000002", "001000  00000001"], marked)
     browser.click(browser.elements(".event.search")[0])
-    expect("the time line leads to the table", pages.state("return document.activeElement.textContent").startswith("Every order from line 15 on"))
+    expect("the time line leads to the table", pages.state("return document.activeElement.textContent").startswith("Every order from line 17 on"))
     shown = "return [byId('name').textContent, location.hash, view.films[0].data.events[view.at].text, byId('script').hidden]"
     browser.click(browser.elements(".orders button")[1])
     expect("the film of an outcome", pages.state(shown) == ["orders.script, outcome 2", "#o2e1", "TERMINAL T002", False], pages.state(shown))
@@ -332,22 +331,20 @@ def on_a_phone(pages: Pages) -> None:
     expect("all that can be used has a name", unnamed == 0, unnamed)
 
 
-def pages_are_used() -> None:
-    with tempfile.TemporaryDirectory() as folder, Browser() as browser:
-        pages = Pages(browser, folder)
-        for use in (keys_and_clicks, overwritten_field, who_waits_for_whom, areas_of_a_chain, values_by_their_types,
-                    states_are_worked_out, two_films, orders_and_their_films,
-                    every_text_is_shown, readable, beside_their_bytes, on_a_phone):
-            use(pages)
-        expect("nothing is written on the console", not browser.said(), browser.said())
-        asked = [it for it in browser.asked() if not it.startswith(("file:", "data:", "chrome", "about:"))]
-        expect("nothing is asked of a network", not asked, asked)
+USES = [keys_and_clicks, overwritten_field, who_waits_for_whom, areas_of_a_chain, values_by_their_types, states_are_worked_out, two_films,
+        orders_and_their_films, every_text_is_shown, readable, beside_their_bytes, on_a_phone]
 
 
 class PagesTest(TestCase):
     @unittest.skipUnless(is_there(), "no browser is installed")
     def test_pages_are_used(self) -> None:
         try:
-            pages_are_used()
+            with tempfile.TemporaryDirectory() as folder, Browser() as browser:
+                pages = Pages(browser, folder)
+                for use in USES:
+                    use(pages)
+                expect("nothing is written on the console", not browser.said(), browser.said())
+                asked = [it for it in browser.asked() if not it.startswith(("file:", "data:", "chrome", "about:"))]
+                expect("nothing is asked of a network", not asked, asked)
         except NoBrowser as why:
             self.skipTest(f"the browser doesn't begin here: {why}")

@@ -1,8 +1,5 @@
 """Tests of what is marked: of two films the first difference in what is shown, at events that are paired by keys; of outcomes each that differs."""
-import json
-import re
 import shutil
-import subprocess
 import unittest
 
 from cics.child import TOP, read
@@ -10,8 +7,8 @@ from cics.film.command import events_of, filmed
 from cics.film.pairs import marks_of, pairs_of
 from cics.film.recorder import Film
 from cics.scripts import actions_of
-from tests.case import CICSLOOK, COMPANIONS, TestCase
-from tests.film.trials import data_of, page
+from tests.case import CICSLOOK, TestCase
+from tests.film.trials import data_of, page, script_ran
 
 LESSON = f"{TOP}/examples/lessons/changing/pgm7"
 OLD = read(f"{LESSON}.asm").decode()
@@ -22,15 +19,6 @@ WRONG = OLD.replace("LA    4,1(0,4)", "LA    4,2(0,4)")
 def script(source: str) -> str:
     keys = "".join("KEY T001 ENTER TICK\nRUN T001\n" for _ in range(3))
     return f"SOURCE PGM7\n{source}/*\nTRANSACTION TICK PGM7\nTERMINAL T001\n{keys}"
-
-
-def said_by(made: str, *keys: str) -> list[str]:
-    """What a page says after keys, by a run of its script alone."""
-    found = re.search(r'id="data">(.*?)</script>', made, re.S)
-    assert found
-    command = ["node", f"{COMPANIONS}/tests/film/page_runner.js", f"{COMPANIONS}/cics/film/page.js", *keys]
-    said: list[str] = json.loads(subprocess.run(command, input=found[1], capture_output=True, text=True, check=True).stdout)
-    return said
 
 
 def film(source: str) -> Film:
@@ -118,4 +106,4 @@ class NoEventTest(TestCase):
             ([("old", script(OLD)), ("new", script(LONGER))], [f"step {at} of {len(longer)}" for at in (1, 1, 2, len(longer), 1)] + ["Copied."])]
         for texts, due in cases:
             with self.subTest(texts[0][0]):
-                self.assertEqual(said_by(page(*texts), "c", "ArrowRight", "End", "Home"), due)
+                self.assertEqual(script_ran(page(*texts), "c", "ArrowRight", "End", "Home"), due)

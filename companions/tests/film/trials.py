@@ -2,14 +2,16 @@
 import json
 import os
 import re
+import subprocess
 from collections.abc import Iterator
 from typing import Any
 
-from cics.child import TOP, Overdue, decoded
+from cics.child import TOP, Overdue, decoded, read
 from cics.cli import Failure
 from cics.film.command import filmed
 from cics.film.page import page_of
 from tests.case import CICSLOOK as PROGRAM
+from tests.case import COMPANIONS
 
 COMMAND = f"{TOP}/companions/cics-film"
 LESSONS = f"{TOP}/examples/lessons"
@@ -18,21 +20,30 @@ Data = dict[str, Any]
 
 def scripts() -> list[str]:
     """The scripts of examples and lessons."""
-    found = [os.path.join(folder, it) for folder, _, names in os.walk(f"{TOP}/examples") for it in names if it.endswith(".script")]
-    return sorted(found)
+    return sorted(os.path.join(folder, it) for folder, _, names in os.walk(f"{TOP}/examples") for it in names if it.endswith(".script"))
 
 
 def text_of(path: str) -> str:
-    with open(path, "rb") as file:
-        return decoded(file.read())
+    return decoded(read(path))
+
+
+def json_in(page: str) -> str:
+    found = re.search(r'id="data">(.*?)</script>', page, re.S)
+    assert found
+    return found[1]
 
 
 def data_of(page: str) -> list[Data]:
     """The films in a page."""
-    found = re.search(r'id="data">(.*?)</script>', page, re.S)
-    assert found
-    films: list[Data] = json.loads(found[1])
+    films: list[Data] = json.loads(json_in(page))
     return films
+
+
+def script_ran(page: str, *keys: str, expression: str = "") -> Any:
+    """What a page's script says after keys, when it is run alone, or what an expression is then."""
+    command = ["node", f"{COMPANIONS}/tests/film/page_runner.js", f"{COMPANIONS}/cics/film/page.js", *keys]
+    environment = {**os.environ, **({"EXPRESSION": expression} if expression else {})}
+    return json.loads(subprocess.run(command, input=json_in(page), capture_output=True, text=True, check=True, env=environment).stdout)
 
 
 def page(*texts: tuple[str, str]) -> str:

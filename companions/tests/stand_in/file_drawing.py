@@ -132,10 +132,8 @@ def command_lines(command: Command, label: str) -> list[str]:
 def program_of(sequences: list[Sequence], name: str) -> list[str]:
     """The program that gives the commands, and puts what came of each into a queue of its name."""
     lines = [f"{name:<8} CSECT", "         L     9,=A(CODE)", "         USING CODE,9,10,12,5", "         LA    10,2048(,9)",
-             "         LA    10,2048(,10)",
-             "         LA    12,2048(,10)", "         LA    12,2048(,12)", "         LA    5,2048(,12)", "         LA    5,2048(,5)",
-             "         B     CODE",
-             "         LTORG", "CODE     DS    0H"]
+             "         LA    10,2048(,10)", "         LA    12,2048(,10)", "         LA    12,2048(,12)", "         LA    5,2048(,12)",
+             "         LA    5,2048(,5)", "         B     CODE", "         LTORG", "CODE     DS    0H"]
     for number, sequence in enumerate(sequences):
         for at, command in enumerate(sequence.commands):
             lines += command_lines(command, f"L{number}N{at}")

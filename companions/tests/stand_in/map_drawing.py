@@ -185,20 +185,15 @@ def constants(data: bytes) -> list[str]:
     return lines
 
 
-def moves(size: int) -> list[str]:
-    return [f"         MVC   AREA+{at}({min(256, size - at)}),{at}(4)" for at in range(0, size, 256)]
-
-
 def program_of(one: Drawn, name: str) -> list[str]:
     """The program that gives the commands: what RECEIVE MAP leaves goes to a queue, and so does its response."""
-    lines = [f"{name:<8} CSECT", "         L     9,=A(CODE)", "         USING CODE,9,10", "         LA    10,2048(,9)",
-             "         LA    10,2048(,10)", "         B     CODE",
-             "         LTORG", "CODE     DS    0H", "         EXEC  CICS RECEIVE INTO(AREA) LENGTH(RC) NOHANDLE"]
+    lines = [f"{name:<8} CSECT", "         L     9,=A(CODE)", "         USING CODE,9,10", "         LA    10,2048(,9)", "         LA    10,2048(,10)",
+             "         B     CODE", "         LTORG", "CODE     DS    0H", "         EXEC  CICS RECEIVE INTO(AREA) LENGTH(RC) NOHANDLE"]
     data: list[str] = []
     for at, op in enumerate(one.ops):
         size, label = op.of_map.size(), f"D{at}"
         area = op.of_map.area(op.values) if op.values else FILLED * size
-        lines += [f"         L     4,=A({label})", *moves(size)]
+        lines += [f"         L     4,=A({label})", *[f"         MVC   AREA+{at}({min(256, size - at)}),{at}(4)" for at in range(0, size, 256)]]
         data += [f"{label:<8} DS    0C", *constants(area)]
         named = f"MAP('{op.of_map.name}') MAPSET('{one.name}')"
         if op.waits():

@@ -1,12 +1,17 @@
 """Programs as a user writes them, adapted with stand-ins and run by keys: what each leaves in a queue, and what is told."""
+import os
 from dataclasses import dataclass
 
 from cics.adapting import adapted
 from cics.assembler_files import run_script
+from cics.log import Log
+from cics.queues import statement_lines
 from cics.sources import SourceText
 from cics.stand_in.file_programs import file_program, rest_program
 from cics.stand_in.map_programs import map_program
+from cics.stand_in.mapsets import Mapset, read_mapset
 from cics.stand_in.rewriting import Setting, StandIns
+from tests.calling import folder_of
 from tests.case import CICSLOOK
 
 
@@ -22,6 +27,25 @@ class Ran:
         """How its last task ended."""
         ends = [line.split(" ", 2)[2] for line in self.transcript if line.startswith("TURN T001 ") and ("Ended" in line or "Abended" in line)]
         return ends[-1] if ends else ""
+
+
+def mapset_of(text: str) -> tuple[Mapset, list[str]]:
+    """The mapset of a BMS source, and what is told of it."""
+    log = Log()
+    with folder_of({"set.bms": text}) as folder:
+        mapset = read_mapset(os.path.join(folder, "set.bms"), log)
+    assert mapset is not None
+    return mapset, [line.split(":", 2)[2].strip() for line in log.lines()]
+
+
+def source_of(statements: list[str], storage: list[str], first: list[str] | None = None) -> list[str]:
+    """A program of statements, an EXEC of any length without its `EXEC CICS`, where it begins with >; at END it puts OUT into a queue."""
+    lines = ["P        CSECT", "         MVC   OUT,=CL40' '"]
+    for text in [*(first or []), *statements]:
+        label, _, rest = text.partition(">") if ">" in text else (text, "", "")
+        lines += statement_lines(label.strip(), "EXEC", f"CICS {rest.strip()}") if rest else [text]
+    return [*lines, *statement_lines("END", "EXEC", "CICS WRITEQ TS QUEUE('OUT') FROM(OUT) LENGTH(L'OUT)"), "         EXEC  CICS RETURN",
+            "         LTORG", "DFHEISTG DSECT", *storage, "         END"]
 
 
 def ran(source: list[str], setting: Setting, keys: list[str], after: list[str]) -> Ran:

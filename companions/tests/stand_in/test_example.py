@@ -5,12 +5,12 @@ import tempfile
 
 from cics.child import TOP, Ended
 from cics.statements import comment_of
-from tests.calling import called
+from tests.calling import called, put
 from tests.case import PROGRAMS, TestCase, expect
 
 EXAMPLE = os.path.join(TOP, "examples/stand-in")
-WORDS = ["--stand-in", f"{EXAMPLE}/partinq.asm", "--bms", f"{EXAMPLE}/partset.bms", "--file", f"PARTS={EXAMPLE}/parts.csv,key=PRNUMBER", "--out",
-         "shop"]
+GIVEN = ["--stand-in", f"{EXAMPLE}/partinq.asm", "--bms", f"{EXAMPLE}/partset.bms", "--file", f"PARTS={EXAMPLE}/parts.csv,key=PRNUMBER", "--out"]
+WORDS = [*GIVEN, "shop"]
 RUN = ["shop/partinq.asm", "shop/partset.asm", "shop/sfile.asm", "--queue", "PARTS=shop/PARTS.queue"]
 
 # Keys, and the screen after each.
@@ -25,10 +25,6 @@ SCREENS: list[tuple[str, dict[int, str]]] = [
     ("NUMBER=99", {**EMPTY, 3: " NUMBER . 00099", 24: " NO SUCH PART"}),
     ("NUMBER=17", {**EMPTY, 3: " NUMBER . 00017", 4: " NAME ... SCREW", 5: " ON HAND     1250", 24: " FOUND"}),
     ("PF3", {1: "PART ENDED"})]
-
-
-def lines_of(ended: Ended) -> list[str]:
-    return ended.out.decode().splitlines()
 
 
 class ExampleTest(TestCase):
@@ -48,13 +44,13 @@ class ExampleTest(TestCase):
     def test_screens(self) -> None:
         adapted = self.adapt(WORDS)
         expect("status", adapted.status == 4, adapted)
-        expect("what it says", lines_of(adapted) == [" ".join(["cics-run", *RUN])], adapted.out)
+        expect("what it says", adapted.lines() == [" ".join(["cics-run", *RUN])], adapted.out)
         ran = called("cics-run", [*RUN, *(word for key, _ in SCREENS for word in ("--key", key)), *PROGRAMS], self.folder)
         due = ["STAND-INS: 7"]
         for key, screen in SCREENS:
             named = key if key in ("CLEAR", "PF3") else f"ENTER {key}"
             due += [f"KEY T001 {named}", *(f"{at:02}|{row}" for at, row in sorted(screen.items()))]
-        self.assertEqual(lines_of(ran), due)
+        self.assertEqual(ran.lines(), due)
 
     def test_told(self) -> None:
         told = self.adapt(WORDS).reported.decode().splitlines()
@@ -80,11 +76,10 @@ class ExampleTest(TestCase):
 
     def test_condition_that_is_not_handled(self) -> None:
         """Its abend is led to the statement that met it."""
-        with open(os.path.join(self.folder, "p.asm"), "w", encoding="ascii") as file:
-            file.writelines(f"{line}\n".replace("NOTFND(NONE)", "ENDFILE(NONE)") for line in self.read(f"{EXAMPLE}/partinq.asm"))
+        put(self.folder, {"p.asm": "".join(f"{line}\n" for line in self.read(f"{EXAMPLE}/partinq.asm")).replace("NOTFND(NONE)", "ENDFILE(NONE)")})
         self.adapt([word.replace(f"{EXAMPLE}/partinq.asm", "p.asm") for word in WORDS])
         words = ["shop/p.asm", *RUN[1:], "--map", "shop/p.map", "--key", "PART", "--key", "NUMBER=99", *PROGRAMS]
-        lines = lines_of(called("cics-run", words, self.folder))
+        lines = called("cics-run", words, self.folder).lines()
         self.assertIn("T001 Abended AEIM", lines)
         self.assertTrue(lines[-1].startswith("WHERE ") and lines[-1].endswith(" OF p.asm:26"), lines[-1])
 
@@ -103,13 +98,10 @@ class ExampleTest(TestCase):
         self.assertEqual(self.adapt(WORDS).status, 4)
         for name in ("partset.asm", "PARTS.queue", "stand-in.list"):
             folder = os.path.join(self.folder, f"of-{name}")
-            os.mkdir(folder)
-            with open(os.path.join(folder, name), "w", encoding="ascii") as file:
-                file.write("mine\n")
-            ended = self.adapt([*WORDS[:-1], folder])
+            put(folder, {name: "mine\n"})
+            ended = self.adapt([*GIVEN, folder])
             self.assertEqual((ended.status, os.listdir(folder), self.read(os.path.join(folder, name))), (3, [name], ["mine"]), ended)
-        with open(os.path.join(self.folder, "PARTS.queue"), "w", encoding="ascii") as file:
-            file.write("PRNUMBER\n00001\n")
+        put(self.folder, {"PARTS.queue": "PRNUMBER\n00001\n"})
         ended = self.adapt([word.replace(f"{EXAMPLE}/parts.csv", "PARTS.queue").replace("shop", ".") for word in WORDS])
         self.assertEqual((ended.status, "it is read" in ended.reported.decode(), os.path.exists(os.path.join(self.folder, "sfile.asm"))),
                          (3, True, False), ended)
@@ -117,19 +109,19 @@ class ExampleTest(TestCase):
     def test_nothing_changes_without_a_command(self) -> None:
         path = os.path.join(TOP, "examples/lessons/changing/pgm7.asm")
         self.adapt(["--stand-in", path])
-        self.assertEqual(self.read("stand-in/pgm7.asm"), lines_of(self.adapt([path])))
+        self.assertEqual(self.read("stand-in/pgm7.asm"), self.adapt([path]).lines())
 
     def test_five_hundred_records(self) -> None:
-        with open(os.path.join(self.folder, "parts.csv"), "w", encoding="ascii") as file:
-            file.writelines(["PRNUMBER,PRNAME,PRHAND\n", *(f"{number:05},PART {number},{number}\n" for number in range(500, 0, -1))])
+        rows = "".join(f"{number:05},PART {number},{number}\n" for number in range(500, 0, -1))
+        put(self.folder, {"parts.csv": f"PRNUMBER,PRNAME,PRHAND\n{rows}"})
         adapted = self.adapt([word.replace(f"{EXAMPLE}/parts.csv", "parts.csv") for word in WORDS])
         self.assertEqual(adapted.status, 4)
         for number in (1, 250, 500):
             ran = called("cics-run", [*RUN, "--key", "PART", "--key", f"NUMBER={number}", *PROGRAMS], self.folder)
-            self.assertIn(f"04| NAME ... PART {number}", lines_of(ran))
+            self.assertIn(f"04| NAME ... PART {number}", ran.lines())
 
     def test_again(self) -> None:
         """What it wrote is taken without a change."""
         self.adapt(WORDS)
         again = self.adapt(["shop/partinq.asm"])
-        self.assertEqual((again.status, lines_of(again)), (0, self.read("shop/partinq.asm")))
+        self.assertEqual((again.status, again.lines()), (0, self.read("shop/partinq.asm")))

@@ -22,8 +22,7 @@ def script_of(name: str, sequences: list[Sequence]) -> list[str]:
     expect(f"{name} is taken", not left, left)
     looks = [f"QUEUE {name} {number + 1}" for number in range(sum(len(one.commands) for one in sequences))]
     return ["SOURCE $SFILE", *file_program(DEFINED), "/*", f"SOURCE {name}", *new.lines(), "/*", f"TRANSACTION TRAN {name}", "TERMINAL T001",
-            "KEY T001 ENTER TRAN",
-            *["RUN T001 4096"] * 2, *looks]
+            "KEY T001 ENTER TRAN", *["RUN T001 4096"] * 2, *looks]
 
 
 class DrawnFilesTest(TestCase):

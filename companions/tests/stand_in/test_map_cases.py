@@ -1,16 +1,11 @@
 """Maps whose screens and areas were worked out by hand: OCCURS, GRPNAME, extended attributes, RECEIVE SET, SEND CONTROL, and what drops a map."""
-import os
-import tempfile
 from dataclasses import dataclass, field
 
-from cics.log import Log
-from cics.queues import statement_lines
-from cics.stand_in.mapsets import read_mapset
 from cics.stand_in.rewriting import Setting
 from cics.transcripts import is_of_page
 from tests.case import TestCase, expect
 from tests.stand_in.looks import items_of
-from tests.stand_in.running import ran
+from tests.stand_in.running import mapset_of, ran, source_of
 
 BMS = """
 S        DFHMSD TYPE=MAP,STORAGE=AUTO,TIOAPFX=YES,DSATTS=(COLOR)
@@ -85,31 +80,19 @@ CASES = [
 ]
 
 
-def source_of(statements: list[str]) -> list[str]:
-    lines = ["P        CSECT", "         MVC   OUT,=CL40' '", *statement_lines("", "EXEC", "CICS RECEIVE INTO(OUT) LENGTH(RC) NOHANDLE"),
-             "         MVC   OUT,=CL40' '"]
-    for text in statements:
-        label, _, rest = text.partition(">") if ">" in text else (text, "", "")
-        lines += statement_lines(label.strip(), "EXEC", f"CICS {rest.strip()}") if rest else [text]
-    return [*lines, *statement_lines("END", "EXEC", "CICS WRITEQ TS QUEUE('OUT') FROM(OUT) LENGTH(L'OUT)"), "         EXEC  CICS RETURN",
-            "         LTORG",
-            "DFHEISTG DSECT", "RC       DS    F", "OUT      DS    CL40", "         COPY  S", "         END"]
+FIRST = ["> RECEIVE INTO(OUT) LENGTH(RC) NOHANDLE", "         MVC   OUT,=CL40' '"]
+STORAGE = ["RC       DS    F", "OUT      DS    CL40", "         COPY  S"]
 
 
 class MapCasesTest(TestCase):
     def test_cases(self) -> None:
-        with tempfile.TemporaryDirectory() as folder:
-            path = os.path.join(folder, "any.bms")
-            with open(path, "w", encoding="ascii") as file:
-                file.write(BMS)
-            log = Log()
-            mapset = read_mapset(path, log)
-        self.assertEqual(log.lines(), [])
+        mapset, told = mapset_of(BMS)
+        self.assertEqual(told, [])
         for case in CASES:
             keys = ["ENTER TRAN", *(key if key[:2] in ("PF", "CL") else f"ENTER {key}".rstrip() for key in case.keys)]
-            result = ran(source_of(case.statements), Setting([mapset] if mapset else []), keys, ["QUEUE OUT 1", "SCREEN T001"])
+            result = ran(source_of(case.statements, STORAGE, FIRST), Setting([mapset]), keys, ["QUEUE OUT 1", "SCREEN T001"])
             rows = {int(line[:2]): line[3:].rstrip() for line in result.transcript[result.transcript.index("SCREEN T001") :] if is_of_page(line)}
             out = items_of(result.transcript, "QUEUE 'OUT' ITEM 1").decode("cp037").rstrip()
             found = (result.ending(), {at: row for at, row in rows.items() if row}, out, [text for text in result.told if text.startswith("left")])
-            expect(case.what, found == (case.ending, case.rows, case.out, case.left), (found,
-                                                                                       [line for line in result.transcript if "REFUSED" in line]))
+            refused = [line for line in result.transcript if "REFUSED" in line]
+            expect(case.what, found == (case.ending, case.rows, case.out, case.left), (found, refused))

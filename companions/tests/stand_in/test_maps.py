@@ -1,20 +1,18 @@
 """SEND MAP and RECEIVE MAP of drawn maps, against a 3270's buffer of the tests' own."""
 import os
 import random
-import tempfile
 
 from cics.adapting import adapted
 from cics.assembler_files import run_script
-from cics.cli import write_file
-from cics.log import Log
+from cics.child import text_of
 from cics.sources import SourceText
 from cics.stand_in.map_programs import map_program
-from cics.stand_in.mapsets import read_mapset
 from cics.stand_in.rewriting import Setting, StandIns
 from cics.transcripts import is_of_page
 from tests.case import CICSLOOK, TestCase, expect
 from tests.stand_in.looks import items_of
 from tests.stand_in.map_drawing import FILLED, Drawn, Op, drawn, program_of, source_of
+from tests.stand_in.running import mapset_of
 
 SEED, PROGRAMS, OPS = 20261129, int(os.environ.get("STAND_IN_MAPS", "12")), 8
 AT_ONCE = 6  # mapsets of a script
@@ -25,15 +23,11 @@ def script_of(all_drawn: list[Drawn]) -> list[str]:
     blocks, events = [], []
     for at, one in enumerate(all_drawn):
         name = f"PGM{at}"
-        with tempfile.TemporaryDirectory() as folder:
-            path = os.path.join(folder, "set.bms")
-            write_file(path, "".join(f"{line}\n" for line in source_of(one.name, one.maps)).encode(), [])
-            log = Log()
-            mapset = read_mapset(path, log)
-        new = adapted(SourceText(program_of(one, name)), name, [], stand_ins=StandIns(Setting([mapset] if mapset else [])))
-        left = [*log.lines(), *(str(told) for told in new.log.told)]
-        expect(f"{one.name} is taken", not any(": left: " in line for line in left), left)
-        blocks += [f"SOURCE {one.name}", *(map_program(mapset) if mapset else []), "/*", f"SOURCE {name}", *new.lines(), "/*"]
+        mapset, told = mapset_of(text_of(source_of(one.name, one.maps)))
+        new = adapted(SourceText(program_of(one, name)), name, [], stand_ins=StandIns(Setting([mapset])))
+        left = [line for line in told if line.startswith("left: ")] + [str(entry) for entry in new.log.told if entry.is_left]
+        expect(f"{one.name} is taken", not left, left)
+        blocks += [f"SOURCE {one.name}", *map_program(mapset), "/*", f"SOURCE {name}", *new.lines(), "/*"]
         events += [f"TRANSACTION TR{at} {name}", f"TERMINAL T{at}", f"KEY T{at} ENTER TR{at}", f"RUN T{at} 4096"]
         for op in filter(Op.waits, one.ops):
             events += [f"KEY T{at} {op.key}", f"RUN T{at} 4096"]

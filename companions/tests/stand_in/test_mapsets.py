@@ -1,11 +1,8 @@
 """BMS sources: what is read of them, the symbolic maps that are made, and what is told."""
-import os
-import tempfile
-
-from cics.log import Log
-from cics.stand_in.mapsets import Justified, Mapset, read_mapset
+from cics.stand_in.mapsets import Justified
 from cics.stand_in.symbolic import attributes, symbolic_maps
 from tests.case import TestCase
+from tests.stand_in.running import mapset_of
 
 SOURCE = """
 ORDSET   DFHMSD TYPE=&SYSPARM,MODE=INOUT,LANG=ASM,STORAGE=AUTO,        *
@@ -84,42 +81,31 @@ TOLD = [("X        DFHMDF POS=(24,70),LENGTH=20", "left: DFHMDF X: it isn't all 
         ("         DFHXX A=1", "left: DFHXX: no macro of maps")]
 
 
-def read(text: str) -> tuple[Mapset, list[str]]:
-    log = Log()
-    with tempfile.TemporaryDirectory() as folder:
-        path = os.path.join(folder, "set.bms")
-        with open(path, "w", encoding="latin-1") as file:
-            file.write(text)
-        mapset = read_mapset(path, log)
-    assert mapset is not None
-    return mapset, [line.split(":", 2)[2].strip() for line in log.lines()]
-
-
 class MapsetsTest(TestCase):
     def test_symbolic_maps(self) -> None:
-        mapset, told = read(SOURCE)
+        mapset, told = mapset_of(SOURCE)
         self.assertEqual(told, [])
         self.assertEqual(symbolic_maps(mapset), SYMBOLIC)
 
     def test_fields(self) -> None:
-        mapset, _ = read(SOURCE)
+        mapset, _ = mapset_of(SOURCE)
         order, foot = mapset.maps
         self.assertEqual([(one.name, one.position, one.length, one.attribute, one.offset) for one in order.fields],
-                         [("", 0, 5, 0x30, 0), ("QTY", 169, 4, 0x11, 12), ("NOTE", 240, 6, 0x08, 19), ("LINE", 400, 10, 0x2C, 28), ("DATE", 919, 6,
-                             0x00, 67)])
+                         [("", 0, 5, 0x30, 0), ("QTY", 169, 4, 0x11, 12), ("NOTE", 240, 6, 0x08, 19), ("LINE", 400, 10, 0x2C, 28),
+                          ("DATE", 919, 6, 0x00, 67)])
         self.assertEqual([(one.justified, one.fill) for one in order.fields[1:4]],
                          [(Justified.RIGHT, "0"), (Justified.RIGHT, "0"), (Justified.LEFT, " ")])
         self.assertEqual([order.fields[3].positions(), order.cursor(), order.length, order.controls], [[400, 411, 422], 170, 76, ["FREEKB", "FRSET"]])
-        self.assertEqual([(one.position, one.attribute, one.initial and one.initial.bytes) for one in foot.fields], [(22 * 80 + 40 + 41, 0x38,
-            "C1C2")])
+        found = [(one.position, one.attribute, one.initial and one.initial.bytes) for one in foot.fields]
+        self.assertEqual(found, [(22 * 80 + 40 + 41, 0x38, "C1C2")])
 
     def test_overlaid(self) -> None:
-        mapset, _ = read(SOURCE.replace("STORAGE=AUTO,", "MODE=INOUT,  "))
+        mapset, _ = mapset_of(SOURCE.replace("STORAGE=AUTO,", "MODE=INOUT,  "))
         lines = symbolic_maps(mapset)
         self.assertEqual([line.split() for line in lines if "ORG" in line], [["ORG", "ORDMS"], ["ORG"]])
 
     def test_extended_attributes(self) -> None:
-        mapset, _ = read("S        DFHMSD TYPE=MAP,STORAGE=AUTO,DSATTS=(COLOR,HILIGHT)\nM        DFHMDI\n"
+        mapset, _ = mapset_of("S        DFHMSD TYPE=MAP,STORAGE=AUTO,DSATTS=(COLOR,HILIGHT)\nM        DFHMDI\n"
                          "F        DFHMDF POS=5,LENGTH=3\n         DFHMSD TYPE=FINAL")
         self.assertEqual([line.split()[0] for line in symbolic_maps(mapset)[4:10]], ["FL", "FF", "FA", "FC", "FH", "FI"])
         self.assertEqual([mapset.maps[0].length, mapset.maps[0].extended], [8, ["COLOR", "HILIGHT"]])
@@ -129,5 +115,4 @@ class MapsetsTest(TestCase):
 
     def test_told(self) -> None:
         for line, due in TOLD:
-            self.assertIn(due,
-                          read(HEAD + f"{line}\n         DFHMSD TYPE=FINAL")[1])
+            self.assertIn(due, mapset_of(HEAD + f"{line}\n         DFHMSD TYPE=FINAL")[1])

@@ -1,18 +1,13 @@
 """Transient data, START and RETRIEVE, times, ASSIGN and ADDRESS, conditions by the table; and what abends where nothing stands for it."""
-import tempfile
-import unittest
-from dataclasses import dataclass, field
+from dataclasses import dataclass
 
 from cics.adapting import adapted
-from cics.log import Log
-from cics.queues import statement_lines
 from cics.sources import SourceText
-from cics.stand_in.mapsets import read_mapset
 from cics.stand_in.records import FileDefinition
 from cics.stand_in.rewriting import Setting, StandIns
 from tests.case import TestCase, expect
 from tests.stand_in.looks import items_of
-from tests.stand_in.running import ran
+from tests.stand_in.running import mapset_of, ran, source_of
 
 FIELDS = """RC       DS    F
 LEN      DS    H
@@ -22,7 +17,6 @@ ABS      DS    PL8
 W        DS    4F
 OUT      DS    CL40""".split("\n")
 FILES = {"FILEA": FileDefinition("FILEA", 20, 0, 4, [], "")}
-WRITTEN = "OUT"
 
 
 @dataclass(frozen=True)
@@ -32,16 +26,6 @@ class Case:
     what: str
     statements: list[str]
     out: str
-    told: list[str] = field(default_factory=list)
-
-
-def source_of(statements: list[str]) -> list[str]:
-    lines = ["P        CSECT", "         MVC   OUT,=CL40' '"]
-    for text in statements:
-        label, _, rest = text.partition(">") if ">" in text else (text, "", "")
-        lines += statement_lines(label.strip(), "EXEC", f"CICS {rest.strip()}") if rest else [text]
-    return [*lines, *statement_lines("END", "EXEC", f"CICS WRITEQ TS QUEUE('{WRITTEN}') FROM(OUT) LENGTH(L'OUT)"), "         EXEC  CICS RETURN",
-            "         LTORG", "DFHEISTG DSECT", *FIELDS, "         END"]
 
 
 CASES = [
@@ -56,37 +40,31 @@ CASES = [
                                                                       f"         OI    OUT+{5 * at + 3},C'0'"))], "0003 0029 0002 1984"),
     Case("transient data", ["> WRITEQ TD QUEUE('DEST') FROM(=C'ONE') LENGTH(3)", "> WRITEQ TD QUEUE('DEST') FROM(=C'THREE') LENGTH(5)",
                             "         MVC   LEN,=H'16'", "> READQ TD QUEUE('DEST') INTO(OUT) LENGTH(LEN)",
-                            "> READQ TD QUEUE('DEST') SET(5) LENGTH(LEN)",
-                            "         MVC   OUT+5(5),0(5)", "> READQ TD QUEUE('DEST') INTO(A) LENGTH(LEN) RESP(RC)",
-                            "         CLC   RC,DFHRESP(QZERO)",
-                            "         BNE   END", "         MVC   OUT+12(5),=C'QZERO'"], "ONE  THREE  QZERO"),
+                            "> READQ TD QUEUE('DEST') SET(5) LENGTH(LEN)", "         MVC   OUT+5(5),0(5)",
+                            "> READQ TD QUEUE('DEST') INTO(A) LENGTH(LEN) RESP(RC)", "         CLC   RC,DFHRESP(QZERO)", "         BNE   END",
+                            "         MVC   OUT+12(5),=C'QZERO'"], "ONE  THREE  QZERO"),
     Case("an empty destination, handled", ["> HANDLE CONDITION QZERO(EMPTY) ERROR(WRONG)", "         MVC   LEN,=H'16'",
                                            "> READQ TD QUEUE('DEST') INTO(A) LENGTH(LEN)",
                                            "WRONG    B     END", "EMPTY    MVC   OUT(5),=C'EMPTY'"], "EMPTY"),
     Case("a destination's data are too long", ["> WRITEQ TD QUEUE('DEST') FROM(=C'THREE') LENGTH(5)", "> IGNORE CONDITION LENGERR",
-                                               "         MVC   LEN,=H'3'",
-                                               "> READQ TD QUEUE('DEST') INTO(OUT) LENGTH(LEN)", "         OI    LEN+1,X'F0'",
-                                               "         MVC   OUT+5(1),LEN+1"], "THR  5"),
+                                               "         MVC   LEN,=H'3'", "> READQ TD QUEUE('DEST') INTO(OUT) LENGTH(LEN)",
+                                               "         OI    LEN+1,X'F0'", "         MVC   OUT+5(1),LEN+1"], "THR  5"),
     Case("START and RETRIEVE", ["         MVC   A,=CL16'DATA'", "> START TRANSID('TRAN') FROM(A) LENGTH(4) INTERVAL(0)", "         MVC   LEN,=H'16'",
                                 "> RETRIEVE INTO(OUT) LENGTH(LEN)", "> RETRIEVE INTO(A) LENGTH(LEN) RESP(RC)", "         CLC   RC,DFHRESP(ENDDATA)",
                                 "         BNE   END", "         MVC   OUT+5(4),=C'DONE'"], "DATA DONE"),
     Case("ASSIGN and ADDRESS", ["> ASSIGN SCRNWD(LEN) OPID(OUT) FACILITY(OUT+4)", "         CLC   LEN,=H'80'", "         BNE   END",
                                 "> ADDRESS CWA(5) TCTUA(6) EIB(7)", "         CL    6,=X'FF000000'", "         BNE   END",
-                                "         C     5,=F'4096'",
-                                "         BNE   END", "         MVC   OUT+9(4),8(7)"], "    T001 TRAN"),
+                                "         C     5,=F'4096'", "         BNE   END", "         MVC   OUT+9(4),8(7)"], "    T001 TRAN"),
     Case("nothing", ["> DELAY INTERVAL(1)", "> DUMP DUMPCODE('A001')", "> ASKTIME", "         MVI   OUT,C'A'"], "A"),
     Case("PUSH and POP keep the table", ["> HANDLE CONDITION NOTFND(FIRST)", "> PUSH HANDLE", "> HANDLE CONDITION NOTFND(SECOND)",
-                                         "         BAL   4,READ",
-                                         "SECOND   MVI   OUT,C'2'", "> POP HANDLE", "         BAL   4,READ", "FIRST    MVI   OUT+1,C'1'",
-                                         "         B     END",
-                                         "READ     MVC   KEY,=C'KEY1'", "> READ FILE('FILEA') INTO(A) RIDFLD(KEY)", "         BR    4"], "21"),
+                                         "         BAL   4,READ", "SECOND   MVI   OUT,C'2'", "> POP HANDLE", "         BAL   4,READ",
+                                         "FIRST    MVI   OUT+1,C'1'", "         B     END", "READ     MVC   KEY,=C'KEY1'",
+                                         "> READ FILE('FILEA') INTO(A) RIDFLD(KEY)", "         BR    4"], "21"),
     Case("a table's entry goes before ERROR", ["> HANDLE CONDITION ERROR(OTHER) NOTFND(NONE)", "> READ FILE('FILEA') INTO(A) RIDFLD(KEY)",
-                                               "OTHER    MVI   OUT,C'E'",
-                                               "         B     END", "NONE     MVI   OUT,C'N'"], "N"),
+                                               "OTHER    MVI   OUT,C'E'", "         B     END", "NONE     MVI   OUT,C'N'"], "N"),
     Case("ERROR serves what has no entry", ["> HANDLE CONDITION ERROR(OTHER) DUPREC(NONE)", "> READ FILE('FILEA') INTO(A) RIDFLD(KEY)",
-                                            "NONE     MVI   OUT,C'N'",
-                                            "         B     END", "OTHER    MVC   OUT(2),=C'13'", "         CLC   EIBRESP,=F'13'",
-                                            "         BE    END", "         MVI   OUT,C'?'"], "13"),
+                                            "NONE     MVI   OUT,C'N'", "         B     END", "OTHER    MVC   OUT(2),=C'13'",
+                                            "         CLC   EIBRESP,=F'13'", "         BE    END", "         MVI   OUT,C'?'"], "13"),
     Case("the EIB after a request", ["> READ FILE('FILEA') INTO(A) RIDFLD(KEY) NOHANDLE", "         MVC   OUT(8),EIBRSRCE",
                                      "         CLC   EIBFN,=X'0602'",
                                      "         BNE   END", "         CLI   EIBRCODE,13", "         BNE   END", "         MVI   OUT+6,C'+'"],
@@ -142,25 +120,17 @@ NEVER = [("SYNCPOINT ROLLBACK", "SIRB", "nothing is recovered"), ("READ FILE('FI
 BMS = "S        DFHMSD TYPE=MAP\nM        DFHMDI\nF        DFHMDF POS=5,LENGTH=3\n         DFHMSD TYPE=FINAL\n"
 
 
-def setting() -> Setting:
-    with tempfile.NamedTemporaryFile("w", suffix=".bms") as file:
-        file.write(BMS)
-        file.flush()
-        mapset = read_mapset(file.name, Log())
-    return Setting([mapset] if mapset else [], dict(FILES))
-
-
 class OtherCommandsTest(TestCase):
     def test_cases(self) -> None:
         for case in CASES:
-            result = ran(source_of(case.statements), Setting([], dict(FILES)), ["ENTER TRAN"], [f"QUEUE {WRITTEN} 1"])
-            out = items_of(result.transcript, f"QUEUE '{WRITTEN}' ITEM 1").decode("cp037").rstrip()
+            result = ran(source_of(case.statements, FIELDS), Setting([], dict(FILES)), ["ENTER TRAN"], ["QUEUE OUT 1"])
+            out = items_of(result.transcript, "QUEUE 'OUT' ITEM 1").decode("cp037").rstrip()
             expect(case.what, out == case.out, (out, case.out, result.ending(), [text for text in result.told if text.startswith("left")],
                                                 [line for line in result.transcript if "REFUSED" in line]))
 
     def test_never_nothing(self) -> None:
         for text, code, told in NEVER:
-            result = ran(source_of([f"> {text}"]), setting(), ["ENTER TRAN"], [])
+            result = ran(source_of([f"> {text}"], FIELDS), Setting([mapset_of(BMS)[0]], dict(FILES)), ["ENTER TRAN"], [])
             left = [line for line in result.told if line.startswith("left: ")]
             expect(text, result.ending() == f"Abended {code}", (result.ending(), left, [line for line in result.transcript if "REFUSED" in line]))
             expect(text, len(left) == 1 and told in left[0] and code in left[0], left)
@@ -168,16 +138,12 @@ class OtherCommandsTest(TestCase):
     def test_out_of_reach(self) -> None:
         """What no base reaches is told."""
         long = ["         LA    4,4(,4)"] * 1000
-        new = adapted(SourceText(source_of(["> READ FILE('FILEA') INTO(A) RIDFLD(KEY)", *long])), "p.asm", [], stand_ins=StandIns(Setting([],
-            dict(FILES))))
+        source = source_of(["> READ FILE('FILEA') INTO(A) RIDFLD(KEY)", *long], FIELDS)
+        new = adapted(SourceText(source), "p.asm", [], stand_ins=StandIns(Setting([], dict(FILES))))
         self.assertTrue(any(told.is_left and "no base in use reaches it" in told.text for told in new.log.told))
 
     def test_own_names(self) -> None:
-        source = source_of(["> READ FILE('FILEA') INTO(A) RIDFLD(KEY)"])
+        source = source_of(["> READ FILE('FILEA') INTO(A) RIDFLD(KEY)"], FIELDS)
         result = ran([*source[:-1], "$SRFN    DS    F", source[-1]], Setting([], dict(FILES)), ["ENTER TRAN"], [])
         self.assertEqual(result.ending(), "Abended SIOP")
         self.assertIn("names that begin with $S", [text for text in result.told if text.startswith("left")][0])
-
-
-if __name__ == "__main__":
-    unittest.main()

@@ -1,11 +1,11 @@
 """Files as they are given by words: the record and its key in a source, and data of each kind as records."""
 import os
-import tempfile
 
 from cics.cli import Failure
 from cics.layout import Layout
 from cics.stand_in.records import FileDefinition, GivenFile, Source, constants_of, file_of, queue_lines, records_of
 from cics.statements import statements_of
+from tests.calling import folder_of
 from tests.case import TestCase
 
 SOURCE = """
@@ -28,27 +28,15 @@ P        CSECT
 """.strip("\n").split("\n")
 
 
-def source() -> Source:
-    statements = statements_of(SOURCE, "p.asm")
-    return Source(statements, Layout(statements))
-
-
 def defined(word: str) -> FileDefinition:
-    return file_of(GivenFile.of(word), [source()])
+    statements = statements_of(SOURCE, "p.asm")
+    return file_of(GivenFile.of(word), [Source(statements, Layout(statements))])
 
 
 class RecordsTest(TestCase):
     def records(self, word: str, data: bytes) -> list[bytes]:
-        with tempfile.TemporaryDirectory() as folder:
-            path = os.path.join(folder, "data")
-            with open(path, "wb") as file:
-                file.write(data)
-            return records_of(defined(word.replace("DATA", path)))
-
-    def failure(self, word: str, data: bytes = b"") -> str:
-        with self.assertRaises(Failure) as raised:
-            self.records(word, data)
-        return str(raised.exception)
+        with folder_of({"data": data}) as folder:
+            return records_of(defined(word.replace("DATA", os.path.join(folder, "data"))))
 
     def test_definitions(self) -> None:
         customers = defined("CUSTMAS=x,key=CRKEY")
@@ -79,12 +67,14 @@ class RecordsTest(TestCase):
         self.assertEqual(constants_of("A&'BCD".encode("cp037")), ["C'A&&''BCD'"])
 
     def test_failures(self) -> None:
-        for word, data, due in [("CUSTMAS=DATA,key=CRKEY", b"0001A\n0001B\n", "two records have the key '0001'"), ("CUSTMAS=DATA,key=NOWHERE", b"",
-            "no source has a field NOWHERE"),
+        for word, data, due in [("CUSTMAS=DATA,key=CRKEY", b"0001A\n0001B\n", "two records have the key '0001'"),
+                                ("CUSTMAS=DATA,key=NOWHERE", b"", "no source has a field NOWHERE"),
                                 ("CUSTMAS=DATA", b"", "write: --file NAME=DATA,key=FIELD"), ("X=DATA,key=OTHER", b"", "no record around OTHER"),
                                 ("CUSTMAS=DATA,key=CRKEY,record=EMP", b"", "no record around CRKEY"),
                                 ("CUSTMAS=DATA,key=CRKEY", b"CRKEY,CRBAL\n1,1000000\n", "'1000000' is no packed decimal of 3 bytes"),
                                 ("CUSTMAS=DATA,key=CRKEY", b"CRKEY,CRCOUNT\n1,40000\n", "'40000' is no value of CRCOUNT"),
                                 ("CUSTMAS=DATA,key=CRKEY", b"0001A^\n", "'^' has no code here"),
                                 ("CUSTMAS=DATA,key=CRKEY", b"=C'A'\n", "a record of CUSTMAS has 4 to 20 bytes, and this one 1")]:
-            self.assertIn(due, self.failure(word, data))
+            with self.assertRaises(Failure) as raised:
+                self.records(word, data)
+            self.assertIn(due, str(raised.exception))

@@ -14,6 +14,8 @@ from collections.abc import Callable, Sequence
 from functools import partial, update_wrapper
 from types import TracebackType
 
+from cics.child import read
+from tests.calling import called, folder_of, put
 from tests.case import CICSEDF as PROGRAM
 from tests.case import CICSLOOK as LOOKER
 from tests.case import COMPANIONS
@@ -59,6 +61,12 @@ def expect_page(terminal: Either, page: dict[int, str]) -> None:
     expect("screen", {at: row for at, row in enumerate(terminal.rows(), 1) if row}, page)
 
 
+def expect_pages(terminal: Either, *pages: tuple[str, str, dict[int, str]]) -> None:
+    """The terminal has a page after each text and key."""
+    for text, key, page in pages:
+        expect_page(terminal.enter(text, key), page)
+
+
 class Session:
     """The companion over a set-up. At its end it is reported to end, and its session is replayed."""
 
@@ -71,14 +79,11 @@ class Session:
         self.is_whole, self.has_digest, self.ends_itself, self.status = is_whole, has_digest, ends_itself, status
         self.terminals: list[Either] = []
         self.reported: list[str] = []
-        with open(self.setup, "wb") as file:
-            file.write("".join(parts).encode())
+        put(self.folder.name, {"setup.script": "".join(parts).encode(), **(sources or {})})
         limit = f"ulimit -f {largest // 512}; " if largest else ""
         begins = [self.setup] if resumes is None else ["--resume", self.setup, *resumes]
-        for name, source in (sources or {}).items():  # those without a set-up
-            with open(f"{self.folder.name}/{name}", "w", encoding="ascii") as source_file:
-                source_file.write(source)
-            begins = [f"{self.folder.name}/{name}"] if name.endswith(".asm") else begins
+        for name in filter(lambda name: name.endswith(".asm"), sources or {}):  # those without a set-up
+            begins = [f"{self.folder.name}/{name}"]
         words = [*begins, "--port", "0", "--session", self.script, "--cicslook", LOOKER, *options]
         command = ["/bin/sh", "-c", limit + 'exec "$@"', "sh", GATEWAY, *words]
         self.process = subprocess.Popen(command, stdout=subprocess.PIPE, stderr=subprocess.PIPE, text=True)
@@ -130,13 +135,11 @@ class Session:
 
     def child(self) -> int:
         """The process of the region."""
-        with open(f"/proc/{self.process.pid}/task/{self.process.pid}/children") as file:
-            return int(file.read())
+        return int(read(f"/proc/{self.process.pid}/task/{self.process.pid}/children"))
 
     def lines(self) -> list[str]:
         """The session's script so far, after the set-up."""
-        with open(self.script, "rb") as script, open(self.setup, "rb") as setup:
-            return script.read().removeprefix(setup.read()).decode().split("\n")
+        return read(self.script).removeprefix(read(self.setup)).decode().split("\n")
 
     def tell_to_end(self) -> None:
         """Sends a signal, where none was sent and the session doesn't end by itself."""
@@ -160,11 +163,18 @@ class Session:
         """The session begins with the set-up, and ends with the digest of the transcript, or of what came of it."""
         found = re.fullmatch(r"\* The transcript has (\d+) bytes, SHA-256 ([0-9a-f]{64})\.", self.lines()[-2])
         assert found, self.lines()[-2]
-        with open(self.setup, "rb") as setup, open(self.script, "rb") as script:
-            assert not self.is_verbatim or script.read().startswith(setup.read()), "the session doesn't begin with the set-up"
+        assert not self.is_verbatim or read(self.script).startswith(read(self.setup)), "the session doesn't begin with the set-up"
         count = int(found[1])
         assert count == len(transcript) if self.is_whole else count <= len(transcript), f"{count} bytes of {len(transcript)}"
         expect("transcript", hashlib.sha256(transcript[:count]).hexdigest(), found[2])
+
+
+def refused(text: str, *words: str, options: Sequence[str] = (), status: int = 1) -> str:
+    """What is reported of a set-up with which there is no session; no other file is left."""
+    with folder_of({"setup.script": text.encode()}) as folder:
+        ended = called("cics-terminals", [*words, "setup.script", "--port", "0", "--cicslook", LOOKER, *options], folder)
+        expect("status, output, files", (ended.status, ended.out, os.listdir(folder)), (status, b"", ["setup.script"]))
+        return ended.reported.decode().removeprefix("cics-terminals: ")
 
 
 def exchange(connection: socket.socket, sent: str, wanted: str) -> None:

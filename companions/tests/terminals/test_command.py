@@ -2,28 +2,14 @@
 import os
 import re
 import socket
-import subprocess
-import tempfile
 import threading
 import time
-from collections.abc import Sequence
 
+from tests.calling import folder_of, program, put
 from tests.case import CICSEDF as PROGRAM
 from tests.case import CICSLOOK as LOOKER
-from tests.terminals.client import LIMITS
 from tests.terminals.programs import RETURN, TALK
-from tests.terminals.session import GATEWAY, Session, expect, expect_end, expect_page, expect_refusal, test, tests_of
-
-
-def refused(*parts: str, options: Sequence[str] = (), status: int = 1) -> str:
-    """What is reported of a set-up with which there is no session."""
-    with tempfile.TemporaryDirectory() as folder:
-        with open(f"{folder}/setup.script", "wb") as file:
-            file.write("".join(parts).encode())
-        command = [GATEWAY, "setup.script", "--port", "0", "--cicslook", LOOKER, *options]
-        ran = subprocess.run(command, cwd=folder, capture_output=True, text=True, timeout=LIMITS.seconds(), check=False)
-        expect("status, output, files", (ran.returncode, ran.stdout, os.listdir(folder)), (status, "", ["setup.script"]))
-        return str(ran.stderr).removeprefix("cics-terminals: ")
+from tests.terminals.session import Session, expect, expect_end, expect_page, expect_refusal, refused, test, tests_of
 
 
 @test
@@ -51,13 +37,11 @@ def faulty_set_ups() -> None:
 @test
 def programs_of_other_kinds() -> None:
     """What doesn't answer a look within five seconds is reported on a line, and no file is left: cicsedf is none that looks."""
-    for program in (PROGRAM, "/bin/cat", "/bin/true", "/usr/bin/yes"):
-        said = refused(RETURN, options=["--cicslook", program], status=3)
-        assert said.startswith(f"{program}: it isn't cicslook: ") and said.count("\n") == 1, said
-    with tempfile.TemporaryDirectory() as folder:
+    for other in (PROGRAM, "/bin/cat", "/bin/true", "/usr/bin/yes"):
+        said = refused(RETURN, options=["--cicslook", other], status=3)
+        assert said.startswith(f"{other}: it isn't cicslook: ") and said.count("\n") == 1, said
+    with folder_of({"mute": "#!/bin/sh\nexec sleep 1000\n"}) as folder:
         path = f"{folder}/mute"
-        with open(path, "w", encoding="ascii") as file:
-            file.write("#!/bin/sh\nexec sleep 1000\n")
         os.chmod(path, 0o700)
         expect("reported", refused(RETURN, options=["--cicslook", path], status=3), f"{path}: it isn't cicslook: to --version it answers something else\n")
 
@@ -65,19 +49,16 @@ def programs_of_other_kinds() -> None:
 @test
 def a_port_that_another_takes_meanwhile() -> None:
     """It was free when the companion began, and another listens on it when the set-up is done."""
-    with socket.socket() as other, tempfile.TemporaryDirectory() as folder:
+    with socket.socket() as other, folder_of({}) as folder:
         other.setsockopt(socket.SOL_SOCKET, socket.SO_REUSEADDR, 1)
         other.bind(("127.0.0.1", 0))
-        path = f"{folder}/late"
-        with open(path, "w", encoding="ascii") as file:
-            file.write(f"#!/bin/sh\n[ $# = 0 ] || exec {LOOKER} \"$@\"\n: >{folder}/begun\nuntil [ -e {folder}/go ]; do sleep 0.01; done\nexec {LOOKER}\n")
-        os.chmod(path, 0o700)
+        path = program(folder, f": >{folder}/begun\nuntil [ -e {folder}/go ]; do sleep 0.01; done\nexec {LOOKER}")
 
         def listen() -> None:
             while not os.path.exists(f"{folder}/begun"):
                 time.sleep(0.01)
             other.listen()
-            open(f"{folder}/go", "w").close()
+            put(folder, {"go": ""})
 
         listening = threading.Thread(target=listen)
         listening.start()

@@ -1,33 +1,23 @@
 """Maps at a terminal: a formatted screen of a map, with protected, numeric, bright, dark and coloured fields; what is typed goes as a key's text,
 and the session is a script that replays."""
-import os
 import tempfile
 
-from cics.child import TOP
 from cics.terminals.data_stream import SIZE, address
 from cics.terminals.maps import MapPainting, Maps, Place
 from tests.calling import called
-from tests.terminals.client import Either, Kind
-from tests.terminals.session import Session, expect, test, test_with_each, tests_of
+from tests.stand_in.test_example import GIVEN
+from tests.terminals.client import Kind
+from tests.terminals.session import Session, expect, expect_page, test, test_with_each, tests_of
 
-EXAMPLE = os.path.join(TOP, "examples/stand-in")
 RED, TURQUOISE = 0xF2, 0xF5
 
 
 def set_up() -> str:
     """The set-up that cics-run makes of the example."""
     with tempfile.TemporaryDirectory() as folder:
-        words = ["--stand-in", f"{EXAMPLE}/partinq.asm", "--bms", f"{EXAMPLE}/partset.bms", "--file", f"PARTS={EXAMPLE}/parts.csv,key=PRNUMBER",
-                 "--out", folder]
-        adapted = called("cics-adapt", words, folder)
-        expect("status", adapted.status, 4)
+        expect("status", called("cics-adapt", [*GIVEN, folder], folder).status, 4)
         files = [f"{folder}/{name}.asm" for name in ("partinq", "partset", "sfile")]
         return called("cics-run", [*files, "--queue", f"PARTS={folder}/PARTS.queue", "--script"], folder).out.decode()
-
-
-def expect_rows(terminal: Either, rows: dict[int, str]) -> None:
-    found = {at: row for at, row in enumerate(terminal.rows(), 1) if row}
-    expect("screen", found, rows)
 
 
 @test_with_each
@@ -36,9 +26,9 @@ def an_inquiry_and_an_update(kind: Kind) -> None:
         terminal = session.made(kind)
         expect("greeting", [row.strip() for row in terminal.rows() if row], ["TERMINAL T001  STAND-INS: 7"])
         terminal.enter("PART")
-        expect_rows(terminal, {1: " PART INQUIRY", 3: " NUMBER .", 4: " NAME ...", 5: " ON HAND", 6: " PASSWORD"})
+        expect_page(terminal, {1: " PART INQUIRY", 3: " NUMBER .", 4: " NAME ...", 5: " ON HAND", 6: " PASSWORD"})
         terminal.move(3, 11).enter("17")
-        expect_rows(terminal, {1: " PART INQUIRY", 3: " NUMBER . 00017", 4: " NAME ... BOLT, HEXAGONAL", 5: " ON HAND     1250", 6: " PASSWORD",
+        expect_page(terminal, {1: " PART INQUIRY", 3: " NUMBER . 00017", 4: " NAME ... BOLT, HEXAGONAL", 5: " ON HAND     1250", 6: " PASSWORD",
                                24: " FOUND"})
         terminal.move(4, 11).type("SCREW" + " " * 15).move(6, 11).enter("secret")
         expect("name", terminal.rows()[3], " NAME ... SCREW")
@@ -46,11 +36,10 @@ def an_inquiry_and_an_update(kind: Kind) -> None:
         terminal.move(3, 11).enter("00099")
         expect("message", terminal.rows()[23], " NO SUCH PART")
         terminal.enter(key="PF3")
-        expect_rows(terminal, {1: "PART ENDED"})
+        expect_page(terminal, {1: "PART ENDED"})
         keys = [line for line in session.lines() if line.startswith("KEY ")]
         expect("keys", keys[-5:], ["KEY T001 ENTER PART", "KEY T001 ENTER NUMBER=17", f"KEY T001 ENTER NAME=SCREW{' ' * 15};PASS=SECRET",
-                                   "KEY T001 ENTER NUMBER=00099",
-                                   "KEY T001 PF3"])
+                                   "KEY T001 ENTER NUMBER=00099", "KEY T001 PF3"])
 
 
 @test_with_each
@@ -61,7 +50,7 @@ def a_clear_key(kind: Kind) -> None:
         terminal.move(3, 11).enter("42")
         expect("name", terminal.rows()[3], " NAME ... NUT")
         terminal.enter(key="CLEAR")
-        expect_rows(terminal, {1: " PART INQUIRY", 3: " NUMBER .", 4: " NAME ...", 5: " ON HAND", 6: " PASSWORD"})
+        expect_page(terminal, {1: " PART INQUIRY", 3: " NUMBER .", 4: " NAME ...", 5: " ON HAND", 6: " PASSWORD"})
 
 
 @test

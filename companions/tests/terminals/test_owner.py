@@ -53,6 +53,13 @@ def with_screen() -> tuple[Owner, Terminal, Screen, Work]:
     return owner, terminal, screen, work
 
 
+def with_second(owner: Owner, work: Work) -> Terminal:
+    """The terminal T002, for a second client."""
+    other = taken(owner, Screen())
+    expect_asked(work, ("* T002 is taken", ""), ("SCREEN T002", ["SCREEN T002"]))
+    return other
+
+
 ENTER, PF13, PF14, PF24 = b"\x7D\x40\x40", b"\xC1\x40\x40", b"\xC2\x40\x40", b"\x4C\x40\x40"
 
 
@@ -110,8 +117,7 @@ def a_key_while_a_page_is_painted() -> None:
     owner, terminal, screen, work = with_screen()
     owner.press(terminal, entered("TALK"))
     expect_asked(work, ("KEY T001 ENTER TALK", "KEY T001 Attached"), ("TURN T001", "TURN T001 Waiting"), ("SCREEN T001", BLANK))
-    other = taken(owner, Screen())
-    expect_asked(work, ("* T002 is taken", ""), ("SCREEN T002", ["SCREEN T002"]))
+    other = with_second(owner, work)
 
     def meanwhile() -> list[str]:
         expect("paintings", screen.paintings, 2)
@@ -132,8 +138,7 @@ def a_key_while_a_page_is_painted() -> None:
 def turns_between_keys() -> None:
     """Keys without end, each pressed while the one before is answered, don't keep a task from its turns."""
     owner, terminal, screen, work = with_screen()
-    other = taken(owner, Screen())
-    expect_asked(work, ("* T002 is taken", ""), ("SCREEN T002", ["SCREEN T002"]))
+    other = with_second(owner, work)
 
     def meanwhile() -> list[str]:
         owner.press(other, PF13)
@@ -160,8 +165,7 @@ def a_stop_that_nobody_saw() -> None:
 
     expect_asked(work, ("KEY T001 ENTER TALK", "KEY T001 Attached"), ("TURN T001", leaves), ("* T001 is left", ""),
                  ("TURN T001", "TURN T001 Held"))
-    other = taken(owner, Screen())
-    expect_asked(work, ("* T002 is taken", ""), ("SCREEN T002", ["SCREEN T002"]))
+    other = with_second(owner, work)
     owner.press(other, entered("CEDF T001 OFF"))
     expect_asked(work, ("EDF T001 OFF", "EDF T001 Closed"), ("SCREEN T002", ["SCREEN T002"]), ("TURN T001", "TURN T001 Waiting"))
 
@@ -216,8 +220,7 @@ def faults_of_the_companion() -> None:
 def a_fault_in_the_work() -> None:
     """It ends its client."""
     owner, terminal, screen, work = with_screen()
-    other = taken(owner, Screen())
-    expect_asked(work, ("* T002 is taken", ""), ("SCREEN T002", ["SCREEN T002"]))
+    other = with_second(owner, work)
     owner.press(terminal, b"")
     owner.press(other, ENTER)
     expect_asked(work, ("KEY T002 ENTER", "KEY T002 Attached"), ("TURN T002", "TURN T002 Waiting"),

@@ -1,21 +1,18 @@
 """Tests of sessions that go on, and of set-ups that begin with keys."""
-import hashlib
 import os
 import re
 import signal
-import subprocess
-import tempfile
 
+from cics.child import read, run
 from tests.case import CICSEDF as PROGRAM
 from tests.case import CICSLOOK as LOOKER
 from tests.terminals.client import LIMITS
 from tests.terminals.programs import COUNTS, PSEUDO, RESOURCE, RETURN, TALK, TWO
-from tests.terminals.session import GATEWAY, Session, expect, expect_page, test, tests_of
+from tests.terminals.session import Session, expect, expect_page, refused, test, tests_of
 
 
 def kept(session: Session) -> str:
-    with open(session.script, encoding="utf-8") as file:
-        return file.read()
+    return read(session.script).decode()
 
 
 def killed(session: Session) -> str:
@@ -96,14 +93,8 @@ def an_ended_session_goes_on_twice() -> None:
 
 
 def refused_to_resume(text: str, *options: str, status: int = 1) -> str:
-    """What is reported of a session that doesn't go on; no file is left."""
-    with tempfile.TemporaryDirectory() as folder:
-        with open(f"{folder}/old.script", "w", encoding="utf-8") as file:
-            file.write(text)
-        command = [GATEWAY, "--resume", "old.script", "--port", "0", "--cicslook", LOOKER, *options]
-        ran = subprocess.run(command, cwd=folder, capture_output=True, text=True, timeout=LIMITS.seconds(), check=False)
-        expect("status, output, files", (ran.returncode, ran.stdout, os.listdir(folder)), (status, "", ["old.script"]))
-        return str(ran.stderr).removeprefix("cics-terminals: old.script: ").strip()
+    """What is reported of a session that doesn't go on."""
+    return refused(text, "--resume", options=options, status=status).removeprefix("setup.script: ").strip()
 
 
 @test
@@ -122,23 +113,8 @@ def going_back() -> None:
             expect("items", sum(row.startswith(" ITEM ") for row in rows), items)
             waiting = session.terminal("IBM-3279-2-E@T002").rows()
             expect("talking", waiting[0], "TALK OF IT" if back == "1" else "")
-            expect("the old one", hashlib.sha256(text.encode()).digest(), digest_of(session.setup))
+            expect("the old one", read(session.setup) == text.encode(), True)
     expect("too far", refused_to_resume(text, "--back", "4", status=2), "there are only 3 keys to go back")
-
-
-def transcript(program: str, script: bytes) -> bytes:
-    ran = subprocess.run([program], input=script, capture_output=True, timeout=LIMITS.seconds(), check=False)
-    return bytes(ran.stdout)
-
-
-def setup_of(session: Session) -> bytes:
-    with open(session.setup, "rb") as file:
-        return file.read()
-
-
-def digest_of(path: str) -> bytes:
-    with open(path, "rb") as file:
-        return hashlib.sha256(file.read()).digest()
 
 
 @test
@@ -153,7 +129,8 @@ def set_ups_with_keys() -> None:
         text = kept(session)
         expect("runs", re.findall("^RUN", text, re.M), [])
         begun = text.partition("* T00")[0].rpartition("SCREEN @@@@\n")[0].encode()
-        turns = [re.findall(b"^(?:KEY|TURN) .*", it, re.M) for it in (transcript(PROGRAM, begun), transcript(LOOKER, setup_of(session)))]
+        ran = [run([PROGRAM], begun), run([LOOKER], read(session.setup))]
+        turns = [re.findall(b"^(?:KEY|TURN) .*", it.out, re.M) for it in ran]
         expect("turns", turns[0], turns[1])
         first = session.terminal()
         expect_page(first, {24: " TERMINAL T001"})

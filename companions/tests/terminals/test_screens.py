@@ -3,7 +3,7 @@ import random
 
 from tests.terminals.client import CODES, Kind
 from tests.terminals.programs import RETURN, SPIN, TALK, page_source
-from tests.terminals.session import Session, expect, expect_page, test, test_with_each, tests_of
+from tests.terminals.session import Session, expect, expect_page, expect_pages, test, test_with_each, tests_of
 
 
 @test_with_each
@@ -21,21 +21,13 @@ def a_program_that_returns(make: Kind) -> None:
 def a_conversation(make: Kind) -> None:
     with Session(TALK, RETURN, SPIN) as session:
         terminal = session.made(make)
-        expect_page(terminal.enter("talk to me"), {1: "TALK TO ME", 24: " WAITING"})
-        expect_page(terminal.enter("#@$ (a+b)*c='x';", "PF1"), {1: "#@$ (A+B)*C='X';", 24: " WAITING"})
-        expect_page(terminal.enter("", "PF7"), {24: " WAITING"})
-        expect_page(terminal.enter("", "PA1"), {24: " WAITING"})
-        expect_page(terminal.enter("", "CLEAR"), {24: " WAITING"})
-        expect_page(terminal.enter("", "PF13"), {})
-        expect_page(terminal.enter("x" * 161), {1: "X" * 80, 2: "X" * 80, 3: "X", 24: " WAITING"})
-        expect_page(terminal.enter("end"), {1: "GOODBYE"})
-        expect_page(terminal.enter("none"), {1: "GOODBYE", 24: " NO SUCH TRANSACTION"})
-        expect_page(terminal.enter("spin"), {1: "GOODBYE", 24: " ABENDED AICA  PF14: WHY"})
-        expect_page(terminal.enter("ret1"), {1: "GOODBYE"})
-        expect_page(terminal.enter("", "CLEAR"), {})
-        expect_page(terminal.enter("ret1", "PF12"), {})  # no command of it sends a page
-        expect_page(terminal.enter("talk"), {1: "TALK", 24: " WAITING"})
-        expect_page(terminal.enter("end", "PF2"), {1: "GOODBYE"})
+        waiting, over = {24: " WAITING"}, {1: "GOODBYE"}
+        expect_pages(terminal, ("talk to me", "ENTER", {1: "TALK TO ME"} | waiting), ("#@$ (a+b)*c='x';", "PF1", {1: "#@$ (A+B)*C='X';"} | waiting),
+                     ("", "PF7", waiting), ("", "PA1", waiting), ("", "CLEAR", waiting), ("", "PF13", {}),
+                     ("x" * 161, "ENTER", {1: "X" * 80, 2: "X" * 80, 3: "X"} | waiting), ("end", "ENTER", over),
+                     ("none", "ENTER", over | {24: " NO SUCH TRANSACTION"}), ("spin", "ENTER", over | {24: " ABENDED AICA  PF14: WHY"}),
+                     ("ret1", "ENTER", over), ("", "CLEAR", {}), ("ret1", "PF12", {}),  # no command of it sends a page
+                     ("talk", "ENTER", {1: "TALK"} | waiting), ("end", "PF2", over))
         keys = [line for line in session.lines() if line.startswith("KEY")]
         expect("keys", keys[1:4], ["KEY T001 PF1 #@$ (A+B)*C='X';", "KEY T001 PF7", "KEY T001 PA1"])
 

@@ -1,37 +1,22 @@
 """Tests of what a session begins with: looks are refused, what cics-run writes is a set-up, and sources need none."""
-import subprocess
 import tempfile
 
 from cics.cli import Failure
 from cics.scripts import OF_CICSLOOK
 from cics.terminals.setup import SetUp
-from tests.case import CICSLOOK, COMPANIONS
+from tests.calling import called, folder_of
+from tests.case import PROGRAMS
 from tests.terminals.programs import RETURN
-from tests.terminals.session import Session, expect, expect_page, test, tests_of
-from tests.terminals.test_command import refused
+from tests.terminals.session import Session, expect, expect_page, refused, test, tests_of
+from tests.test_same import SHOWER
 
-SHOWER = """DFHEISTG DSECT
-LEN      DS    H
-ITEM     DS    CL8
-SHOWER   CSECT
-         MVC   LEN,=H'8'
-         EXEC  CICS READQ TS QUEUE('Q') INTO(ITEM) ITEM(=H'2')         X
-               LENGTH(LEN)
-         EXEC  CICS SEND TEXT FROM(ITEM) LENGTH(LEN) ERASE
-         EXEC  CICS RETURN
-         END
-"""
 BLOCKS = {"FAULTS": "FAULTS P\n/*\n", "ORDERS": "ORDERS\n/*\n", "WATCH": "WATCH 001000 4\n", "TASKS": "TASKS\n", "HELP": "HELP\n"}
 
 
 def made(*words: str) -> str:
     """The script that cics-run makes of the program, its queue and words."""
-    with tempfile.TemporaryDirectory() as folder:
-        for name, text in (("s.asm", SHOWER), ("q", "ONE\nTWO\n")):
-            with open(f"{folder}/{name}", "w", encoding="ascii") as file:
-                file.write(text)
-        command = [f"{COMPANIONS}/cics-run", "s.asm", "--script", "--queue", "Q=q", *words]
-        return subprocess.run(command, cwd=folder, capture_output=True, text=True, check=True).stdout
+    with folder_of({"s.asm": SHOWER, "q": "ONE\nTWO\n"}) as folder:
+        return called("cics-run", ["s.asm", "--script", "--queue", "Q=q", *words], folder).out.decode()
 
 
 @test
@@ -84,11 +69,9 @@ def sources_alone() -> None:
 
 @test
 def faulty_sources() -> None:
-    with tempfile.TemporaryDirectory() as folder:
-        with open(f"{folder}/s.asm", "w", encoding="ascii") as file:
-            file.write(SHOWER.replace("=H'8'", "NOWHERE"))
-        ran = subprocess.run([f"{COMPANIONS}/cics-terminals", "s.asm", "--cicslook", CICSLOOK], cwd=folder, capture_output=True, text=True, check=False)
-    expect("reported", (ran.returncode, ran.stdout, ran.stderr), (1, "", "s.asm:5:20: UndefinedSymbol: NOWHERE\n"))
+    with folder_of({"s.asm": SHOWER.replace("=H'8'", "NOWHERE")}) as folder:
+        ended = called("cics-terminals", ["s.asm", *PROGRAMS], folder)
+    expect("reported", ended, (1, b"", b"s.asm:5:20: UndefinedSymbol: NOWHERE\n"))
 
 
 load_tests = tests_of(__name__)

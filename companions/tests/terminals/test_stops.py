@@ -2,7 +2,7 @@
 
 from tests.terminals.client import Kind, RawTerminal
 from tests.terminals.programs import LOOP, PSEUDO, RESOURCE, RET1_IMAGE, TALK, TWO
-from tests.terminals.session import Session, expect, expect_page, test, test_with_each, tests_of
+from tests.terminals.session import Session, expect, expect_page, expect_pages, test, test_with_each, tests_of
 
 
 KEYS_LINE = "ENTER GO ON  PF3 END  PF4 SUPPRESS  PF5 STORAGE  PF6 USER  PF9 STOP  PF10 BACK"
@@ -29,38 +29,20 @@ XEDF = OVER | {2: "STATUS TASK ABENDED", 21: "ABEND XEDF"}
 def each_key_at_a_stop(make: Kind) -> None:
     with Session(RET1_IMAGE) as session:
         terminal = session.made(make)
-        expect_page(terminal.enter("cedf on"), {24: " EDF AT T001 IS ON"})
-        expect_page(terminal.enter("ret1"), BEFORE_RETURN)
-        for key in ("CLEAR", "PA1", "PA2", "PF1", "PF2", "PF7", "PF8", "PF10", "PF11", "PF13", "PF23", "PA3"):
-            expect_page(terminal.enter("", key), BEFORE_RETURN)
-        expect_page(terminal.enter("", "PF24"), BEFORE_RETURN | {23: " EDF AT T001 IS ON ALREADY"})
-        expect_page(terminal.enter("", "PF5"), STORAGE)
-        expect_page(terminal.enter("", "PF11"), STORAGE)
-        expect_page(terminal.enter("", "PF10"), STORAGE)
-        expect_page(terminal.enter("", "PF6"), {})
-        expect_page(terminal.enter("", "PF5"), STORAGE)
-        expect_page(terminal.enter("", "PF5"), BEFORE_RETURN)
-        expect_page(terminal.enter("", "PF6"), {})
-        expect_page(terminal.enter("", "PF6"), BEFORE_RETURN)
-        expect_page(terminal.enter("end", "PF9"), BEFORE_RETURN | {23: " PF4 STOPS AT END"})
         asked = BEFORE_RETURN | {23: " PF9 AGAIN REMOVES ALL STOP CONDITIONS. NOW: END"}
-        expect_page(terminal.enter("", "PF9"), asked)
-        expect_page(terminal.enter("", "PF5"), STORAGE)
-        expect_page(terminal.enter("", "PF5"), BEFORE_RETURN)
-        expect_page(terminal.enter("", "PF9"), asked)
+        kept = ("CLEAR", "PA1", "PA2", "PF1", "PF2", "PF7", "PF8", "PF10", "PF11", "PF13", "PF23", "PA3")
+        expect_pages(terminal, ("cedf on", "ENTER", {24: " EDF AT T001 IS ON"}), ("ret1", "ENTER", BEFORE_RETURN),
+                     *(("", key, BEFORE_RETURN) for key in kept), ("", "PF24", BEFORE_RETURN | {23: " EDF AT T001 IS ON ALREADY"}),
+                     ("", "PF5", STORAGE), ("", "PF11", STORAGE), ("", "PF10", STORAGE), ("", "PF6", {}), ("", "PF5", STORAGE),
+                     ("", "PF5", BEFORE_RETURN), ("", "PF6", {}), ("", "PF6", BEFORE_RETURN), ("end", "PF9", BEFORE_RETURN | {23: " PF4 STOPS AT END"}),
+                     ("", "PF9", asked), ("", "PF5", STORAGE), ("", "PF5", BEFORE_RETURN), ("", "PF9", asked))
         assert "KEY T001 PF9" not in session.lines(), "PF9 was given before it was asked about"
         for words, reported in {"": "PF4 STOPS AT NOTHING", "lengerr end": "PF4 STOPS AT LENGERR END",
                                 "end lenger": "LENGER IS NO STOP CONDITION. STILL: LENGERR END"}.items():
             expect_page(terminal.enter(words, "PF9"), BEFORE_RETURN | {23: f" {reported}"})
-        expect_page(terminal.enter("", "PF4"), OVER)
-        expect_page(terminal.enter("", "PF5"), {})
-        expect_page(terminal.enter("", "PF10"), BEFORE_RETURN | {23: " STOP 1 OF 2"})
-        expect_page(terminal.enter("", "ENTER"), {})
-        expect_page(terminal.enter("ret1"), BEFORE_RETURN | {1: BEFORE_RETURN[1].replace("0000001", "0000002")})
-        expect_page(terminal.enter("", "PF12"), XEDF)
-        expect_page(terminal.enter("", "PF12"), XEDF)
-        expect_page(terminal.enter("", "PF3"), {})
-        expect_page(terminal.enter("ret1"), {})
+        expect_pages(terminal, ("", "PF4", OVER), ("", "PF5", {}), ("", "PF10", BEFORE_RETURN | {23: " STOP 1 OF 2"}), ("", "ENTER", {}),
+                     ("ret1", "ENTER", BEFORE_RETURN | {1: BEFORE_RETURN[1].replace("0000001", "0000002")}), ("", "PF12", XEDF), ("", "PF12", XEDF),
+                     ("", "PF3", {}), ("ret1", "ENTER", {}))
         expect("PF9", [line for line in session.lines() if " PF9" in line][:3], ["KEY T001 PF9 END", "KEY T001 PF9", "KEY T001 PF9 LENGERR END"])
 
 
