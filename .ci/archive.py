@@ -35,13 +35,9 @@ def file_content(path: str, top: str = TOP) -> Content:
         return Content(path, file.read(), os.access(full, os.X_OK))
 
 
-def is_released(path: str) -> bool:
-    return (path in SINGLE or path.startswith(FOLDERS)) and not LEFT_OUT.search(path)
-
-
 def of_repository(paths: list[str], top: str = TOP) -> list[Content]:
     """What a release has of the repository's files: companions, examples, the manual, and pages of man."""
-    found = [file_content(path, top) for path in paths if is_released(path)]
+    found = [file_content(path, top) for path in paths if (path in SINGLE or path.startswith(FOLDERS)) and not LEFT_OUT.search(path)]
     for path in paths:
         if page := MAN.fullmatch(path):
             found.append(Content(f"man/man1/{page['name']}", file_content(path, top).data))

@@ -10,8 +10,6 @@ OUT = "crates/cicsedf/out"
 
 
 class Build:
-    """The build of a repository."""
-
     def __init__(self, root: str = ".") -> None:
         self.root, self.repository = root, Repository(root)
         self.crates = set[str]().union(*map(self.repository.below, (HEADLINE, *PROGRAMS)))

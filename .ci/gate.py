@@ -76,7 +76,6 @@ class Runner:
         print(f"{spent // 60:3}:{spent % 60:02}  {text}", flush=True)
 
     def perform(self, job: Job) -> Result:
-        """Runs a job to its end."""
         begun, told = time.monotonic(), f"{job.output}.json"
         limits = [f"{it:g}" for it in (job.step.limit, job.step.idle, JOB)]
         words = [os.path.join(os.path.dirname(job.output), LOG) if it == LOG else it for it in job.step.words()]
@@ -91,7 +90,6 @@ class Runner:
         return Result(job, ended, time.monotonic() - begun)
 
     def stop(self) -> None:
-        """Has all that runs ended."""
         for child in [*self.children]:
             child.terminate()
 
@@ -220,7 +218,6 @@ class Gate:
         self.runner.signal = number
 
     def run(self) -> int:
-        """Runs all, tells how it ended, and returns the status."""
         for number in STOPS:
             signal.signal(number, self.stopped)
         edits, costs = Edits(), measured.noted()

@@ -90,7 +90,6 @@ def block_end(tokens: list[Token], at: int) -> int:
 
 
 def next_block(tokens: list[Token], at: int) -> int:
-    """Returns the index of the next brace."""
     while tokens[at][0] != "{":
         at += 1
     return at

@@ -44,7 +44,6 @@ class Measured:
 
 
 def read(page: str) -> Measured:
-    """Returns what a page's tables say."""
     crates, steps = CRATES.search(page), STEPS.search(page)
     costs = {name: Cost(int(proof), int(tests), float(memory)) for name, proof, tests, _, memory in ROW.findall(crates[0] if crates else "")}
     edits = EDITS.search(crates[0]) if crates else None
@@ -53,7 +52,6 @@ def read(page: str) -> Measured:
 
 
 def noted(path: str = NOTED) -> Measured:
-    """Returns what was noted last."""
     return read(text_of(path)) if os.path.exists(path) else Measured()
 
 
@@ -81,5 +79,4 @@ def available(given: str = "/proc/meminfo") -> float:
 
 
 def processors() -> int:
-    """Returns how many processors this process may use."""
     return len(os.sched_getaffinity(0))

@@ -18,8 +18,6 @@ class Told:
 
 
 class Progress:
-    """Reads the lines of a run."""
-
     def __init__(self) -> None:
         self.report: list[str] = []
 

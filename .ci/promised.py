@@ -73,7 +73,6 @@ def one_line(text: str) -> str:
 
 
 def comment_of(text: str, tokens: list[Token], at: int) -> str:
-    """Returns the comment of the item whose word is at this index."""
     start = function_start(tokens, at)
     above = text[tokens[start - 1][2] if start else 0 : tokens[at][1]]
     return one_line(" ".join(re.findall(r"(?m)^\s*///(.*)$", above)))
@@ -139,7 +138,6 @@ def owners(head: list[str]) -> tuple[str, str]:
 
 
 def root_of(sources: str) -> str:
-    """Returns the text of a crate's root."""
     return text_of(next(it for it in (f"{sources}/lib.rt", f"{sources}/main.rt") if os.path.exists(it)))
 
 
@@ -237,7 +235,6 @@ class Promised:
 
 
 def words(name: str | None) -> str:
-    """Returns a clause's name as words."""
     return name.replace("2_24", "2^24").replace("_", " ") if name else ""
 
 

@@ -30,7 +30,6 @@ BEFORE, AFTER = r"[\s(){}\[\],;]", r"[\s(){}\[\],;.]"  # what may be before a wo
 
 @functools.cache
 def without_comments(text: str) -> str:
-    """Returns a text of definitions without its comments."""
     return re.sub(r"(?m)^[ \t]*--(?:[ \t].*)?$", "", re.sub(r"\{-.*?-\}", "", text, flags=re.S))
 
 
@@ -46,7 +45,6 @@ def filled(text: str, comment: str | tuple[str, ...] = "--") -> int:
 
 
 def cites(text: str, word: str) -> bool:
-    """Returns whether a text cites this word."""
     return word in text and re.search(rf"(?:^|(?<={BEFORE})){re.escape(word)}(?={AFTER}|$)", text) is not None
 
 
@@ -115,7 +113,6 @@ class Crate:
         return names, {*re.findall(r"^pub mod (\w+);", root, re.M)}, declared
 
     def types(self) -> dict[str, str]:
-        """Returns the text of each enum and struct of its sources, by its name."""
         return {name: text for it in glob.glob(f"{self.sources}/*.rt") for name, text in types_in(text_of(it)).items()}
 
     def shown(self, names: Iterable[str]) -> set[str]:

@@ -16,7 +16,6 @@ def names() -> list[str]:
 
 
 def image_of(name: str) -> str:
-    """The digits of a loop's image."""
     return "".join(read(f"{FOLDER}/{name}.hex").decode().split())
 
 

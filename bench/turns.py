@@ -48,15 +48,10 @@ KEY T001 ENTER LONG
 """
 
 
-def script(line: str) -> str:
-    """So many turns of instructions, each with its command's turn after it."""
-    return SCRIPT + line + "TURN T001\n" * (2 * TURNS)
-
-
 def counted(valgrind: str, program: str, line: str) -> int:
-    """How many machine instructions a program takes for a script."""
+    """How many machine instructions a program takes for so many turns of instructions, each with its command's turn after it."""
     words = [valgrind, "--tool=callgrind", "--callgrind-out-file=/dev/null", program]
-    ended = run(words, script(line).encode(), seconds=SECONDS)
+    ended = run(words, (SCRIPT + line + "TURN T001\n" * (2 * TURNS)).encode(), seconds=SECONDS)
     collected = re.search(rb"Collected : (\d+)", ended.reported)
     if not collected:
         raise failing("valgrind", str(ended))

@@ -51,10 +51,6 @@ def continued(name: str, operation: str, operand: str) -> list[str]:
     return [f"{line:<71}X" for line in lines[:-1]] + lines[-1:]
 
 
-def code_of(text: str) -> bytes:
-    return text.encode("cp037")
-
-
 def outside(text: str, mark: str) -> list[str]:
     """A text cut at a character, where it is outside apostrophes and parentheses."""
     parts, depth, is_text = [""], 0, False
@@ -179,7 +175,7 @@ class Item:
         if self.kind in "FH":
             return b"".join(int(value).to_bytes(ALIGNED[self.kind], "big", signed=True) for value in self.values)
         if self.kind == "C":
-            bytes_of = code_of(self.values[0].replace("''", "'").replace("&&", "&"))
+            bytes_of = self.values[0].replace("''", "'").replace("&&", "&").encode("cp037")
             return bytes_of[: self.modifier or len(bytes_of)].ljust(self.modifier, b"\x40")
         if self.kind == "X":
             digits = self.values[0]

@@ -78,7 +78,6 @@ def outcomes_of(cases: list[Case], at_once: int) -> list[Outcome]:
 
 
 def end_children() -> None:
-    """Ends the programs that are running."""
     for path in glob.glob("/proc/self/task/*/children"):
         for child in read(path).split():
             os.kill(int(child), signal.SIGKILL)
@@ -95,17 +94,12 @@ def built(crate: str, name: str | None = None) -> str:
     return program_at(os.path.join(TOP, f"crates/{crate}/out/{name or crate}"))
 
 
-def title(module: str) -> str:
-    """The words by which a module is started."""
-    return module.replace(".", "/").replace("_", "-")
-
-
 class Check:
     """A check's command: the words that it was given, and its report."""
 
     def __init__(self, module: str, text: str | None, words: Sequence[str], *programs: str, flags: Mapping[str, str] | None = None,
                  numbers: Mapping[str, tuple[int, str]] | None = None, texts: Mapping[str, str] | None = None, required: Sequence[str] = ()) -> None:
-        self.name, self.given, self.crates = title(module), words, programs
+        self.name, self.given, self.crates = module.replace(".", "/").replace("_", "-"), words, programs
         parser = Words(self.name, text or "")
         for word in required:
             parser.add_argument(word, metavar=word.upper())

@@ -39,7 +39,8 @@ from typing import NamedTuple
 from cics.child import TOP, Child, Ended, lines_of, read, run
 from cics.transcripts import is_of_page
 from checks.common import Check, Counts, Wrong, require
-from checks.examples import each_of, is_look_in, lines_in, plain_of, text_of
+from checks.examples import each_of, lines_in, text_of
+from checks.plain_scripts import is_look_in, plain_of
 
 VERBS = {"IMAGE", "SOURCE", "TRANSACTION", "TERMINAL", "CLOCK", "KEY", "TURN", "EDF", "ALTER", "SCREEN", "DISPLAY"}
 LISTED = re.compile(r"[0-9A-F ]{6} [0-9A-F ]{16} [0-9]{5} ?(.*)")
@@ -99,7 +100,6 @@ def paragraph(lines: list[str], at: int) -> tuple[list[str], int]:
 
 
 def parts_of(path: str) -> list[Part]:
-    """The blocks and paragraphs of a document."""
     lines, at, parts = lines_of(read(os.path.join(TOP, path)).decode()), 0, list[Part]()
     while at < len(lines):
         if lines[at].strip():
@@ -114,8 +114,6 @@ def parts_of(path: str) -> list[Part]:
 
 
 class Programs(NamedTuple):
-    """The built programs."""
-
     cicsedf: str
     cicslook: str
 

@@ -8,10 +8,7 @@ from functools import partial
 from cics.child import TOP, Ended, encoded, lines_of, read, run
 from cics.transcripts import is_of_page
 from checks.common import Case, Counts, Wrong
-from checks.plain_scripts import answered, is_look_in, plain_of
-
-__all__ = ["FAULT", "FOLDER", "actions", "answered", "blocks_of", "each_of", "examples", "has_looks", "is_look_in", "lessons", "lines_in", "lines_of_script", "looks",
-           "path_of", "plain", "plain_of", "reported_of", "script_of", "text_of", "transcript_of", "wanted"]
+from checks.plain_scripts import is_look_in, plain_of
 
 FOLDER = os.path.join(TOP, "examples")
 FAULT = re.compile(rb"(cicsedf: line )([0-9]+)(.*)", re.S)
@@ -27,7 +24,6 @@ def names_of(*patterns: str) -> list[str]:
 
 
 def examples() -> list[str]:
-    """The names of all examples."""
     return names_of("*", "cases/*", "sources/*")
 
 
@@ -42,7 +38,6 @@ def looks() -> list[str]:
 
 
 def each_of(names: Iterable[str], attempt: Callable[[str], Counts]) -> list[Case]:
-    """A case for each name."""
     return [Case(name, partial(attempt, name)) for name in names]
 
 
@@ -51,7 +46,6 @@ def script_of(name: str) -> bytes:
 
 
 def lines_in(name: str) -> list[str]:
-    """The lines of an example's script."""
     return lines_of(script_of(name).decode())
 
 

@@ -151,14 +151,9 @@ def begun(lines: Lines, number: int) -> int:
     return number
 
 
-def shown(line: str) -> str:
-    """A line as FAULTS shows it: a period for a byte without a character."""
-    return "".join(c if c in CHARACTERS else "." for c in line)
-
-
 def part(line: str, column: int, text: str) -> str | None:
     """The part of a line that is marked from a column on; None where the text isn't the line with a part marked there."""
-    line, rest = shown(line), text[column + 1 :]
+    line, rest = "".join(c if c in CHARACTERS else "." for c in line), text[column + 1 :]
     if text[: column + 1] != line[: column - 1] + ">>":
         return None
     ends = (at for at in range(len(rest)) if rest[at:].startswith("<<") and rest[:at] + rest[at + 2 :] == line[column - 1 :])
@@ -200,8 +195,7 @@ PLANTS = {
     "a missing option": (["         EXEC CICS READQ TS QUEUE('JOBS') INTO(0(1))"], 0, "MissingOption", "READQ TS"),
     "two options that exclude each other": ([f"{EXCLUDED:71}X", "               MAIN AUXILIARY"], 1, "Conflict", "AUXILIARY"),
     "a name too long": (["         EXEC CICS RETURN TRANSID('NEXT01')"], 0, "BadArgument", "TRANSID('NEXT01')"),
-    "an EQU at fault": (["ZZE{0}   EQU   ZZNONE+1", "ZZF{0}   EQU   ZZE{0}+1", "         LA    1,ZZF{0}"], 0, "UndefinedSymbol",
-                        "ZZNONE"),
+    "an EQU at fault": (["ZZE{0}   EQU   ZZNONE+1", "ZZF{0}   EQU   ZZE{0}+1", "         LA    1,ZZF{0}"], 0, "UndefinedSymbol", "ZZNONE"),
     "a literal at fault": (["         L     1,=FL5'1'"], 0, "ValueOutOfRange", "=FL5'1'"),
 }
 PLANTED = 160

@@ -21,11 +21,6 @@ def material() -> bytes:
     return b"%d\n" % IMAGES + examples
 
 
-def counts_in(out: bytes) -> dict[str, int]:
-    """How often each answer came of which that is printed."""
-    return {answer: int(times) for answer, times in re.findall(r"^(\w+) in all: (\d+)$", out.decode(errors="replace"), re.M)}
-
-
 def faults(ended: Ended, came: dict[str, int]) -> Iterator[str]:
     """What is wrong with the run, a line each."""
     if not ended.is_well():
@@ -38,7 +33,7 @@ def faults(ended: Ended, came: dict[str, int]) -> Iterator[str]:
 
 def tried(program: str) -> Counts:
     ended = run([program], material(), seconds=SECONDS)
-    came = counts_in(ended.out)
+    came = {answer: int(times) for answer, times in re.findall(r"^(\w+) in all: (\d+)$", ended.out.decode(errors="replace"), re.M)}
     found = list(faults(ended, came))
     if found:
         raise Wrong(*found)

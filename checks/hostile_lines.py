@@ -218,35 +218,12 @@ def tried(program: str, script: bytes) -> Counts:
 
 DIGITS_END, BODY_END = b"07FE0000\n/*\n", b"\n".join(BODY) + b"\n/*\n"
 IMAGE, SOURCE = b"IMAGE A 80\n" + DIGITS_END, b"SOURCE P LIST DISASM\n" + BODY_END
+ALONE = b"""TRANSACTION NXT1 RET1|TERMINAL T002|CLOCK 235959 26366|KEY T001 ENTER|KEY T001 PF12 Some text, of it|KEY T001 PF9 END|KEY T001 CLEAR
+KEY T001 PA1|TURN T001|EDF T001 ON|EDF T001 OFF|SCREEN T001|DISPLAY T001|DISPLAY T001 0|ALTER T001 REG 12 00aBcD0F|ALTER T001 BYTE 01001c 0F
+ALTER T001 NOP|ALTER T001 ABEND|* a comment|/*""".replace(b"\n", b"|").split(b"|")
 LINES = [  # a line of each verb, in each of its forms, and what follows it
-    (b"IMAGE A 80", DIGITS_END),
-    (b"SOURCE P", BODY_END),
-    (b"SOURCE P LIST", BODY_END),
-    (b"SOURCE P DISASM", BODY_END),
-    (b"SOURCE P LIST DISASM", BODY_END),
-    (IMAGE[:-1], b""),
-    (SOURCE[:-1], b""),
-    (b"TRANSACTION NXT1 RET1", b""),
-    (b"TERMINAL T002", b""),
-    (b"CLOCK 235959 26366", b""),
-    (b"KEY T001 ENTER", b""),
-    (b"KEY T001 PF12 Some text, of it", b""),
-    (b"KEY T001 PF9 END", b""),
-    (b"KEY T001 CLEAR", b""),
-    (b"KEY T001 PA1", b""),
-    (b"TURN T001", b""),
-    (b"EDF T001 ON", b""),
-    (b"EDF T001 OFF", b""),
-    (b"SCREEN T001", b""),
-    (b"DISPLAY T001", b""),
-    (b"DISPLAY T001 0", b""),
-    (b"ALTER T001 REG 12 00aBcD0F", b""),
-    (b"ALTER T001 BYTE 01001c 0F", b""),
-    (b"ALTER T001 NOP", b""),
-    (b"ALTER T001 ABEND", b""),
-    (b"* a comment", b""),
-    (b"/*", b""),
-]
+    (b"IMAGE A 80", DIGITS_END), *((b"SOURCE P" + words, BODY_END) for words in (b"", b" LIST", b" DISASM", b" LIST DISASM")),
+    *((line, b"") for line in (IMAGE[:-1], SOURCE[:-1], *ALONE))]
 BLOCKS = [IMAGE, SOURCE, b"IMAGE B 80\n\n0102\n0304\n/*\n", b"SOURCE Q\n/*\n", b"/*\n", b"/* \n", b" /*\n", b"/*\r\n",
           b"* a comment\n", b"\n", b"TURN T001\n"]
 

@@ -17,10 +17,6 @@ def own(at: int) -> Place:
     return Place("own", at)
 
 
-def word(number: int) -> bytes:
-    return number.to_bytes(4, "big")
-
-
 def half(number: int) -> bytes:
     return number.to_bytes(2, "big")
 
@@ -75,7 +71,7 @@ class Image:
 
     def loop(self, count: int, body: Callable[["Image"], None]) -> None:
         """What a body makes, so many times, with the count in R2."""
-        self.rx(0x58, 2, self.put(word(count)))
+        self.rx(0x58, 2, self.put(count.to_bytes(4, "big")))
         top = f"loop at {len(self.code)}"
         self.label(top)
         body(self)

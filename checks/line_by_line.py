@@ -8,7 +8,8 @@ from functools import partial
 
 from cics.child import Child, lines_of
 from checks.common import Check, Counts, Wrong, require
-from checks.examples import answered, each_of, examples, has_looks, lessons, looks, plain, script_of, text_of, wanted
+from checks.examples import each_of, examples, has_looks, lessons, looks, plain, script_of, text_of, wanted
+from checks.plain_scripts import answered
 
 
 def answers(lines: list[str], transcript: list[str]) -> Iterator[tuple[list[str], bytes, bool]]:

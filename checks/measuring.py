@@ -35,7 +35,6 @@ def taken(command: Sequence[str], given: bytes = b"") -> Taken:
 
 
 def well(what: str, it: Taken) -> Taken:
-    """A run that must end well."""
     if not it.ended.is_well():
         raise failing(what, str(it.ended))
     return it

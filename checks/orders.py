@@ -15,7 +15,8 @@ from functools import partial
 from cics.child import run
 from cics.orders import read_orders
 from checks.common import Case, Check, Counts, Wrong, require
-from checks.examples import plain_of, text_of
+from checks.examples import text_of
+from checks.plain_scripts import plain_of
 
 SEED = 1
 SCRIPTS, MOST = 20, 500

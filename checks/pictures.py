@@ -22,6 +22,7 @@ from functools import partial
 from typing import NamedTuple
 
 from cics.child import TOP, lines_of, read
+from cics.cli import write_file
 from cics.transcripts import is_of_page
 from checks.common import Case, Check, Counts, Wrong, require
 from checks.examples import FOLDER, text_of
@@ -99,8 +100,7 @@ def difference(old: str, new: str, name: str | None) -> list[str]:
     with tempfile.TemporaryDirectory() as folder:
         paths = [os.path.join(folder, "old"), os.path.join(folder, "new")]
         for path, file in zip(paths, (old, new)):
-            with open(path, "w", encoding="utf-8") as copy:
-                copy.write("".join(f"{line}\n" for line in source(file, name)))
+            write_file(path, text_of(source(file, name)), [])
         return lines_of(subprocess.run(["diff", *paths], capture_output=True, text=True, check=False).stdout)
 
 
@@ -188,7 +188,10 @@ def tried(path: str) -> Counts:
     """A page's blocks must be what is due."""
     _, blocks, wrong = judged(path)
     wrong += [f"{path}:{block.number}: the block isn't what is due" for block in blocks if block.lines != block.due]
-    wrong += faults_of_lines(path)
+    return counted(blocks, [*wrong, *faults_of_lines(path)])
+
+
+def counted(blocks: list[Block], wrong: list[str]) -> Counts:
     if wrong:
         raise Wrong(*wrong)
     return Counter({"blocks": len(blocks)})
@@ -197,12 +200,8 @@ def tried(path: str) -> Counts:
 def written(path: str) -> Counts:
     """Writes a page with the blocks that are due."""
     made, blocks, wrong = judged(path)
-    with open(f"{path}.new", "wb") as file:
-        file.write(text_of(made))
-    os.replace(f"{path}.new", path)
-    if wrong:
-        raise Wrong(*wrong)
-    return Counter({"blocks": len(blocks)})
+    write_file(path, text_of(made), [])
+    return counted(blocks, wrong)
 
 
 def narrow(path: str) -> Counts:

@@ -13,7 +13,7 @@ from functools import partial
 from itertools import islice
 
 from cics.child import Ended, lines_of, read, run
-from cics.cli import say
+from cics.cli import say, write_file
 from checks.common import Case, Check, Counts, Wrong, require
 from checks.examples import FAULT, FOLDER, each_of, examples, has_looks, lessons, looks, path_of, plain, wanted
 
@@ -62,19 +62,12 @@ def written_anew(program: str, name: str) -> Counts:
         old = read(path) if os.path.exists(path) else b""
         if text.strip() != old.strip() or (kind == "transcript" and text != old):
             say(*difference(f"{name}.{kind}", old, text))
-            write(path, text, is_kept=kind == "transcript")
+            if text or kind == "transcript":
+                write_file(path, text, [])
+            else:
+                os.remove(path)
             changed += 1
     return Counter({"files written": changed})
-
-
-def write(path: str, text: bytes, is_kept: bool) -> None:
-    """Writes a file, or takes it away where nothing is to be in it."""
-    if not text and not is_kept:
-        os.remove(path)
-        return
-    with open(f"{path}.new", "wb") as file:
-        file.write(text)
-    os.replace(f"{path}.new", path)
 
 
 def main(words: list[str]) -> int:

@@ -9,6 +9,7 @@ from dataclasses import dataclass
 from functools import partial
 
 from cics.child import TOP, read, run
+from cics.cli import write_file
 from checks.common import Case, Check, Counts, require
 from checks.examples import FOLDER
 
@@ -57,8 +58,7 @@ LAYOUTS = {  # in which programs the layout is changed, and what is printed
 def source_tried(program: str, text: str, due: Due) -> Counts:
     with tempfile.TemporaryDirectory() as folder:
         path = os.path.join(folder, "new.asm")
-        with open(path, "w", encoding="utf-8") as file:
-            file.write(text)
+        write_file(path, text.encode(), [])
         return due.judge([f"{CHANGING}/pgm7.script", "PGM7", f"{CHANGING}/pgm7.asm", path, program])
 
 

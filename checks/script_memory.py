@@ -8,7 +8,7 @@ from collections.abc import Callable
 from functools import partial
 from typing import NamedTuple
 
-from cics.cli import say
+from cics.cli import say, write_file
 from checks.common import Check, Counts, require
 from checks.examples import each_of
 from checks.measuring import Taken, taken
@@ -60,8 +60,7 @@ def measured(program: str, made: Made) -> Taken:
     """The one of three runs that takes least, which must end as they should."""
     with tempfile.TemporaryDirectory() as folder:
         path = os.path.join(folder, "script")
-        with open(path, "wb") as file:
-            file.write(made.script)
+        write_file(path, made.script, [])
         runs = [taken([program, path]) for _ in range(3)]
     for it in runs:
         require((it.ended.status, it.ended.out.count(b"\n")) == (made.status, made.lines), f"it ends otherwise: {it.ended}")

@@ -40,51 +40,21 @@ class Script(NamedTuple):
 
 
 def bad_lines() -> Iterator[Script]:
-    for text, line in [
-        (b"HELLO\n", 1),
-        (b"* one\n\nTERMINAL\n", 3),
-        (b"TERMINAL T0001\n", 1),
-        (b"TERMINAL t001\n", 1),
-        (b"TERMINAL  T001\n", 1),
-        (b"TERMINAL T001 \n", 1),
-        (b" TERMINAL T001\n", 1),
-        (b"TURN T0011\n", 1),
-        (b"KEY T001 PF13\n", 1),
-        (b"KEY T001 ENTER A{B\n", 1),
-        (b"CLOCK 12345 26001\n", 1),
-        (b"CLOCK 123456 2600X\n", 1),
-        (b"IMAGE A 1234567890\n", 1),
-        (b"IMAGE A 80\n00\n", 1),
-        (b"IMAGE A 80\n00\n0\n/*\n", 3),
-        (b"IMAGE A 80\n0G\n", 2),
-        (b"IMAGE A 80\n* 00\n", 2),
-        (b"TERMINAL \xC3\x84\n", 1),
-        (b"TURN T001\r\r\n", 1),
-        (b"TURN T001\r", 1),
-        (b"SOURCE A\n", 1),
-    ]:
-        yield Script(text, fault=Fault(line))
+    bad = {
+        1: [b"HELLO\n", b"TERMINAL T0001\n", b"TERMINAL t001\n", b"TERMINAL  T001\n", b"TERMINAL T001 \n", b" TERMINAL T001\n", b"TURN T0011\n",
+            b"KEY T001 PF13\n", b"KEY T001 ENTER A{B\n", b"CLOCK 12345 26001\n", b"CLOCK 123456 2600X\n", b"IMAGE A 1234567890\n",
+            b"IMAGE A 80\n00\n", b"TERMINAL \xC3\x84\n", b"TURN T001\r\r\n", b"TURN T001\r", b"SOURCE A\n"],
+        2: [b"IMAGE A 80\n0G\n", b"IMAGE A 80\n* 00\n"],
+        3: [b"* one\n\nTERMINAL\n", b"IMAGE A 80\n00\n0\n/*\n"],
+    }
+    yield from (Script(text, fault=Fault(line)) for line, texts in bad.items() for text in texts)
 
 
 def alterations() -> Iterator[Script]:
     """Alterations that are bad lines, and others, of a terminal that isn't defined."""
-    for line in [
-        "ALTER T001",
-        "ALTER T0011 NOP",
-        "ALTER T001 nop",
-        "ALTER T001 NOP 1",
-        "ALTER T001 ABEND ",
-        "ALTER T001 REG 16 00000000",
-        "ALTER T001 REG 001 00000000",
-        "ALTER T001 REG 1 0000000",
-        "ALTER T001 REG 1 000000000",
-        "ALTER T001 REG 1",
-        "ALTER T001 BYTE 00000 00",
-        "ALTER T001 BYTE 0000000 00",
-        "ALTER T001 BYTE 000000 0",
-        "ALTER T001 BYTE 00000G 00",
-    ]:
-        yield Script(text_of([line]), fault=Fault(1))
+    for bad in ["", "1 NOP", " nop", " NOP 1", " ABEND ", " REG 16 00000000", " REG 001 00000000", " REG 1 0000000", " REG 1 000000000", " REG 1",
+                " BYTE 00000 00", " BYTE 0000000 00", " BYTE 000000 0", " BYTE 00000G 00"]:
+        yield Script(text_of([f"ALTER T001{bad}"]), fault=Fault(1))
     for change in ["NOP", "ABEND", "REG 0 fFfFfFfF", "REG 09 00000000", "REG 15 01234567", "BYTE FFFFFF ff"]:
         yield Script(text_of([f"ALTER T009 {change}"]), b"ALTER T009 NoSuchTerminal\n")
 
@@ -244,38 +214,16 @@ def full_sizes() -> Iterator[Script]:
 
 
 def bad_orders() -> Iterator[Script]:
-    for lines, line in [
-        (["ORDERS 0", "/*"], 1),
-        (["ORDERS 1000001", "/*"], 1),
-        (["ORDERS 00000001", "/*"], 1),
-        (["ORDERS 1 2", "/*"], 1),
-        (["ORDERS X", "/*"], 1),
-        (["ORDERS ", "/*"], 1),
-        (["* first", "ORDERS"], 2),
-        (["ORDERS", "QUEUES"], 1),
-        (["ORDERS", "HELLO", "/*"], 2),
-        (["ORDERS", "", "* no turn", "TURN T001", "/*"], 4),
-        (["ORDERS", "RUN T001", "/*"], 2),
-        (["ORDERS", "TERMINAL T001", "/*"], 2),
-        (["ORDERS", "KEY T001", "/*"], 2),
-        (["ORDERS", "KEY T001 PF13", "/*"], 2),
-        (["ORDERS", "KEY T0011 ENTER", "/*"], 2),
-        (["ORDERS", "KEY T001 ENTER A{B", "/*"], 2),
-        (["ORDERS", "key T001 ENTER", "/*"], 2),
-        (["ORDERS", "screen T001", "/*"], 2),
-        (["ORDERS", "SCREEN", "/*"], 2),
-        (["ORDERS", "SCREEN T0011", "/*"], 2),
-        (["ORDERS", "STORAGE 001000", "/*"], 2),
-        (["ORDERS", "ABEND T001", "/*"], 2),
-        (["ORDERS", "ABEND T001 STORAGE", "/*"], 2),
-        (["ORDERS", "AHEAD T001", "/*"], 2),
-        (["ORDERS", "AHEAD T001 AT P 1", "/*"], 2),
-        (["ORDERS", "HELP", "/*"], 2),
-        (["ORDERS", "FAULTS P", "/*"], 2),
-        (["ORDERS", "ORDERS", "/*"], 2),
-        (["ORDERS", "QUEUES", "QUEUE", "/*"], 3),
-    ]:
-        yield Script(text_of(lines), fault=Fault(line))
+    for word in ["0", "1000001", "00000001", "1 2", "X", ""]:
+        yield Script(text_of([f"ORDERS {word}", "/*"]), fault=Fault(1))
+    for line in ["HELLO", "RUN T001", "TERMINAL T001", "KEY T001", "KEY T001 PF13", "KEY T0011 ENTER", "KEY T001 ENTER A{B", "key T001 ENTER",
+                 "screen T001", "SCREEN", "SCREEN T0011", "STORAGE 001000", "ABEND T001", "ABEND T001 STORAGE", "AHEAD T001", "AHEAD T001 AT P 1",
+                 "HELP", "FAULTS P", "ORDERS"]:
+        yield Script(text_of(["ORDERS", line, "/*"]), fault=Fault(2))
+    yield Script(text_of(["* first", "ORDERS"]), fault=Fault(2))
+    yield Script(text_of(["ORDERS", "QUEUES"]), fault=Fault(1))
+    yield Script(text_of(["ORDERS", "", "* no turn", "TURN T001", "/*"]), fault=Fault(4))
+    yield Script(text_of(["ORDERS", "QUEUES", "QUEUE", "/*"]), fault=Fault(3))
 
 
 ONE_OUTCOME = ["> ORDERS STATES 1 OUTCOMES 1", "> OUTCOME 1"]

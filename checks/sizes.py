@@ -33,10 +33,6 @@ def source_block(name: str, lines: list[str], wanted: str = "") -> list[str]:
     return [f"SOURCE {name}{wanted}", *lines, "/*"]
 
 
-def placed(name: str, at: int, assembly: Assembly) -> str:
-    return f"PROGRAM {name} AT {at:06X} LENGTH {len(assembly.text):06X}"
-
-
 class Session:
     """A script and its transcript as they get longer: definitions, and turns with their replies."""
 
@@ -54,7 +50,7 @@ class Session:
         self.script += source_block(name, lines, wanted)
         self.transcript += assembly.listing if "LIST" in wanted else []
         self.transcript += assembly.disassembly if "DISASM" in wanted else []
-        self.transcript.append(placed(name, at, assembly))
+        self.transcript.append(f"PROGRAM {name} AT {at:06X} LENGTH {len(assembly.text):06X}")
         if transaction:
             self.both(f"TRANSACTION {transaction} {name}", f"TRANSACTION {transaction} DEFINED")
         return assembly
@@ -73,6 +69,12 @@ class Session:
     def turns(self, name: str, *replies: str) -> None:
         for reply in replies:
             self.both(f"TURN {name}", f"TURN {name} {reply}")
+
+    def attach(self, name: str, text: str, *replies: str, edf: bool = False) -> None:
+        """A terminal, whose first key attaches a task, and that task's turns."""
+        self.terminal(name, edf)
+        self.key(name, f"ENTER {text}", "Attached")
+        self.turns(name, *replies)
 
     def show(self, asked: str, page: list[str]) -> None:
         self.script.append(asked)
@@ -150,9 +152,7 @@ def many_instructions() -> Iterator[Script]:
     lines, processor = instructions(9_989, 9_990)
     session = Session()
     session.define("P", [line_of("P", "CSECT"), *lines, op("B", f"{ENTRY}"), op("END")], " LIST DISASM", "P")
-    session.terminal("T001", True)
-    session.key("T001", "ENTER P", "Attached")
-    session.turns("T001", "AtCommand")
+    session.attach("T001", "P", "AtCommand", edf=True)
     task = Task(session.storage, "T001", "P", "P", 1, PROGRAMS, 0x200000, 0x200060)
     task.registers, task.code, task.next = dict(enumerate(processor.registers)), processor.code, ENTRY
     session.show("DISPLAY T001", task.before("?"))
@@ -271,9 +271,7 @@ def long_commands() -> Iterator[Script]:
         lines += executed(f"ABEND ABCODE('{name[:4]}')", label)
     session = Session()
     session.define("ORDERING", [*lines, op("END")], " LIST DISASM", "ORDR")
-    session.terminal("T001")
-    session.key("T001", "ENTER ORDR", "Attached")
-    session.turns("T001", *DONE, *DONE, "AtCommand", "TookLabel ITEMERR", "AtCommand", "Abended ITEM", "Idle")
+    session.attach("T001", "ORDR", *DONE, *DONE, "AtCommand", "TookLabel ITEMERR", "AtCommand", "Abended ITEM", "Idle")
     yield session.case("EXEC statements on six lines")
 
 
@@ -292,9 +290,7 @@ def seventy_words() -> Iterator[Script]:
     session.define("FILL", [line_of("P", "CSECT"), op("BR", "14"), op("END")])
     assembly = session.define("REL", [*lines, op("END")], " DISASM", "REL")
     assert len(assembly.relocated) == 70
-    session.terminal("T001", True)
-    session.key("T001", "ENTER REL", "Attached")
-    session.turns("T001", "AtCommand")
+    session.attach("T001", "REL", "AtCommand", edf=True)
     text, start, table = assembly.loaded(0x010010), 0x010010, assembly.symbols["TABLE"][1]
     session.storage.place(bytes(88), 0x200000)
     stg = session.storage.place(bytes(352), 0x200000)
@@ -321,9 +317,7 @@ def all_words() -> Iterator[Script]:
     assembly = session.define("W", words, " DISASM")
     assert len(assembly.relocated) == 16_384 and len(assembly.disassembly) == 16_384
     session.define("LOOK", lines, "", "LOOK")
-    session.terminal("T001")
-    session.key("T001", "ENTER LOOK", "Attached")
-    session.turns("T001", *DONE, "AtCommand", "Ended")
+    session.attach("T001", "LOOK", *DONE, "AtCommand", "Ended")
     yield session.case("16,384 relocated words")
 
 
@@ -435,9 +429,7 @@ def large_commarea() -> Iterator[Script]:
     session.define("TAKE", constants(*takes), "", "TAKE")
     session.define("LENT", constants(*looks("LENT"), op("MVI", "387(6),X'EE'"), *executed("RETURN")))
     moved = session.define("MOVED", constants(*looks("MOVED"), *executed("RETURN")))
-    session.terminal("T001")
-    session.key("T001", "ENTER KEEP", "Attached")
-    session.turns("T001", *DONE, "AtCommand", "Ended")
+    session.attach("T001", "KEEP", *DONE, "AtCommand", "Ended")
     session.key("T001", "PF3 OTHER", "Attached")
     session.turns("T001", "AtCommand", "Entered", "AtCommand", "Returned", "AtCommand", "Entered")
     session.edf("T001")
@@ -483,10 +475,8 @@ def long_key() -> Iterator[Script]:
     lines += [*executed("SEND TEXT FROM(AREA) LENGTH(LENG) ERASE"), *executed("RETURN"), op("END")]
     session = Session()
     session.define("RECV", lines, "", "RECV")
-    session.terminal("T001")
     assert len(text) == 1_000
-    session.key("T001", f"ENTER {text}", "Attached")
-    session.turns("T001", *DONE, *DONE, "AtCommand", "Ended")
+    session.attach("T001", text, *DONE, *DONE, "AtCommand", "Ended")
     session.show("SCREEN T001", screen_of("T001", text))
     yield session.case("a key with 1,000 bytes")
 
@@ -527,12 +517,8 @@ def many_queues() -> Iterator[Script]:
     session = Session()
     session.define("WRITER", writer(), "", "WRIT")
     session.define("READER", reader(), "", "READ")
-    session.terminal("T001")
-    session.terminal("T002")
-    session.key("T001", "ENTER WRIT", "Attached")
-    session.turns("T001", *DONE * (255 + 299 + 1), "AtCommand", "Performed NOSPACE", "AtCommand", "Ended")
-    session.key("T002", "ENTER READ", "Attached")
-    session.turns("T002", *DONE * (255 + 299), "AtCommand", "Abended AEIZ")
+    session.attach("T001", "WRIT", *DONE * (255 + 299 + 1), "AtCommand", "Performed NOSPACE", "AtCommand", "Ended")
+    session.attach("T002", "READ", *DONE * (255 + 299), "AtCommand", "Abended AEIZ")
     yield session.case("255 queues, 300 items in one")
 
 
@@ -546,10 +532,8 @@ def counted_resource() -> Iterator[Script]:
     session = Session()
     session.define("COUNT", counts, "", "COUN")
     session.define("OTHER", other, "", "OTHE")
-    session.terminal("T001")
-    session.terminal("T002")
-    session.key("T001", "ENTER COUN", "Attached")
-    session.key("T002", "ENTER OTHE", "Attached")
+    session.attach("T001", "COUN")
+    session.attach("T002", "OTHE")
     session.turns("T001", *DONE * 65_535, "AtCommand", "Performed INVREQ", *DONE, *DONE, "AtCommand")
     session.turns("T002", "AtCommand", "Performed ENQBUSY", "AtCommand")
     session.turns("T001", "Abended AEIP")
@@ -591,8 +575,7 @@ def refusals_in_full_storage() -> Iterator[Script]:
     session.define("DEEP", lines, "", "DEEP")
     session.define("HIGH", [line_of("HIGH", "CSECT"), *whatever_comes(*refused), *end], "", "HIGH")
     for name, text in (("T001", "HIGH"), ("T002", "DEEP")):
-        session.terminal(name)
-        session.key(name, f"ENTER {text}", "Attached")
+        session.attach(name, text)
     session.turns("T001", "AtCommand")
     session.turns("T002", *["AtCommand", "Entered"] * 15)
     # an EIB of 88 bytes and a DFHEISTG of 80, and then one EIB and sixteen DFHEISTGs of 82
@@ -622,9 +605,7 @@ def refusals_of_full_queues() -> Iterator[Script]:
     lines += whatever_comes(*(f"{command} NOSUSPEND" for command, _ in refused))
     session = Session()
     session.define("FULL", [*lines, *executed("RETURN"), op("END")], "", "FULL")
-    session.terminal("T001")
-    session.key("T001", "ENTER FULL", "Attached")
-    session.turns("T001", *DONE * (1 + 32_767 + 127))
+    session.attach("T001", "FULL", *DONE * (1 + 32_767 + 127))
     for _, condition in refused:
         session.turns("T001", "AtCommand", f"Performed {condition}")
     session.turns("T001", "AtCommand", "Ended")
@@ -643,9 +624,7 @@ def refusals_of_full_tables() -> Iterator[Script]:
     lines += whatever_comes(*(f"{command} NOSUSPEND" for command, _ in refused))
     session = Session()
     session.define("FULL", [*lines, *executed("RETURN"), op("END")], "", "FULL")
-    session.terminal("T001")
-    session.key("T001", "ENTER FULL", "Attached")
-    session.turns("T001", *DONE * 512)
+    session.attach("T001", "FULL", *DONE * 512)
     for _, condition in refused:
         session.turns("T001", "AtCommand", f"Performed {condition}")
     session.turns("T001", "AtCommand", "Ended")
@@ -730,8 +709,7 @@ def many_resources() -> Iterator[Script]:
     session.define("LAST", enqueuing("LAST", op("LA", "5,1")), "", "LAST")
     waiting = [*((f"T{n:03}", "FRST", 256) for n in range(2, 16)), ("T016", "LAST", 1)]
     for name, transaction, _ in (("T001", "OWNS", 0), *waiting):
-        session.terminal(name)
-        session.key(name, f"ENTER {transaction}", "Attached")
+        session.attach(name, transaction)
     session.script.append("RUN T001 512")
     session.transcript += [*(f"TURN T001 {reply}" for reply in DONE * 256), "> RUN T001 STILL RUNNING"]
     for name, _, _ in waiting:

@@ -8,7 +8,7 @@ from dataclasses import dataclass, field
 from functools import partial
 
 from cics.child import Ended, run
-from cics.cli import version
+from cics.cli import version, write_file
 from checks.common import Case, Check, Counts, Wrong, require
 from checks.examples import path_of, script_of, text_of, wanted
 
@@ -47,8 +47,7 @@ class Trial:
 def ended_in(program: str, trial: Trial) -> Ended:
     with tempfile.TemporaryDirectory() as folder:
         for name, text in trial.files.items():
-            with open(os.path.join(folder, name), "wb") as file:
-                file.write(text)
+            write_file(os.path.join(folder, name), text, [])
         return run(["/bin/sh", "-c", f'cd "$0" && {trial.line}', folder, program, *trial.words], trial.given)
 
 

@@ -36,11 +36,6 @@ def known_in(statement: Statement, command: Command, program: Program) -> Known:
     return found
 
 
-def is_all(command: Command, known: Known) -> bool:
-    """Whether nothing is left to a command."""
-    return all(unit in known.units or unit.word in OF_ALL - {"RESP"} for unit in command.units[command.words :])
-
-
 def rewritten_exec(old: Statement, program: Program) -> list[Statement]:
     """An EXEC statement, rewritten: what is known of it here is loaded or moved, behind what is left of it."""
     statement = parsed(old.origin, old.written())
@@ -49,7 +44,7 @@ def rewritten_exec(old: Statement, program: Program) -> list[Statement]:
     known = known_in(statement, command, program) if command else None
     if command is None or known is None or not known.units:
         return rewritten_command(old, program)
-    is_whole = is_all(command, known)
+    is_whole = all(unit in known.units or unit.word in OF_ALL - {"RESP"} for unit in command.units[command.words :])
     for unit, (operation, operand) in zip(known.units, known.lines):
         program.log.changed(statement.origin, unit.text(), f"{operation} {operand}, as it is known here")
     named = [statement.name if is_whole and at == 0 else "" for at in range(len(known.lines))]

@@ -36,7 +36,6 @@ class Ended(NamedTuple):
         return self.status == 0 and self.reported == b""
 
     def lines(self) -> list[str]:
-        """The lines of its standard output."""
         return lines_of(decoded(self.out))
 
     def why(self) -> str:
@@ -298,7 +297,6 @@ class Child:
         return decoded(whole).split("\n") if whole else []
 
     def line(self) -> str:
-        """The next line that it writes."""
         self.read_until(lambda: b"\n" in self.unread)
         line, _, self.unread = self.unread.partition(b"\n")
         return decoded(line)

@@ -173,7 +173,6 @@ def write_all(file: int, data: bytes) -> None:
 
 
 def write_out(data: bytes) -> None:
-    """Writes all of some bytes on standard output."""
     try:
         write_all(1, data)
     except OSError as why:

@@ -13,12 +13,11 @@ PAGE = "Commands"
 
 # The commands that are there, each with its options.
 OPTIONS = {name: set(words.split()) for name, words in {
-    "ADDRESS": "CWA", "HANDLE CONDITION": "", "IGNORE CONDITION": "", "PUSH HANDLE": "", "POP HANDLE": "", "SUSPEND": "",
-    "RECEIVE": "INTO LENGTH", "WRITEQ TS": "QUEUE FROM LENGTH MAIN AUXILIARY NOSUSPEND ITEM REWRITE",
-    "READQ TS": "QUEUE LENGTH INTO SET ITEM NEXT NUMITEMS", "DELETEQ TS": "QUEUE", "GETMAIN": "SET LENGTH INITIMG NOSUSPEND",
-    "FREEMAIN": "DATA", "LINK": "PROGRAM COMMAREA LENGTH", "XCTL": "PROGRAM COMMAREA LENGTH", "RETURN": "TRANSID COMMAREA LENGTH",
-    "ABEND": "ABCODE CANCEL NODUMP", "HANDLE ABEND": "LABEL CANCEL RESET", "ENQ": "RESOURCE LENGTH NOSUSPEND", "DEQ": "RESOURCE LENGTH",
-    "SEND TEXT": "FROM LENGTH ERASE FREEKB"}.items()}
+    "ADDRESS": "CWA", "HANDLE CONDITION": "", "IGNORE CONDITION": "", "PUSH HANDLE": "", "POP HANDLE": "", "SUSPEND": "", "RECEIVE": "INTO LENGTH",
+    "WRITEQ TS": "QUEUE FROM LENGTH MAIN AUXILIARY NOSUSPEND ITEM REWRITE", "READQ TS": "QUEUE LENGTH INTO SET ITEM NEXT NUMITEMS",
+    "DELETEQ TS": "QUEUE", "GETMAIN": "SET LENGTH INITIMG NOSUSPEND", "FREEMAIN": "DATA", "LINK": "PROGRAM COMMAREA LENGTH",
+    "XCTL": "PROGRAM COMMAREA LENGTH", "RETURN": "TRANSID COMMAREA LENGTH", "ABEND": "ABCODE CANCEL NODUMP", "HANDLE ABEND": "LABEL CANCEL RESET",
+    "ENQ": "RESOURCE LENGTH NOSUSPEND", "DEQ": "RESOURCE LENGTH", "SEND TEXT": "FROM LENGTH ERASE FREEKB"}.items()}
 OF_ALL = {"NOHANDLE", "RESP"}
 AID, SYNCPOINT, CONDITION = "HANDLE AID", "SYNCPOINT", "CONDITION"
 OF_NO_FILE = {AID, SYNCPOINT, "ASSIGN"}  # commands that aren't here, and meet no condition but those that can be handled here
@@ -157,8 +156,6 @@ def without_blanks(argument: str) -> str:
 
 
 class Rewriting:
-    """The rewriting of one command."""
-
     def __init__(self, statement: Statement, command: Command, program: Program) -> None:
         self.statement, self.command, self.program = statement, command, program
         self.before: list[tuple[str, str]] = []  # what is done in front of the command

@@ -32,7 +32,6 @@ class Item:
         return cut(inside) if self.kind in ADDRESSES else inside.split(",") if self.kind in SEVERAL else [inside]
 
     def of(self, value: str) -> "Item":
-        """The item with another value."""
         return replace(self, value=f"({value})" if self.kind in ADDRESSES else f"'{value}'")
 
 
@@ -46,7 +45,6 @@ class Size:
 
 
 def item_of(text: str) -> Item | None:
-    """The item that a text is."""
     duplication_end = end_of_factor(text, 0)
     kind = text[duplication_end : duplication_end + 1]
     if kind == "" or kind not in KINDS:

@@ -60,7 +60,6 @@ class Term:
     text: str
 
     def name(self) -> str:
-        """The symbol's name."""
         return self.text.removeprefix("L'") if self.kind is Kind.LENGTH else self.text
 
 

@@ -57,7 +57,6 @@ class Block:
 
 
 def faults_of(sources: list[Source], cicslook: str) -> list[Fault]:
-    """All faults and notes of sources."""
     script: list[str] = []
     blocks = []
     for source in sources:

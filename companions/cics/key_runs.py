@@ -107,7 +107,6 @@ class Pressed:
         return self.answer in ("Attached", "Given") and self.last in ENDS
 
     def lines(self) -> list[str]:
-        """What is shown of it."""
         return [self.line, *([] if self.last == "Ended" else [f"{AT} {self.explained()}"]), *self.screen]
 
     def as_object(self, cause: list[str]) -> dict[str, object]:

@@ -184,7 +184,6 @@ def forms_of(word: str) -> list[list[str]]:
 
 
 def form_text(word: str) -> str:
-    """The forms of a word as a text."""
     return ", ".join(f"{word} {form}".strip() for form in FORMS[word])
 
 

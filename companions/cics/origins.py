@@ -12,8 +12,6 @@ LINE = re.compile(r"(\d+) (.+):(\d+)")
 
 @dataclass(frozen=True)
 class Place:
-    """A line of a file."""
-
     file: str
     line: int
 

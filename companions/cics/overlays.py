@@ -5,7 +5,7 @@ from cics.constants import item_of
 from cics.expressions import Chain, terms_of, whole
 from cics.from_cics import advice
 from cics.layout import Placed
-from cics.patches import NotPatched, patched_at
+from cics.patches import NotPatched, is_last, patched_at
 from cics.program import Program
 from cics.statements import Statement, new_statement
 from cics.texts import cut
@@ -37,11 +37,6 @@ class Overlay:
     end: int
     fields: list[Field]
     below: list[Statement]
-
-
-def is_last(statement: Statement) -> bool:
-    """Whether an ORG goes on after all that was."""
-    return statement.operation == "ORG" and statement.operand in ("", ",")
 
 
 def place_in(statement: Statement, chain: Chain, program: Program) -> Placed:

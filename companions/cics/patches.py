@@ -10,7 +10,6 @@ from cics.texts import CODED, cut
 
 ENDS = {"CSECT", "START", "DSECT", "END"}
 MOST, LEAST_RUN, PIECE = 4096, 8, 128  # bytes of a table; bytes of a run that is written as one; bytes of an item
-SIGNS = {"+": "C", "-": "D"}
 
 
 class NotPatched(Exception):
@@ -113,6 +112,7 @@ def patched_at(statements: list[Statement], at: int, program: Program) -> Patche
 
 
 def is_last(statement: Statement) -> bool:
+    """Whether an ORG goes on after all that was."""
     return statement.operation == "ORG" and statement.operand in ("", ",")
 
 

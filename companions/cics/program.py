@@ -33,6 +33,5 @@ class Program:
         return worked or text
 
     def is_place(self, text: str, here: Value | None) -> bool:
-        """Whether an expression is known to be a place."""
         value = self.layout.evaluated(text, here)
         return value is not None and not value.is_absolute()

@@ -37,14 +37,10 @@ def given_of(words: list[str]) -> list[Given]:
     found = []
     for word in words:
         queue, equals, path = word.partition("=")
-        if not equals or not is_queue(queue):
+        if not equals or not (1 <= len(queue) <= 8 and all(character in CODED and character != "=" for character in queue)):
             raise Failure(f"--queue {word}: write: --queue NAME=FILE, the name of 1 to 8 characters", MISUSED)
         found.append(Given(queue, path))
     return found
-
-
-def is_queue(name: str) -> bool:
-    return 1 <= len(name) <= 8 and all(character in CODED and character != "=" for character in name)
 
 
 def text_constants(line: str) -> list[str]:

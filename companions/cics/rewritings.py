@@ -11,11 +11,6 @@ REGISTERS = {"REGEQU", "EQUREGS", "YREGS"}
 BASES = {"CODEREG": "3", "DATAREG": "13", "EIBREG": "11"}  # the registers that hold the bases here, by the options of DFHEIENT
 
 
-def is_of_print(statement: Statement) -> bool:
-    """PUSH or POP of PRINT alone."""
-    return statement.operation in ("PUSH", "POP") and statement.operand == "PRINT"
-
-
 def words_of(statement: Statement) -> list[str]:
     """The operands of a macro, which may go on in another line after a comma and blanks."""
     operand, rest = statement.operand, statement.remark
@@ -74,7 +69,7 @@ class Rewritings:
         operation = statement.operation
         if operation == "DSECT" and statement.name == "DFHEISTG":
             self.has_storage = True
-        if operation in COMMENTS or operation == "DFHEIEND" or is_of_print(statement):
+        if operation in COMMENTS or operation == "DFHEIEND" or statement.operation in ("PUSH", "POP") and statement.operand == "PRINT":
             return [statement.made_comment()]
         if operation == "DFHEISTG":
             return self.storage(statement)

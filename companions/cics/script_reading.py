@@ -72,7 +72,6 @@ def bare_lines(text: str) -> list[str]:
 
 
 def bad_lines(lines: Sequence[str]) -> list[BadLine]:
-    """All bad lines of a script."""
     reading = Reading()
     found = [BadLine(number, line, reason) for number, line in enumerate(lines, 1) if (reason := reading.line(line))]
     last = reading.unended()

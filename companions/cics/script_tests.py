@@ -62,11 +62,6 @@ def screens_of(script: str) -> str:
     return script.removesuffix(SCRIPT) + SCREENS
 
 
-def difference(script: str, kept: Sequence[str], lines: Sequence[str]) -> list[str]:
-    """What differs, as diff shows it: with a hyphen what is kept, with a plus sign what is shown now."""
-    return [line.rstrip("\n") for line in difflib.unified_diff(kept, lines, screens_of(script), script, lineterm="")]
-
-
 @dataclass(frozen=True)
 class Test:
     """A script, and whether what it shows is written beside it."""
@@ -88,7 +83,7 @@ class Test:
         if not os.path.exists(screens_of(self.script)):
             return Outcome(self.script, "missing", seconds)
         kept = [line.removesuffix("\r") for line in lines_of(decoded(read_file(screens_of(self.script))))]
-        differing = difference(self.script, kept, lines)
+        differing = [line.rstrip("\n") for line in difflib.unified_diff(kept, lines, screens_of(self.script), self.script, lineterm="")]
         return Outcome(self.script, "differs" if kept != lines else "same", seconds, difference=differing)
 
     def kept(self, lines: list[str], seconds: float) -> Outcome:

@@ -28,10 +28,6 @@ class Option:
     help: str
 
 
-def companions() -> list[str]:
-    return sorted(os.path.basename(path) for path in glob.glob(f"{COMPANIONS}/cics-*"))
-
-
 def options_in(text: str) -> list[Option]:
     """The options of a text of --help, whose lines aren't broken."""
     lines = text.partition("\noptions:\n")[2].split("\n")
@@ -135,5 +131,5 @@ def for_fish(all_options: dict[str, list[Option]]) -> str:
 
 def completions() -> dict[str, str]:
     """The files of the completion, each with its text."""
-    all_options = {name: options_of(name) for name in companions()}
+    all_options = {name: options_of(name) for name in sorted(os.path.basename(path) for path in glob.glob(f"{COMPANIONS}/cics-*"))}
     return {"cicsedf.bash": for_bash(all_options), "_cicsedf": for_zsh(all_options), "cicsedf.fish": for_fish(all_options)}

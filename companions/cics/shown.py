@@ -13,7 +13,6 @@ WAITING = "WAITING"
 
 
 def terminals_of(script: str) -> list[str]:
-    """The terminals that a script defines."""
     found = [action.terminal for action in actions_of(script) if action.word == "TERMINAL"]
     return [*dict.fromkeys(name for name in found if name)]
 

@@ -3,6 +3,7 @@
 A statement is read from columns 1 to 71, and of each continuation from columns 16 to 71; column 72 says that it is continued, and
 columns 73 to 80 are kept as they are.
 """
+from collections.abc import Iterable
 from dataclasses import dataclass, field, replace
 
 from cics.texts import end_of_operand
@@ -69,6 +70,20 @@ def new_statement(near: Statement, operation: str, operand: str = "", name: str 
 
 def new_comment(near: Statement, text: str) -> Statement:
     return Statement(near.origin, [text], is_comment=True)
+
+
+@dataclass(frozen=True)
+class Line:
+    """A statement that is written for another one."""
+
+    operation: str
+    operand: str
+
+
+def written_for(old: Statement, lines: Iterable[Line], *, is_kept: bool) -> list[Statement]:
+    """A statement as a comment, unless the old text is kept in any case, and what is written for it, with its name."""
+    comments = [] if is_kept else [new_comment(old, comment_of(line)) for line in old.written()]
+    return [*comments, *(new_statement(old, line.operation, line.operand, old.name if at == 0 else "") for at, line in enumerate(lines))]
 
 
 def comment_of(line: str) -> str:

@@ -19,12 +19,8 @@ def is_of_page(line: str) -> bool:
     return line[:2].isdigit() and line[2:3] == "|"
 
 
-def is_look(line: str) -> bool:
-    return line.startswith(LOOK)
-
-
 def without_looks(lines: Sequence[str]) -> list[str]:
-    return [line for line in lines if not is_look(line)]
+    return [line for line in lines if not line.startswith(LOOK)]
 
 
 def of_look(lines: Sequence[str]) -> list[str]:

@@ -105,7 +105,6 @@ def is_terminal() -> bool:
 
 
 def held(talk: Talk, lines: Iterator[str]) -> None:
-    """The conversation, to its end."""
     for line in lines:
         talk.line(line)
         if talk.is_over:

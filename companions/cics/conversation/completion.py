@@ -32,7 +32,6 @@ class Completion:
         return sorted({one for one in found if capitals(one).startswith(capitals(begun))})
 
     def after(self, before: list[str]) -> Iterable[str]:
-        """What may stand after some words."""
         if before[0] in ENDINGS or before[0] in OWN or before[0] in TERMINALS_OF + PROGRAMS_OF:
             names = self.session.names
             at_first = len(before) == 1

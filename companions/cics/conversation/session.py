@@ -14,8 +14,6 @@ DEFINED = {"TERMINAL": "terminals", "TRANSACTION": "transactions", "PROGRAM": "p
 
 @dataclass
 class Names:
-    """The names that are defined."""
-
     terminals: list[str] = field(default_factory=list)
     transactions: list[str] = field(default_factory=list)
     programs: list[str] = field(default_factory=list)

@@ -76,7 +76,6 @@ class Debugger:
         return [line, *(one for one in at[1:] if one.startswith("> FIELD "))] if at[1:2] == [line] else [line]
 
     def next(self, words: list[str]) -> list[str]:
-        """One turn."""
         return self.session.done([f"TURN {self.terminal(words)}"])
 
     def set_break(self, words: list[str]) -> list[str]:

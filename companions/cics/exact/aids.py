@@ -6,7 +6,7 @@ from cics.commands import AID, Command, command_of
 from cics.from_cics import advice
 from cics.layout import AIDS
 from cics.program import Program
-from cics.statements import Statement, comment_of, joined, new_comment, new_statement, parsed
+from cics.statements import Line, Statement, joined, new_statement, parsed, written_for
 
 FIELD, ANY = "$XK", "ANYKEY"
 CODES = {name.removeprefix("DFH"): code for name, code in AIDS.items()}
@@ -80,10 +80,8 @@ def with_aid(statement: Statement, keys: Keys, program: Program) -> list[Stateme
     options = command.units[command.words :]
     if command.name == AID:
         made = [line for unit in options if unit.word not in WITHOUT for line in set_key(unit.word, unit.argument)]
-        named = [new_statement(statement, operation, operand, statement.name if at == 0 else "") for at, (operation, operand) in enumerate(made)]
         program.log.changed(statement.origin, f"EXEC {statement.operand}", "fields that are looked at after RECEIVE")
-        comments = [] if program.is_kept else [new_comment(statement, comment_of(line)) for line in statement.written()]
-        return [*comments, *named]
+        return written_for(statement, (Line(*one) for one in made), is_kept=program.is_kept)
     if command.name in (PUSH, POP):
         made = pushed(keys) if command.name == PUSH else popped(keys) if keys.has_stack else []
         if made:

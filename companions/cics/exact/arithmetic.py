@@ -1,10 +1,10 @@
 """Sums, products and shifts of registers, and branches: AL, ALR, SL, SLR, MH, LPR, LNR, SLDL, SRDL, SLDA, BXLE, BXH, BAS, BASR."""
-from cics.exact.site import Line, NotExact, Site, call, touched_word
+from cics.exact.site import NotExact, Site, call, touched_word
+from cics.statements import Line
 
 
 def word(site: Site) -> list[Line]:
-    """AL, SL; MH."""
-    site.need(2)
+    """AL, SL, N, O; MH."""
     site.register(site.operands[0], is_changed=True)
     operation = site.statement.operation
     length = 2 if operation == "MH" else 4
@@ -13,8 +13,7 @@ def word(site: Site) -> list[Line]:
 
 
 def registers(site: Site) -> list[Line]:
-    """ALR, SLR; a register less itself is zero, with the code of no borrow, 2."""
-    site.need(2)
+    """ALR, SLR, NR, OR; a register less itself is zero, with the code of no borrow, 2."""
     first = site.register(site.operands[0], is_changed=True)
     if site.register(site.operands[1]) == first and site.statement.operation == "SLR":
         text = site.operands[0]
@@ -23,8 +22,6 @@ def registers(site: Site) -> list[Line]:
 
 
 def signed(site: Site) -> list[Line]:
-    """LPR, LNR."""
-    site.need(2)
     first, second = site.operands
     site.register(first, is_changed=True)
     site.register(second)
@@ -33,15 +30,12 @@ def signed(site: Site) -> list[Line]:
 
 
 def pair_shifted(site: Site) -> list[Line]:
-    """SLDL, SRDL, SLDA."""
-    site.need(2)
     site.pair(site.operands[0])
     return call(f"$X{site.statement.operation}", Line("SRDA", ",".join(site.operands)))
 
 
 def counted(site: Site) -> list[Line]:
     """BXLE, BXH: one way back for the branch, and one without it."""
-    site.need(3)
     first, third, address = site.operands
     register = site.register(first, is_changed=True)
     site.register(third)
@@ -53,8 +47,6 @@ def counted(site: Site) -> list[Line]:
 
 
 def linked(site: Site) -> list[Line]:
-    """BAS."""
-    site.need(2)
     first, address = site.operands
     register = site.register(first, is_changed=True)
     if register in {site.number(part) for part in site.parts(address).inside if part}:
@@ -63,8 +55,6 @@ def linked(site: Site) -> list[Line]:
 
 
 def linked_by_register(site: Site) -> list[Line]:
-    """BASR."""
-    site.need(2)
     first, second = (site.register(text) for text in site.operands)
     if first in (0, 13) or first == second:
         raise NotExact("of register 0 or 13, or of one register twice")

@@ -1,6 +1,8 @@
 """Logic: OC, NC, XI, N, O, X, NR, OR, CLM, TS."""
 from cics.constants import item_of, size_of
-from cics.exact.site import Line, NotExact, Site, call, touched_word
+from cics.exact.arithmetic import registers, word
+from cics.exact.site import NotExact, Site, call, touched_word
+from cics.statements import Line
 
 ODD_SPACE = "$XI"  # four bytes that no routine keeps from one call to the next
 
@@ -8,7 +10,6 @@ ODD_SPACE = "$XI"  # four bytes that no routine keeps from one call to the next
 def bytes_of(site: Site) -> list[Line]:
     """OC, NC, whose operands are compared at the statement; of a field with itself, for one or two bytes, by OI; with a
     byte that is known by OI or NI."""
-    site.need(2)
     length = site.length(site.operands[0])
     first, second = (site.parts(text) for text in site.operands)
     if length in (1, 2) and first.first == second.first and not second.is_based() and len(first.inside) < 2:
@@ -31,20 +32,11 @@ def one_byte(text: str) -> str | None:
 
 def exclusive_byte(site: Site) -> list[Line]:
     """XI, by XC of a literal."""
-    site.need(2)
     return [Line("XC", f"{site.bytes_at(site.operands[0])},=AL1({site.operands[1]})")]
-
-
-def word(site: Site) -> list[Line]:
-    """N, O."""
-    site.need(2)
-    site.register(site.operands[0], is_changed=True)
-    return call(f"$X{site.statement.operation}", Line("L", ",".join(site.operands)), before=touched_word(site, site.operands[1]))
 
 
 def exclusive_word(site: Site) -> list[Line]:
     """X, by XC in storage, where there is no index."""
-    site.need(2)
     register, address = site.operands
     site.register(register, is_changed=True)
     parts = site.parts(address)
@@ -55,17 +47,8 @@ def exclusive_word(site: Site) -> list[Line]:
     return [Line("ST", f"{register},{ODD_SPACE}"), Line("XC", f"{ODD_SPACE}(4),{address}"), Line("L", f"{register},{ODD_SPACE}")]
 
 
-def registers(site: Site) -> list[Line]:
-    """NR, OR."""
-    site.need(2)
-    site.register(site.operands[0], is_changed=True)
-    site.register(site.operands[1])
-    return call(f"$X{site.statement.operation}", Line("LR", ",".join(site.operands)))
-
-
 def masked(site: Site) -> list[Line]:
     """CLM, by STCM and CLC."""
-    site.need(3)
     register, mask, address = site.operands
     bits = site.number(mask)
     if bits is None or not 1 <= bits <= 15:
@@ -74,8 +57,6 @@ def masked(site: Site) -> list[Line]:
 
 
 def tested(site: Site) -> list[Line]:
-    """TS."""
-    site.need(1)
     address, = site.operands
     return [Line("MVC", f"{ODD_SPACE}(1),{address}"), Line("NI", f"{ODD_SPACE},X'80'"), Line("MVI", f"{address},X'FF'")]
 

@@ -1,12 +1,11 @@
 """Moves and comparisons of storage: MVZ, MVN, MVCIN, MVO, MVCL, CLCL; CS, CDS."""
-from cics.exact.site import Line, NotExact, Site, call, touched, touched_source, touched_word
+from cics.exact.site import NotExact, Site, call, touched, touched_source, touched_word
+from cics.statements import Line
 
 DOUBLE = 8  # bytes of two words
 
 
 def bytes_of(site: Site) -> list[Line]:
-    """MVZ, MVN, MVCIN."""
-    site.need(2)
     first, second = site.operands
     length = site.length(first)
     source = second if site.statement.operation != "MVCIN" else reversed_source(site, second, length)
@@ -28,23 +27,17 @@ def reversed_source(site: Site, text: str, length: int | None) -> str | None:
 
 
 def half_bytes(site: Site) -> list[Line]:
-    """MVO."""
-    site.need(2)
     before = [line for text in site.operands for line in touched(site, text)]
     return call("$XMVO", Line("PACK", ",".join(site.operands)), before=before)
 
 
 def long_of(site: Site) -> list[Line]:
-    """MVCL, CLCL."""
-    site.need(2)
     if site.pair(site.operands[0]) == site.pair(site.operands[1]):
         raise NotExact("one pair of registers twice")
     return call(f"$X{site.statement.operation}", Line("CR", ",".join(site.operands)))
 
 
 def swapped(site: Site) -> list[Line]:
-    """CS."""
-    site.need(3)
     site.register(site.operands[0], is_changed=True)
     site.register(site.operands[1])
     before = touched_word(site, site.operands[2])
@@ -52,8 +45,6 @@ def swapped(site: Site) -> list[Line]:
 
 
 def swapped_double(site: Site) -> list[Line]:
-    """CDS."""
-    site.need(3)
     site.pair(site.operands[0])
     site.pair(site.operands[1], is_changed=False)
     before = touched_source(site, site.operands[2], DOUBLE)

@@ -1,5 +1,6 @@
 """Packed decimals: AP, SP, ZAP, CP, MP, DP, SRP; ED, EDMK."""
-from cics.exact.site import Line, NotExact, Site, call, call_of_fields, touched
+from cics.exact.site import NotExact, Site, call, call_of_fields, touched
+from cics.statements import Line
 
 MOST_DIVISOR, MOST_BYTES = 8, 16  # bytes of a multiplier or a divisor, and of any packed field
 
@@ -13,29 +14,21 @@ def packed_length(site: Site, text: str) -> int:
     return length
 
 
-def lines_of(site: Site) -> list[Line]:
-    site.need(2)
+def sum_of(site: Site) -> list[Line]:
     first, second = (packed_length(site, text) for text in site.operands)
     return call_of_fields(f"$X{site.statement.operation}", site, (first, second))
 
 
-def sum_of(site: Site) -> list[Line]:
-    """AP, SP, ZAP, CP."""
-    return lines_of(site)
-
-
 def product(site: Site) -> list[Line]:
     """MP, DP. The lengths that the processor refuses are left."""
-    site.need(2)
     first, second = (packed_length(site, text) for text in site.operands)
     if second > MOST_DIVISOR or first <= second:
         raise NotExact("lengths that are interruption 6")
-    return lines_of(site)
+    return sum_of(site)
 
 
 def shifted(site: Site) -> list[Line]:
     """SRP: what is added to round is coded as the second length."""
-    site.need(3)
     first, second, third = site.operands
     added = site.number(third)
     if added is None or not 0 <= added <= 9:
@@ -49,8 +42,6 @@ def shifted(site: Site) -> list[Line]:
 
 
 def edited(site: Site) -> list[Line]:
-    """ED, EDMK."""
-    site.need(2)
     encoded = Line("MVC", ",".join(site.operands))
     return call(f"$X{site.statement.operation}", encoded, before=touched(site, site.operands[0]), is_interrupted=True)
 

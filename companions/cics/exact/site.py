@@ -1,26 +1,15 @@
 """A statement that is to be written otherwise, and what may be written for it."""
-import re
 from dataclasses import dataclass
 
 from cics.constants import item_of, size_of
 from cics.expressions import Kind, leftmost, read_expression
 from cics.program import Program
-from cics.statements import Statement
+from cics.statements import Line, Statement
 from cics.texts import closing, cut
-
-BASED = re.compile(r"\((?P<inside>[^()]*)\)$")
 
 
 class NotExact(Exception):
     """Why nothing is written for a statement."""
-
-
-@dataclass(frozen=True)
-class Line:
-    """A statement that is written."""
-
-    operation: str
-    operand: str
 
 
 @dataclass(frozen=True)
@@ -36,8 +25,6 @@ class Parts:
 
 @dataclass(frozen=True)
 class Site:
-    """A statement with its operands."""
-
     statement: Statement
     operands: list[str]
     program: Program

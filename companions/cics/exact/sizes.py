@@ -46,7 +46,6 @@ class Spot:
     bases: tuple[Base, ...]
 
     def reaches(self, place: Value) -> bool:
-        """Whether a base in use reaches a place."""
         return any(distance.is_number() and 0 <= distance.number <= FARTHEST
                    for distance in (place.plus(base.place, -1) for base in self.bases))
 
@@ -57,10 +56,8 @@ class Unknown(Exception):
 
     statement: Statement
 
-
-@dataclass
-class Pool:
-    literals: list[str] = field(default_factory=list)
+    def why(self) -> str:
+        return f"the place of {self.statement.operation} in line {self.statement.origin.number} isn't known before"
 
 
 class Sizes:

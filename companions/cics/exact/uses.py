@@ -1,16 +1,15 @@
 """What of a program needs a statement to stay as it is: EX of it, a place before or after it by a number of bytes, a change of its bytes."""
 from dataclasses import dataclass, field
 
-from cics.exact.places import behind_links, is_of_table, meant_by, of_branch_tables, texts_of, unknown_targets, used_as_bytes, used_by_register
+from cics.exact.places import (BRANCHES, behind_links, is_of_table, meant_by, number_of, of_branch_tables, texts_of, unknown_targets, used_as_bytes,
+                               used_by_register)
 from cics.exact.sizes import Sizes
 from cics.expressions import Kind, Term, Value, read_expression, terms_of
-from cics.instructions import INSTRUCTIONS, MASKS
+from cics.instructions import INSTRUCTIONS
 from cics.statements import Statement
 from cics.texts import cut
 
-BRANCHES = set("BC BCT BAL B BH BP BL BM BE BZ BNH BNP BNL BNM BNE BNZ BO BNO NOP LA EX BAS BXLE BXH".split())  # LA may be for a branch
-BY_REGISTER = set(MASKS) | {"BCR", "BR", "NOPR"}
-STORING = set("ST STH STC STM STCM CVD C CH CL CR CLR CLI BC BCR EX TM MVI NI OI LTR SPM SVC CLM".split())
+GOING = BRANCHES | {"LA", "EX"}  # LA may be for a branch
 FIRST_ONLY = set("LR LA L LH IC ICM AR A AH SR S SH LCR SRL SLL SRA SLA CVB BAL BALR BCT BCTR XR BAS BASR N O X NR OR AL ALR SL SLR MH LPR LNR CS "
                  "BXLE BXH LTR".split())
 PAIRS = set("MR M DR D SRDA SLDL SRDL SLDA MVCL CLCL".split())
@@ -43,11 +42,6 @@ def changes_base(statement: Statement, sizes: Sizes) -> bool:
     if operation in PAIRS:
         return any(number_of(text, sizes) in (BASE - 1, BASE) for text in operands[: 2 if operation in ("MVCL", "CLCL") else 1])
     return operation in FIRST_ONLY and first == BASE
-
-
-def number_of(text: str, sizes: Sizes) -> int | None:
-    value = sizes.evaluated(text, None)
-    return value.number if value and value.is_number() else None
 
 
 def uses_of(statements: list[Statement], sizes: Sizes, candidates: set[int]) -> Uses:
@@ -107,7 +101,7 @@ def terms_in(text: str) -> list[Term]:
 def refuse_named(statement: Statement, term: Term, at: int, uses: Uses, *, has_far_ex: bool) -> None:
     """A label that is used otherwise than as a place to go to."""
     operation = statement.operation
-    is_branch = operation in BRANCHES or operation in ("USING", "DC", "DS", "EQU", "END")
+    is_branch = operation in GOING or operation in ("USING", "DC", "DS", "EQU", "END")
     if term.kind is Kind.LENGTH:
         uses.refused[at] = f"its length is used in {line_of(statement)}"
     elif not is_branch and not (operation == "L" and statement.operand.find("=A(") > 0):

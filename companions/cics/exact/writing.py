@@ -5,16 +5,17 @@ from cics.exact import arithmetic, logic, moves, packed
 from cics.exact.aids import with_aids
 from cics.exact.places import moved, reason_by_storage
 from cics.exact.routines import Text, text_for
-from cics.exact.site import Line, NotExact, Site
+from cics.exact.site import NotExact, Site
 from cics.exact.sizes import Sizes, Unknown
 from cics.exact.uses import changes_base, uses_of
 from cics.instructions import INSTRUCTIONS
 from cics.layout import WORKING_STORAGE
 from cics.program import Program
-from cics.statements import Statement, comment_of, new_comment, new_statement, parsed
+from cics.statements import Line, Statement, new_comment, parsed, written_for
 from cics.texts import cut
 
 FORMS = {**packed.FORMS, **logic.FORMS, **moves.FORMS, **arithmetic.FORMS}
+OPERANDS = {"SRP": 3, "CLM": 3, "CS": 3, "CDS": 3, "BXLE": 3, "BXH": 3, "TS": 1}  # how many instructions have that haven't two
 OWN = "$X"  # names of what is written begin so
 HEADING = "*---- WRITTEN BY CICS-ADAPT"
 CONTROL = ("CSECT", "START")
@@ -55,7 +56,6 @@ def candidates_of(statements: list[Statement]) -> set[int]:
 
 
 def reason_for_all(statements: list[Statement]) -> str | None:
-    """Why nothing is written for a program."""
     code = [one for one in statements if not one.is_comment]
     if any(one.name.startswith(OWN) for one in code):
         return f"the source has names that begin with {OWN} already; write: adapt the source that they were put into"
@@ -77,6 +77,7 @@ def planned(statements: list[Statement], program: Program) -> Plan:
             site = Site(statements[at], cut(statements[at].operand) if statements[at].operand else [], program, own)
             if any("*" in text and not text.startswith("=") for text in site.operands):
                 raise NotExact("an operand has *, the place")
+            site.need(OPERANDS.get(statements[at].operation, 2))
             plan.lines[at] = FORMS[statements[at].operation](site)
         except NotExact as fault:
             plan.refuse(at, str(fault))
@@ -85,7 +86,7 @@ def planned(statements: list[Statement], program: Program) -> Plan:
     try:
         sizes = Sizes(statements)
     except Unknown as unknown:
-        refuse_all(plan, f"the place of {unknown.statement.operation} in line {unknown.statement.origin.number} isn't known before")
+        refuse_all(plan, unknown.why())
         return plan
     for at, text in uses_of(statements, sizes, set(plan.lines)).refused.items():
         plan.refuse(at, text)
@@ -113,13 +114,6 @@ def near_or_far(lines: list[Line], is_far: bool) -> list[Line]:
     return found
 
 
-def sequence(statement: Statement, lines: list[Line], program: Program) -> list[Statement]:
-    """The user's statement as a comment, and what is written for it."""
-    comments = [] if program.is_kept else [new_comment(statement, comment_of(line)) for line in statement.written()]
-    made = [new_statement(statement, line.operation, line.operand, statement.name if at == 0 else "") for at, line in enumerate(lines)]
-    return [*comments, *made]
-
-
 def ending(end: Statement, section: str, text: Text) -> list[Statement]:
     """What comes in front of END."""
     storage = [f"{WORKING_STORAGE:<8} DSECT", *text.storage]
@@ -139,7 +133,7 @@ def written_by(groups: list[list[Statement]], plan: Plan, program: Program) -> l
         made: list[Statement] = []
         for one in group:
             if at in plan.lines:
-                made += sequence(one, near_or_far(plan.lines[at], at in plan.far), program)
+                made += written_for(one, near_or_far(plan.lines[at], at in plan.far), is_kept=program.is_kept)
             elif one.operation == "END" and not one.is_comment and text and not has_ended:
                 made += [*ending(one, section, text), one]
                 has_ended = True
@@ -162,7 +156,7 @@ def settled(groups: list[list[Statement]], plan: Plan, program: Program) -> list
         try:
             sizes = Sizes(flat)
         except Unknown as unknown:
-            refuse_all(plan, f"the place of {unknown.statement.operation} in line {unknown.statement.origin.number} isn't known before")
+            refuse_all(plan, unknown.why())
             continue
         before = before or Sizes(old)
         if not is_moved(groups, flat, sizes, plan) and not refuse_moved(old, moved(old, before, flat, sizes), plan):

@@ -58,7 +58,6 @@ def search_data(search: Search, before: int) -> dict[str, Any]:
 
 
 def film_data(film: Film) -> dict[str, Any]:
-    """What the page knows of a film."""
     shown = dict(film.before)
     return {
         "name": film.name,

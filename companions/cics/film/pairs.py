@@ -51,10 +51,6 @@ def parts_of(film: Film) -> list[Part]:
     return parts
 
 
-def names_that_differ(old: Part, new: Part) -> set[str]:
-    return {key for key in {**old.shown, **new.shown} if old.shown.get(key) != new.shown.get(key)}
-
-
 def pairs_of(old: Film, new: Film) -> Pairs:
     """The events of two films, paired from key to key: the shorter part waits at its last event. Where first events are left out they are paired
     by their numbers, and nothing is marked."""
@@ -77,7 +73,7 @@ def pairs_of(old: Film, new: Film) -> Pairs:
 
 def mark(pairs: Pairs, old: Part, new: Part) -> None:
     """Marks what differs at the end of two parts, if anything."""
-    names = names_that_differ(old, new) if old.events and new.events else set[str]()
+    names = {key for key in {**old.shown, **new.shown} if old.shown.get(key) != new.shown.get(key)} if old.events and new.events else set[str]()
     if names or old.answers() != new.answers():
         pairs.differs = len(pairs.steps) - 1
         if old.events and new.events:

@@ -120,14 +120,9 @@ class Source:
         return [*found]
 
 
-def loaded(answer: list[str]) -> re.Match[str] | None:
-    """Where a program was put, if it was."""
-    return LOADED.fullmatch(answer[-1]) if answer else None
-
-
 def source_of(block: list[str], line: int, answer: list[str]) -> Source | None:
     """The program of a block at a line of the script, by what was written for it with LIST."""
-    found = loaded(answer)
+    found = LOADED.fullmatch(answer[-1]) if answer else None
     if not found:
         return None
     source = Source(found[1], int(found[2], 16), int(found[3], 16))

@@ -7,7 +7,8 @@ from cics.exact.aids import ANY, CODES, Keys, field_of
 from cics.operands import CONDITIONS
 from cics.stand_in.eib import Absent
 from cics.stand_in.map_programs import filled
-from cics.stand_in.requests import ABENDS, BLOCK, Call, Line, NotStoodIn, called
+from cics.stand_in.requests import ABENDS, BLOCK, Call, NotStoodIn, called
+from cics.statements import Line
 
 # The conditions that made programs meet, by number; ERROR serves those that have none of their own.
 MET = {"ERROR", "DSIDERR", "FILENOTFOUND", "NOTFND", "DUPREC", "INVREQ", "ENDFILE", "LENGERR", "QZERO", "ENDDATA", "QIDERR", "MAPFAIL", "NOSPACE"}

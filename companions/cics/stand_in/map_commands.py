@@ -1,6 +1,7 @@
 """SEND MAP, SEND CONTROL and RECEIVE MAP."""
 from cics.stand_in.mapsets import Map, Mapset
-from cics.stand_in.requests import Call, Line, NotStoodIn, Request
+from cics.stand_in.requests import Call, NotStoodIn, Request
+from cics.statements import Line
 
 SEND, RECEIVE, CONTROL, TEXT = 0x1804, 0x1802, 0x1812, 0x1806
 ERASE, MAPONLY, DATAONLY, SYMBOLIC, CURSOR, ERASEAUP, FRSET = 0x80, 0x40, 0x20, 0x10, 0x08, 0x04, 0x01
@@ -14,7 +15,6 @@ OF_CONTROL = {"SEND", "CONTROL", "CURSOR", "WAIT", "LAST", *PLACED, *CONTROLS, *
 OF_RECEIVE = {"RECEIVE", "MAP", "MAPSET", "INTO", "SET", "ASIS", *OF_ALL}
 PAGES = dict.fromkeys(("ACCUM", "PAGING", "SET", "OUTPARTN", "ACTPARTN", "LDC", "REQID", "NLEOM", "FORMFEED", "HONEOM", "L40", "L64", "L80", "MSR",
                        "RELEASE", "RETAIN", "TRAILER", "HEADER", "JUSTIFY", "JUSFIRST", "JUSLAST", "AUTOPAGE", "FMHPARM"), "page")
-NO_EFFECT = {"PRINT", "LENGTH", "ASIS", "LAST"}
 
 
 def map_of(call: Call, mapsets: list[Mapset]) -> tuple[Mapset, Map]:

@@ -21,11 +21,9 @@ OF_EXTATT = ("COLOR", "PS", "HILIGHT", "VALIDN")
 
 # Operands that change nothing here, and those that change what is seen elsewhere, which are told.
 SILENT = {"TYPE", "MODE", "LANG", "STORAGE", "TERM", "SUFFIX", "CTRL", "TIOAPFX", "EXTATT", "DSATTS", "MAPATTS", "SIZE", "LINE", "COLUMN", "POS",
-          "LENGTH",
-          "ATTRB", "INITIAL", "XINIT", "JUSTIFY", "GRPNAME", "OCCURS", "COLOR", "DSECT", "TRIGRAPH", "FOLD", "CASE"}
+          "LENGTH", "ATTRB", "INITIAL", "XINIT", "JUSTIFY", "GRPNAME", "OCCURS", "COLOR", "DSECT", "TRIGRAPH", "FOLD", "CASE"}
 TOLD = {"HILIGHT", "PS", "VALIDN", "PICIN", "PICOUT", "OUTLINE", "SOSI", "TRANSP", "BASE", "CURSLOC", "OBFMT", "HTAB", "VTAB", "LDC", "PARTN",
-        "HEADER",
-        "TRAILER"}
+        "HEADER", "TRAILER"}
 
 
 class Justified(Enum):
@@ -153,10 +151,6 @@ def listed(text: str) -> list[str]:
     return [word for word in cut(text.removeprefix("(").removesuffix(")")) if word]
 
 
-def unquoted(text: str) -> str:
-    return text[1:-1].replace("''", "'").replace("&&", "&")
-
-
 @dataclass
 class Reading:
     """The reading of a mapset's source."""
@@ -270,7 +264,7 @@ class Reading:
             return Text(bytes=digits + "0" * (len(digits) % 2))
         if "INITIAL" not in given:
             return None
-        text = unquoted(given["INITIAL"])
+        text = given["INITIAL"][1:-1].replace("''", "'").replace("&&", "&")
         odd = sorted({character for character in text if character not in CODED})
         if odd:
             self.left(f"INITIAL has {odd[0]!r}, for which there is no code; write: XINIT")

@@ -5,7 +5,8 @@ from dataclasses import dataclass
 from cics.areas import ADDRESSES
 from cics.areas import ASSIGNED as ASSIGNED_EXACTLY
 from cics.commands import OPTIONS
-from cics.stand_in.requests import Call, Line, NotStoodIn, Request, with_length
+from cics.stand_in.requests import Call, NotStoodIn, Request, with_length
+from cics.statements import Line
 from cics.texts import is_name
 
 PROGRAM = "$SREST"
@@ -13,8 +14,7 @@ OF_ALL = {"RESP", "RESP2", "NOHANDLE"}
 DATA, SET, LENGTH = 0x80, 0x40, 0x08
 TIME = "TIMESEP"
 FORMS = {"TIME": 1, "YYDDD": 2, "YYMMDD": 3, "MMDDYY": 4, "DATE": 4, "DDMMYY": 5, "YYDDMM": 6, "DAYOFWEEK": 7, "DAYOFMONTH": 8, "MONTHOFYEAR": 9,
-         "YEAR": 10,
-         "DAYCOUNT": 11}
+         "YEAR": 10, "DAYCOUNT": 11}
 # What ASSIGN gives: the length of the field, and the value.
 ASSIGNED = {"TCTUALENG": (2, "=H'0'"), "TWALENG": (2, "=H'0'"), "CWALENG": (2, "=H'512'"), "SCRNHT": (2, "=H'24'"), "SCRNWD": (2, "=H'80'"),
             "OPID": (3, "=CL3' '"), "SYSID": (4, "=C'CICS'"), "COLOR": (1, "=X'FF'"), "HILIGHT": (1, "=X'00'"), "EXTDS": (1, "=X'FF'"),
@@ -178,8 +178,7 @@ def text_sent(call: Call) -> Stood | None:
 
 BY_WORD: dict[str, Callable[[Call], Stood | None]] = {
     "START": started, "RETRIEVE": retrieved, "ASKTIME": asked_time, "FORMATTIME": formatted_time, "ASSIGN": assigned, "DELAY": nothing,
-    "DUMP": nothing,
-    "ENTER": nothing, "TRACE": nothing}
+    "DUMP": nothing, "ENTER": nothing, "TRACE": nothing}
 
 
 def is_known_here(call: Call) -> bool:

@@ -3,7 +3,7 @@ from dataclasses import dataclass, field
 
 from cics.commands import Command, Unit, command_of, without_blanks
 from cics.program import Program
-from cics.statements import Statement, comment_of, joined, new_comment, new_statement, parsed
+from cics.statements import Line, Statement, joined, parsed
 from cics.texts import is_decimal
 
 BLOCK, LENGTH = "$SR", 64  # the request, and its bytes
@@ -38,14 +38,6 @@ class NotStoodIn(Exception):
     def __init__(self, why: str, reason: str = "option") -> None:
         super().__init__(why)
         self.reason = reason
-
-
-@dataclass(frozen=True)
-class Line:
-    """A statement that is written."""
-
-    operation: str
-    operand: str
 
 
 @dataclass
@@ -158,11 +150,3 @@ def call_of(statement: Statement, program: Program) -> Call | None:
     if command is None or not command.words or command.units[0].word != "CICS":
         return None
     return Call(read, command, program)
-
-
-def statements_for(call: Call, lines: list[Line], is_kept: bool) -> list[Statement]:
-    """The user's statement as a comment, and what is written for it."""
-    old = call.statement
-    comments = [] if is_kept else [new_comment(old, comment_of(line)) for line in old.written()]
-    made = [new_statement(old, line.operation, line.operand, old.name if at == 0 else "") for at, line in enumerate(lines)]
-    return [*comments, *made]

@@ -17,10 +17,9 @@ from cics.stand_in.mapsets import Mapset
 from cics.stand_in.other_commands import PROGRAM as REST
 from cics.stand_in.other_commands import is_known_here, other_command
 from cics.stand_in.records import FileDefinition
-from cics.stand_in.requests import ABENDS, FIELDS, OWN, Call, Line, NotStoodIn, Request, call_of, called, statements_for
-from cics.stand_in.requests import TEXT_ROUTINE
+from cics.stand_in.requests import ABENDS, FIELDS, OWN, TEXT_ROUTINE, Call, NotStoodIn, Request, call_of, called
 from cics.stand_in.symbolic import attributes, symbolic_maps
-from cics.statements import Statement, new_comment, parsed, statements_of
+from cics.statements import Line, Statement, new_comment, parsed, statements_of, written_for
 
 CONTROL_SECTION = ("CSECT", "START")
 MAPS, FILES, OTHERS = "MAPS", "FILES", "OTHERS"
@@ -165,7 +164,7 @@ class StandIns:
             self.counts[found.kind] += 1
             program.log.stands_in(statement.origin, f"EXEC {shown(statement)}", found.text)
             lines = [*called(TEXT_ROUTINE), *found.lines] if self.drops_map and found.sends_text() else found.lines
-            return statements_for(call, lines, program.is_kept)
+            return written_for(call.statement, lines, is_kept=program.is_kept)
         try:
             return self.beside(call, program) if found is None else self.abend(call, found, program)
         except NotStoodIn as why:
@@ -175,20 +174,20 @@ class StandIns:
         """A statement for which nothing stands: it is told, and abends where it is come to."""
         code = ABENDS[why.reason]
         program.left(call.statement.origin, f"EXEC CICS {call.command.name}: {why}; it abends here with {code} (docs/STAND-INS.md)")
-        return statements_for(call, [Line("EXEC", f"CICS ABEND ABCODE('{code}') CANCEL")], program.is_kept)
+        return written_for(call.statement, [Line("EXEC", f"CICS ABEND ABCODE('{code}') CANCEL")], is_kept=program.is_kept)
 
     def beside(self, call: Call, program: Program) -> list[Statement]:
         """A command of the region beside which something has to be done."""
         name, statement = call.command.name, call.statement
         if self.has_requests and name in HANDLES and self.table.numbers:
             program.log.changed(statement.origin, f"EXEC {shown(statement)}", "entries of a table")
-            return statements_for(call, handled(call), program.is_kept)
+            return written_for(call.statement, handled(call), is_kept=program.is_kept)
         if self.has_requests and name in TABLES and self.table.numbers:
             program.log.changed(statement.origin, f"EXEC {shown(statement)}", "itself, and the table of conditions")
-            return statements_for(call, kept_too(call, self.table), program.is_kept)
+            return written_for(call.statement, kept_too(call, self.table), is_kept=program.is_kept)
         if self.drops_map and name == "SEND TEXT":
             lines = called(TEXT_ROUTINE)
-            before = statements_for(call, lines, is_kept=True)
+            before = written_for(call.statement, lines, is_kept=True)
             return [*before, parsed(statement.origin, statement.written()).changed(name="") if statement.name else statement]
         return [statement]
 
@@ -205,7 +204,7 @@ class StandIns:
         for group in groups:
             end = next((one for one in group if one.operation == "END" and not one.is_comment), None)
             if end and lines and not has_ended:
-                made = [new_comment(end, HEADING), *as_statements(lines, end)]
+                made = [new_comment(end, HEADING), *[replace(one, origin=end.origin) for one in statements_of(lines, end.origin.file)]]
                 at = group.index(end)
                 group = [*group[:at], *made, *group[at:]]
                 has_ended = True
@@ -247,8 +246,3 @@ def odd_option(call: Call) -> str | None:
 
 def shown(statement: Statement) -> str:
     return " ".join(statement.operand.split())
-
-
-def as_statements(lines: list[str], near: Statement) -> list[Statement]:
-    """Lines as statements beside one."""
-    return [replace(one, origin=near.origin) for one in statements_of(lines, near.origin.file)]

@@ -263,7 +263,6 @@ class Service:
         client.do(client.write) if is_let_in else client.do(client.close_with, "the user who began it")
 
     def drop(self, client: Client) -> None:
-        """Closes a connection."""
         if client in self.clients:
             self.clients.remove(client)
             self.watch(client.socket, 0, None)
@@ -305,7 +304,6 @@ class Service:
             self.region.ask(self.request)
 
     def wait(self) -> None:
-        """Waits for something, and handles it."""
         child = self.region.child
         self.watch(child.input, selectors.EVENT_WRITE if child.unsent else 0, lambda _events: child.flush())
         deadlines = [client.deadline for client in self.clients if client.deadline]

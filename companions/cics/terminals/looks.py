@@ -3,54 +3,17 @@ import re
 from collections.abc import Mapping, Sequence
 from typing import NamedTuple
 
+from cics.line_forms import FORMS, reason_of
 from cics.scripts import OF_CICSLOOK
 from cics.terminals.data_stream import BRIGHT, COLUMNS, PAGE, ROWS, Painting
 from cics.terminals.region import Answer, Request, Work
 from cics.transcripts import of_look, place_in
 
-# The looks that may be sent, each of one line, and what an operator of CICS types for it. Nothing else is sent.
-LOOKS: dict[str, list[str]] = {
-    "QUEUES": ["CEMT INQUIRE TSQUEUE", "CEBR"],
-    "QUEUE queue": ["CEBR queue"],
-    "QUEUE queue number": [],
-    "PROGRAMS": ["CEMT INQUIRE PROGRAM", "CEMT INQUIRE TRANSACTION"],
-    "TASKS": ["CEMT INQUIRE TASK", "CEMT INQUIRE TERMINAL"],
-    "RESOURCES": ["CEMT INQUIRE ENQ"],
-    "COMMAND term": [],
-    "AHEAD term": [],
-    "AHEAD term instructions": [],
-    "AHEAD term AT program line": [],
-    "TASK term": [],
-    "AREAS": [],
-    "AREAS term": [],
-    "STORAGE address length": [],
-    "WHERE address": [],
-    "ABEND term": [],
-    "ABEND term STORAGE": [],
-    "ABEND term FIELDS": [],
-    "SYMBOL program program": [],
-    "SYMBOLS program": [],
-    "XREF program": [],
-    "TERMINALS": [],
-    "HELP": [],
-    "HELP word": [],
-    "FIELD term program": [],
-    "FIELD term program level": [],
-    "FIELDS term": [],
-    "FIELDS term level": [],
-}
-OPERANDS = {
-    "term": "[A-Z0-9@#$]{1,4}",
-    "program": "[A-Z0-9@#$]{1,8}",
-    "queue": "(?:[A-Z0-9@#$]{1,8}|[0-9A-F]{16})",
-    "address": "[0-9A-F]{6}",
-    "line": "[1-9][0-9]{0,4}",
-    "level": "(?:[1-9]|1[0-6])",
-    "instructions": "(?:[1-9][0-9]?|1[0-9]{2}|2[0-4][0-9]|25[0-6])",  # to 256
-    "word": f"(?:{'|'.join(OF_CICSLOOK)})",
-    "number": "(?:[1-9][0-9]{0,3}|[12][0-9]{4}|3[01][0-9]{3}|32[0-6][0-9]{2}|327[0-5][0-9]|3276[0-7])",  # to 32767
-    "length": "(?:[1-9][0-9]{0,2}|[1-3][0-9]{3}|40[0-8][0-9]|409[0-6])",  # to 4096
-}
+NEVER = {"RUN", "WATCH", "COVER", "FAULTS", "ORDERS"}  # of the lines that cicslook has alone those that no terminal sends
+LOOKS = {word: forms for word, forms in FORMS.items() if word in OF_CICSLOOK and word not in NEVER}
+TYPED = {  # what an operator of CICS types for a look, beside CEBR and a queue's name
+    "QUEUES": ["CEMT INQUIRE TSQUEUE", "CEBR"], "PROGRAMS": ["CEMT INQUIRE PROGRAM", "CEMT INQUIRE TRANSACTION"],
+    "TASKS": ["CEMT INQUIRE TASK", "CEMT INQUIRE TERMINAL"], "RESOURCES": ["CEMT INQUIRE ENQ"]}
 SHORTER = {"I": "INQUIRE", "INQ": "INQUIRE", "TAS": "TASK", "PROG": "PROGRAM", "TRAN": "TRANSACTION", "TERM": "TERMINAL",
            "TSQ": "TSQUEUE", "UOWENQ": "ENQ"}
 
@@ -69,21 +32,18 @@ class Line(NamedTuple):
     text: str
     is_bright: bool = False
 
-def pattern(form: str) -> str:
-    """What fits a row of the table, whose words in lower case stand for operands."""
-    return " ".join(OPERANDS.get(word, word) for word in form.split())
-
-ALL_LOOKS = re.compile("|".join(map(pattern, LOOKS)))
-
 def is_look(line: str) -> bool:
-    return bool(ALL_LOOKS.fullmatch(line))
+    return line.split(" ")[0] in LOOKS and reason_of(line) is None
+
 
 def look_of(text: str) -> str | None:
     """The look that an operator's words are."""
     typed = text.split()
     words = [SHORTER.get(word, word) for word in typed] if typed[:1] == ["CEMT"] else typed
-    found = [look for look, forms in LOOKS.items() if any(re.fullmatch(pattern(form), " ".join(words)) for form in forms)]
-    return found[0].replace("queue", words[-1]) if found else None
+    if len(words) == 2 and words[0] == "CEBR":
+        return f"QUEUE {words[1]}" if is_look(f"QUEUE {words[1]}") else None
+    return next((look for look, forms in TYPED.items() if " ".join(words) in forms), None)
+
 
 def asked(look: str) -> Work:
     """The lines of a look, without what they begin with."""

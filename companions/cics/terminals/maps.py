@@ -50,11 +50,6 @@ def maps_of(sources: Mapping[str, Sequence[str]]) -> Maps:
     return maps
 
 
-def bytes_of(look: Sequence[str]) -> bytes:
-    """The bytes that a look QUEUE name k shows."""
-    return bytes.fromhex("".join(found[1].replace(" ", "") for found in map(BYTES.match, look) if found))
-
-
 class MapPainting(Painting):
     """A screen with a map's fields."""
 
@@ -121,7 +116,7 @@ def rows_of_buffer(buffer: Sequence[int]) -> list[str]:
 
 def mapped(look: Sequence[str], rows: Sequence[str], maps: Maps, message: str) -> MapPainting | None:
     """The screen with a map's fields, where a buffer is kept, and is what the screen shows."""
-    item = bytes_of(look)
+    item = bytes.fromhex("".join(found[1].replace(" ", "") for found in map(BYTES.match, look) if found))
     if len(item) < HEAD + SIZE or not any(map(is_attribute, item[HEAD : HEAD + SIZE])):
         return None
     seen = [row.rstrip() for row in rows_of_buffer(item[HEAD : HEAD + SIZE])]

@@ -19,8 +19,7 @@ from cics.transcripts import reply_of, rows_of
 REST = None
 LATER = 64  # turns after which a waiting task is tried again, though others don't rest
 IDLE = 10.0  # minutes without a key, after which another may take over a terminal
-REPORTED = {"AlreadyHeldInput": "AN INPUT IS HELD ALREADY", "NoSuchTransaction": "NO SUCH TRANSACTION",
-            "NoStorage": "NO STORAGE FOR A TASK"}
+REPORTED = {"AlreadyHeldInput": "AN INPUT IS HELD ALREADY", "NoSuchTransaction": "NO SUCH TRANSACTION", "NoStorage": "NO STORAGE FOR A TASK"}
 EDF_REPORTED = {"Started": "IS ON", "AlreadyOn": "IS ON ALREADY", "Closed": "IS OFF", "NotOn": "IS OFF ALREADY"}
 STATES_REPORTED = {State.WAITING: "WAITING", State.PAUSED: "STILL RUNNING: ANY KEY GOES ON"}
 TAKEN = "ALTERED. THE PAGE SHOWS WHAT WAS TYPED UNTIL THE NEXT STOP"

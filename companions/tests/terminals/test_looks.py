@@ -11,6 +11,11 @@ from tests.terminals.session import Session, expect, expect_page, test, tests_of
 BACK = " CLEAR: THE SCREEN AS IT WAS"
 
 
+def bright_rows(terminal: RawTerminal, rows: list[str]) -> list[str]:
+    """The rows of a page that are bright, above the last two."""
+    return [rows[at // 80] for at, attribute in terminal.attributes.items() if attribute == 0xF8 and at < 1760]
+
+
 @test
 def a_look_that_is_typed() -> None:
     """Its lines are a page, and CLEAR paints the screen as it was. The session has nothing of it."""
@@ -55,15 +60,14 @@ def why_a_task_abended() -> None:
         expect_page(terminal.enter("divi"), {24: " ABENDED ASRA  PF14: WHY"})
         rows = terminal.enter("", "PF14").rows()
         expect("why", rows[0].startswith(" ABEND T001 ASRA INTERRUPTION 9 FIXED-POINT DIVIDE"), True)
-        bright = [at for at, attribute in terminal.attributes.items() if attribute == 0xF8 and at < 1760]
-        expect("line", [rows[at // 80].split()[1:3] for at in bright], [["DR", "2,4"]])
-        expect("tasks", rows[terminal.rows().index(rows[bright[0] // 80]) :].count(" T001 NO TASK"), 1)
+        bright = bright_rows(terminal, rows)
+        expect("line", [row.split()[1:3] for row in bright], [["DR", "2,4"]])
+        expect("tasks", rows[rows.index(bright[0]) :].count(" T001 NO TASK"), 1)
         expect_page(terminal.enter("", "CLEAR"), {24: " ABENDED ASRA  PF14: WHY"})
         # a condition: the bright line is the EXEC statement; the task after it has no abend
         expect_page(terminal.enter("quid"), {24: " ABENDED AEYH  PF14: WHY"})
         rows = terminal.enter("", "PF14").rows()
-        bright = [at for at, attribute in terminal.attributes.items() if attribute == 0xF8 and at < 1760]
-        expect("line", ["DELETEQ" in rows[at // 80] for at in bright], [True])
+        expect("line", ["DELETEQ" in row for row in bright_rows(terminal, rows)], [True])
         terminal.enter("", "CLEAR").enter("fine")
         rows = terminal.enter("", "PF14").rows()
         expect("rows", rows[0], " T001 NO TASK")
@@ -76,8 +80,7 @@ def what_is_due_here() -> None:
         terminal = session.terminal().enter("talk")
         rows = terminal.enter("", "PF14").rows()
         expect("due", rows[0][:14], " RECEIVE INTO(")
-        bright = [rows[at // 80] for at, attribute in terminal.attributes.items() if attribute == 0xF8 and at < 1760]
-        expect("line", ["RECEIVE" in row for row in bright], [True])
+        expect("line", ["RECEIVE" in row for row in bright_rows(terminal, rows)], [True])
         assert " T001 TALK TASK 0000001 LEVEL 01 WAITING FOR INPUT" in rows
         expect_page(terminal.enter("", "CLEAR"), {1: "TALK", 24: " WAITING"})
         second = session.terminal()
@@ -95,8 +98,8 @@ def a_look_at_a_stop() -> None:
         main = terminal.rows()
         rows = terminal.enter("", "PF14").rows()
         expect("command", rows[0][:14], " GETMAIN SET(2")
-        bright = [rows[at // 80] for at, attribute in terminal.attributes.items() if attribute == 0xF8 and at < 1760]
-        expect("line", [re.sub(" +", " ", row).strip() for row in bright], ["6 EXEC CICS GETMAIN SET(9) LENGTH(=H'500') INITIMG(=C'*')"])
+        bright = [re.sub(" +", " ", row).strip() for row in bright_rows(terminal, rows)]
+        expect("line", bright, ["6 EXEC CICS GETMAIN SET(9) LENGTH(=H'500') INITIMG(=C'*')"])
         expect_page_line(terminal, r"NAME +20 2000B0  00000000 .*")
         expect_page_line(terminal, r"LEVEL 01 PROGRAM FLDS R14 01002E FLDS\+00002E DFHEISTG 200060 .*")
         expect("main", terminal.enter("", "CLEAR").rows(), main)
@@ -159,14 +162,15 @@ def words_of_operators() -> None:
 LOOKED_AT = ["QUEUES", "QUEUE JOBS", "QUEUE D1D6C2E240404040", "QUEUE JOBS 32767", "PROGRAMS", "TASKS", "RESOURCES", "COMMAND T001",
              "AHEAD T001", "AHEAD T001 256", "AHEAD T001 AT JOBS 99999",
              "TASK T001", "AREAS", "AREAS T001", "STORAGE 010000 4096", "ABEND T001", "SYMBOL JOBS LINE", "SYMBOLS JOBS", "XREF JOBS",
-             "TERMINALS", "HELP", "HELP FIELD", "FIELD T001 LINE", "FIELD T001 LINE 16", "FIELDS T001", "FIELDS T001 2", "WHERE 2000B4"]
+             "TERMINALS", "COVERED", "COVERED JOBS", "COVERED JOBS LINES",
+             "HELP", "HELP FIELD", "FIELD T001 LINE", "FIELD T001 LINE 16", "FIELDS T001", "FIELDS T001 2", "WHERE 2000B4"]
 
 
 @test
 def spoiled_looks() -> None:
     """Each look spoiled at each byte is answered or refused, and a neighbour goes on."""
     generator = random.Random(14)
-    expect("kinds", {line.split()[0] for line in LOOKED_AT}, {form.split()[0] for form in LOOKS})
+    expect("kinds", {line.split()[0] for line in LOOKED_AT}, {*LOOKS})
     with Session(JOBS, TALK) as session:
         neighbour, terminal = session.terminal().enter("talk"), session.terminal()
         for line in LOOKED_AT:
@@ -182,11 +186,11 @@ def spoiled_looks() -> None:
 
 @test
 def the_table_of_looks() -> None:
-    """It has what the manual has, but RUN, WATCH, FAULTS and ORDERS."""
+    """It has what the manual has, but RUN, WATCH, COVER, FAULTS and ORDERS."""
     with open(f"{TOP}/docs/LOOKS.md", encoding="utf-8") as file:
         rows = re.findall(r"^\| (`[A-Z][^|]*) \|", file.read().partition("\n## ")[0], re.M)
-    named = {line.split()[0] for row in rows for line in re.findall("`([^`]*)`", row)} - {"RUN", "WATCH", "FAULTS", "ORDERS", "/*"}
-    expect("looks", {form.split()[0] for form in LOOKS}, named)
+    named = {line.split()[0] for row in rows for line in re.findall("`([^`]*)`", row)} - {"RUN", "WATCH", "COVER", "FAULTS", "ORDERS", "/*"}
+    expect("looks", {*LOOKS}, named)
     for line in ("STORAGE 010000 4097", "STORAGE 010000 0", "QUEUE JOBS 32768", "QUEUES ", "TASKS\nTASKS", "FAULTS X", "RUN T001", "WATCH OFF", ""):
         expect(line, is_look(line), False)
     expect("words", [look_of(words) for words in ("CEMT I TAS", "CEBR A B", "CEBR", "CEMT", "CEBR +")], ["TASKS", None, "QUEUES", None, None])
