@@ -2,6 +2,7 @@
 
 ghost use Rattle.std.specs.Prelude.{◌≤◌, length};
 
+use crate::seen::task_of;
 use cx_ebcdic::{Aid, Name4};
 use cx_edf::{Answer, Debugged, KeyAnswer, TurnAnswer};
 use cx_region::{Change, Region, Reply};
@@ -81,6 +82,52 @@ pub struct Done {
     pub answer: Answer,
 }
 
+// The calls of a region without what their contracts ensure.
+
+fn key(
+    debugged: &mut Debugged<PagedStore>,
+    terminal: Name4,
+    aid: Aid,
+    sent: Sent,
+) -> Result<Answer, AllocError> {
+    match debugged.key(terminal, aid, sent.bytes())? {
+        KeyAnswer::Region(reply) => Ok(Answer::Region(Reply::Key(reply))),
+        KeyAnswer::ToEdf => Ok(Answer::ToEdf),
+    }
+}
+
+fn turn(debugged: &mut Debugged<PagedStore>, terminal: Name4) -> Result<Answer, AllocError> {
+    match debugged.turn(terminal)? {
+        TurnAnswer::Region(reply) => Ok(Answer::Region(Reply::Turn(reply))),
+        TurnAnswer::Held => Ok(Answer::Held),
+    }
+}
+
+fn edf_on(debugged: &mut Debugged<PagedStore>, terminal: Name4) -> Result<Answer, AllocError> {
+    Ok(Answer::Edf(debugged.edf_on(terminal)?))
+}
+
+fn edf_off(debugged: &mut Debugged<PagedStore>, terminal: Name4) -> Answer {
+    Answer::Edf(debugged.edf_off(terminal))
+}
+
+fn key_alone(
+    region: &mut Region<PagedStore>,
+    terminal: Name4,
+    aid: Aid,
+    sent: Sent,
+) -> Result<Reply, AllocError> {
+    Ok(Reply::Key(region.key(terminal, aid, sent.bytes())?))
+}
+
+fn turn_alone(region: &mut Region<PagedStore>, terminal: Name4) -> Result<Reply, AllocError> {
+    Ok(Reply::Turn(region.turn(terminal)?))
+}
+
+fn abend_alone(region: &mut Region<PagedStore>, terminal: Name4) -> Reply {
+    Reply::Alter(region.alter(terminal, Change::Abend))
+}
+
 /// What an act is answered under EDF.
 fn answer(
     debugged: &mut Debugged<PagedStore>,
@@ -88,16 +135,10 @@ fn answer(
     act: Act,
 ) -> Result<Answer, AllocError> {
     match act {
-        Act::Key(aid, sent) => match debugged.key(terminal, aid, sent.bytes())? {
-            KeyAnswer::Region(reply) => Ok(Answer::Region(Reply::Key(reply))),
-            KeyAnswer::ToEdf => Ok(Answer::ToEdf),
-        },
-        Act::Turn => match debugged.turn(terminal)? {
-            TurnAnswer::Region(reply) => Ok(Answer::Region(Reply::Turn(reply))),
-            TurnAnswer::Held => Ok(Answer::Held),
-        },
-        Act::On => Ok(Answer::Edf(debugged.edf_on(terminal)?)),
-        Act::Off => Ok(Answer::Edf(debugged.edf_off(terminal))),
+        Act::Key(aid, sent) => key(debugged, terminal, aid, sent),
+        Act::Turn => turn(debugged, terminal),
+        Act::On => edf_on(debugged, terminal),
+        Act::Off => Ok(edf_off(debugged, terminal)),
     }
 }
 
@@ -107,7 +148,7 @@ pub fn perform(
     terminal: Name4,
     act: Act,
 ) -> Result<Done, AllocError> {
-    let had_task = debugged.task(terminal).is_some();
+    let had_task = task_of(debugged, terminal).is_some();
     let answer = answer(debugged, terminal, act)?;
     Ok(Done {
         terminal,
@@ -126,12 +167,12 @@ pub fn perform_alone(
     let terminal = done.terminal;
     match (done.act, done.answer) {
         (Act::Key(Aid::Pf12, _), Answer::ToEdf) if done.had_task => {
-            Ok(Some(Reply::Alter(region.alter(terminal, Change::Abend))))
+            Ok(Some(abend_alone(region, terminal)))
         }
         (Act::Key(aid, sent), Answer::Region(_)) => {
-            Ok(Some(Reply::Key(region.key(terminal, aid, sent.bytes())?)))
+            Ok(Some(key_alone(region, terminal, aid, sent)?))
         }
-        (Act::Turn, Answer::Region(_)) => Ok(Some(Reply::Turn(region.turn(terminal)?))),
+        (Act::Turn, Answer::Region(_)) => Ok(Some(turn_alone(region, terminal)?)),
         _ => Ok(None),
     }
 }

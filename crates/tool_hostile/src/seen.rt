@@ -2,7 +2,7 @@
 
 use cx_ebcdic::Name4;
 use cx_edf::Debugged;
-use cx_region::TaskInfo;
+use cx_region::{Region, TaskInfo};
 use cx_storage_pages::PagedStore;
 
 /// The length of an EIB.
@@ -11,6 +11,16 @@ const EIB_LEN: u32 = 88;
 const MOST_LEVELS: usize = 16;
 
 const MOST_NUMBER: u32 = 9_999_999;
+
+/// The live task of a terminal.
+pub fn task_of(debugged: &Debugged<PagedStore>, terminal: Name4) -> Option<TaskInfo> {
+    debugged.task(terminal)
+}
+
+/// The live task of a terminal of a region without EDF.
+pub fn task_alone(region: &Region<PagedStore>, terminal: Name4) -> Option<TaskInfo> {
+    region.task(terminal)
+}
 
 /// What was seen of a terminal at some time: its task and its screen.
 #[derive(Drop)]
@@ -27,7 +37,7 @@ fn has_bytes(debugged: &Debugged<PagedStore>, first: u32, len: u32) -> bool {
 
 /// Whether a terminal's task, if it has one, is within its limits, and its EIB and its DFHEISTG have all their bytes.
 pub fn is_whole(debugged: &Debugged<PagedStore>, terminal: Name4) -> bool {
-    let Some(task) = debugged.task(terminal) else {
+    let Some(task) = task_of(debugged, terminal) else {
         return true;
     };
     (1..=MOST_LEVELS).contains(&task.levels)
@@ -73,7 +83,7 @@ impl Seen {
     pub fn new(debugged: &Debugged<PagedStore>, terminal: Name4) -> Seen {
         Seen {
             terminal,
-            task: debugged.task(terminal),
+            task: task_of(debugged, terminal),
             cells: cells_of(debugged, terminal),
         }
     }
@@ -85,7 +95,7 @@ impl Seen {
 
     /// Whether the terminal's task and screen are still as they were.
     pub fn is_still(&self, debugged: &Debugged<PagedStore>) -> bool {
-        are_same(&self.task, &debugged.task(self.terminal))
+        are_same(&self.task, &task_of(debugged, self.terminal))
             && self.cells == cells_of(debugged, self.terminal)
     }
 }

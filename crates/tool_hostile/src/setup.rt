@@ -27,13 +27,41 @@ const B: [u8; 8] = [0xC2, 0x40, 0x40, 0x40, 0x40, 0x40, 0x40, 0x40];
 
 /// An image of a text, entered at its first byte; None where it has a fault.
 pub fn image_of(text: Vec<u8>, stg_len: u32, alloc: Global) -> Option<CheckedImage> {
-    check(Image {
+    let image = Image {
         text: Bytes::from_vec(text),
         entry: 0,
         relocs: Offsets::from_vec(Vec::new(alloc)),
         stg_len,
-    })
-    .ok()
+    };
+    match check(image) {
+        Ok(image) => Some(image),
+        Err((_, _fault)) => None,
+    }
+}
+
+// The calls of definitions without what their contracts ensure.
+
+fn define_program(
+    region: &mut Region<PagedStore>,
+    name: [u8; 8],
+    image: &CheckedImage,
+) -> Result<(), DefineFault> {
+    match region.define_program(Name8::from_bytes(name), image) {
+        Ok(_) => Ok(()),
+        Err(fault) => Err(fault),
+    }
+}
+
+fn define_transaction(
+    region: &mut Region<PagedStore>,
+    name: [u8; 4],
+    program: [u8; 8],
+) -> Result<(), DefineFault> {
+    region.define_transaction(Name4::from_bytes(name), Name8::from_bytes(program))
+}
+
+fn define_terminal(region: &mut Region<PagedStore>, name: [u8; 4]) -> Result<(), DefineFault> {
+    region.define_terminal(Name4::from_bytes(name))
 }
 
 /// Defines the programs, their transactions and the terminals.
@@ -42,15 +70,15 @@ fn define(
     other: &CheckedImage,
     hostile: &CheckedImage,
 ) -> Result<(), DefineFault> {
-    region.define_program(Name8::from_bytes(B), other)?;
-    region.define_program(Name8::from_bytes(A), hostile)?;
+    define_program(region, B, other)?;
+    define_program(region, A, hostile)?;
     let [a, b] = TRANSACTIONS;
-    region.define_transaction(Name4::from_bytes(a), Name8::from_bytes(A))?;
-    region.define_transaction(Name4::from_bytes(b), Name8::from_bytes(B))?;
+    define_transaction(region, a, A)?;
+    define_transaction(region, b, B)?;
     let [second, third] = OTHERS;
-    region.define_terminal(Name4::from_bytes(HOSTILE))?;
-    region.define_terminal(Name4::from_bytes(second))?;
-    region.define_terminal(Name4::from_bytes(third))
+    define_terminal(region, HOSTILE)?;
+    define_terminal(region, second)?;
+    define_terminal(region, third)
 }
 
 /// The image of the program B.

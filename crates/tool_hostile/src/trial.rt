@@ -4,7 +4,7 @@ use crate::acts::{Act, Done, Sent, perform, perform_alone};
 use crate::counts::{Counts, words};
 use crate::draws::Draws;
 use crate::modes::{Mode, Watch};
-use crate::seen::{Seen, are_same, is_whole};
+use crate::seen::{Seen, are_same, is_whole, task_alone, task_of};
 use crate::setup::{HOSTILE, OTHERS};
 use crate::stop::{Stop, Violation, unless};
 use cx_ebcdic::{Aid, Name4};
@@ -94,7 +94,7 @@ impl Trial {
     /// A key where there is no task, which attaches one, or at times.
     fn key(&mut self, draws: &mut Draws, counts: &mut Counts) -> Result<(), Stop> {
         let hostile = Name4::from_bytes(HOSTILE);
-        let has_task = self.debugged.task(hostile).is_some();
+        let has_task = task_of(&self.debugged, hostile).is_some();
         if !has_task && self.watch.mode != Mode::Stopped {
             return self.event(hostile, Act::Key(Aid::Enter, Sent::Hostile), counts);
         }
@@ -112,7 +112,7 @@ impl Trial {
         }
         let name = draws.pick(&OTHERS).unwrap_or(HOSTILE);
         let terminal = Name4::from_bytes(name);
-        let act = if self.debugged.task(terminal).is_some() {
+        let act = if task_of(&self.debugged, terminal).is_some() {
             Act::Turn
         } else {
             Act::Key(Aid::Enter, Sent::Other)
@@ -165,14 +165,14 @@ impl Trial {
         let Some(alone) = &mut self.alone else {
             return Ok(());
         };
-        let task = self.debugged.task(done.terminal);
+        let task = task_of(&self.debugged, done.terminal);
         let is_alike = match perform_alone(alone, done)? {
             None => true,
             Some(Reply::Alter(reply)) => reply == AlterReply::Altered,
             Some(reply) => done.answer == Answer::Region(reply),
         };
         unless(
-            is_alike && are_same(&task, &alone.task(done.terminal)),
+            is_alike && are_same(&task, &task_alone(alone, done.terminal)),
             Violation::Erased,
         )
     }
