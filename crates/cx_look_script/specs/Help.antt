@@ -10,7 +10,8 @@ use Rattle.cx_look_tables.specs.Words.{look_line, Lines}
 abbrev pub help_row : Subject → List ℕ
 help_row subject.Run = codes "RUN term [n] [stop]  at most n turns of the terminal; stop: BEFORE ABEND, TO program line"
 help_row subject.Watch = codes "WATCH aaaaaa n       each change of one of n bytes; also WATCH term name, WATCH OFF"
-help_row subject.Cover = codes "COVER ON             counts from here on how often each instruction is run; also COVER OFF"
+help_row subject.Cover =
+    codes "COVER ON             counts from here on how often each instruction is run; also COVER OFF"
 help_row subject.Covered =
     codes "COVERED [program]    what was run since then, and what never was; also COVERED program LINES"
 help_row subject.Queues = codes "QUEUES               the temporary storage queues"
@@ -40,10 +41,10 @@ help_row subject.Help = codes "HELP [word]          this table, or the line of a
 -- the words in the order of the table
 abbrev pub help_table : List Subject
 help_table =
-    subject.Run ∷ subject.Watch ∷ subject.Cover ∷ subject.Covered ∷ subject.Queues ∷ subject.Queue ∷ subject.Programs ∷ subject.Tasks
-    ∷ subject.Resources ∷ subject.Terminals ∷ subject.Command ∷ subject.Ahead ∷ subject.Task ∷ subject.Field
-    ∷ subject.Fields ∷ subject.Areas ∷ subject.Storage ∷ subject.Where ∷ subject.Abend ∷ subject.Symbol
-    ∷ subject.Symbols ∷ subject.Xref ∷ subject.Faults ∷ subject.Orders ∷ subject.Help ∷ []
+    subject.Run ∷ subject.Watch ∷ subject.Cover ∷ subject.Covered ∷ subject.Queues ∷ subject.Queue ∷ subject.Programs
+    ∷ subject.Tasks ∷ subject.Resources ∷ subject.Terminals ∷ subject.Command ∷ subject.Ahead ∷ subject.Task
+    ∷ subject.Field ∷ subject.Fields ∷ subject.Areas ∷ subject.Storage ∷ subject.Where ∷ subject.Abend
+    ∷ subject.Symbol ∷ subject.Symbols ∷ subject.Xref ∷ subject.Faults ∷ subject.Orders ∷ subject.Help ∷ []
 
 abbrev pub form_lines : List Subject → Lines
 form_lines subjects = flat_map (λ s. look_line (help_row s ∷ [])) subjects

@@ -44,8 +44,8 @@ pub record IsReal (Shows : RegionState → Lines → Type 0) (keys : List KeyLin
 
 -- None is missed of lists of at most so many moves, where they are limited: each that ends at rest ends with the text of
 -- an outcome, and whatever is written of its end is one. Each is real, and each text stands once.
-pub record AreAll (Shows : RegionState → Lines → Type 0) (keys : List KeyLine) (region : RegionState) (cut : Option ℕ)
-    (outcomes : List Outcome) : Type 0 where
+pub record AreAll (Shows : RegionState → Lines → Type 0) (keys : List KeyLine) (region : RegionState)
+    (cut : Option ℕ) (outcomes : List Outcome) : Type 0 where
   pub none_missed : (moves : List ℕ) (text : Lines) → EndsWith Shows keys (begun region) moves text
       → IsNear cut (length moves) → HasText outcomes text
   pub written : (moves : List ℕ) (to : OrdersState) → Leads (Moves keys) (begun region) moves to
