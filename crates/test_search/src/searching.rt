@@ -1,7 +1,7 @@
 //! What is found, by which lists, and where it is cut; which states loop, and which are at rest.
 
 use crate::graph::{Graph, Row};
-use cx_search::{Outcome, search};
+use cx_search::{Found, Outcome, Reach, search, search_within};
 use std::alloc::{AllocError, Global};
 
 /// Two ways to 3, and 3 is at rest.
@@ -78,6 +78,22 @@ const FOUND: [Finding; 7] = [
     (&DIAMOND, 2, Some(0), &[(0, &[]), (1, &[0])]),
 ];
 
+/// A graph, how many states may be kept, from how many moves on none is tried, why the search ends, and what it finds.
+type Nearby = (&'static [Row], usize, usize, Reach, &'static [Way]);
+
+#[rattlefmt::skip]
+const NEAR: [Nearby; 9] = [
+    (&DIAMOND, 100, 0, Reach::Open, &[(0, &[]), (1, &[0]), (2, &[1])]),
+    (&DIAMOND, 100, 1, Reach::Open, &[(0, &[]), (1, &[0]), (2, &[1]), (3, &[0, 0])]),
+    (&DIAMOND, 100, 2, Reach::Closed, &[(0, &[]), (1, &[0]), (2, &[1]), (3, &[0, 0])]),
+    (&DIAMOND, 3, 1, Reach::Full(1), &[(0, &[]), (1, &[0]), (2, &[1])]),
+    (&DIAMOND, 2, 5, Reach::Full(0), &[(0, &[]), (1, &[0])]),
+    (&SPIN, 100, 0, Reach::Open, &[(0, &[]), (1, &[1])]),
+    (&SPIN, 100, 1, Reach::Closed, &[(0, &[]), (1, &[1])]),
+    (&ONE, 1, 0, Reach::Closed, &[(0, &[])]),
+    (&DIAMOND, 1, 0, Reach::Full(0), &[(0, &[])]),
+];
+
 /// A graph, the place of the first state that is come to again from itself, and of the first that can't rest.
 const LOOPS: [(&[Row], Option<usize>, Option<usize>); 5] = [
     (&DIAMOND, None, None),
@@ -108,31 +124,47 @@ fn find(alloc: Global, graph: &Graph, most: usize) -> Result<Outcome<Graph>, All
 /// Whether a state was found at a place, by this list.
 fn is_found(
     alloc: Global,
-    outcome: &Outcome<Graph>,
+    found: &Found<Graph>,
     place: usize,
     (state, list): Way,
 ) -> Result<bool, AllocError> {
-    let path = outcome.found.path(place, alloc)?;
-    let Some((found, origin)) = outcome.found.states.get_index(place) else {
+    let path = found.path(place, alloc)?;
+    let Some((there, origin)) = found.states.get_index(place) else {
         return Ok(false);
     };
-    Ok(*found == state && origin.moves == list.len() && path.as_slice() == list)
+    Ok(*there == state && origin.moves == list.len() && path.as_slice() == list)
 }
 
 /// Whether these states were found, in this order and by these lists, and no others.
-fn are_found(alloc: Global, outcome: &Outcome<Graph>, ways: &[Way]) -> Result<bool, AllocError> {
+fn are_found(alloc: Global, found: &Found<Graph>, ways: &[Way]) -> Result<bool, AllocError> {
     for (place, way) in ways.iter().enumerate() {
-        if !is_found(alloc, outcome, place, *way)? {
+        if !is_found(alloc, found, place, *way)? {
             return Ok(false);
         }
     }
-    Ok(outcome.found.states.len() == ways.len())
+    Ok(found.states.len() == ways.len())
 }
 
 /// Whether a search finds what it should, and is cut where it should be.
 fn finds(alloc: Global, (rows, most, cut, ways): Finding) -> Result<bool, AllocError> {
     let outcome = find(alloc, &graph_of(alloc, rows)?, most)?;
-    Ok(outcome.cut == cut && are_found(alloc, &outcome, ways)?)
+    Ok(outcome.cut == cut && are_found(alloc, &outcome.found, ways)?)
+}
+
+/// Whether a search ended for this reason.
+fn is_reach(reach: Reach, due: Reach) -> bool {
+    match (reach, due) {
+        (Reach::Closed, Reach::Closed) | (Reach::Open, Reach::Open) => true,
+        (Reach::Full(moves), Reach::Full(most)) => moves == most,
+        _ => false,
+    }
+}
+
+/// Whether a search within so many moves finds what it should, and ends for the reason that is due.
+fn finds_near(alloc: Global, (rows, most, moves, due, ways): Nearby) -> Result<bool, AllocError> {
+    let graph = graph_of(alloc, rows)?;
+    let near = search_within(&graph, &mut (), 0, most.max(1), moves, alloc)?;
+    Ok(is_reach(near.reach, due) && are_found(alloc, &near.found, ways)?)
 }
 
 /// The places of the first states of a graph that loop and that can't rest.
@@ -152,6 +184,14 @@ fn resting_of(alloc: Global, rows: &[Row], most: usize) -> Result<Vec<usize>, Al
 fn each_state_is_found_by_its_soonest_list(rt: HostRuntime) -> Result<(), AllocError> {
     for (number, finding) in FOUND.iter().enumerate() {
         assert!(rt; finds(rt.alloc(), *finding)?, "{number}");
+    }
+    Ok(())
+}
+
+#[test]
+fn a_search_within_so_many_moves_tries_none_beyond(rt: HostRuntime) -> Result<(), AllocError> {
+    for (number, nearby) in NEAR.iter().enumerate() {
+        assert!(rt; finds_near(rt.alloc(), *nearby)?, "{number}");
     }
     Ok(())
 }
