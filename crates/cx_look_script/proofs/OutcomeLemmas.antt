@@ -68,9 +68,11 @@ module _ (noted : NotedDecide) (edf_actions : (old : EdfState) (a : Action) (tex
   applies_once old new another e given other p q =
       let same = noted old.edf new.edf another.edf old.abends new.abends another.abends e given other p.noted q.noted in
       let on : turn_goes_on new.edf e given ≡ turn_goes_on another.edf e other =
-      ap (λ (s : EdfState). turn_goes_on s e given) same.1 ∙ ap (λ (g : Answer). turn_goes_on another.edf e g) same.0 in
-      (same.0, same_state new another same.1 same.2 (p.sources ∙ sym q.sources) (p.watched ∙ sym q.watched)
-      (covers_once tallies (machine_run old.edf e) old.covered new.covered another.covered p.covered q.covered) (p.goes_on ∙ on ∙ sym q.goes_on))
+      ap (λ (s : EdfState). turn_goes_on s e given) same.1 ∙ ap (λ (g : Answer). turn_goes_on another.edf e g) same.0 in (
+        same.0,
+        same_state new another same.1 same.2 (p.sources ∙ sym q.sources) (p.watched ∙ sym q.watched)
+            (covers_once tallies (machine_run old.edf e) old.covered new.covered another.covered p.covered q.covered) (p.goes_on ∙ on ∙ sym q.goes_on),
+      )
 
   -- any other action of `cicsedf`
   plain_once : (old new another : LookState) (a : Action) (text other : List ℕ) → Performs old.edf a text new.edf → Performs old.edf a other another.edf
