@@ -21,6 +21,8 @@ ABOUT = """Makes a page of a run: every event of a script, forward and back, in 
 Status 0: the page has all of the run. 1: the script has a fault, and the page the run up to it. 2: wrong words. 3: no page is made."""
 MOST_LINES = 1_000_000  # of sources, which FIELDS looks through
 MOST_ORDERS = 32  # films of what a script's ORDERS give
+ALL_ARRIVALS = 20_000  # at lines in all of a film, of which AHEAD AT is asked
+MOST_WITH_ARRIVALS = 2_000  # events of a script, where it is asked
 SECONDS = 60.0  # no answer may take longer, but that of a search
 SOON = 2  # seconds, after which it is reported how long a film takes
 
@@ -102,6 +104,7 @@ def filmed_alone(name: str, text: str, path: str, least_skipped: int = 0) -> Fil
         recorder.lines_left = MOST_LINES if has_look(path, "FIELDS TERM") else 0
         recorder.has_instructions = has_look(path, "AHEAD TERM 1")
         recorder.lines_to_count = MOST_LINES if has_look(path, "COVER ON") else 0
+        recorder.arrivals_left = ALL_ARRIVALS if events <= MOST_WITH_ARRIVALS and has_look(path, "AHEAD TERM AT A 1") else 0
         recorder.perform(actions)
     return film
 

@@ -72,6 +72,7 @@ class Film {
     this.data = data;
     this.states = statesOf(data);
     this.found = new WeakMap();
+    this.opened = new Set(); // lines whose registers are shown, each with its source's name
     for (const it of Object.values(data.sources)) it.lines = data.script.slice(it.first - 1, it.first - 1 + it.count);
   }
   get length() {
@@ -334,8 +335,54 @@ function unrun(film, source, line) {
   return first === 0 ? "never" : first > film.data.leftOut + film.at + 1 ? "later" : "";
 }
 
+/** With what an event's turn first came to lines: of each the condition code and the registers, and which of these weren't so at the line before. */
+function arrivalsOf(event) {
+  const found = new Map();
+  let [registers, before] = [Array(16).fill("00000000"), 0];
+  for (const [line, code, change] of event.arrivals || []) {
+    registers = registers.map((it, number) => change[number] ?? it);
+    found.set(line, { line, code, registers, before, changed: before ? Object.keys(change).map(Number) : [] });
+    before = line;
+  }
+  return found;
+}
+
+/** The registers and the condition code of an arrival at a line. */
+function arrivalBox(arrival, numberOf) {
+  const marked = arrival.changed.length ? `; marked: not as at line ${numberOf(arrival.before)}` : "";
+  const said = `The first time that this turn comes to line ${numberOf(arrival.line)}: CC ${arrival.code}${marked}`;
+  const registers = arrival.registers.map((it, number) => {
+    const text = `R${String(number).padStart(2, "0")} ${it}`;
+    return make("span", arrival.changed.includes(number) ? "new" : "", text);
+  });
+  return make("span", "arrival", make("span", "said", said), ...registers);
+}
+
+/** A row of the source to which the turn came: a click or Enter shows with what registers, and hides them. Those of a line that were shown are
+ * shown at other events too. Returns what stands under the statement. */
+function arrivalUnder(film, source, row, arrival, numberOf) {
+  const name = `${source.name} ${arrival.line}`;
+  const box = arrivalBox(arrival, numberOf);
+  const put = () => {
+    box.hidden = !film.opened.has(name);
+    row.setAttribute("aria-expanded", String(!box.hidden));
+  };
+  const change = () => {
+    if (!film.opened.delete(name)) film.opened.add(name);
+    put();
+  };
+  row.classList.add("asked");
+  row.tabIndex = 0;
+  row.setAttribute("role", "button");
+  row.title = "With what registers? (click)";
+  row.addEventListener("click", change);
+  row.addEventListener("keydown", (event) => event.key === "Enter" && change());
+  put();
+  return box;
+}
+
 /** The source at which a task is: what comes next, or is due, is marked; what this half-turn surely did is tinted, and what wasn't run so far, or
- * never, in other colours. */
+ * never, in other colours. A row to which the turn came has its registers under it. */
 function sourceCard(film, terminal) {
   const event = film.data.events[film.at];
   const ran = film.states[film.at + 1]?.ran[terminal];
@@ -346,11 +393,16 @@ function sourceCard(film, terminal) {
   const isOf = (first, line) => line >= first && line <= endOf(source.lines, first);
   const numberOf = (line) => source.from?.[line - 1] || String(line);
   const width = Math.max(5, ...(source.from || []).map((it) => it.length));
+  const arrivals = event?.terminal === terminal ? arrivalsOf(event) : new Map();
+  const under = new Map(); // the registers that stand under a row: the last one of a statement
   source.lines.forEach((line, at) => {
     const kind = event?.ran && isOf(ran[1], at + 1) ? "row here" : passed.concat(event?.ran ? [] : ran[1]).some((it) => isOf(it, at + 1)) ? "row ran" : "row";
     const missed = unrun(film, source, at + 1);
     const mark = { never: "-", later: "." }[missed] || " ";
-    text.append(make("span", `${kind} ${missed}`.trim(), `${numberOf(at + 1).padStart(width)}${mark} ${line.slice(0, 72)}`));
+    const row = make("span", `${kind} ${missed}`.trim(), `${numberOf(at + 1).padStart(width)}${mark} ${line.slice(0, 72)}`);
+    const arrival = arrivals.get(at + 1);
+    if (arrival) under.set(endOf(source.lines, at + 1), arrivalUnder(film, source, row, arrival, numberOf));
+    text.append(row, ...(under.has(at + 1) ? [under.get(at + 1)] : []));
   });
   setTimeout(() => middle(text, text.querySelector(".here") || text.querySelector(".ran")), 0);
   const what = !event?.ran ? ", where the task was last" : / Abended /.test(event.answer) ? ", where the task abended" : "";

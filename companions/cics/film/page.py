@@ -33,7 +33,7 @@ def changes_of(shown: Shown, event: Event) -> dict[str, Lines | dict[str, str]]:
 
 def event_data(shown: Shown, event: Event) -> dict[str, Any]:
     data: dict[str, Any] = {"line": event.line, "text": event.text, "answer": " ".join(event.answer), "changes": changes_of(shown, event)}
-    for key in ("turn", "terminal", "comments", "ran", "passed"):
+    for key in ("turn", "terminal", "comments", "ran", "passed", "arrivals"):
         if value := getattr(event, key):
             data[key] = value
     return data

@@ -23,6 +23,9 @@ AREA = re.compile(r"> AREA ([0-9A-F]{6}) LENGTH ([0-9A-F]{6}) (?:DFHEISTG (\d+)|
 ITEM = re.compile(r"> ITEM (\d+) LENGTH (\d+) ")
 INSTRUCTION = re.compile(r"> INSTRUCTION [0-9A-F]{6} ([^ +]+)\+[0-9A-F]{6} \S+ LINE (\d+)")
 MOST_INSTRUCTIONS = 256  # of a half-turn, the last ones, whose statements are tinted
+MOST_ARRIVALS = 64  # at lines in a half-turn, of which AHEAD AT is asked
+ARRIVED = re.compile(r"> AHEAD \S+ AT \S+ LINE (\d+) CC (\d)")
+REGISTERS = re.compile(r"> R\d\d((?: [0-9A-F]{8}){4})")
 BYTES = re.compile(r" BYTES (\d+) READ \d+$")
 COVERED = re.compile(r"> COVERED \S+ STATEMENTS (\d+) OF ")
 RAN = ("AtCommand", "Abended", "TookExit")  # answers to turns that run instructions
@@ -31,6 +34,7 @@ SOURCE = re.compile(r"SOURCE ([A-Z0-9@#$]{1,8})( DISASM)?")  # without LIST
 
 Lines = list[str]
 Shown = dict[str, Lines]
+Arrival = tuple[int, int, dict[int, str]]  # the first one at a line: the line, the condition code, and registers that aren't as at the arrival before
 
 
 @dataclass
@@ -46,6 +50,7 @@ class Event:
     comments: Lines = field(default_factory=list)
     ran: tuple[str, int] | None = None  # the program and the line at which the task is, or was when it abended
     passed: list[int] = field(default_factory=list)  # the lines that this half-turn surely did, from its first on
+    arrivals: list[Arrival] = field(default_factory=list)  # at the lines of this half-turn; in front of the first one all registers count as zero
 
 
 @dataclass
@@ -94,6 +99,7 @@ class Recorder:
         self.bytes: dict[str, int] = {}  # of each terminal's task: how many bytes its areas have
         self.lines_left, self.named = 0, set[str]()  # of sources that FIELDS may still look through; of which terminals it was asked
         self.has_instructions = False  # whether AHEAD has the instructions of the next turn
+        self.arrivals_left = 0  # at lines, that may still be asked for
         self.lines_to_count = 0  # of sources, whose statements COVERED may still count after turns
         self.counted: dict[str, str] = {}  # of each program, how many of its statements were run
         self.done = 0
@@ -179,8 +185,8 @@ class Recorder:
         level, is_first = self.levels.get(terminal or "", ("", 0))[0], self.done == self.skipped + 1 and self.skipped > 0
         self.shown = {} if is_first else self.shown
         asked = self.questions(set(self.film.terminals) if is_first else {terminal or ""} - {""})
-        before_it = self.instructions_ahead(lines, terminal)
-        ahead = self.child.ask(*before_it) if before_it else []
+        ahead = self.instructions_ahead(lines, terminal)
+        arrivals = self.arrivals_ahead(terminal, ahead)
         answer, *given = self.child.ask_each([sent or lines, *([it] for it in asked.values())])
         if is_not_done(answer):
             self.done -= 1
@@ -199,11 +205,17 @@ class Recorder:
         changes = {**{key: it for key, it in now.items() if before.get(key) != it}, **gone}
         event = Event(action.line, turn, lines[0] if turn else action.text, terminal, without_looks(answer)[-1:], changes, action.comments if turn < 2 else [])
         if terminal:
-            self.note_place(event, terminal, without_looks(answer)[-1:], [it for it in map(INSTRUCTION.match, ahead) if it])
+            self.note_place(event, terminal, without_looks(answer)[-1:], ahead)
         self.film.events.append(event)
-        if lines[0].startswith("TURN ") and reply_of(event.answer[-1] if event.answer else "") in RAN and self.lines_to_count > 1:
-            self.note_runs([level], self.done)
+        if lines[0].startswith("TURN ") and reply_of(event.answer[-1] if event.answer else "") in RAN:
+            self.note_turn(event, level, arrivals)
         return answer
+
+    def note_turn(self, event: Event, program: str, arrivals: list[Arrival]) -> None:
+        """Notes of a turn that ran instructions with what it came to lines, and which statements it ran first."""
+        event.arrivals = arrivals
+        if self.lines_to_count > 1:
+            self.note_runs([program], self.done)
 
     def note_runs(self, programs: Lines, number: int) -> None:
         """Notes which statements of programs were run first by the event of a number; -1 where that isn't known."""
@@ -216,12 +228,20 @@ class Recorder:
         for it, lines in self.asked(new).items():
             self.film.sources[it].note_runs(lines, -1 if it in left_out else number)
 
-    def instructions_ahead(self, lines: Lines, terminal: str | None) -> Lines:
-        """What is asked in front of a turn that runs instructions: which these are."""
+    def instructions_ahead(self, lines: Lines, terminal: str | None) -> list[re.Match[str]]:
+        """Asks in front of a turn that runs instructions which these are."""
         if not self.has_instructions or not lines[0].startswith("TURN ") or terminal not in self.places or self.kept_bytes() > MOST_AHEAD:
             return []
         _, is_due = self.address_of(terminal)
-        return [] if is_due else [f"AHEAD {terminal} {MOST_INSTRUCTIONS}"]
+        ahead = [] if is_due else self.child.ask(f"AHEAD {terminal} {MOST_INSTRUCTIONS}")
+        return [it for it in map(INSTRUCTION.match, ahead) if it]
+
+    def arrivals_ahead(self, terminal: str | None, ahead: list[re.Match[str]]) -> list[Arrival]:
+        """Asks in front of a turn of instructions with what it comes first to each line of the program at which the task is."""
+        (program, _), _ = self.places.get(terminal or "", (("", 0), False))
+        lines = [*dict.fromkeys(int(it[2]) for it in ahead if it[1] == program)][: min(MOST_ARRIVALS, self.arrivals_left)]
+        self.arrivals_left -= len(lines)
+        return arrivals_in([*self.asked({str(line): f"AHEAD {terminal} AT {program} {line}" for line in lines}).values()])
 
     def note_place(self, event: Event, terminal: str, answer: Lines, ahead: list[re.Match[str]]) -> None:
         """Notes where the task is after an event, and what a turn did since it was there: by its instructions where these are known, and
@@ -326,6 +346,19 @@ class Recorder:
         source = self.film.sources.get(program)
         line = source.line_of(address) if source else None
         return (program, line) if line else None
+
+
+def arrivals_in(answers: list[Lines]) -> list[Arrival]:
+    """The arrivals at lines, by what AHEAD AT writes of each. One that is answered NONE has none."""
+    found: list[Arrival] = []
+    before = ["00000000"] * 16
+    for answer in answers:
+        arrived = ARRIVED.fullmatch(answer[0]) if answer else None
+        if arrived:
+            now = [word for it in map(REGISTERS.fullmatch, answer) if it for word in it[1].split()]
+            found.append((int(arrived[1]), int(arrived[2]), {number: word for number, word in enumerate(now) if word != before[number]}))
+            before = now
+    return found
 
 
 def is_not_done(answer: Lines) -> bool:

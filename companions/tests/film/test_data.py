@@ -40,6 +40,17 @@ def written(lines: list[str], questions: list[str]) -> list[list[str]]:
             return [[gone.ended.why()]]
 
 
+def arrivals_of(data: Data, at: int) -> tuple[list[str], list[list[str]]]:
+    """What AHEAD AT is asked in front of an event, of each line to which it came with registers, and the lines about these in its answers."""
+    event, registers = data["events"][at], ["00000000"] * 16
+    (program, _), terminal, shown = event.get("ran", ("", 0)), event["terminal"], []
+    for line, code, change in event["arrivals"]:
+        registers = [change.get(str(number), word) for number, word in enumerate(registers)]
+        rows = [f"> R{first:02} {' '.join(registers[first : first + 4])}" for first in range(0, 16, 4)]
+        shown.append([f"> AHEAD {terminal} AT {program} LINE {line:05} CC {code}", *rows])
+    return [f"AHEAD {terminal} AT {program} {line}" for line, _, _ in event["arrivals"]], shown
+
+
 def film_of(path: str) -> Data:
     data: Data = json.loads(json_of(film_data(filmed(path, text_of(path), PROGRAM))))
     return data
@@ -109,6 +120,11 @@ class DataTest(TestCase):
             for key, lines in zip(asked, written(lines_to(data, event), [*asked.values()])):
                 lines = [] if len(lines) == 1 and lines[0].endswith(" NONE") else lines
                 expect(f"{path}, event {at + 1}, {key}", shown.get(key, []) == lines, (shown.get(key), lines))
+            if "arrivals" in event:
+                questions, due = arrivals_of(data, at)
+                answers = written(lines_to(data, data["events"][at - 1]), questions)
+                seen = [[line for line in answer if line.startswith(("> AHEAD ", "> R"))] for answer in answers]
+                expect(f"{path}, event {at + 1}, with what lines were come to", seen == due, (seen, due))
 
     def test_texts_are_no_markup(self) -> None:
         """Texts with markup in a key, a comment, a source line and a bad line are data."""
@@ -138,6 +154,7 @@ class DataTest(TestCase):
             began = seconds_taken()
             film = filmed("long", loop(source) + "TURN T001\n" * turns, PROGRAM)
             expect(f"{turns} turns are filmed", len(film.events) == (kept or turns + 4), len(film.events))
+            expect("registers at lines", any(it.arrivals for it in film.events) == (turns < 2_000 and has_look(PROGRAM, "AHEAD TERM AT A 1")), turns)
             left_out = fit(film, 29_000_000)
             took, size = seconds_taken() - began, len(json_of(film_data(film)))
             is_well = took < limit and size <= 29_000_000 and bool(left_out) == (kept is None)

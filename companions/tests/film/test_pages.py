@@ -4,6 +4,7 @@ import time
 import unittest
 from typing import Any
 
+from cics.child import TOP
 from cics.film.command import has_look
 from tests.calling import put
 from tests.case import CICSLOOK as PROGRAM
@@ -147,6 +148,55 @@ def overwritten_field(pages: Pages) -> None:
     for what in ("td.asked", ".screen .row", "h2.asked"):
         browser.click(browser.elements(what)[0])
         expect(f"{what} is asked", "changed by" in browser.text("#said"), browser.text("#said"))
+
+
+BOXES = """return [...document.querySelectorAll('.arrival')].filter((it) => it.checkVisibility()).map((it) => [it.textContent,
+  [...it.querySelectorAll('.new')].map((one) => one.textContent), it.previousSibling.getAttribute('aria-expanded')])"""
+BESIDE = """const sides = (it) => { const { left, right } = it.getBoundingClientRect(); return [left, right]; };
+const [box, source] = [document.querySelector('.arrival:not([hidden])'), document.querySelector('.source')];
+source.scrollLeft = arguments[0];
+const [left, right] = sides(source);
+return [box, ...box.children].map(sides).filter((it) => it[0] < left - 1 || it[1] > right + 1)"""
+
+
+def registers_at_a_line(pages: Pages) -> None:
+    """Under a row to which the turn came are its registers at a click, and at Enter; at other events too; and nowhere do they stick out."""
+    browser = pages.browser
+    pages.open(("loop", text_of(f"{TOP}/examples/looks/at.script")), at="#e5")
+    rows = browser.elements(".source .row[aria-expanded]")
+    if not has_look(PROGRAM, "AHEAD TERM AT A 1"):
+        expect("an older program has no registers at lines", not rows, len(rows))
+        return
+    expect("rows with registers", len(rows) == 7 and pages.state(BOXES) == [], (len(rows), pages.state(BOXES)))
+    browser.click(rows[4])
+    found = pages.state(BOXES)
+    said = "The first time that this turn comes to line 9: CC 2; marked: not as at line 8R00 00000000"
+    is_well = len(found) == 1 and found[0][0].startswith(said) and found[0][1:] == [["R06 00000003"], "true"]
+    expect("the registers at a click", is_well, found)
+    pages.state("arguments[0].focus()", {ELEMENT: rows[6]})
+    browser.type("enter")
+    expect("the registers at Enter", [it[1] for it in pages.state(BOXES)] == [["R06 00000003"], ["R05 00000000", "R06 00000006"]], pages.state(BOXES))
+    browser.type("enter")
+    browser.type("left")
+    expect("an event without such rows", pages.state(BOXES) == [], pages.state(BOXES))
+    browser.type("right")
+    expect("they are shown again", pages.state(BOXES) == found, pages.state(BOXES))
+    for width in (390, 1280):
+        browser.width(width)
+        for scrolled in (0, 60):
+            expect(f"registers within the source at {width}", pages.state(BESIDE, scrolled) == [], pages.state(BESIDE, scrolled))
+    for scheme in ("dark", "light"):
+        browser.scheme(scheme)
+        expect(f"contrast of registers in {scheme}", pages.state(LOWEST_CONTRAST)[0] >= 4.5, pages.state(LOWEST_CONTRAST))
+
+
+def registers_under_a_statement(pages: Pages) -> None:
+    """The registers at a statement of two lines stand under the second one."""
+    lines = ["SOURCE TWO", "TWO      CSECT", "         LA    5,1(0,5)", f"{'         EXEC  CICS':71}X", "               RETURN", "         END", "/*"]
+    pages.open(("two", "\n".join([*lines, "TRANSACTION TWO TWO", "TERMINAL T001", "KEY T001 ENTER TWO", "TURN T001", ""])), at="#e5")
+    above = pages.state("return [...document.querySelectorAll('.arrival')].map((it) => it.previousSibling.textContent.trim())")
+    if has_look(PROGRAM, "AHEAD TERM AT A 1"):
+        expect("the rows above registers", above == ["2           LA    5,1(0,5)", "4                 RETURN"], above)
 
 
 def who_waits_for_whom(pages: Pages) -> None:
@@ -331,8 +381,9 @@ def on_a_phone(pages: Pages) -> None:
     expect("all that can be used has a name", unnamed == 0, unnamed)
 
 
-USES = [keys_and_clicks, overwritten_field, who_waits_for_whom, areas_of_a_chain, values_by_their_types, states_are_worked_out, two_films,
-        orders_and_their_films, every_text_is_shown, readable, beside_their_bytes, on_a_phone]
+USES = [keys_and_clicks, overwritten_field, registers_at_a_line, registers_under_a_statement, who_waits_for_whom, areas_of_a_chain,
+        values_by_their_types, states_are_worked_out, two_films, orders_and_their_films, every_text_is_shown, readable, beside_their_bytes,
+        on_a_phone]
 
 
 class PagesTest(TestCase):
