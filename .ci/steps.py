@@ -52,7 +52,7 @@ OWN = [
     Step(".ci/wrong-test"),
     Step(".ci/gate-test"),
     Step(".ci/release-test"),
-    Step(".ci/typed"),
+    Step(".ci/typed --where-it-can", idle=400),  # packages may take their time
     Step("checks/pictures"),
     Step("checks/recipes"),
     Step("checks/recipes --test"),
