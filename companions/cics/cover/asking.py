@@ -140,7 +140,7 @@ def coverage_in(asked: Asked, run: Run) -> Coverage:
         return Coverage(faults={name: f"it isn't done to its end: {asked.why(why)}; nothing of it is counted"})
     lines = run.ended.lines()
     found, refused = asked.answered(lines), asked.refused(lines)
-    return Coverage(found, {name: refused[0]} if refused else {} if found else {name: NO_SOURCE})
+    return Coverage(found, {name: "; ".join(refused)} if refused else {} if found else {name: NO_SOURCE})
 
 
 def as_alone(asked: Asked, run: Run) -> Run:
