@@ -29,18 +29,18 @@ class Content:
     is_link: bool = False
 
 
-def file_content(path: str, top: str = TOP) -> Content:
-    full = os.path.join(top, path)
+def file_content(path: str) -> Content:
+    full = os.path.join(TOP, path)
     with open(full, "rb") as file:
         return Content(path, file.read(), os.access(full, os.X_OK))
 
 
-def of_repository(paths: list[str], top: str = TOP) -> list[Content]:
+def of_repository(paths: list[str]) -> list[Content]:
     """What a release has of the repository's files: companions, examples, the manual, and pages of man."""
-    found = [file_content(path, top) for path in paths if (path in SINGLE or path.startswith(FOLDERS)) and not LEFT_OUT.search(path)]
+    found = [file_content(path) for path in paths if (path in SINGLE or path.startswith(FOLDERS)) and not LEFT_OUT.search(path)]
     for path in paths:
         if page := MAN.fullmatch(path):
-            found.append(Content(f"man/man1/{page['name']}", file_content(path, top).data))
+            found.append(Content(f"man/man1/{page['name']}", file_content(path).data))
     return found
 
 

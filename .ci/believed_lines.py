@@ -3,7 +3,7 @@ import os
 import re
 from collections.abc import Iterable, Iterator
 
-from trusted import PROGRAMS, Believed, Crate
+from trusted import MACHINE, PROGRAMS, Believed, Crate
 from repository import Repository, text_of, write
 
 LEMMA = re.compile(r"(pub )?(?!abbrev|unfoldable|pub|record|data|use|unfolding|where)\S+ :( |$)")
@@ -33,7 +33,8 @@ TEN = {
     "crates/cx_edf/specs/Erasure.antt": "what is left of a run under EDF when EDF is taken away",
     "crates/cx_script/specs/Transcript.antt": "what a script writes",
 }
-WHAT = ("definitions", "laws' statements", "public functions' clauses", "types")
+WHAT = ("definitions", "laws' statements", "public functions' clauses", "types", "code of which nothing is stated")
+OF_MACHINE = 45  # so many of these lines the type that stands for the machine may have
 
 
 def phrases(numbers: Iterable[int]) -> list[str]:
@@ -83,7 +84,7 @@ def lemmas_outside(name: str, crate: Crate) -> Iterator[str]:
 
 
 def judged(writes: bool = False) -> tuple[list[int], list[str], list[str]]:
-    """Returns the four numbers, a line of each crate, and what is wrong."""
+    """Returns the five numbers, a line of each crate, and what is wrong."""
     believed = Believed()
     page, wrong = page_of(believed.crates)
     for name, crate in believed.crates.items():
@@ -91,6 +92,8 @@ def judged(writes: bool = False) -> tuple[list[int], list[str], list[str]]:
     lines = {name: believed.lines(name) for name in believed.counted}
     for name in believed.counted:
         wrong += believed.cited_apart(name)
+    if believed.unstated(MACHINE[0]) > OF_MACHINE:
+        wrong.append(f"crates/{MACHINE[0]}: {believed.unstated(MACHINE[0])} lines of {MACHINE[1]}, where at most {OF_MACHINE} may be")
     total = [sum(it) for it in zip(*lines.values())]
     rules, trust = rules_of({name: it[0] for name, it in lines.items()}), text_of(TRUST)
     if writes:

@@ -62,10 +62,10 @@ def tokens_of(text: str) -> tuple[list[Token], list[Span]]:
     return words, comments
 
 
-def without(text: str, spans: Sequence[Span], put: str = "") -> str:
-    """Returns the text with something else put for each of these spans, which ascend."""
+def without(text: str, spans: Sequence[Span]) -> str:
+    """Returns the text without these spans, which ascend."""
     for start, end in reversed(spans):
-        text = f"{text[:start]}{put}{text[end:]}"
+        text = text[:start] + text[end:]
     return text
 
 

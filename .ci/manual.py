@@ -7,7 +7,7 @@ from dataclasses import dataclass
 from cics.cli import Failure
 
 LINK = re.compile(r"\]\((?P<page>[A-Za-z0-9/_.-]*\.md)?(?:#(?P<heading>[a-z0-9_-]+))?\)")
-FIRST, LESSONS = "docs/README.md", "docs/lessons/"
+FIRST = "docs/README.md"
 STYLE = ("body{max-width:60em;margin:2em auto;padding:0 1em;font:16px/1.5 sans-serif}pre,code{font:14px/1.35 monospace}pre{overflow:auto;"
          "background:#f4f4f4;padding:.6em}table{border-collapse:collapse}td,th{border:1px solid #bbb;padding:.2em .5em;vertical-align:top;"
          "text-align:left}@media(prefers-color-scheme:dark){body{background:#111;color:#ddd}pre{background:#222}a{color:#8bf}}")

@@ -72,9 +72,9 @@ def note(log: str, path: str = NOTED) -> list[str]:
     return lacking
 
 
-def available(given: str = "/proc/meminfo") -> float:
+def available() -> float:
     """Returns the memory that is free, in GB."""
-    found = re.search(r"^MemAvailable:\s+(\d+) kB", text_of(given), re.M)
+    found = re.search(r"^MemAvailable:\s+(\d+) kB", text_of("/proc/meminfo"), re.M)
     return int(found[1]) * 1024 / 1e9 if found else 0.0
 
 

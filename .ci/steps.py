@@ -90,6 +90,8 @@ BUILT = [
     Sweep("checks/faulty-sources crates/cicsedf/out/cicsedf crates/cicslook/out/cicslook"),
     Sweep("checks/interleaved crates/cicsedf/out/cicsedf"),
     Sweep("checks/orders crates/cicsedf/out/cicsedf crates/cicslook/out/cicslook", 600),
+    Sweep("checks/choices crates/cicsedf/out/cicsedf crates/cicslook/out/cicslook", 600),
+    Sweep("checks/choices crates/cicsedf/out/cicsedf crates/cicslook/out/cicslook --test", 600),
     Sweep("checks/pairs crates/cicsedf/out/cicsedf"),
     Sweep("checks/hostile-lines crates/cicsedf/out/cicsedf"),
     Sweep("checks/sizes crates/cicsedf/out/cicsedf"),

@@ -6,7 +6,8 @@
   gives to others; and the members of such a type's impls of traits that aren't proved: as what a value is seen, what a
   conversion gives; so too of a private type that a field of such a type has, since the one is seen through the other;
 - types: the enums and structs of sources that definitions, laws' statements or such clauses cite (as `declared`), with their
-  fields and variants, without attributes.
+  fields and variants, without attributes;
+- code of which nothing is stated: the type that stands for the machine, without its clauses, and the root of each program, without imports.
 
 A definition cites definitions, a law and a clause definitions and laws: so nothing that is meant is in Facts, which has lemmas, or
 in Parts, which has the words of functions that no other crate calls."""
@@ -21,6 +22,7 @@ from repository import Repository, text_of
 
 PROGRAMS = ("cicsedf", "cicslook")
 HEADLINE = "cx_headline"  # laws too, of all of it
+MACHINE = ("cx_script_main", "Machine")  # the type that stands for the machine
 Import = tuple[str, str, str]  # crate, path in it, and what this is called here
 APART = ("Laws", "Facts", "Parts")  # modules of specs/ without definitions: statements of laws, lemmas, words of private functions
 IMPORT = re.compile(r"^[ \t]*(?:pub )?(?:use|mod)\b[^{\n]*(?:\{[^}]*\})?[^\n]*\n?", re.M)
@@ -159,13 +161,28 @@ class Believed:
             return self.kind(of, f"{path}.{rest}".rstrip("."))
         return first if first in APART else None
 
-    def lines(self, crate: str) -> tuple[int, int, int, int]:
-        """Returns how many lines a crate has of definitions, of statements of laws, of clauses and of types that are cited."""
+    def lines(self, crate: str) -> tuple[int, int, int, int, int]:
+        """Returns how many lines a crate has of definitions, of statements of laws, of clauses, of types that are cited, and of code of which
+        nothing is stated."""
         texts = [(kind, filled(without_imports(self.crates[crate].texts[path]))) for path, kind in self.crates[crate].kinds()]
         clauses = sum(filled(text[start:end], "//") for _, text, spans in self.crates[crate].clauses() for start, end in spans)
         its = self.crates[crate].types()
         types = sum(filled(its[it], ("//", "#[")) for of, it in self.types if of == crate and it in its)
-        return sum(n for kind, n in texts if kind is None), sum(n for kind, n in texts if kind == "Laws"), clauses, types
+        definitions, laws = (sum(n for kind, n in texts if kind == wanted) for wanted in (None, "Laws"))
+        return definitions, laws, clauses, types, self.unstated(crate)
+
+    def unstated(self, crate: str) -> int:
+        """Returns how many lines a crate has of code of which nothing is stated."""
+        if crate in PROGRAMS:
+            return filled(IMPORT.sub("", text_of(f"{self.crates[crate].sources}/main.rt")), ("//", "#"))
+        return sum(self.of_machine(text, spans) for _, text, spans in self.crates[crate].clauses()) if crate == MACHINE[0] else 0
+
+    @staticmethod
+    def of_machine(text: str, clauses: list[Span]) -> int:
+        """Returns how many lines a source has of the type that stands for the machine, without those of its clauses."""
+        places = [(it.start, it.end) for it in items_at(text) if MACHINE[1] in ([it.name] if it.kind == "struct" else it.name)]
+        within = [(start, end) for start, end in clauses if any(first <= start and end <= last for first, last in places)]
+        return sum(filled(text[start:end], ("//", "#")) for start, end in places) - sum(filled(text[start:end], "//") for start, end in within)
 
     @functools.cached_property
     def types(self) -> set[tuple[str, str]]:

@@ -1,5 +1,5 @@
-"""Has cicsedf assemble sources of five kinds of 1,250 to 10,000 lines, some hundred thousand lines in one
-run; what is made of one of each is compared before with what must be (by cicslook, as `checks/statements` does it). Prints the user CPU of
+"""Has cicsedf assemble sources of five kinds of 1,250 to 10,000 lines, some hundred thousand lines in one run. What is
+made of one of each is compared before with what must be (by cicslook, as `checks/statements` does it). Prints the user CPU of
 one source, read, translated and assembled, in milliseconds, with the growth for twice as many lines, and the peak memory of a run with one
 source of the longest. No part of the gate."""
 from collections.abc import Callable
@@ -20,9 +20,9 @@ def made(lines: list[str], text: str, places: str, words: list[int] | None = Non
     return Source("made", [*head, *lines, line("", "END")], bytes.fromhex(text), words or [], 0, places)
 
 
-def placed(first: int, count: int) -> str:
-    """That these lines are listed, four bytes apart."""
-    return " ".join(f"{first + k}:{4 * k:06X}" for k in range(count))
+def placed(count: int) -> str:
+    """That so many lines from the third on are listed, four bytes apart."""
+    return " ".join(f"{3 + k}:{4 * k:06X}" for k in range(count))
 
 
 def address(offset: int) -> str:
@@ -43,17 +43,17 @@ def instructions(count: int) -> Source:
         else:
             lines.append(line("", "ST", f"1,P+{k * 4 % 4096}"))
             text += "5010" + address(k * 4 % 4096)
-    return made(lines, text + "00" * (pool - 4 * count) + "".join(f"{literal:08X}" for literal in literals), placed(3, count))
+    return made(lines, text + "00" * (pool - 4 * count) + "".join(f"{literal:08X}" for literal in literals), placed(count))
 
 
 def labels(count: int) -> Source:
-    return made([line(f"L{k}", "DC", f"F'{k}'") for k in range(count)], "".join(f"{k:08X}" for k in range(count)), placed(3, count))
+    return made([line(f"L{k}", "DC", f"F'{k}'") for k in range(count)], "".join(f"{k:08X}" for k in range(count)), placed(count))
 
 
 def forward(count: int) -> Source:
     half = count // 2
     text = "".join(f"{4 * (half + k):08X}" for k in range(half)) + "00000000" * (count - half)
-    return made(sizes.forward(count), text, placed(3, count), [4 * k for k in range(half)])
+    return made(sizes.forward(count), text, placed(count), [4 * k for k in range(half)])
 
 
 def with_a_word(lines: list[str]) -> Source:

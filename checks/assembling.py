@@ -51,13 +51,13 @@ def continued(name: str, operation: str, operand: str) -> list[str]:
     return [f"{line:<71}X" for line in lines[:-1]] + lines[-1:]
 
 
-def outside(text: str, mark: str) -> list[str]:
-    """A text cut at a character, where it is outside apostrophes and parentheses."""
+def outside(text: str) -> list[str]:
+    """A text cut at commas outside apostrophes and parentheses."""
     parts, depth, is_text = [""], 0, False
     for character in text:
         is_text ^= character == "'"
         depth += 0 if is_text else (character == "(") - (character == ")")
-        if character == mark and not is_text and depth == 0:
+        if character == "," and not is_text and depth == 0:
             parts.append("")
         else:
             parts[-1] += character
@@ -161,7 +161,7 @@ class Item:
     def __init__(self, text: str) -> None:
         times, self.kind, modifier, self.value = re.findall(r"^(\d*)([A-Z])(?:L(\d+))?(.*)$", text, re.S)[0]
         self.times, self.modifier = int(times or "1"), int(modifier or "0")
-        self.values = outside(self.value[1:-1], ",") if self.kind in "FH" else [self.value[1:-1]]
+        self.values = outside(self.value[1:-1]) if self.kind in "FH" else [self.value[1:-1]]
         self.align = 1 if modifier else ALIGNED.get(self.kind, 1)
         self.size = self.modifier or self.own_size()
 
@@ -249,13 +249,13 @@ class Assembly:
         if one.operation == "USING":
             return at, at, 1
         if one.operation in ("DS", "DC"):
-            items = [Item(text) for text in outside(one.operand, ",")]
+            items = [Item(text) for text in outside(one.operand)]
             begin, at = at + -at % items[0].align, at
             for item in items:
                 at += -at % item.align + item.times * item.size
             return begin, at, items[0].size
         at += at % 2
-        for operand in outside(one.operand, ","):
+        for operand in outside(one.operand):
             if operand.startswith("="):
                 self.pool.setdefault(operand, at)
         return at, at + self.size_of(one.operation), self.size_of(one.operation)
@@ -287,7 +287,7 @@ class Assembly:
         for one, at in zip(self.statements, self.places):
             section = one.name if one.operation in ("CSECT", "DSECT") else section
             if one.operation == "USING":
-                self.use(*outside(one.operand, ","))
+                self.use(*outside(one.operand))
             if one.operation in ("LTORG", "END"):
                 self.put_pool()
             if one.operation in ("CSECT", "DSECT", "USING", "LTORG", "END"):
@@ -327,7 +327,7 @@ class Assembly:
 
     def items(self, one: Statement, begin: int) -> None:
         data, at = b"", begin
-        for text in outside(one.operand, ","):
+        for text in outside(one.operand):
             item = Item(text)
             at += -at % item.align
             if one.operation == "DC":
@@ -376,7 +376,7 @@ class Assembly:
 
     def instruction(self, one: Statement, at: int) -> tuple[bytes, str]:
         """An instruction's bytes, and its line of the disassembly."""
-        name, operands = one.operation, outside(one.operand, ",")
+        name, operands = one.operation, outside(one.operand)
         if name in BRANCHES:
             name, operands = "BC", [str(BRANCHES[name]), *operands]
         if name == "BR":

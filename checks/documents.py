@@ -180,7 +180,7 @@ def is_change(block: Part, front: list[Part]) -> bool:
     return is_signed and any(line[0] in "+-" for line in block.lines) and front[-1:] != [] and bool(EXAMPLE.findall(front[-1].text()))
 
 
-def try_change(programs: Programs, block: Part, front: list[Part]) -> None:
+def try_change(_programs: Programs, block: Part, front: list[Part]) -> None:
     changed(block, front)
 
 
@@ -198,8 +198,8 @@ def is_drawing(_block: Part, front: list[Part]) -> bool:
     return front[-1:] != [] and front[-1].text() == "<!-- drawing -->"
 
 
-def try_drawing(programs: Programs, _block: Part, _front: list[Part]) -> None:
-    """Tries nothing."""
+def try_nothing(_programs: Programs, _block: Part, _front: list[Part]) -> None:
+    """Of what is drawn, or a form."""
 
 
 def is_quoted(_block: Part, front: list[Part]) -> bool:
@@ -332,14 +332,10 @@ def is_form(block: Part, _front: list[Part]) -> bool:
     return "[" in "".join(block.lines) and "]" in "".join(block.lines)
 
 
-def try_form(programs: Programs, _block: Part, _front: list[Part]) -> None:
-    pass
-
-
 Judge = Callable[[Part, list[Part]], bool]
 Attempt = Callable[[Programs, Part, list[Part]], None]
 KINDS: dict[str, tuple[Judge, Attempt]] = {
-    "drawing": (is_drawing, try_drawing),
+    "drawing": (is_drawing, try_nothing),
     "quoted": (is_quoted, try_quoted),
     "change": (is_change, try_change),
     "written": (is_written, try_written),
@@ -352,7 +348,7 @@ KINDS: dict[str, tuple[Judge, Attempt]] = {
     "statements": (is_statements, try_statements),
     "shell": (is_shell, try_shell),
     "characters": (is_characters, try_characters),
-    "form": (is_form, try_form),
+    "form": (is_form, try_nothing),
 }
 
 

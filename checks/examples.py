@@ -33,8 +33,8 @@ def lessons() -> list[str]:
 
 
 def looks() -> list[str]:
-    """The names of the examples that show looks and ORDERS, which are scripts of `cicslook` alone. Most lessons are such scripts too."""
-    return names_of("looks/*", "orders/*")
+    """The names of the examples that show looks, CHOICES and ORDERS, which are scripts of `cicslook` alone. Most lessons are such scripts too."""
+    return names_of("looks/*", "choices/*", "orders/*")
 
 
 def each_of(names: Iterable[str], attempt: Callable[[str], Counts]) -> list[Case]:

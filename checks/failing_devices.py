@@ -1,6 +1,6 @@
-"""Runs each example with each of its reads, and then of its writes, failing, or moving one
-byte alone; and those of the folder of examples itself, and one of cases, the same again while every read and write moves at most seven bytes,
-so that they fail in mid-stream. Of more than 2,000 calls a fixed choice fails, unless --all is given.
+"""Runs each example with each of its reads, and then of its writes, failing, or moving one byte alone.
+Those of the folder of examples itself, and one of cases, are run so again while every read and write moves at most seven bytes, so that they
+fail in mid-stream. Of more than 2,000 calls a fixed choice fails, unless --all is given.
 
 A run whose read failed must end with status 3, its line on standard error, and the first lines of the transcript, all of them
 where it was the read that finds the script's end. One whose write failed must end with status 3, its line, and a front of the

@@ -1,7 +1,8 @@
 """Tries each order of 20 drawn scripts by a run of its own, and sees that ORDERS misses no outcome and shows none that isn't. Drawn scripts
-have two or three short tasks that share the common work area, a queue and resources, some with keys that are still to come. Each order of
-their turns is tried by a run of its own, by `cicslook` without ORDERS: the set of what is seen where none can go on is that of ORDERS'
-outcomes. And the lines that ORDERS gives of an outcome, in its place in the script and run by `cicsedf` as turns, show that outcome.
+have two or three short tasks that share the common work area, a queue and resources, some with keys that are still to come, for ORDERS or
+ORDERS TYPED AHEAD. Each order of their turns is tried by a run of its own, by `cicslook` without ORDERS: the set of what is seen where none
+can go on is that of ORDERS' outcomes. And the lines that ORDERS gives of an outcome, in its place in the script and run by `cicsedf` as
+turns, show that outcome.
 
 --scripts N are drawn (20), each with at most --most N orders (500); one with more is drawn anew.
 """
@@ -11,9 +12,11 @@ from collections import Counter
 from collections.abc import Iterable, Iterator
 from dataclasses import dataclass
 from functools import partial
+from typing import NamedTuple
 
 from cics.child import run
 from cics.orders import read_orders
+from cics.transcripts import RESTS
 from checks.common import Case, Check, Counts, Wrong, require
 from checks.examples import text_of
 from checks.plain_scripts import plain_of
@@ -21,10 +24,10 @@ from checks.plain_scripts import plain_of
 SEED = 1
 SCRIPTS, MOST = 20, 500
 SHOWN = 5  # differences of a script
-RESTS = ("Idle", "Waiting")
 MOST_TURNS = 8  # that a task of these scripts has
 COMMANDS = ((2, 1), (1, 2), (1, 1), (1, 0, 0))  # of the tasks of a script, at most, between ADDRESS and RETURN
 MARK = "SCREEN ####"  # no terminal of a script has this name
+TASKS = ("TASKS", "TERMINALS")  # show what the tasks do, and what is held for them
 STEPS = {  # statements of a step, and how many commands it has
     "load": (["         L     6,{w}(5)"], 0),
     "add": (["         LA    6,{k}(6)"], 0),
@@ -56,6 +59,7 @@ class Drawn:
                 self.keys.append(f"KEY {terminal} ENTER P{k}")
         if draw.random() < 0.3:
             self.keys.append(f"KEY {draw.choice(self.terminals)} ENTER MORE")
+        self.typed_ahead = bool(self.keys) and draw.random() < 0.5
         self.sights = ["STORAGE 001000 8", "QUEUES", *(f"SCREEN {terminal}" for terminal in self.terminals)]
 
 
@@ -79,13 +83,26 @@ class TooMany(Exception):
     """More orders than may be tried."""
 
 
+class Task(NamedTuple):
+    """What a terminal's task does, as TASKS shows it, and whether input is held for it."""
+
+    doing: str
+    is_held: bool
+
+
+def tasks_of(shown: list[str]) -> list[Task]:
+    """By the lines of TASKS and TERMINALS."""
+    terminals = [line for line in shown if line.startswith("TERMINAL ")]
+    return [Task(doing, " HELD -- " not in terminal) for doing, terminal in zip(shown, terminals)]
+
+
 @dataclass
 class Path:
     """The rest of a script's run after some moves, each terminal as far as it can go: the moves made, what the tasks do before each and at
     the end, all lines of moves, and what is seen at the end."""
 
     moves: list[str]
-    tasks: list[list[str]]
+    tasks: list[list[Task]]
     moved: list[str]
     seen: list[str]
 
@@ -104,23 +121,23 @@ class Orders:
         drawn, turns = self.drawn, list[str]()
         for _ in range(len(drawn.terminals) + 1):
             for terminal in drawn.terminals:
-                turns += [line for _ in range(MOST_TURNS) for line in ("TASKS", f"TURN {terminal}")]
-        ended = run([self.cicslook], text_of([*drawn.lines, MARK, *before, MARK, *turns, "TASKS", MARK, *drawn.sights]))
+                turns += [line for _ in range(MOST_TURNS) for line in (*TASKS, f"TURN {terminal}")]
+        ended = run([self.cicslook], text_of([*drawn.lines, MARK, *before, MARK, *turns, *TASKS, MARK, *drawn.sights]))
         require(ended.is_well(), str(ended))
         parts = [part.split("\n") for part in "\n".join(ended.lines()).split(f"\n{MARK} NONE")]
         first, rest, seen = ([line for line in part if line] for part in parts[1:])
         path, now = Path([], [], list(first), [line.removeprefix("> ") for line in seen]), list[str]()
         for line in rest:
             if line.startswith("> "):
-                now.append(line)
+                now.append(line.removeprefix("> "))
                 continue
             _, terminal, answer, *_ = line.split(" ")
             if answer not in RESTS:
                 path.moves.append(f"TURN {terminal}")
-                path.tasks.append(now)
+                path.tasks.append(tasks_of(now))
                 path.moved.append(line)
             now = []
-        path.tasks.append(now)
+        path.tasks.append(tasks_of(now))
         return path
 
     def left(self, before: list[str]) -> dict[str, list[str]]:
@@ -129,13 +146,14 @@ class Orders:
         of = {terminal: [key for key in self.drawn.keys if key.split(" ")[1] == terminal] for terminal in self.drawn.terminals}
         return {terminal: keys[came[terminal] :] for terminal, keys in of.items()}
 
-    def next_moves(self, before: list[str], tasks: list[str]) -> Iterator[str]:
+    def next_moves(self, before: list[str], tasks: list[Task]) -> Iterator[str]:
         """What can be next after some moves, where the tasks do this."""
         left = self.left(before)
         for terminal, task in zip(self.drawn.terminals, tasks):
-            if not task.endswith("NO TASK") and " WAITING FOR " not in task:
+            if not task.doing.endswith("NO TASK") and " WAITING FOR " not in task.doing:
                 yield f"TURN {terminal}"
-            elif left[terminal] and task.endswith(("NO TASK", "WAITING FOR INPUT")):
+            may_come = not task.is_held if self.drawn.typed_ahead else task.doing.endswith(("NO TASK", "WAITING FOR INPUT"))
+            if left[terminal] and may_come:
                 yield left[terminal][0]
 
     def try_all(self) -> None:
@@ -171,8 +189,8 @@ def incidents_in(moved: list[str]) -> Iterator[str]:
             yield f"ANSWERS {terminal} {answer}"
 
 
-def waits_in(tasks: list[str]) -> Iterable[str]:
-    return (re.sub(" TASK [0-9]{7}", "", line[2:]) for line in tasks if " WAITING FOR " in line)
+def waits_in(tasks: list[Task]) -> Iterable[str]:
+    return (re.sub(" TASK [0-9]{7}", "", task.doing) for task in tasks if " WAITING FOR " in task.doing)
 
 
 def keys_in(keys: list[str], left: dict[str, list[str]]) -> Iterable[str]:
@@ -183,7 +201,7 @@ def keys_in(keys: list[str], left: dict[str, list[str]]) -> Iterable[str]:
 
 def failures_of(drawn: Drawn, orders: Orders, cicsedf: str, cicslook: str) -> Iterator[str]:
     """How ORDERS differs from what was tried."""
-    block = ["ORDERS", *drawn.keys, *drawn.sights, "/*"]
+    block = ["ORDERS TYPED AHEAD" if drawn.typed_ahead else "ORDERS", *drawn.keys, *drawn.sights, "/*"]
     ended = run([cicslook], text_of([*drawn.lines, MARK, *block]))
     require(ended.is_well(), str(ended))
     found = read_orders(ended.lines()[ended.lines().index(f"{MARK} NONE") + 1 :])
@@ -211,7 +229,7 @@ def tried(cicsedf: str, cicslook: str, number: int, most: int) -> Counts:
         failures = list(failures_of(drawn, orders, cicsedf, cicslook))
         if failures:
             raise Wrong(f"{len(failures)} differences", *drawn.lines, *drawn.keys, *failures[:SHOWN])
-        return Counter({"orders": orders.count, "outcomes": len(orders.outcomes)})
+        return Counter({"orders": orders.count, "outcomes": len(orders.outcomes), "of keys typed ahead": len(orders.outcomes) * drawn.typed_ahead})
 
 
 def main(words: list[str]) -> int:
@@ -219,4 +237,4 @@ def main(words: list[str]) -> int:
     check = Check(__name__, __doc__, words, "cicsedf", "cicslook", numbers=numbers)
     attempt = partial(tried, check.program(), check.program(1))
     cases = [Case(f"script {number}", partial(attempt, number, check.number("most"))) for number in range(1, check.number("scripts") + 1)]
-    return check.report(cases, {"orders": 1, "outcomes": 1})
+    return check.report(cases, {"orders": 1, "outcomes": 1, "of keys typed ahead": 1})

@@ -26,6 +26,7 @@ from cics.cli import write_file
 from cics.transcripts import is_of_page
 from checks.common import Case, Check, Counts, Wrong, require
 from checks.examples import FOLDER, text_of
+from checks.plain_scripts import BLOCKS
 
 PAGES, LESSONS = os.path.join(TOP, "docs/lessons"), os.path.join(FOLDER, "lessons")
 ANSWERS = os.path.join(PAGES, "answers.md")  # checks/documents tries its blocks
@@ -214,13 +215,13 @@ def narrow(path: str) -> Counts:
 
 def statements_and_actions(name: str) -> tuple[list[str], list[str]]:
     """The lines of a script's sources, and those of its actions, each with a tabulator and what is answered."""
-    sources, asked, is_source = list[str](), list[str](), False
+    sources, asked, block = list[str](), list[str](), ""
     for line in lines_in(f"{name}.script"):
-        if is_source:
-            sources.append(line)
-            is_source = line != "/*"
-        elif line.startswith("SOURCE"):
-            is_source = True
+        if block:
+            sources += [line] if block == "SOURCE" else []
+            block = "" if line == "/*" else block
+        elif line.split(" ")[0] in BLOCKS:
+            block = line.split(" ")[0]
         elif line.startswith(("KEY", "ALTER")):
             asked.append(line)
     answers = [line for line in lines_in(f"{name}.transcript") if line.startswith(("KEY", "ALTER"))]

@@ -10,7 +10,7 @@ from dataclasses import dataclass, field
 from cics.scripts import OF_CICSLOOK
 from cics.transcripts import RUN_ENDS, is_of_page
 
-BLOCKS = ("IMAGE", "SOURCE", "FAULTS", "ORDERS")
+BLOCKS = ("IMAGE", "SOURCE", "FAULTS", "ORDERS", "CHOICES")
 RUN = re.compile(r"RUN [A-Z0-9@#$]{1,4}(?: ([0-9]{1,5}))?(?: BEFORE ABEND| TO [A-Z0-9@#$]{1,8} (?!0+$)[0-9]{1,5})?")
 CHANGE = re.compile(r"> WATCH [0-9A-F]{6} [0-9]+ FROM ")  # what an event changed of the bytes that are watched
 RUN_ENDED = re.compile(r"> RUN \S+ (?:STOPPED|STILL|TO) ")

@@ -1,5 +1,5 @@
 """Sees that each recipe of docs/CHANGING.md is true: that something which is there already, as the instruction XC, is found in exactly the files
-that its recipe names, and in exactly the places of each; and that the recipe's numbers are right. With --write the places and the numbers are
+and places that its recipe names. The recipe's numbers have to be right, too. With --write the places and the numbers are
 put into the page; which files it names, in which order, and what is added there, is written by hand. With --test it sees, on changes of files
 and of the page, that a file, a place and a number too many and too few are told.
 

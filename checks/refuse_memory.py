@@ -21,7 +21,7 @@ KEY T001 ENTER RET1
 RUN T001
 """
 FIRST_TURN = 5  # lines of its transcript up to that of the first turn
-ORDERS = ("orders/keys",)  # of the examples with ORDERS the one with lines of each kind
+SEARCHES = ("choices/tally", "orders/keys")  # of the examples with CHOICES and ORDERS those with lines of each kind
 ENDED, AFTER_TURN, SAME = "refusals that end the run", "that end RUN after its first turn", "that change nothing"
 
 
@@ -56,7 +56,7 @@ def is_written_by_turns(path: str, program: str) -> Counts:
 def main(words: list[str]) -> int:
     check = Check(__name__, __doc__, words, "cicsedf", flags={**ALL, "looks": "of the examples with looks, by cicslook"})
     program, has_looks = check.program(), check.has("looks")
-    names = [name for name in looks() if name in ORDERS or not name.startswith("orders/")] if has_looks else examples()
+    names = [name for name in looks() if name in SEARCHES or not name.startswith(("choices/", "orders/"))] if has_looks else examples()
     with library() as path:
         cases = each_of(names, partial(swept, path, program, check.has("all")))
         cases += [Case("RUN", partial(is_written_by_turns, path, program))] if has_looks else []

@@ -12,6 +12,7 @@ from checks.refusing import Judge, Sweep, judge_same, library
 
 PASSED = Ended(0, b"\ntest result: ok\n", b"")  # how a test program ends whose test passed
 AMPLE = "ample_memory_does_not_run_out"
+ASSERTION = b"assertion failed: "  # what a test that is stopped by one writes
 TESTS = {
     ("test_asm", "expression_memory"): ["a_refused_allocation_is_no_other_answer"],
     ("test_asm", "operand_memory"): ["a_refused_allocation_is_no_other_answer"],
@@ -21,8 +22,8 @@ TESTS = {
 
 
 def judge_failed(_sweep: Sweep, _nth: int, ended: Ended) -> str | None:
-    """The word for runs of a test that must fail."""
-    return "failed" if ended.status > 0 else None
+    """The word for runs of a test that must fail: it answers the error, or an assertion of it doesn't hold."""
+    return "failed" if ended.status > 0 or ASSERTION in ended.reported + ended.out else None
 
 
 def swept(path: str, crate: str, test: str, judge: Judge) -> Counts:

@@ -1,7 +1,8 @@
-"""Scripts of `cicsedf`, or with --looks of `cicslook`, each with the transcript that is due and the line at
-fault: bad lines, the ends and lengths of lines, faulty sources and when they are reported, refused definitions, calls of full size, blocks
-of ORDERS. Each is run twice: what it reads and writes moves whole, and byte by byte. A script without a fault is run with a bad line after
-it too, whose number tells that all its lines were read.
+"""Scripts of `cicsedf`, or with --looks of `cicslook`, each with the transcript that is due and the line at fault. They are of bad lines, the
+ends and lengths of lines, faulty sources and when they are reported, refused definitions, calls of full size, blocks of ORDERS and
+CHOICES, regions with what is seen of their tasks and storage, and sources that were assembled by hand. Each is run twice: what it reads and
+writes moves whole, and byte by byte. A script without a fault is run with a bad line after it too, whose number tells that all its lines
+were read.
 """
 import re
 from collections import Counter
@@ -14,6 +15,8 @@ from checks.common import Case, Check, Counts, require
 from checks.examples import text_of
 from checks.hostile_lines import CHARACTER
 from checks.refusing import Sweep, library
+from checks.regions import regions
+from checks.worked_sources import worked_sources
 
 
 class Fault(NamedTuple):
@@ -210,11 +213,11 @@ def full_sizes() -> Iterator[Script]:
     yield Script(program % 80 + text_of(events), loaded + answered(events, answers))
 
 
-# Looks: the lines that a block of ORDERS may have.
+# Looks: the lines that a block of ORDERS or of CHOICES may have.
 
 
 def bad_orders() -> Iterator[Script]:
-    for word in ["0", "1000001", "00000001", "1 2", "X", ""]:
+    for word in ["0", "1000001", "00000001", "1 2", "X", "", "TYPED", "1 TYPED", "0 TYPED AHEAD", "TYPED AHEAD 1", "1 TYPED AHEAD ", "TYPEDAHEAD"]:
         yield Script(text_of([f"ORDERS {word}", "/*"]), fault=Fault(1))
     for line in ["HELLO", "RUN T001", "TERMINAL T001", "KEY T001", "KEY T001 PF13", "KEY T0011 ENTER", "KEY T001 ENTER A{B", "key T001 ENTER",
                  "screen T001", "SCREEN", "SCREEN T0011", "STORAGE 001000", "ABEND T001", "ABEND T001 STORAGE", "AHEAD T001", "AHEAD T001 AT P 1",
@@ -227,6 +230,7 @@ def bad_orders() -> Iterator[Script]:
 
 
 ONE_OUTCOME = ["> ORDERS STATES 1 OUTCOMES 1", "> OUTCOME 1"]
+ONE_WITH_KEYS = [f"{ONE_OUTCOME[0]} KEYS WHEN ASKED", ONE_OUTCOME[1]]
 
 
 def orders() -> Iterator[Script]:
@@ -234,23 +238,91 @@ def orders() -> Iterator[Script]:
     yield Script(text_of(["ORDERS", "/*"]), text_of(ONE_OUTCOME))
     yield Script(text_of(["orders 1", "* keys and looks", "", "queues", "/*"]), text_of([*ONE_OUTCOME, "> QUEUES NONE"]))
     shown = ["> KEYS T009 1", "> SCREEN T009 NONE", "> TASKS NONE"]
-    yield Script(text_of(["ORDERS 1000000", "SCREEN T009", "KEY T009 PF12 A", "TASKS", "/*"]), text_of([*ONE_OUTCOME, *shown]))
+    yield Script(text_of(["ORDERS 1000000", "SCREEN T009", "KEY T009 PF12 A", "TASKS", "/*"]), text_of([*ONE_WITH_KEYS, *shown]))
     answer = ["> ANSWERS T001 NoSuchTransaction", "> SCREEN T001", "> KEY T001 ENTER A"]
-    written = ["TERMINAL T001 DEFINED", "> ORDERS STATES 2 OUTCOMES 1", "> OUTCOME 1", *answer]
-    yield Script(text_of(["TERMINAL T001", "ORDERS 2", "KEY T001 ENTER A", "/*"]), text_of(written))
+    for words, said in [("ORDERS 2", "KEYS WHEN ASKED"), ("orders 2 typed ahead", "KEYS TYPED AHEAD"), ("ORDERS TYPED AHEAD", "KEYS TYPED AHEAD")]:
+        written = ["TERMINAL T001 DEFINED", f"> ORDERS STATES 2 OUTCOMES 1 {said}", "> OUTCOME 1", *answer]
+        yield Script(text_of(["TERMINAL T001", words, "KEY T001 ENTER A", "/*"]), text_of(written))
+    yield Script(text_of(["ORDERS TYPED AHEAD", "/*"]), text_of(ONE_OUTCOME))
 
 
 def full_orders() -> Iterator[Script]:
     """A block has at most 256 keys and 64 looks."""
     for keys, looks, line in [(257, 0, 258), (257, 64, 258), (0, 65, 66), (256, 65, 322), (256, 64, None)]:
         script = text_of(["ORDERS 1", *["KEY T009 ENTER A"] * keys, *["QUEUES"] * looks, "/*"])
-        written = text_of([*ONE_OUTCOME, "> KEYS T009 256", *["> QUEUES NONE"] * 64])
+        written = text_of([*ONE_WITH_KEYS, "> KEYS T009 256", *["> QUEUES NONE"] * 64])
         yield Script(script, fault=Fault(line)) if line else Script(script, written)
+
+
+X_1000 = f"{{{'X' * 1000}|}}"  # a set of so many characters, or of none
+
+
+def bad_choices() -> Iterator[Script]:
+    for word in ["", " ", " 0", " 00", " 65", " 008", " X", " 8 0", " 8 1000001", " 8 00000001", " 8 1 2", " 8 ONE", " 8 NUMBER", " 8 ONE NUMBER 1",
+                 " 8  ONE NUMBER", " 8 1 ONE", " ONE NUMBER", " ONE NUMBER 8", " 8 ONE NUMBER ", " 8 TYPED AHEAD"]:
+        yield Script(text_of([f"CHOICES{word}", "KEY T001 ENTER", "/*"]), fault=Fault(1))
+    keys = ["KEY T001", "KEY T001 PF13", "KEY T0011 ENTER", "key T001 ENTER", "KEY {T001} {PF13}", "KEY T001 {ENTER|PF13}", "KEY T001 {PF1#}",
+            "KEY T001 ENTER {A", "KEY T001 ENTER {A{B}", "KEY T001 ENTER {A}{", "KEY T001 ENTER A}", "KEY T001 {}", "KEY {} ENTER", "{KEY} T001 ENTER",
+            f"KEY T001 ENTER {X_1000}{{{'X' * 921}|}}", "KEY T001 ENTER {#####}", "KEY T001 ENTER " + "{##}" * 2 + "{#|X}", "KEY T001 ENTER {#|}{####}"]
+    looks = ["HELLO", "RUN T001", "TURN T001", "TERMINAL T001", "screen T001", "SCREEN", "SCREEN T0011", "STORAGE 001000", "ABEND T001",
+             "ABEND T001 STORAGE", "AHEAD T001", "AHEAD T001 AT P 1", "HELP", "FAULTS P", "ORDERS", "CHOICES 8", "COVERED", "COVER ON"]
+    for line in [*looks, *keys]:
+        yield Script(text_of(["CHOICES 8", line, "/*"]), fault=Fault(2))
+    yield Script(text_of(["* first", "CHOICES 8"]), fault=Fault(2))
+    yield Script(text_of(["CHOICES 8", "KEY T001 ENTER"]), fault=Fault(1))
+    yield Script(text_of(["CHOICES 8", "", "* a key", "KEY T001 ENTER {A|B}", "KEY T001 ENTER {A|B", "/*"]), fault=Fault(5))
+
+
+CLOSED = "STATES 1 SCREENS 1 CLOSED"
+NOTHING = "> STATE 1 SCREEN 1"  # what is seen where there is no terminal
+
+
+def choices() -> Iterator[Script]:
+    """Keys that can't be pressed, and such as are refused, lead nowhere. Their numbers are in the order of lines, and of alternatives, the first
+    set being the slowest; an alternative may be empty, and outside of a set a # is itself."""
+    for heading, said in [("CHOICES 8", f"8 {CLOSED}"), ("choices 64 1000000 one number", "64 STATES 1 SCREENS 1 ONE NUMBER CLOSED"),
+                          ("CHOICES 08 1", f"8 {CLOSED}"), ("Choices 1 One Number", "1 STATES 1 SCREENS 1 ONE NUMBER CLOSED")]:
+        yield Script(text_of([heading, "/*"]), text_of([f"> CHOICES KEYS {said}", NOTHING]))
+        lines = [heading, "* keys, and what is to be seen", "", "KEY T009 {ENTER|PF1} A", "queues", "/*"]
+        told = text_of([f"> CHOICES KEYS {said}", NOTHING, "> QUEUES NONE"])
+        yield from (Script(text_of(lines), told), Script("\r\n".join(lines).encode() + b"\r\n", told), Script("\n".join(lines).encode(), told, lines=6))
+    arrows = [[f"> KEY {number} TO 1", "> ANSWERS T001 NoSuchTransaction"] for number in range(1, 5)]
+    troubles = [line for arrow in arrows for line in ("> STATE 1", *arrow)]
+    shown = [f"> CHOICES KEYS 2 {CLOSED}", *troubles, NOTHING, *(line for arrow in arrows for line in arrow), "> SCREEN T001"]
+    for keys in (["KEY {T001|T009} {ENTER|PF1} {A|}"], ["KEY T001 P{A1|A2|F1|F12}"], ["KEY T001 {ENTER A|PF3} {X|}"],
+                 ["KEY T001 ENTER A", "KEY T001 {CLEAR|PF3} #", "KEY T001 ENTER {}"]):
+        yield Script(text_of(["TERMINAL T001", "CHOICES 2", *keys, "/*"]), text_of(["TERMINAL T001 DEFINED", *shown]))
+
+
+def full_choices() -> Iterator[Script]:
+    """A block has at most 256 KEY lines, which stand for at most 10,000 keys, and 64 looks."""
+    key = "KEY T009 ENTER A"
+    for lines, looks, line in [([key] * 257, 0, 258), ([key] * 257, 64, 258), (list[str](), 65, 66), ([key] * 256, 65, 322), ([key] * 256, 64, None),
+                               ([f"{key}{{####}}"], 64, None), ([f"{key}{{####}}", key], 0, 3), ([f"{key}{{####|}}"], 0, 2),
+                               ([f"{key}{{###}}"] * 10, 64, None), ([f"{key}{{###}}"] * 11, 0, 12), ([key, f"{key}{{####}}"], 0, 3),
+                               ([f"{key}{{##}}{{##}}"], 64, None),
+                               ([f"KEY T009 ENTER {X_1000}{{{'X' * 920}|}}"], 64, None), ([f"{key} {'{##}' * 30}"], 0, 2)]:
+        script = text_of(["CHOICES 1", *lines, *["QUEUES"] * looks, "/*"])
+        written = text_of([f"> CHOICES KEYS 1 {CLOSED}", NOTHING, *["> QUEUES NONE"] * 64])
+        yield Script(script, fault=Fault(line)) if line else Script(script, written)
+
+
+def acts_in_regions() -> Iterator[Script]:
+    """What is done to regions, and what is to be seen in them."""
+    for lines, written in regions():
+        yield Script(text_of(lines), text_of(written))
+
+
+def sources_by_hand() -> Iterator[Script]:
+    """Sources that were assembled by hand, and faulty ones."""
+    for lines, written, fault in worked_sources():
+        yield Script(text_of(lines), text_of(written), Fault(*fault) if fault else None)
 
 
 PLAIN = (bad_lines, alterations, ends_of_lines, faulty_sources, blocks, refused_definitions, long_sources, transcripts, texts_of_keys,
          long_images, full_sizes)
-LOOKS = (bad_orders, orders, full_orders)
+LOOKS = (bad_orders, orders, full_orders, bad_choices, choices, full_choices, acts_in_regions,
+         sources_by_hand)
 
 
 def ending(script: Script, is_look: bool) -> Ended:

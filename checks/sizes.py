@@ -721,6 +721,20 @@ def many_resources() -> Iterator[Script]:
     yield session.case("256 resources of 255 bytes")
 
 
+def many_states() -> Iterator[Script]:
+    """ORDERS of three tasks of 24 half-turns that share nothing: more states than it keeps without a number, and exactly as many as it may."""
+    session, names = Session(), ["T001", "T002", "T003"]
+    suspends = [line for _ in range(11) for line in executed("SUSPEND")]
+    session.define("LONG", [line_of("LONG", "CSECT"), *suspends, *executed("RETURN"), op("END")], "", "LONG")
+    for name in names:
+        session.attach(name, "LONG")
+    session.show("ORDERS", ["> ORDERS MORE THAN 10000 STATES, ALL OF 40 MOVES"])  # 41 moves lead to 10,337
+    session.script += ["/*", f"ORDERS {25 ** 3}", "TASKS"]
+    session.show("/*", ["> ORDERS STATES 15625 OUTCOMES 1", "> OUTCOME 1", *(f"> {name} NO TASK" for name in names)])
+    session.transcript += [f"> RUN {name} 24" for name in names]
+    yield session.case("ORDERS with 15,625 states")
+
+
 def constant_of_256() -> Iterator[Script]:
     """A constant of 256 characters, filled, cut and as they are, listed and disassembled."""
     letters = "ABCDEFGHIJKLMNOP" * 16
@@ -732,7 +746,7 @@ Kind = Callable[[], Iterator[Script]]
 ALL: list[Kind] = [many_instructions, late_faults, many_literals, many_pools, long_statement, long_disassembly, alone, long_commands]
 ALL += [seventy_words, all_words, sixteen_sessions, many_attaches, large_commarea, long_key, many_queues, counted_resource]
 ALL += [refusals_in_full_storage, refusals_of_full_queues, refusals_of_full_tables, last_terminal, constant_of_256]
-LOOKS: list[Kind] = [many_resources]
+LOOKS: list[Kind] = [many_resources, many_states]
 
 
 def first_difference(due: list[str], found: list[str]) -> str:

@@ -132,6 +132,13 @@ def bad_looks() -> Iterator[Trial]:
     yield by_script(none, 0, b"> TASKS NONE\n> FAULTS P NONE\n", b"", is_of_cicslook=True)
 
 
+def late_lines() -> Iterator[Trial]:
+    """1: of `cicslook`, the bad line is shown too where it is the last of a script that is as long as may be."""
+    script = b"\n" * 16_777_210 + b"HELLO\n"
+    shown = Ended(1, b"", b"cicsedf: line 16777211: BadLine\nHELLO\n")
+    yield Trial(shown, ["late.script"], {"late.script": script}, is_of_cicslook=True)
+
+
 def words() -> Iterator[Trial]:
     """2: words that are not at most one file; nothing is written, so standard input is not read for them."""
     two = [[ONE, ONE], ["-", ONE], [ONE, ""], ["--", "--"], ["--", "-"]]
@@ -175,7 +182,7 @@ def memory_refused(program: str) -> Counts:
 
 def main(given: list[str]) -> int:
     check = Check(__name__, __doc__, given, "cicsedf", "cicslook")
-    trials = [trial for part in (done, bad_lines, bad_sources, bad_looks, words, texts, devices) for trial in part()]
+    trials = [trial for part in (done, bad_lines, bad_sources, bad_looks, late_lines, words, texts, devices) for trial in part()]
     cases = [Case(trial.name(number), partial(tried, check.program(int(trial.is_of_cicslook)), trial)) for number, trial in enumerate(trials, 1)]
     cases.append(Case("large programs in little memory", partial(memory_refused, check.program())))
     return check.report(cases, {f"of status {status}": 1 for status in range(5)})

@@ -13,14 +13,15 @@ _cics_words() {
     cics-cover) options="-h --help --version --html --lcov --json --at-least --cicslook" ;;
     cics-film) options="-h --help --version -o --map --open --cicslook" ;;
     cics-look) options="-h --help --version --keep --keep-typed --cicslook" ;;
+    cics-map) options="-h --help --version -o --keys -n --states --one-number --script --tran --queue --json --open --cicslook" ;;
     cics-run) options="-h --help --version --key --mixed --tran --queue --fields --script --json --cover --html --lcov --film --map --cicslook" ;;
-    cics-same) options="-h --help --version --source --shown --screens --orders --even-unrun --json --queue --cicslook --cicsedf" ;;
+    cics-same) options="-h --help --version --source --shown --screens --orders --choices -n --states --one-number --even-unrun --json --queue --cicslook --cicsedf" ;;
     cics-terminals) options="-h --help --version --resume --back --tran --queue --port --session --mixed --clock --idle --any-user --cicslook" ;;
     cics-test) options="-h --help --version --write --junit --cover --json --watch --jobs --cicslook" ;;
   esac
   case $before in
     --explain) mapfile -t COMPREPLY < <(compgen -W "TooLong BadCharacter BadContinuation BadName NoEnd BadOperand ValueOutOfRange NotRelocatable UnknownOperation UndefinedSymbol DuplicateSymbol NoAddressability TooLarge UnknownCommand UnknownOption BadArgument TooManyConditions Conflict MissingOption Memory BadLength EntryOutside StgLength Duplicate Full NoProgram NoRoom RelocOutside Overlap BadLine BadLook note" -- "$word"); return ;;
-    --key|--tran|--source) mapfile -t COMPREPLY < <(compgen -W "$(_cics_names)" -- "$word"); return ;;
+    --tran|--key|--source) mapfile -t COMPREPLY < <(compgen -W "$(_cics_names)" -- "$word"); return ;;
   esac
   if [[ $word == -* ]]; then
     mapfile -t COMPREPLY < <(compgen -W "$options" -- "$word")
@@ -30,4 +31,4 @@ _cics_words() {
     mapfile -t COMPREPLY < <(compgen -f -- "$word")
   fi
 }
-complete -o filenames -F _cics_words cicsedf cicslook cics-adapt cics-check cics-cover cics-film cics-look cics-run cics-same cics-terminals cics-test
+complete -o filenames -F _cics_words cicsedf cicslook cics-adapt cics-check cics-cover cics-film cics-look cics-map cics-run cics-same cics-terminals cics-test

@@ -103,9 +103,8 @@ class Read:
 class Reader:
     """Reads an expression from the left."""
 
-    def __init__(self, text: str, at: int = 0) -> None:
-        self.text, self.at = text, at
-        self.terms, self.depth = 0, 0
+    def __init__(self, text: str) -> None:
+        self.text, self.at, self.terms, self.depth = text, 0, 0, 0
 
     def is_next(self, characters: str) -> bool:
         return self.at < len(self.text) and self.text[self.at] in characters
@@ -184,9 +183,9 @@ def end_of_text(text: str, at: int) -> int:
 
 
 @functools.lru_cache(maxsize=1 << 14)
-def read_expression(text: str, at: int = 0) -> Read | None:
-    """The expression with which a text begins at a place."""
-    reader = Reader(text, at)
+def read_expression(text: str) -> Read | None:
+    """The expression with which a text begins."""
+    reader = Reader(text)
     try:
         return Read(reader.sum(), reader.at)
     except NotOne:

@@ -9,6 +9,7 @@ from dataclasses import dataclass
 
 from cics.child import encoded
 from cics.key_names import AIDS
+from cics.key_sets import MOST_KEYS, MOST_LINES, count_of, expanded, is_spoilt
 from cics.scripts import BLOCK_END, LONGEST, OF_CICSLOOK, is_silent
 from cics.texts import CODED, NAME, SMALL
 
@@ -47,7 +48,8 @@ FORMS = {
     "SYMBOLS": ["program"],
     "XREF": ["program"],
     "FAULTS": ["name"],
-    "ORDERS": ["", "states"],
+    "ORDERS": ["", "states", "TYPED AHEAD", "states TYPED AHEAD"],
+    "CHOICES": ["keys", "keys states", "keys ONE NUMBER", "keys states ONE NUMBER"],
     "HELP": ["", "word"],
 }
 SAID = {  # the lines that cicsedf has too, as HELP has those of cicslook
@@ -63,10 +65,10 @@ SAID = {  # the lines that cicsedf has too, as HELP has those of cicslook
     "SCREEN": ("SCREEN term", "the terminal's screen"),
     "DISPLAY": ("DISPLAY term [k]", "what EDF shows there, or the display that is k before"),
 }
-BLOCK_LOOKS = ("FAULTS", "ORDERS")  # words of looks that begin a block: a bad one of these ends a script
-UNSEEN = ("ABEND", "AHEAD", "COVER", "COVERED", "FAULTS", "HELP", "ORDERS", "RUN", "WATCH")  # looks that no block of ORDERS may have
+BLOCK_LOOKS = ("FAULTS", "ORDERS", "CHOICES")  # words of looks that begin a block: a bad one of these ends a script
+UNSEEN = ("ABEND", "AHEAD", "CHOICES", "COVER", "COVERED", "FAULTS", "HELP", "ORDERS", "RUN", "WATCH")  # looks that no such block may have
 MISSING = "; is /* missing above?"
-MOST_KEYS, MOST_SIGHTS = 256, 64  # in a block of ORDERS
+MOST_SIGHTS = 64  # in a block of ORDERS or CHOICES; it has at most MOST_LINES keys
 LOWER = str.maketrans(SMALL, SMALL.upper())
 ALPHABET = "A to Z, 0 to 9, @ # $"
 
@@ -158,6 +160,7 @@ OPERANDS = {
     "level": number_of("a level's number", 16),
     "instructions": number_of("the number of instructions", 256),
     "states": number_of("the number of states", 1_000_000, digits=7),
+    "keys": number_of("the number of keys", 64, digits=2),
 }
 
 
@@ -300,21 +303,46 @@ def reason_in_image(line: str) -> Reason | None:
     return Reason("an odd number of hexadecimal digits", len(line)) if len(line) % 2 else None
 
 
-def may_stand_in_orders(word: str) -> bool:
+def may_stand_in_search(word: str) -> bool:
+    """Whether a line with this word may stand in a block of ORDERS or CHOICES."""
     return word in ("KEY", "SCREEN") or word in OF_CICSLOOK and word not in UNSEEN
 
 
-def reason_in_orders(line: str, keys: int, sights: int) -> Reason | None:
-    """Why a line of a block of ORDERS is bad, after so many keys and looks."""
-    if is_silent(line):
-        return None
-    if line.split(" ")[0] == "KEY":
-        return reason_of(line) or (Reason(f"more than {MOST_KEYS} keys") if keys >= MOST_KEYS else None)
-    word = read_as(line).split(" ")[0]
-    if word in FORMS and not may_stand_in_orders(word):
-        return Reason(f"no {word} may stand in ORDERS, but KEY, SCREEN and looks{MISSING}", 1, len(word))
-    reason = reason_of(line) or (Reason(f"more than {MOST_SIGHTS} looks") if sights >= MOST_SIGHTS else None)
-    return reason and Reason(reason.text, reason.column, reason.length)
+@dataclass
+class Search:
+    """A block of ORDERS or CHOICES, by its word, so far as it is read: how many KEY lines and looks it has, and how many keys these stand for."""
+
+    word: str
+    lines: int = 0
+    keys: int = 0
+    sights: int = 0
+
+    def line(self, line: str) -> Reason | None:
+        """Reads a line; says why it is bad."""
+        if is_silent(line):
+            return None
+        if line.split(" ")[0] == "KEY":
+            return self.key(line)
+        word = read_as(line).split(" ")[0]
+        if word in FORMS and not may_stand_in_search(word):
+            return Reason(f"no {word} may stand in {self.word}, but KEY, SCREEN and looks{MISSING}", 1, len(word))
+        self.sights += 1
+        reason = reason_of(line) or (Reason(f"more than {MOST_SIGHTS} looks") if self.sights > MOST_SIGHTS else None)
+        return reason and Reason(reason.text, reason.column, reason.length)
+
+    def key(self, line: str) -> Reason | None:
+        """Reads a KEY line; in CHOICES it may have sets."""
+        self.lines += 1
+        if self.word == "CHOICES" and is_spoilt(line):
+            return Reason("a { without a } after it", line.index("{") + 1)
+        count = count_of(line) if self.word == "CHOICES" else 1
+        self.keys += count
+        keys = expanded(line) if count > 1 or self.word == "CHOICES" else [line]
+        if self.lines > MOST_LINES:
+            return Reason(f"more than {MOST_LINES} {'lines with keys' if self.word == 'CHOICES' else 'keys'}")
+        if self.keys > MOST_KEYS:
+            return Reason(f"more than {MOST_KEYS} keys")
+        return next(filter(None, map(reason_of, keys)), None)
 
 
 def due_at(words: Sequence[str]) -> Iterator[str]:

@@ -9,12 +9,14 @@ from dataclasses import dataclass, field
 
 from cics.child import Overdue
 from cics.queues import Loader
-from cics.same import Depth, Fault, Region, child_of, why_of
+from cics.same import Depth, Fault, Page, Region, Seen, child_of, why_of
 from cics.scripts import EVENTS, Action
+from cics.transcripts import reply_of
 
 SECONDS = 600.0  # that a search may take
-FOUND = re.compile(r"ORDERS STATES ([0-9]+) OUTCOMES ([0-9]+)")
-CUT = re.compile(r"ORDERS MORE THAN ([0-9]+) STATES, ALL OF [0-9]+ MOVES")
+KEYS = "(?: KEYS (?:WHEN ASKED|TYPED AHEAD))?"  # where keys are still to come
+FOUND = re.compile(f"ORDERS STATES ([0-9]+) OUTCOMES ([0-9]+){KEYS}")
+CUT = re.compile(f"ORDERS MORE THAN ([0-9]+) STATES, ALL OF [0-9]+ MOVES{KEYS}")
 OUTCOME = re.compile(r"OUTCOME [0-9]+")
 NEVER, CANNOT = "ORDERS SOME NEVER REST", "ORDERS SOME CANNOT REST"
 MOVE = re.compile(r"EDF \S+ OFF|KEY .*|RUN \S+ [0-9]+")
@@ -61,42 +63,52 @@ def read_orders(lines: list[str]) -> Orders:
 
 @dataclass(frozen=True)
 class Asked:
-    """A script's last ORDERS, and the events in front of it."""
+    """A script's last ORDERS, or another block that asks, and the events in front of it."""
 
     before: list[Action]
     block: Action
 
 
-def asked_of(steps: list[Action]) -> Asked | None:
-    at = next((at for at in reversed(range(len(steps))) if steps[at].word == "ORDERS"), None)
+def asked_of(steps: list[Action], word: str = "ORDERS") -> Asked | None:
+    at = next((at for at in reversed(range(len(steps))) if steps[at].word == word), None)
     return None if at is None else Asked([step for step in steps[:at] if step.word in EVENTS], steps[at])
 
 
-def performed(region: Region, steps: list[Action], loaders: list[Loader]) -> None:
-    """Does what a script does, as cicslook does it; test data is loaded before the first key or turn, or at the end."""
-    left = loaders
+def performed(region: Region, steps: list[Action], loaders: list[Loader]) -> list[Page]:
+    """Does what a script does, as cicslook does it; test data is loaded before the first key or turn, or at the end. Gives each key's answer,
+    with the ends of tasks up to the next key."""
+    left, pages = loaders, list[Page]()
     for step in steps:
         if left and step.word in ("KEY", "TURN", "EDF", "ALTER", "RUN"):
             region.loaded(left)
             left = []
-        region.defined(step.lines)
+        answers = region.defined(step.lines)
+        pages += [Page(step.line, step.lines[0], [])] if step.word == "KEY" else []
+        if pages:
+            pages[-1].seen.extend(Seen("", answer) for answer in answers if step.word == "KEY" or reply_of(answer) in ("Ended", "Abended"))
     region.loaded(left)
+    return pages
 
 
-def searched(command: list[str], asked: Asked, loaders: list[Loader]) -> Orders:
-    """What ORDERS finds where the script has come to it."""
+def answered(command: list[str], asked: Asked, loaders: list[Loader]) -> list[str]:
+    """What a block writes where the script has come to it."""
     with child_of(command, [*asked.before, asked.block]) as child:
         began = 0
         try:
             performed(Region(child, Depth.SCREENS), asked.before, loaders)
             began = child.count
-            lines = child.ask(*asked.block.lines, seconds=SECONDS)
+            return child.ask(*asked.block.lines, seconds=SECONDS)
         except Overdue as why:
             said = why_of(why)
             bad = BAD.search(said)
             if bad and began and int(bad[1]) > began:
                 said = f"line {asked.block.line + int(bad[1]) - began - 1}: {bad[2]}"
             raise Fault(said) from None
+
+
+def searched(command: list[str], asked: Asked, loaders: list[Loader]) -> Orders:
+    """What ORDERS finds where the script has come to it."""
+    lines = answered(command, asked, loaders)
     orders = read_orders(lines)
     if not orders.states and orders.most is None:
         raise Fault(lines[0] if lines else "ORDERS writes nothing")

@@ -4,18 +4,13 @@ from dataclasses import dataclass, replace
 from cics.constants import item_of
 from cics.expressions import Chain, terms_of, whole
 from cics.from_cics import advice
-from cics.layout import Placed
-from cics.patches import NotPatched, is_last, patched_at
+from cics.patches import NotLaidOut, is_last, patched_at, place_of
 from cics.program import Program
 from cics.statements import Statement, new_statement
 from cics.texts import cut
 
 MAY_STAND = {"DS", "EQU", "ORG", "SPACE", "EJECT", "TITLE", "PRINT"}  # statements that an overlay may have
 ENDS = {"CSECT", "START", "DSECT", "END"}
-
-
-class NotLaidOut(Exception):
-    """Why an overlay can't be rewritten."""
 
 
 @dataclass(frozen=True)
@@ -37,13 +32,6 @@ class Overlay:
     end: int
     fields: list[Field]
     below: list[Statement]
-
-
-def place_in(statement: Statement, chain: Chain, program: Program) -> Placed:
-    placed = program.layout.placed.get(statement.origin.order)
-    if placed is None or placed.begin.places != {chain: 1} or placed.end.places != {chain: 1}:
-        raise NotLaidOut("its places aren't all known before")
-    return placed
 
 
 def begin_of_overlay(statements: list[Statement], at: int, chain: Chain, target: int, program: Program) -> int:
@@ -72,9 +60,9 @@ def overlay_at(statements: list[Statement], at: int, program: Program) -> Overla
     chain, = placed.begin.places
     end = next((number for number in range(at, len(statements)) if is_last(statements[number]) or statements[number].operation in ENDS),
                len(statements))
-    target = min(place_in(one, chain, program).begin.number for one in statements[at:end] if one.operation == "ORG")
+    target = min(place_of(one, chain, program).begin.number for one in statements[at:end] if one.operation == "ORG")
     begin = begin_of_overlay(statements, at, chain, target, program)
-    if begin == at or place_in(statements[begin], chain, program).begin.number > target:
+    if begin == at or place_of(statements[begin], chain, program).begin.number > target:
         raise NotLaidOut("it doesn't go back over DS alone")
     found = Overlay(begin, end, [], [])
     for one in statements[begin:end]:
@@ -85,7 +73,7 @@ def overlay_at(statements: list[Statement], at: int, program: Program) -> Overla
 def add(statement: Statement, overlay: Overlay, chain: Chain, program: Program) -> None:
     """Adds a statement to an overlay: a field with what is above it, or what is above the next one."""
     if statement.operation in ("DS", "EQU"):
-        placed = place_in(statement, chain, program)
+        placed = place_of(statement, chain, program)
         overlay.fields.append(Field(statement, list(overlay.below), placed.begin.number, placed.end.number))
         overlay.below.clear()
     elif statement.operation == "ORG":
@@ -182,7 +170,7 @@ def put_together(found: list[Statement], at: int, org: Statement, program: Progr
     """Puts constants together over which an ORG goes back; returns where the source goes on, or nothing where that can't be done."""
     try:
         patched = patched_at(found, at, program)
-    except NotPatched:
+    except NotLaidOut:
         return None
     found[patched.begin : patched.end] = patched.statements
     program.log.changed(org.origin, f"ORG {org.operand}", "the bytes of all constants, as they are at the end")

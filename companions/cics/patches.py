@@ -8,12 +8,11 @@ from cics.program import Program
 from cics.statements import Statement, new_statement
 from cics.texts import CODED, cut
 
-ENDS = {"CSECT", "START", "DSECT", "END"}
 MOST, LEAST_RUN, PIECE = 4096, 8, 128  # bytes of a table; bytes of a run that is written as one; bytes of an item
 
 
-class NotPatched(Exception):
-    """Why constants can't be put together."""
+class NotLaidOut(Exception):
+    """Why what an ORG lays over other bytes can't be rewritten."""
 
 
 @dataclass(frozen=True)
@@ -40,11 +39,11 @@ def item_bytes(item: Item, here: Value, program: Program) -> bytes:
     copies = layout.number(item.duplication, here) if item.duplication else 1
     modifier = layout.number(item.modifier, here) if item.modifier else None
     if copies is None or item.modifier and modifier is None or not item.value:
-        raise NotPatched("a constant's bytes aren't all known before")
+        raise NotLaidOut("a constant's bytes aren't all known before")
     size = size_of(item, modifier)
     length = size.copy // max(len(item.values()), 1)
     if size.copy * copies > MOST:
-        raise NotPatched("it has too many bytes")
+        raise NotLaidOut("it has too many bytes")
     found = b""
     for copy in range(copies):
         for number, value in enumerate(item.values()):
@@ -57,7 +56,7 @@ def value_bytes(kind: str, value: str, length: int, here: Value, program: Progra
     if kind == "C":
         text = value.replace("''", "'").replace("&&", "&")
         if not set(text) <= CODED:
-            raise NotPatched("a character has no code")
+            raise NotLaidOut("a character has no code")
         return text.encode("cp037").ljust(length, b"\x40")[:length]
     if kind in "XB" and value:
         return int(value, 16 if kind == "X" else 2).to_bytes(MOST, "big")[-length:]
@@ -69,14 +68,14 @@ def value_bytes(kind: str, value: str, length: int, here: Value, program: Progra
     expression = whole(value) if kind in "AY" else None
     number = value_of(expression, program.layout, here) if expression else None
     if number is None or not number.is_number():
-        raise NotPatched("a constant's bytes aren't all known before")
+        raise NotLaidOut("a constant's bytes aren't all known before")
     return int(number.number % 256**length).to_bytes(length, "big")
 
 
 def place_of(statement: Statement, chain: Chain, program: Program) -> Placed:
     placed = program.layout.placed.get(statement.origin.order)
     if placed is None or placed.begin.places != {chain: 1} or placed.end.places != {chain: 1}:
-        raise NotPatched("its places aren't all known before")
+        raise NotLaidOut("its places aren't all known before")
     return placed
 
 
@@ -91,7 +90,7 @@ def first_of(statements: list[Statement], at: int, target: int, chain: Chain, pr
             break
         first = number
     if first == at or place_of(statements[first], chain, program).begin.number > target:
-        raise NotPatched("it doesn't go back over constants alone")
+        raise NotLaidOut("it doesn't go back over constants alone")
     return first
 
 
@@ -99,7 +98,7 @@ def patched_at(statements: list[Statement], at: int, program: Program) -> Patche
     """The constants over which the ORG of this number goes back, and those that are put into them."""
     placed = program.layout.placed.get(statements[at].origin.order)
     if placed is None or len(placed.begin.places) != 1:
-        raise NotPatched("the place to which it goes back isn't known before")
+        raise NotLaidOut("the place to which it goes back isn't known before")
     chain, = placed.begin.places
     end = at
     while end < len(statements) and (statements[end].is_comment or statements[end].operation in ("DC", "DS", "ORG", "EQU")):
@@ -133,14 +132,14 @@ def put_together(statements: list[Statement], chain: Chain, program: Program) ->
         if one.is_comment or one.operation == "ORG":
             continue
         if one.operation == "EQU":
-            raise NotPatched("EQU stands in it")
+            raise NotLaidOut("EQU stands in it")
         placed = place_of(one, chain, program)
         if one.name:
             names.append(Name(one.name, placed.items[0].number - origin, program.layout.new_length(one.name) or 1))
         for text, place in zip(cut(one.operand), placed.items):
             item = item_of(text)
             if item is None:
-                raise NotPatched("a constant can't be read")
+                raise NotLaidOut("a constant can't be read")
             laid = bytes() if one.operation == "DS" else item_bytes(item, place, program)
             begin = place.number - origin
             data += bytes(max(0, begin + len(laid) - len(data)))

@@ -174,13 +174,15 @@ class Region:
                     seen += self.look(f"item {number} of queue {queue['shown']}", f"QUEUE {digits} {number}")
         return seen
 
-    def defined(self, lines: list[str]) -> None:
-        """Defines what lines say; a refusal is a fault."""
-        refused = [line for line in self.child.ask(*lines) if " REFUSED " in line]
+    def defined(self, lines: list[str]) -> list[str]:
+        """Defines what lines say, and gives what is answered; a refusal is a fault."""
+        answers = self.child.ask(*lines)
+        refused = [line for line in answers if " REFUSED " in line]
         if refused:
             raise Fault(refused[0])
         if lines[0].startswith("TERMINAL "):
             self.terminals.append(lines[0].split()[1])
+        return answers
 
     def loaded(self, loaders: list[Loader]) -> None:
         """Loads test data at a terminal of its own, which is none of those that are compared."""

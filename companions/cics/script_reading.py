@@ -1,11 +1,13 @@
 """A script read line by line: what each line is, and why it is bad, as cicslook reads it. After a bad line the reading goes on, as far as that
 tells more."""
 from collections.abc import Sequence
-from dataclasses import dataclass
+from dataclasses import dataclass, field
 
 from cics.child import encoded
-from cics.line_forms import FORMS, Reason, may_stand_in_orders, read_as, reason_in_image, reason_in_orders, reason_of
+from cics.line_forms import FORMS, Reason, Search, may_stand_in_search, read_as, reason_in_image, reason_of
 from cics.scripts import BLOCK_END, BLOCKS, LONGEST, is_silent
+
+SEARCHES = ("ORDERS", "CHOICES")  # blocks with keys and looks
 
 
 @dataclass(frozen=True)
@@ -25,8 +27,7 @@ class Reading:
     first: int = 0  # the number of its first line
     opening: str = ""
     count: int = 0  # lines that were read
-    keys: int = 0
-    sights: int = 0
+    search: Search = field(default_factory=lambda: Search(""))  # of a block of ORDERS or CHOICES
 
     def line(self, text: str) -> Reason | None:
         """Reads a line, without its end; says why it is bad."""
@@ -36,7 +37,7 @@ class Reading:
         reason = reason_of(text)
         word = read_as(text).split(" ")[0]
         if word in BLOCKS and not is_silent(text):
-            self.block, self.first, self.opening, self.keys, self.sights = word, self.count, text, 0, 0
+            self.block, self.first, self.opening, self.search = word, self.count, text, Search(word)
         return reason
 
     def inside(self, text: str) -> Reason | None:
@@ -45,18 +46,15 @@ class Reading:
             return None
         reason = self.reason_inside(text)
         word = read_as(text).split(" ")[0]
-        if word in FORMS and (self.block == "IMAGE" or self.block == "ORDERS" and not may_stand_in_orders(word)):
+        if word in FORMS and (self.block == "IMAGE" or self.block in SEARCHES and not may_stand_in_search(word)):
             self.block = ""  # its /* is most likely missing
         return reason
 
     def reason_inside(self, text: str) -> Reason | None:
         if self.block == "IMAGE":
             return reason_in_image(text)
-        if self.block == "ORDERS":
-            reason = reason_in_orders(text, self.keys, self.sights)
-            self.keys += text.split(" ")[0] == "KEY"
-            self.sights += not is_silent(text) and text.split(" ")[0] != "KEY"
-            return reason
+        if self.block in SEARCHES:
+            return self.search.line(text)
         return Reason(f"more than {LONGEST} bytes") if len(encoded(text)) > LONGEST else None
 
     def unended(self) -> BadLine | None:

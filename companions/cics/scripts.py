@@ -6,11 +6,11 @@ from functools import cached_property
 
 from cics.child import encoded, lines_of
 
-BLOCKS = ("IMAGE", "SOURCE", "FAULTS", "ORDERS")
+BLOCKS = ("IMAGE", "SOURCE", "FAULTS", "ORDERS", "CHOICES")
 EVENTS = ("IMAGE", "SOURCE", "TRANSACTION", "TERMINAL", "CLOCK", "KEY", "TURN", "EDF", "ALTER", "RUN")
 OF_TERMINALS = ("KEY", "TURN", "EDF", "ALTER", "RUN", "TERMINAL")  # events whose first operand is a terminal
 OF_CICSLOOK = ("RUN", "WATCH", "COVER", "COVERED", "QUEUES", "QUEUE", "PROGRAMS", "TASKS", "RESOURCES", "TERMINALS", "COMMAND", "AHEAD", "TASK",
-               "FIELD", "FIELDS", "AREAS", "STORAGE", "WHERE", "ABEND", "SYMBOL", "SYMBOLS", "XREF", "FAULTS", "ORDERS", "HELP")
+               "FIELD", "FIELDS", "AREAS", "STORAGE", "WHERE", "ABEND", "SYMBOL", "SYMBOLS", "XREF", "FAULTS", "ORDERS", "CHOICES", "HELP")
 RUN = re.compile(r"RUN (?P<terminal>[A-Z0-9@#$]{1,4})(?: (?P<turns>[1-9][0-9]{0,3}))?"
                  r"(?P<stop> BEFORE ABEND| TO [A-Z0-9@#$]{1,8} (?!0+$)[0-9]{1,5})?")
 RUN_TURNS = 1_000  # of a RUN without a number

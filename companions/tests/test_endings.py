@@ -18,7 +18,8 @@ from tests.case import CICSEDF, COMPANIONS, PROGRAMS, TestCase
 CALLS = {  # of each companion one that writes something on standard output
     "cics-adapt": ["p.asm"], "cics-check": ["f.asm", *PROGRAMS], "cics-film": ["s.script", "-o", "-", *PROGRAMS],
     "cics-run": ["p.asm", "--key", "P", *PROGRAMS], "cics-same": ["s.script", "s.script", *PROGRAMS], "cics-test": ["s.script", *PROGRAMS],
-    "cics-look": ["s.script", *PROGRAMS], "cics-cover": ["s.script", *PROGRAMS], "cics-terminals": ["--help"]}
+    "cics-look": ["s.script", *PROGRAMS], "cics-cover": ["s.script", *PROGRAMS],
+    "cics-map": ["s.script", "--keys", f"{COMPANIONS}/tests/p.keys", *PROGRAMS], "cics-terminals": ["--help"]}
 ASKING = [name for name in CALLS if name not in ("cics-adapt", "cics-terminals")]  # those that ask a program
 
 

@@ -14,7 +14,9 @@ ALTER T001 BYTE 01001c 0F|ALTER T001 NOP|ALTER T001 ABEND|* a comment|/*|RUN T00
 RUN T001 4096|RUN T001 7 TO P 3|WATCH 2000C0 2|WATCH T001 JOB|WATCH OFF|QUEUES|QUEUE JOBS|QUEUE jobs 32767|QUEUE C100404040404040 1
 PROGRAMS|tasks|RESOURCES|TERMINALS|COMMAND T001|AHEAD T001|AHEAD T001 256|ahead t001 at p 9|TASK T001|FIELD T001 NAME
 FIELD T001 NAME 16|FIELDS T001|FIELDS T001 1|AREAS|AREAS T001|STORAGE 2000C0 4096|WHERE 010000|ABEND T001|ABEND T001 FIELDS
-ABEND T001 STORAGE|COVER ON|COVER OFF|COVERED|COVERED P|covered p lines|SYMBOL P NAME|SYMBOLS P|XREF P|FAULTS P|ORDERS|ORDERS 1000000|HELP|HELP RUN|HELP run"""
+ABEND T001 STORAGE|COVER ON|COVER OFF|COVERED|COVERED P|covered p lines|SYMBOL P NAME|SYMBOLS P|XREF P|FAULTS P|ORDERS|ORDERS 1000000|ORDERS TYPED AHEAD
+orders 9 typed ahead|CHOICES 8|CHOICES 64 1000000
+CHOICES 1 ONE NUMBER|choices 08 20 one number|HELP|HELP RUN|HELP run"""
 LINES = EXAMPLES.replace("\n", "|").split("|")
 NUMBERS = ["0", "1", "01", "00001", "000001", "15", "16", "17", "256", "257", "4096", "4097", "32767", "32768", "99999", "1000000", "1000001", "X"]
 SAID_OF = {  # lines, and what is said of each
@@ -53,6 +55,18 @@ BLOCK_LINES: dict[str, list[tuple[int, str]]] = {  # scripts, and each bad line 
     "SOURCE P LIST LIST\nP CSECT\n/*\nTASKS\r\n": [(1, "DISASM is due there")],
     "ORDERS\n" + "KEY T001 ENTER\n" * 257 + "/*\n": [(258, "more than 256 keys")],
     "ORDERS\n" + "TASKS\n" * 65 + "/*\n": [(66, "more than 64 looks")],
+    "ORDERS\nKEY T001 ENTER {A|B}\n/*\n": [(2, "'{' has no code, so no key gives it")],
+    "CHOICES 8\nKEY T001 {ENTER|PF3} {A|1#|}\nKEY T001 ENTER |}#\nSCREEN T001\nTASKS\n* all\n\n/*\n": [(3, "'}' has no code, so no key gives it")],
+    "CHOICES 8\nKEY T001 ENTER {A|1#}\nKEY {T001|T002} CLEAR\nKEY T001 ENTER |#\nSCREEN T001\nTASKS\n* all\n\n/*\n": [],
+    "CHOICES 65\nKEY T001 ENTER\n/*\n": [(1, "the number of keys is 1 to 64")],
+    "CHOICES\nKEY T001 ENTER\n/*\n": [(1, "the number of keys is missing; write: CHOICES keys, CHOICES keys states, CHOICES keys ONE NUMBER, "
+                                          "CHOICES keys states ONE NUMBER")],
+    "CHOICES 8\nKEY T001 ENTER {A{B}\n/*\n": [(2, "a { without a } after it")],
+    "CHOICES 8\nKEY T001 {ENTER|PF13}\n/*\n": [(2, "a key is ENTER, CLEAR, PA1, PA2 or PF1 to PF12")],
+    "CHOICES 8\nTURN T001\n": [(2, "no TURN may stand in CHOICES, but KEY, SCREEN and looks; is /* missing above?")],
+    "CHOICES 8\nKEY T001 ENTER {####}\nKEY T001 PF1\n/*\n": [(3, "more than 10000 keys")],
+    "CHOICES 8\n" + "KEY T001 ENTER\n" * 257 + "/*\n": [(258, "more than 256 lines with keys")],
+    "CHOICES 8\n" + "TASKS\n" * 65 + "/*\n": [(66, "more than 64 looks")],
 }
 
 

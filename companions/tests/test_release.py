@@ -25,7 +25,7 @@ COREUTILS = ("cat", "cp", "dirname", "env", "ls", "mkdir", "rm", "sha256sum", "s
 FOLDER = "cicsedf-test"
 MANUAL = "docs/manual.html"
 LESSON = "examples/lessons/01-inquiry/inquiry"
-COMPANIONS = ("cics-adapt", "cics-check", "cics-cover", "cics-film", "cics-look", "cics-run", "cics-same", "cics-test", "cics-terminals")
+COMPANIONS = ("cics-adapt", "cics-check", "cics-cover", "cics-film", "cics-look", "cics-map", "cics-run", "cics-same", "cics-test", "cics-terminals")
 
 
 @dataclass(frozen=True)
@@ -50,6 +50,7 @@ COMMANDS = [
     Command(["companions/cics-look", f"{LESSON}.script"], f"{LESSON}.transcript"),
     Command(["companions/cics-test", "examples/lessons/changing"], has="3 scripts: 3 ok"),
     Command(["companions/cics-film", f"{LESSON}.script", "-o", "-"], has="</html>"),
+    Command(["companions/cics-map", "examples/lessons/02-menu/menu.script", "--one-number", "-o", "-"], has="</html>"),
     Command(["companions/cics-terminals", "--version"], has="cics-terminals "),
     Command(["sha256sum", "-c", "--quiet", "SHA256SUMS"]),
 ]

@@ -7,7 +7,7 @@ from cics.child import Child, text_of
 from cics.line_forms import read_as
 from cics.scripts import Action, actions_of, free_name
 
-SEARCH = 600.0  # seconds of a processor that ORDERS may take
+SEARCH = 600.0  # seconds of a processor that CHOICES or ORDERS may take
 FAULT = re.compile(r"> (?P<line>\d+)(?P<rest>:\d+ \S.*)")  # a line of FAULTS, by the number of a script's line
 DEFINED = {"TERMINAL": "terminals", "TRANSACTION": "transactions", "PROGRAM": "programs"}
 
@@ -45,7 +45,7 @@ class Session:
             return []
         self.avoid_mark(lines)
         first, started = self.child.count, len(self.typed)
-        seconds = SEARCH if action[0].word == "ORDERS" else None
+        seconds = SEARCH if action[0].word in ("CHOICES", "ORDERS") else None
         answer = self.child.ask(*lines, seconds=seconds)
         if action[0].word == "FAULTS":
             answer = [renumbered(line, started - first) for line in answer]

@@ -5,7 +5,7 @@ A changed line that isn't run itself, as a constant, a field, EQU or USING, coun
 import difflib
 import re
 from collections.abc import Iterator, Sequence
-from dataclasses import dataclass, field
+from dataclasses import dataclass, field, replace
 from functools import cached_property
 from itertools import zip_longest
 
@@ -40,6 +40,10 @@ class Ran:
 
     def count_run(self) -> int:
         return sum(count > 0 for count in self.runs.values())
+
+    def plus(self, other: "Ran") -> "Ran":
+        """What was run of the source here and there."""
+        return replace(self, runs={line: count + other.runs.get(line, 0) for line, count in self.runs.items()})
 
     def texts(self) -> list[tuple[str, str, str]]:
         """The statements without their remarks."""

@@ -5,14 +5,9 @@ from html import escape
 
 from cics.cover.counts import Coverage, Covered, Line
 from cics.cover.report import ran_of, range_of
+from cics.pages import assembled, part
 
 FOLDER = os.path.dirname(os.path.abspath(__file__))
-COLOURS = "../film/colours.css"  # those of the film's page
-
-
-def part(name: str) -> str:
-    with open(os.path.join(FOLDER, name), encoding="utf-8") as file:
-        return file.read()
 
 
 def count_of(line: Line) -> str:
@@ -46,8 +41,4 @@ def page_of(coverage: Coverage) -> str:
     """The page."""
     sections = "\n".join(section_of(coverage, one, at) for at, one in enumerate(coverage.programs))
     faults = "".join(f"<p class=fault>{escape(script)}: {escape(why)}" for script, why in coverage.faults.items())
-    page = part("page.html")
-    for name, text in (("STYLE", part(COLOURS) + part("page.css")), ("SCRIPT", part("page.js")), ("SAID", escape(ran_of(coverage.programs))),
-                       ("SECTIONS", faults + sections)):
-        page = page.replace(f"/*{name}*/", text, 1)
-    return page
+    return assembled(FOLDER, {"SCRIPT": part(FOLDER, "page.js"), "SAID": escape(ran_of(coverage.programs)), "SECTIONS": faults + sections})

@@ -28,11 +28,10 @@ class Meant:
 
 @dataclass(frozen=True)
 class Based:
-    """An operand by a register: the number in front of its parentheses, its base, and whether it has an index."""
+    """An operand by a register: the number in front of its parentheses, and its base."""
 
     displacement: int
     base: int
-    is_indexed: bool
 
 
 def texts_of(statement: Statement) -> list[str]:
@@ -67,7 +66,7 @@ def based(text: str, sizes: Sizes) -> Based | None:
     displacement, base = value_of(found.expression, sizes, None), number_of(inside[-1], sizes)
     if displacement is None or not displacement.is_number() or base is None:
         return None
-    return Based(displacement.number, base, len(inside) == 2 and inside[0] != "")
+    return Based(displacement.number, base)
 
 
 def is_of_table(statement: Statement, number: int, text: str, sizes: Sizes) -> bool:
@@ -246,7 +245,7 @@ def used_as_bytes(statements: list[Statement], sizes: Sizes, candidates: set[int
             place = value_of(read.expression, sizes, sizes.spots[at].begin if at in sizes.spots else None) if read else None
             if place is None or place.is_absolute():
                 continue
-            end = place.plus(Value(length_of(one, number, text, sizes)), 1)
+            end = place.plus(Value(length_of(one, number, sizes)), 1)
             for candidate in candidates:
                 spot = sizes.spots.get(candidate)
                 if spot and spot.begin.places == place.places and spot.begin.number < end.number and place.number < spot.end.number:
@@ -254,7 +253,7 @@ def used_as_bytes(statements: list[Statement], sizes: Sizes, candidates: set[int
     return found
 
 
-def length_of(statement: Statement, number: int, text: str, sizes: Sizes) -> int:
+def length_of(statement: Statement, number: int, sizes: Sizes) -> int:
     """About how many bytes an operand has."""
     row = INSTRUCTIONS.get(statement.operation)
     if row is None or row.length < 6:

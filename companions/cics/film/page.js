@@ -1,26 +1,4 @@
-"use strict";
 // The page of a film: the state after each event is worked out once, and shown for the event that is chosen.
-
-const byId = (id) => document.getElementById(id);
-
-/** A text as it is shown: of control characters, and of those that turn a text round, a sign is seen. */
-const visible = (text) => text.replace(/[\0-\x1f]/g, (it) => String.fromCharCode(0x2400 + it.charCodeAt(0))).replace(/[\x7f-\x9f\u202a-\u202e\u2066-\u2069]/g, "\u2421");
-
-/** An element with a class, a text or parts. Texts of the film come in as text alone. */
-function make(tag, className, ...parts) {
-  const it = document.createElement(tag);
-  if (className) it.className = className;
-  it.append(...parts.filter((part) => part !== null && part !== undefined).map((part) => (typeof part === "string" ? visible(part) : part)));
-  return it;
-}
-
-/** A part of a drawing. */
-function draw(tag, attributes, ...parts) {
-  const it = document.createElementNS("http://www.w3.org/2000/svg", tag);
-  Object.entries(attributes).forEach(([name, value]) => it.setAttribute(name, value));
-  it.append(...parts);
-  return it;
-}
 
 // ---- the films and their states
 
@@ -114,18 +92,6 @@ class Film {
 }
 
 // ---- values that questions are asked of
-
-const PAGE_ROW = /^(\d\d)\|(.*)$/;
-
-/** The rows of a page of 24 lines, blank ones too. */
-function rowsOf(lines) {
-  const rows = Array(24).fill("");
-  for (const line of lines) {
-    const row = PAGE_ROW.exec(line);
-    if (row) rows[Number(row[1]) - 1] = row[2];
-  }
-  return rows;
-}
 
 /** The digits of the bytes that a look at storage shows; hyphens where none are. */
 function digitsOf(lines) {
@@ -821,17 +787,7 @@ function scriptTo(film, at) {
 
 async function copy() {
   if (!view.films[0].length) return void (byId("said").textContent = "no event");
-  const text = `${scriptTo(view.films[0], view.films[0].at).join("\n")}\n`;
-  try {
-    await navigator.clipboard.writeText(text);
-  } catch {
-    const area = make("textarea");
-    area.value = text;
-    document.body.append(area);
-    area.select();
-    document.execCommand("copy");
-    area.remove();
-  }
+  await toClipboard(`${scriptTo(view.films[0], view.films[0].at).join("\n")}\n`);
   byId("said").textContent = "Copied.";
 }
 

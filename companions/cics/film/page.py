@@ -1,7 +1,6 @@
 """Makes the page of films: one file of HTML, with its data as JSON, its script and its style."""
 from __future__ import annotations
 
-import json
 import os
 from dataclasses import asdict
 from typing import Any
@@ -9,6 +8,7 @@ from typing import Any
 from cics.film.pairs import marks_of, pairs_of
 from cics.film.recorder import Event, Film, Lines, Search, Shown
 from cics.film.sources import Source
+from cics.pages import assembled, json_of
 
 FOLDER = os.path.dirname(os.path.abspath(__file__))
 MOST_BYTES = 30_000_000  # of a page
@@ -72,11 +72,6 @@ def film_data(film: Film) -> dict[str, Any]:
     }
 
 
-def json_of(data: object) -> str:
-    """JSON of ASCII characters alone, without `<`: so nothing in it is markup."""
-    return json.dumps(data, separators=(",", ":"), ensure_ascii=True).replace("<", "\\u003c")
-
-
 def without_first(film: Film, count: int) -> None:
     """Leaves out the first events of a film."""
     for event in film.events[:count]:
@@ -104,18 +99,10 @@ def fit(film: Film, most: int) -> int:
     return left_out
 
 
-def part(name: str) -> str:
-    with open(os.path.join(FOLDER, name), encoding="utf-8") as file:
-        return file.read()
-
-
 def page_of(films: list[Film]) -> tuple[str, list[int]]:
     """The page, and how many of each film's first events it has no room for."""
     left_out = [fit(it, MOST_BYTES // len(films) - (1 << 16)) for it in films]
     data = [film_data(it) for it in films]
     if len(films) == 2:
         data[0]["pairs"] = asdict(pairs_of(*films))
-    page = part("page.html")
-    for name, text in (("STYLE", part("colours.css") + part("page.css")), ("SCRIPT", part("page.js")), ("DATA", json_of(data))):
-        page = page.replace(f"/*{name}*/", text, 1)
-    return page, left_out
+    return assembled(FOLDER, {"DATA": json_of(data)}), left_out

@@ -133,7 +133,7 @@ class Recorder:
         elif action.word in ("WATCH", "COVER"):
             pass  # a film shows what changes, and counts by itself
         elif not action.is_event:
-            self.child.ask(*action.lines)
+            self.child.ask(*action.lines, seconds=SECONDS if action.word == "CHOICES" else None)
         elif action.turns:
             self.run(action, action.turns)
         elif action.word in ("SOURCE", "IMAGE"):
@@ -212,8 +212,9 @@ class Recorder:
         return answer
 
     def note_turn(self, event: Event, program: str, arrivals: list[Arrival]) -> None:
-        """Notes of a turn that ran instructions with what it came to lines, and which statements it ran first."""
-        event.arrivals = arrivals
+        """Notes of a turn that ran instructions with what it came to lines, and which statements it ran first. Where an exit of another program took
+        its abend, the page has that program's source, and no arrivals."""
+        event.arrivals = arrivals if event.ran is None or event.ran[0] == program else []
         if self.lines_to_count > 1:
             self.note_runs([program], self.done)
 

@@ -3,7 +3,7 @@ from cics.stand_in.mapsets import Map, Mapset
 from cics.stand_in.requests import Call, NotStoodIn, Request
 from cics.statements import Line
 
-SEND, RECEIVE, CONTROL, TEXT = 0x1804, 0x1802, 0x1812, 0x1806
+SEND, RECEIVE, CONTROL = 0x1804, 0x1802, 0x1812
 ERASE, MAPONLY, DATAONLY, SYMBOLIC, CURSOR, ERASEAUP, FRSET = 0x80, 0x40, 0x20, 0x10, 0x08, 0x04, 0x01
 SET = 0x80  # of RECEIVE MAP
 

@@ -9,7 +9,7 @@ from cics.terminals.data_stream import BRIGHT, COLUMNS, PAGE, ROWS, Painting
 from cics.terminals.region import Answer, Request, Work
 from cics.transcripts import of_look, place_in
 
-NEVER = {"RUN", "WATCH", "COVER", "FAULTS", "ORDERS"}  # of the lines that cicslook has alone those that no terminal sends
+NEVER = {"RUN", "WATCH", "COVER", "FAULTS", "CHOICES", "ORDERS"}  # of the lines that cicslook has alone those that no terminal sends
 LOOKS = {word: forms for word, forms in FORMS.items() if word in OF_CICSLOOK and word not in NEVER}
 TYPED = {  # what an operator of CICS types for a look, beside CEBR and a queue's name
     "QUEUES": ["CEMT INQUIRE TSQUEUE", "CEBR"], "PROGRAMS": ["CEMT INQUIRE PROGRAM", "CEMT INQUIRE TRANSACTION"],

@@ -102,7 +102,7 @@ LIMITS = [
     (["         AP    A,NONE"], "length isn't known"), (["         AP    A(17),B"], "no packed field"),
 ]
 
-NEAR, FAR = 24, 26  # bytes of a call of two packed fields: through a base, and by an address in a literal
+NEAR = 24  # bytes of a call of two packed fields through a base
 
 
 class LimitsTest(TestCase):

@@ -1,7 +1,8 @@
 "use strict";
-// Runs the page's script over a document that takes everything and shows nothing, presses keys, and writes what it says of itself; or, where the
+// Runs the page's script, after what scripts of pages share, over a document that takes everything and shows nothing, presses keys, and writes what it says of itself; or, where the
 // environment has an EXPRESSION, what that is there.
 const fs = require("fs");
+const path = require("path");
 const vm = require("vm");
 
 const elements = new Map();
@@ -31,7 +32,8 @@ const document = new Element();
 Object.assign(document, { getElementById: byId, createElement: () => new Element(), createElementNS: () => new Element(), body: new Element(), execCommand() {} });
 const window = new Element();
 const context = { document, window, location: { hash: "" }, history: { replaceState() {} }, navigator: { clipboard: { writeText: async () => {} } }, innerWidth: 1280, setTimeout() {} };
-vm.runInNewContext(fs.readFileSync(process.argv[2], "utf8"), context);
+const scripts = [path.join(path.dirname(process.argv[2]), "../pages/common.js"), process.argv[2]];
+vm.runInNewContext(scripts.map((script) => fs.readFileSync(script, "utf8")).join(""), context);
 const seen = [byId("at").textContent];
 for (const key of process.argv.slice(3)) {
   document.listeners.keydown({ key, target: { tagName: "BODY" }, preventDefault() {} });

@@ -13,7 +13,7 @@ from tests.case import CICSLOOK as PROGRAM
 from tests.case import TestCase, expect
 from tests.film.trials import page, script_ran, text_of
 
-LOOP = f"{TOP}/examples/looks/at.script"
+LOOP, CALLERS = f"{TOP}/examples/looks/at.script", f"{TOP}/examples/looks/callers.script"
 # The loop adds 3 and 2 and 1: SR has the condition code 0, and AR 2. It is come to line 11 when BCT has counted to zero.
 AT_LINES = [(5, 0, {3: "00010000", 11: "00200000", 13: "00200060", 15: "00010000"}), (6, 0, {}), (7, 0, {5: "00000003"}), (8, 0, {}),
             (9, 2, {6: "00000003"}), (10, 2, {}), (11, 2, {5: "00000000", 6: "00000006"})]
@@ -37,6 +37,12 @@ class ArrivalsTest(TestCase):
         found = [it.arrivals for it in filmed("loop", text_of(LOOP), PROGRAM).events]
         expect("the turn of the loop", found[4] == AT_LINES, found[4])
         expect("the other events", not any(found[:4] + found[5:]), found)
+
+    def test_an_exit_of_another_program(self) -> None:
+        """A turn of INNER whose abend OUTER's exit takes has no registers at lines: what the page shows then is OUTER's source."""
+        event = filmed("callers", text_of(CALLERS), PROGRAM).events[12]
+        expect("the turn that abends", (event.ran, event.arrivals) == (("OUTER", 4), []), (event.ran, event.arrivals))
+        expect("its answer", event.answer == ["TURN T001 TookExit ASRA"], event.answer)
 
     @unittest.skipUnless(shutil.which("node"), "node isn't installed")
     def test_a_loop_on_the_page(self) -> None:

@@ -8,7 +8,8 @@ from concurrent.futures import ThreadPoolExecutor
 
 from cics.child import TOP, Child, Gone, encoded
 from cics.film.command import filmed, filmed_alone, has_look
-from cics.film.page import film_data, fit, json_of
+from cics.film.page import film_data, fit
+from cics.pages import json_of
 from cics.scripts import actions_of
 from checks.hostile_lines import HEAD
 from checks.hostile_lines import scripts as scripts_of_lines

@@ -39,9 +39,9 @@ def data_of(page: str) -> list[Data]:
     return films
 
 
-def script_ran(page: str, *keys: str, expression: str = "") -> Any:
-    """What a page's script says after keys, when it is run alone, or what an expression is then."""
-    command = ["node", f"{COMPANIONS}/tests/film/page_runner.js", f"{COMPANIONS}/cics/film/page.js", *keys]
+def script_ran(page: str, *keys: str, expression: str = "", folder: str = "film") -> Any:
+    """What the script of a folder's page says after keys, when it is run alone, or what an expression is then."""
+    command = ["node", f"{COMPANIONS}/tests/film/page_runner.js", f"{COMPANIONS}/cics/{folder}/page.js", *keys]
     environment = {**os.environ, **({"EXPRESSION": expression} if expression else {})}
     return json.loads(subprocess.run(command, input=json_in(page), capture_output=True, text=True, check=True, env=environment).stdout)
 

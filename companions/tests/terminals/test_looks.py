@@ -186,10 +186,10 @@ def spoiled_looks() -> None:
 
 @test
 def the_table_of_looks() -> None:
-    """It has what the manual has, but RUN, WATCH, COVER, FAULTS and ORDERS."""
+    """It has what the manual has, but RUN, WATCH, COVER, FAULTS, CHOICES and ORDERS."""
     with open(f"{TOP}/docs/LOOKS.md", encoding="utf-8") as file:
         rows = re.findall(r"^\| (`[A-Z][^|]*) \|", file.read().partition("\n## ")[0], re.M)
-    named = {line.split()[0] for row in rows for line in re.findall("`([^`]*)`", row)} - {"RUN", "WATCH", "COVER", "FAULTS", "ORDERS", "/*"}
+    named = {line.split()[0] for row in rows for line in re.findall("`([^`]*)`", row)} - {"RUN", "WATCH", "COVER", "FAULTS", "CHOICES", "ORDERS", "/*"}
     expect("looks", {*LOOKS}, named)
     for line in ("STORAGE 010000 4097", "STORAGE 010000 0", "QUEUE JOBS 32768", "QUEUES ", "TASKS\nTASKS", "FAULTS X", "RUN T001", "WATCH OFF", ""):
         expect(line, is_look(line), False)

@@ -17,7 +17,7 @@ The script's line HELP lists the lines that cicsedf doesn't have.
 Status: 0 all was done, 1 a bad line, look or source, 2 other words, 3 reading or writing failed, 4 out of memory.";
 
 /// What `--version` asks for.
-const VERSION: &str = "cicslook 0.9.0";
+const VERSION: &str = "cicslook 0.10.0";
 
 /// What it is, beside its scripts: the line of the script that a fault is of is reported too.
 const ABOUT: About = About {

@@ -1,6 +1,6 @@
 -- Terminals that can act, and those at which a key can be pressed.
-use Rattle.std.proofs.Common.{◌≡◌, ℕ, ◌+◌, ◌<◌, ◌≤◌, Bool, List, length, Some, None, true, false, true≢false, inl, inr, ap, sym, subst, ◌∙◌, arith}
-use Rattle.std.specs.Prelude.{MatchBool, slice_get}
+use Rattle.std.proofs.Common.{◌≡◌, ℕ, ◌+◌, ◌<◌, ◌≤◌, Bool, List, length, Option, Some, None, true, false, true≢false, inl, inr, ap, sym, subst, ◌∙◌, arith}
+use Rattle.std.specs.Prelude.{IfNone, IfSome, MatchBool, is_some, not, slice_get}
 use Rattle.std.proofs.lemmas.Bool.{cases_lt}
 use Rattle.std.proofs.lemmas.Option.{none-some, same_Some, slice_get_within}
 use Rattle.cx_region.specs.State.{RegionState, TerminalState}
@@ -10,7 +10,8 @@ use Rattle.cx_look_tasks.specs.Laws.{ActivitiesDecide}
 use Rattle.cx_look_tasks.specs.declared.activities.Activity.{Activity}
 use Rattle.cx_orders.specs.Moves.{is_ready}
 use Rattle.cx_choices.specs.Moves.{IsReady}
-use Rattle.cx_choices.specs.Settling.{CanAct, IsAtRest, is_acting}
+use Rattle.cx_choices.specs.Settling.{CanAct, IsAtRest, IsFirstToAct, is_acting}
+use Rattle.cx_choices.specs.declared.acting.Actor.{Actor}
 
 module _ (region : RegionState) (number : ℕ) where
   pub acts_nowhere : slice_get region.terminals number ≡ None → (name : List ℕ) → CanAct region number name → ⊥
@@ -55,3 +56,12 @@ pub at_rest : (region : RegionState) (many : ℕ) → AreStill region many → l
 at_rest region many still all number name can =
     let within = slice_get_within region.terminals number (name, can.terminal) can.at in
     still number name (omega (arith, within, all)) can
+
+-- whether it is, by the first that can act
+pub rest_by : (region : RegionState) (still : Bool) (found : Option Actor) → not still ≡ is_some found
+    → IfSome found (λ (actor : Actor). IsFirstToAct region actor.number actor.name) → IfNone found (IsAtRest region)
+    → MatchBool still (IsAtRest region) (IsAtRest region → ⊥)
+rest_by region true None is first rest = rest
+rest_by region false None is first rest = absurd (true≢false is)
+rest_by region true (Some actor) is first rest = absurd (true≢false (sym is))
+rest_by region false (Some actor) is first rest = λ still. still actor.number actor.name first.acts

@@ -59,6 +59,13 @@ pub(crate) fn first_to_act<S: Store + Drop>(region: &Region<S>) -> Option<Actor>
     None
 }
 
+/// Whether no terminal can act: none's next turn runs instructions, or performs a command.
+pub fn is_at_rest<S: Store + Drop>(region: &Region<S>) -> bool
+    ensures { MatchBool result (IsAtRest region.now) (IsAtRest region.now → ⊥) }
+{
+    first_to_act(region).is_none()
+}
+
 /// Whether a key can be pressed at a terminal.
 pub(crate) fn can_press<S: Store + Drop>(region: &Region<S>, name: Name4) -> bool
     ensures { MatchBool result (IsReady region.now name) (IsReady region.now name → ⊥) }

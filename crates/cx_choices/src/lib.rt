@@ -9,6 +9,7 @@ mod search;
 mod settling;
 mod states;
 
+pub use acting::is_at_rest;
 pub use moves::Choices;
 pub use settling::settle;
 pub use states::{ChoicesState, Passage, TurnMade};

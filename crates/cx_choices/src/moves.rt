@@ -90,20 +90,22 @@ impl<S: Store + Drop> Choices<S> {
         Ok(passage)
     }
 
-    /// The state that a move leads to, of a region that stands where the move left it.
+    /// The state that a move leads to, of the region after it, at which the working region stands.
     ///
     /// An error comes only where an allocation failed.
-    fn led_to(&self, region: &mut Region<S>, passage: Passage) -> Result<ChoicesState, AllocError>
-        requires { region.old ≡ passage.after }
-        ensures { IfOk result (λ to. to.region ≡ numbered self.now.one_number passage.after) }
+    pub fn led_to(
+        &self,
+        region: &mut Region<S>,
+        after: RegionSnapshot,
+    ) -> Result<ChoicesState, AllocError>
+        requires { region.old ≡ after }
+        ensures { IfOk result (λ to. to.region ≡ numbered self.now.one_number after) }
     {
         if self.one_number.is_none() {
-            return Ok(ChoicesState {
-                region: passage.after,
-            });
+            return Ok(ChoicesState { region: after });
         }
         renumber(region, self.one_number)?;
-        let region = RegionSnapshot::take(self.alloc, region, Some(&passage.after))?;
+        let region = RegionSnapshot::take(self.alloc, region, Some(&after))?;
         Ok(ChoicesState { region })
     }
 }
@@ -130,7 +132,7 @@ impl<S: Store + Drop> Space for Choices<S> {
         let Some(passage) = self.pass(region, &from.region, number)? else {
             return Ok(None);
         };
-        let to = self.led_to(region, passage)?;
+        let to = self.led_to(region, passage.after)?;
         Ok(Some(to))
     }
 

@@ -7,3 +7,4 @@ mod DueLemmas
 mod OptionLemmas
 mod PointerLemmas
 mod OrdersLemmas
+mod ChoicesLemmas

@@ -10,7 +10,7 @@ use Rattle.cx_search.specs.Forever.{IsLong}
 use Rattle.cx_search.specs.Laws.{SoonerOrders}
 use Rattle.cx_orders.specs.Laws.{IsOrder}
 use Rattle.cx_orders.specs.Moves.{Moves, begun}
-use Rattle.cx_orders.specs.declared.states.KeyLine.{KeyLine}
+use Rattle.cx_orders.specs.declared.states.Keys.{Keys}
 use Rattle.cx_orders.specs.declared.states.OrdersState.{OrdersState}
 use Rattle.cx_look_tables.specs.Words.{Lines}
 use Rattle.cx_look_orders.specs.Facts.Outcomes.{texts_stand_once}
@@ -34,14 +34,14 @@ plain (event.Transaction name program) is = refl
 plain (event.Terminal name) is = refl
 plain (event.Clock time date) is = refl
 
-all_plain : (events : List Event) → AllByRecursion IsOrder events → AllByRecursion (λ e. is_alteration e ≡ false) events
+pub all_plain : (events : List Event) → AllByRecursion IsOrder events → AllByRecursion (λ e. is_alteration e ≡ false) events
 all_plain [] all = all
 all_plain (e ∷ events) all = (plain e all.0, all_plain events all.1)
 
 -- ---- what is written
 module _ (off : TheRegionIsOff) (runs : StepsAreRuns) (scripts : ScriptsAskForSteps) (sooner : SoonerOrders)
-    (endless : (keys : List KeyLine) → LoopsAreEndless keys)
-    (Shows : RegionState → Lines → Type 0) (keys : List KeyLine) (region : RegionState) where
+    (endless : (keys : Keys) → LoopsAreEndless keys)
+    (Shows : RegionState → Lines → Type 0) (keys : Keys) (region : RegionState) where
   abbrev start : OrdersState
   start = begun region
 
@@ -52,7 +52,7 @@ module _ (off : TheRegionIsOff) (runs : StepsAreRuns) (scripts : ScriptsAskForSt
         steps = is.steps;
         rest = is.rest;
         shows = is.shows;
-        script = scripts region keys one.steps;
+        script = scripts region keys.lines one.steps;
         run = run;
         off = λ make. off make region run.events run.replies is.to.region
             (all_plain run.events run.orders) run.run;
@@ -88,5 +88,5 @@ module _ (off : TheRegionIsOff) (runs : StepsAreRuns) (scripts : ScriptsAskForSt
 
 -- ---- the lines that are written
 pub lines_lead : ScriptsLeadThere → ScriptsNameTheirTerminals → KeysAreAskedByTheirLines → LinesLeadThere
-lines_lead scripts named keys state it most lines steps to run =
-    scripts state (orders_block most lines).keys steps to (named state it).spelled (keys most lines) run
+lines_lead scripts named keys state it asked lines steps to run =
+    scripts state (orders_block asked lines).keys steps to (named state it).spelled (keys asked lines) run

@@ -5,6 +5,7 @@ pub mod Sources
 pub mod Watching
 pub mod Looks
 pub mod Orders
+pub mod Choices
 pub mod Entries
 pub mod Due
 pub mod Pointers

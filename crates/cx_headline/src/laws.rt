@@ -5,6 +5,7 @@ ghost use Rattle.cx_asm_laws.specs.Laws.Again.{AssemblesAgain};
 ghost use Rattle.cx_asm_laws.specs.Laws.Back.{ComesBack};
 ghost use Rattle.cx_edf.specs.Laws.Outcomes.{EdfEventListsAreRuns};
 ghost use Rattle.cx_edf.specs.Laws.Watched.{RunsCanBeWatched};
+ghost use Rattle.cx_headline.specs.Laws.Choices.{ChoicesAreTrue, ChoicesBlocksAreTrue, ListsLeadThere};
 ghost use Rattle.cx_headline.specs.Laws.Due.{AlwaysKeepsWhatIsDue, EventsKeepWhatIsDue, KeepsWhatIsDue, RunsKeepWhatIsDue, StillKeepsWhatIsDue};
 ghost use Rattle.cx_headline.specs.Laws.Entries.{EntriesHoldTheirBases, TasksBeginSo};
 ghost use Rattle.cx_headline.specs.Laws.Looks.{ScriptsAreLookedOver};
@@ -14,6 +15,7 @@ ghost use Rattle.cx_headline.specs.Laws.Rows.{EachIsItsRow};
 ghost use Rattle.cx_headline.specs.Laws.Runs.{OfEachRun, OfEachScript};
 ghost use Rattle.cx_headline.specs.Laws.Sources.{BlocksComeBack};
 ghost use Rattle.cx_headline.specs.Laws.Watching.{IsAsUnwatched, ShowingChangesNothing};
+ghost use Rattle.cx_look_script.specs.Laws.Choices.{ChoicesAreReportedOnce};
 ghost use Rattle.cx_look_script.specs.Laws.Looks.{LooksAreMarked, LooksAreReportedOnce, LooksChangeNothing};
 ghost use Rattle.cx_look_script.specs.Laws.Orders.{OrdersAreReportedOnce};
 ghost use Rattle.cx_look_script.specs.Laws.Outcomes.{LookInputsDecide};
@@ -98,7 +100,8 @@ pub fn looking_changes_nothing()
 /// length, ends with one of the outcomes that are written; else each list of so many moves as were tried. Each outcome
 /// is real: its steps end at rest, what is seen there is its text, their turns and keys lead there in `cicsedf` with
 /// EDF Off too, and no other list is sooner. No text stands twice. SOME NEVER REST and SOME CANNOT REST stand exactly
-/// where that is so. All of this holds whatever is to be seen of a region, and so of a block of ORDERS.
+/// where that is so. All of this holds whatever is to be seen of a region, and whether keys come where an operator
+/// could press them or are typed ahead; and so of a block of ORDERS.
 ///
 /// The lines that are written of steps are read as lines of a script, and ask for EDF OFF where EDF is on, and then for
 /// the steps' turns, by RUN with their number, and keys, in their order. Done one after another, wherever a script may
@@ -120,6 +123,33 @@ pub fn no_order_is_missed<S: Store + Drop, V: Seen<S>>()
     cx_look_script::laws::scripts_name_their_terminals();
     cx_look_script::laws::orders_are_reported_once();
     cx_search::laws::one_list_is_sooner();
+}
+
+/// No list of keys is missed. Unless CHOICES writes MORE THAN, each list of at most as many keys as were asked for leads
+/// to one of the states that are written; else each list of as many as it says, and lists of one key more lead to more
+/// states than may be kept. Each state is real: its keys and turns lead there, what is seen there is its text, and no
+/// other list that leads there is sooner. Without one number the run of these keys and turns leads the region to that
+/// very state, in `cicsedf` with EDF Off too. No state stands twice, and no text. Each key that can be pressed in a state
+/// has its arrow, which goes to the state that the key leads to, or to MORE where that isn't written; no other key has
+/// one. CLOSED stands exactly where no list of keys, of whatever length, leads elsewhere, and no arrow goes to MORE then.
+/// All of this holds whatever is to be seen of a region, and so of a block of CHOICES, for which one text is written.
+///
+/// The lines that are written of a list are read as lines of a script, and ask for EDF OFF where EDF is on, and then for
+/// the list's keys and, by RUN with their number, the turns that follow each, in their order. Without one number, done
+/// one after another, wherever a script may be, they lead to the region of the state that they are written of.
+pub fn no_choice_is_missed<S: Store + Drop, V: Seen<S>>()
+    ensures missed { (seen : V) → ChoicesAreTrue (V.shows seen) }
+    ensures blocks { ChoicesBlocksAreTrue }
+    ensures led { ListsLeadThere }
+    ensures reported { ChoicesAreReportedOnce }
+{
+    cx_edf::laws::off_is_the_region();
+    cx_look::laws::keys_are_asked_by_their_lines();
+    cx_look_choices::laws::presses_are_runs();
+    cx_look_orders::laws::scripts_ask_for_steps();
+    cx_look_script::laws::choices_are_reported_once();
+    cx_look_script::laws::scripts_lead_there();
+    cx_look_script::laws::scripts_name_their_terminals();
 }
 
 /// A premise of an EXEC statement's arrival: where a program is entered, at attach, by LINK and by XCTL, the registers

@@ -1,5 +1,5 @@
 -- A line that begins with KEY is a key, or bad.
-use Rattle.std.proofs.Common.{◌≡◌, ℕ, Bool, true, false, Option, Some, None, is_some, List, codes, cond, refl, sym, subst}
+use Rattle.std.proofs.Common.{◌≡◌, ℕ, Bool, true, false, Option, Some, None, is_some, List, ap, codes, cond, refl, sym, subst, ◌∙◌}
 use Rattle.std.specs.Option.{option_and_then, option_map}
 use Rattle.std.proofs.lemmas.Slice.Eq.{bytes_eq-Decides}
 use Rattle.cx_ebcdic.specs.Names.{padded_name}
@@ -7,6 +7,8 @@ use Rattle.cx_ebcdic.specs.declared.aids.Aid.{Aid}
 use Rattle.cx_region.specs.declared.replies.Event.TheVariants as event
 use Rattle.cx_script_actions.specs.Actions.{event_line, is_blank_or_comment, key_with_text, line_asked_for, line_of}
 use Rattle.cx_script_actions.specs.Words.{after_first_blank, word}
+use Rattle.cx_script_actions.specs.declared.actions.Action.{Action}
+use Rattle.cx_script_actions.specs.declared.actions.Line.{Line}
 use Rattle.cx_script_actions.specs.declared.actions.Line.TheVariants as line
 use Rattle.cx_look.specs.Orders.{event_in, is_key, key_in, key_line_of}
 
@@ -41,3 +43,26 @@ is_asked text more key e = go (is_blank_or_comment text) more e
         → is_some (option_and_then (key_in text) (option_and_then event_in (cond blank (Some line.Blank) (option_and_then (line_asked_for (word text)) (after_first_blank text))))) ≡ true
     go true not_blank e = cc
     go false not_blank e = after text (word text) (after_first_blank text) ((bytes_eq-Decides (word text) (codes "KEY")).0 key) e
+
+-- ---- whether it is a key, by what follows KEY
+line_is : (text : List ℕ) → is_blank_or_comment text ≡ false → is_key text ≡ true
+    → line_of text ≡ option_and_then (line_asked_for (codes "KEY")) (after_first_blank text)
+unfolding line_of
+line_is text more key =
+    ap (λ blank. cond blank (Some line.Blank) (option_and_then (line_asked_for (word text)) (after_first_blank text))) more
+    ∙ ap (λ verb. option_and_then (line_asked_for verb) (after_first_blank text)) ((bytes_eq-Decides (word text) (codes "KEY")).0 key)
+
+some_line : (text : List ℕ) (o : Option (Line Action)) → is_some (option_and_then (key_in text) (option_and_then event_in o)) ≡ true → is_some o ≡ true
+some_line text None e = e
+some_line text (Some l) e = refl
+
+same_bool : (a b : Bool) → (a ≡ true → b ≡ true) → (b ≡ true → a ≡ true) → a ≡ b
+same_bool true b f g = sym (f refl)
+same_bool false true f g = g refl
+same_bool false false f g = refl
+
+pub asks : (text : List ℕ) → is_blank_or_comment text ≡ false → is_key text ≡ true
+    → is_some (option_and_then (line_asked_for (codes "KEY")) (after_first_blank text)) ≡ is_some (key_line_of text)
+asks text more key =
+    ap is_some (sym (line_is text more key))
+    ∙ same_bool (is_some (line_of text)) (is_some (key_line_of text)) (is_asked text more key) (some_line text (line_of text))

@@ -1,6 +1,6 @@
 -- A key of a block is what its line asks.
-use Rattle.std.proofs.Common.{◌≡◌, ℕ, Bool, true, false, Option, Some, None, List, [], ◌∷◌, ◌++◌, cond, refl, subst}
-use Rattle.std.specs.List.{AllByRecursion, flat_map}
+use Rattle.std.proofs.Common.{◌≡◌, ℕ, Bool, true, false, Option, Some, None, List, [], ◌∷◌, ◌++◌, cond, length, nat_le, refl, subst}
+use Rattle.std.specs.List.{AllByRecursion, cons_option, filter_map, flat_map}
 use Rattle.std.specs.Option.{option_and_then, option_map}
 use Rattle.std.proofs.lemmas.Option.{none-some, same_Some}
 use Rattle.cx_edf.specs.declared.answers.EdfEvent.{EdfEvent}
@@ -13,6 +13,9 @@ use Rattle.cx_script_actions.specs.declared.actions.Action.{Action}
 use Rattle.cx_script_actions.specs.declared.actions.Action.TheVariants as action
 use Rattle.cx_script_actions.specs.declared.actions.Line.{Line}
 use Rattle.cx_script_actions.specs.declared.actions.Line.TheVariants as line
+use Rattle.cx_script_actions.specs.declared.actions.ChoicesAsked.{ChoicesAsked}
+use Rattle.cx_script_actions.specs.declared.actions.OrdersAsked.{OrdersAsked}
+use Rattle.cx_look.specs.Choices.{choice_of, choices_block, choices_in, lines_meant}
 use Rattle.cx_look.specs.Laws.{IsAskedByItsLine}
 use Rattle.cx_look.specs.Orders.{event_in, is_key, key_in, key_line_of, keys_in, orders_block, orders_line_of, sight_of}
 use Rattle.cx_look.specs.declared.orders.OrdersLine.TheVariants as says
@@ -77,6 +80,28 @@ of_lines : (lines : List (List ℕ)) → AllByRecursion IsAskedByItsLine (flat_m
 of_lines [] = tt
 of_lines (l ∷ lines) = all_append (keys_in (orders_line_of l)) (flat_map (λ l. keys_in (orders_line_of l)) lines) (of_line l) (of_lines lines)
 
-pub keys_are_asked : (most : ℕ) (lines : List (List ℕ)) → AllByRecursion IsAskedByItsLine (orders_block most lines).keys
+pub keys_are_asked : (asked : OrdersAsked) (lines : List (List ℕ)) → AllByRecursion IsAskedByItsLine (orders_block asked lines).keys
 unfolding orders_block
-keys_are_asked most lines = of_lines lines
+keys_are_asked asked lines = of_lines lines
+
+-- ---- the keys that lines stand for
+of_choice : (text : List ℕ) (fits : Bool) (key : KeyLine) → cond fits (key_line_of text) None ≡ Some key → IsAskedByItsLine key
+of_choice text true key is = asked_line text (line_of text) key refl is
+of_choice text false key is = absurd (none-some key is)
+
+of_choices : (lines : List (List ℕ)) → AllByRecursion IsAskedByItsLine (filter_map choice_of lines)
+of_choices [] = tt
+of_choices (text ∷ lines) = by (choice_of text) (λ key is. of_choice text (nat_le (length text) 4096) key is) (of_choices lines)
+  where
+    by : (o : Option KeyLine) → ((key : KeyLine) → o ≡ Some key → IsAskedByItsLine key) → AllByRecursion IsAskedByItsLine (filter_map choice_of lines)
+        → AllByRecursion IsAskedByItsLine (cons_option o (filter_map choice_of lines))
+    by None each more = more
+    by (Some key) each more = (each key refl, more)
+
+of_choice_lines : (lines : List (List ℕ)) → AllByRecursion IsAskedByItsLine (flat_map choices_in lines)
+of_choice_lines [] = tt
+of_choice_lines (l ∷ lines) = all_append (choices_in l) (flat_map choices_in lines) (of_choices (lines_meant l)) (of_choice_lines lines)
+
+pub choices_are_asked : (asked : ChoicesAsked) (lines : List (List ℕ)) → AllByRecursion IsAskedByItsLine (choices_block asked lines).choices
+unfolding choices_block
+choices_are_asked asked lines = of_choice_lines lines

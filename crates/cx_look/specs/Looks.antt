@@ -37,6 +37,7 @@ subject_name subject.Cover = codes "COVER"
 subject_name subject.Covered = codes "COVERED"
 subject_name subject.Faults = codes "FAULTS"
 subject_name subject.Orders = codes "ORDERS"
+subject_name subject.Choices = codes "CHOICES"
 subject_name subject.Help = codes "HELP"
 
 abbrev pub subjects : List Subject
@@ -44,7 +45,8 @@ subjects =
     subject.Storage ∷ subject.Where ∷ subject.Areas ∷ subject.Task ∷ subject.Tasks ∷ subject.Abend ∷ subject.Queues
     ∷ subject.Queue ∷ subject.Resources ∷ subject.Programs ∷ subject.Command ∷ subject.Ahead ∷ subject.Symbol
     ∷ subject.Symbols ∷ subject.Xref ∷ subject.Terminals ∷ subject.Field ∷ subject.Fields ∷ subject.Run
-    ∷ subject.Watch ∷ subject.Cover ∷ subject.Covered ∷ subject.Faults ∷ subject.Orders ∷ subject.Help ∷ []
+    ∷ subject.Watch ∷ subject.Cover ∷ subject.Covered ∷ subject.Faults ∷ subject.Orders ∷ subject.Choices
+    ∷ subject.Help ∷ []
 
 unfoldable pub subject_of : List ℕ → Option Subject
 subject_of text = find (λ s. bytes_eq (subject_name s) text) subjects

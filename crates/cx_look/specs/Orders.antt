@@ -2,7 +2,7 @@
 use Rattle.std.specs.Prelude.{ℕ, ◌&&◌, nat_le, nat_lt, not, Bool, true, false, count_by, if◌then◌else◌, Option, Some, None, is_some, List, [], ◌∷◌, ◌++◌, length, map, codes}
 use Rattle.std.specs.Char.{to_ascii_uppercase}
 use Rattle.std.specs.List.{flat_map}
-use Rattle.std.specs.Option.{option_and_then, option_map, option_or}
+use Rattle.std.specs.Option.{option_and_then, option_map, option_map_or, option_or}
 use Rattle.std.specs.Str.{bytes_eq}
 use Rattle.cx_ebcdic.specs.Names.{padded_name}
 use Rattle.cx_region.specs.declared.replies.Event.TheVariants as event
@@ -15,6 +15,7 @@ use Rattle.cx_script_actions.specs.declared.actions.Action.{Action}
 use Rattle.cx_script_actions.specs.declared.actions.Action.TheVariants as action
 use Rattle.cx_script_actions.specs.declared.actions.Line.{Line}
 use Rattle.cx_script_actions.specs.declared.actions.Line.TheVariants as line
+use Rattle.cx_script_actions.specs.declared.actions.OrdersAsked.{OrdersAsked}
 use Rattle.cx_look.specs.Looks.{at_most, look_of}
 use Rattle.cx_look.specs.declared.look.Look.{Look}
 use Rattle.cx_look.specs.declared.look.Look.TheVariants as look
@@ -24,10 +25,30 @@ use Rattle.cx_look.specs.declared.orders.OrdersLine.TheVariants as says
 use Rattle.cx_look.specs.declared.orders.Sight.{Sight}
 use Rattle.cx_look.specs.declared.orders.Sight.TheVariants as sight
 
--- the most states: 1 to 1,000,000, and 10,000 where no number says so
-abbrev pub states_of : Option (List ℕ) → Option ℕ
-states_of None = Some 10000
-states_of (Some text) = option_and_then (at_most 1000000) (number_with_digits 1 7 text)
+-- ---- what follows the word
+-- a number of states: 1 to 1,000,000
+abbrev pub states_of : List ℕ → Option ℕ
+states_of text = option_and_then (at_most 1000000) (number_with_digits 1 7 text)
+
+-- whether these words are said, where something is
+abbrev pub are_said : List ℕ → Option (List ℕ) → Option Bool
+are_said words None = Some false
+are_said words (Some text) = if bytes_eq text words then Some true else None
+
+abbrev pub with_states : ℕ → List ℕ → Option (List ℕ) → Option (ℕ × Bool)
+with_states n words rest = option_map (λ said. (n, said)) (are_said words rest)
+
+-- the most states, 10,000 where no number says so, and whether these words follow
+abbrev pub states_and : List ℕ → Option (List ℕ) → Option (ℕ × Bool)
+states_and words None = with_states 10000 words None
+states_and words (Some text) =
+    option_map_or (λ n. with_states n words (after_first_blank text)) (states_of (word text))
+    (with_states 10000 words (Some text))
+
+abbrev pub orders_asked : Option (List ℕ) → Option OrdersAsked
+orders_asked rest =
+    option_map (λ asked. let it : OrdersAsked = record { most = asked.0; typed_ahead = asked.1 } in it)
+    (states_and (codes "TYPED AHEAD") rest)
 
 -- ---- a line of the block
 -- a key that is to come: KEY, as a script of `cicsedf` has it
@@ -103,11 +124,12 @@ abbrev pub sights_in : Option OrdersLine → List Sight
 sights_in (Some (says.Sight s)) = s ∷ []
 sights_in _ = []
 
--- What the block asks: at most so many states, the keys, and what is to be seen, in the order of its lines.
-unfoldable pub orders_block : ℕ → List (List ℕ) → OrdersBlock
-orders_block most lines =
+-- What the block asks, by what its first line asks: the keys, and what is to be seen, in the order of its lines.
+unfoldable pub orders_block : OrdersAsked → List (List ℕ) → OrdersBlock
+orders_block asked lines =
     record {
-      most = most;
+      most = asked.most;
+      typed_ahead = asked.typed_ahead;
       keys = flat_map (λ l. keys_in (orders_line_of l)) lines;
       sights = flat_map (λ l. sights_in (orders_line_of l)) lines;
     }

@@ -1,9 +1,13 @@
-//! What a line that looks at a region asks; and a block of ORDERS: which lines it may have, and what they ask.
+//! What a line that looks at a region asks; and the blocks of ORDERS and CHOICES: which lines they may have, and what
+//! these ask.
 #![tactic(auto)]
 
+mod choices;
 pub mod laws;
 mod look;
 mod orders;
+mod sets;
 
+pub use choices::{ChoicesBlock, choices_asked, choices_block, choices_with};
 pub use look::{Look, SourceLines, Subject, look_of, subject_of};
-pub use orders::{OrdersBlock, OrdersLine, Sight, orders_block, orders_with, states_of};
+pub use orders::{OrdersBlock, OrdersLine, Sight, orders_asked, orders_block, orders_with};

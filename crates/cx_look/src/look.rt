@@ -159,13 +159,15 @@ pub enum Subject {
     Faults,
     /// ORDERS: what every order of turns and keys leads to.
     Orders,
+    /// CHOICES: what every list of keys leads to.
+    Choices,
     /// HELP: the table of these words.
     Help,
 }
 
 impl Subject {
     /// Each of these words once, in the order in which they are declared.
-    pub const ALL: [Subject; 25] = [
+    pub const ALL: [Subject; 26] = [
         Subject::Storage,
         Subject::Where,
         Subject::Areas,
@@ -190,6 +192,7 @@ impl Subject {
         Subject::Covered,
         Subject::Faults,
         Subject::Orders,
+        Subject::Choices,
         Subject::Help,
     ];
 
@@ -222,6 +225,7 @@ impl Subject {
             Subject::Covered => b"COVERED",
             Subject::Faults => b"FAULTS",
             Subject::Orders => b"ORDERS",
+            Subject::Choices => b"CHOICES",
             Subject::Help => b"HELP",
         }
     }

@@ -6,18 +6,19 @@ ghost use Rattle.std.specs.Option.{option_copied};
 ghost use Rattle.cx_edf.specs.Runs.{IsAllowedEdf};
 ghost use Rattle.cx_script_actions.specs.Actions.{is_blank_or_comment};
 ghost use Rattle.cx_script_actions.specs.Allowed.{IsAllowedAction, IsAllowedLine};
-ghost use Rattle.cx_look.specs.Orders.{event_in, block_has_room, is_key, is_sight, key_in, key_line_of, keys_in, sight_asked_for, look_seen, orders_block, orders_line_of, orders_with, screen_of, sight_of, sights_in, states_of};
+ghost use Rattle.cx_look.specs.Orders.{are_said, event_in, block_has_room, is_key, is_sight, key_in, key_line_of, keys_in, sight_asked_for, look_seen, orders_asked, orders_block, orders_line_of, orders_with, screen_of, sight_of, sights_in, states_and, states_of, with_states};
 ghost use Rattle.cx_look.specs.declared.orders.OrdersLine.TheVariants as says;
 ghost use Rattle.cx_orders.specs.Moves.{IsFew};
 
 use crate::look::{Look, look_of};
+use crate::sets::MOST_IN_LINE;
 use cx_base::List;
 use cx_code::Bytes;
 use cx_ebcdic::Name4;
 use cx_edf::EdfEvent;
 use cx_orders::KeyLine;
 use cx_region::Event;
-use cx_script_actions::{Action, Line, line_of, name4, number, split_word};
+use cx_script_actions::{Action, Line, OrdersAsked, line_of, name4, number, split_word};
 use cx_source::Text;
 use std::alloc::{AllocError, Global};
 
@@ -32,9 +33,6 @@ const MOST_KEYS: usize = 256;
 
 /// The most lines of a block that say what is to be seen.
 const MOST_SIGHTS: usize = 64;
-
-/// The most bytes of a line.
-const MOST_IN_LINE: usize = 4_096;
 
 /// What is to be seen of an outcome.
 #[derive(Drop)]
@@ -61,37 +59,78 @@ pub enum OrdersLine {
 pub struct OrdersBlock {
     /// How many states are looked at, at most.
     pub most: u32,
+    /// Whether a key may also come while its terminal's task runs, as long as no input is held there.
+    pub typed_ahead: bool,
     /// The keys that are to come, those of one terminal in their order, each of at most 1,920 bytes.
     pub keys: List<KeyLine>,
     /// What is to be seen of an outcome; each terminal's screen where there is none.
     pub sights: List<Sight>,
 }
 
-/// How many states are looked at, at most, by what follows ORDERS: a number from 1 to 1,000,000, and 10,000 where
-/// nothing follows; None where anything else does. It takes no memory.
+/// How many states a word says: 1 to 1,000,000.
 #[tactic(auto, using(std::proofs::lemmas::Bool::Decides::nat_tests))]
-pub fn states_of(rest: Option<&[u8]>) -> Option<u32>
-    ensures { result ≡ states_of (option_copied rest.entry) }
+fn states_of(word: &[u8]) -> Option<u32>
+    ensures { result ≡ states_of word.now }
 {
-    let Some(text) = rest else {
-        return Some(STATES);
-    };
-    let n = number(text, 1, 7)?;
+    let n = number(word, 1, 7)?;
     if n < 1 || n > MOST_STATES {
         return None;
     }
     Some(n)
 }
 
+/// Whether these words are said: false where nothing is; None where anything else is.
+fn are_said(rest: Option<&[u8]>, words: &[u8]) -> Option<bool>
+    ensures { result ≡ are_said words.now (option_copied rest.entry) }
+{
+    match rest {
+        None => Some(false),
+        Some(text) if text == words => Some(true),
+        Some(_) => None,
+    }
+}
+
+/// A number of states, and whether these words are said after it.
+fn with_states(states: u32, rest: Option<&[u8]>, words: &[u8]) -> Option<(u32, bool)>
+    ensures { result ≡ with_states states words.now (option_copied rest.entry) }
+{
+    let said = are_said(rest, words)?;
+    Some((states, said))
+}
+
+/// How many states are looked at, at most, and whether these words follow: a number from 1 to 1,000,000, and 10,000
+/// where there is none; None where anything else is said. It takes no memory.
+pub(crate) fn states_and(rest: Option<&[u8]>, words: &[u8]) -> Option<(u32, bool)>
+    ensures { result ≡ states_and words.now (option_copied rest.entry) }
+{
+    let Some(text) = rest else {
+        return with_states(STATES, rest, words);
+    };
+    let (word, more) = split_word(text);
+    match states_of(word) {
+        Some(n) => with_states(n, more, words),
+        None => with_states(STATES, rest, words),
+    }
+}
+
+/// What ORDERS asks of its search, by what follows it: a number of states from 1 to 1,000,000, 10,000 where there is
+/// none, and then TYPED AHEAD or nothing; None where anything else follows. It takes no memory.
+pub fn orders_asked(rest: Option<&[u8]>) -> Option<OrdersAsked>
+    ensures { result ≡ orders_asked (option_copied rest.entry) }
+{
+    let (most, typed_ahead) = states_and(rest, b"TYPED AHEAD")?;
+    Some(OrdersAsked { most, typed_ahead })
+}
+
 /// Whether a line is empty or a comment.
-fn is_blank_or_comment(text: &[u8]) -> bool
+pub(crate) fn is_blank_or_comment(text: &[u8]) -> bool
     ensures { result ≡ is_blank_or_comment text.now }
 {
     text.is_empty() || text[0] == b'*'
 }
 
 /// Whether a line begins with KEY.
-fn is_key(text: &[u8]) -> bool
+pub(crate) fn is_key(text: &[u8]) -> bool
     ensures { result ≡ is_key text.now }
 {
     let (word, _rest) = split_word(text);
@@ -130,7 +169,7 @@ fn key_in(alloc: Global, event: &EdfEvent, text: &[u8]) -> Result<Option<KeyLine
 
 /// The key that a line asks which begins with KEY.
 #[tactic(auto, using(crate::proofs::KeyLemmas::is_asked))]
-fn key_line_of(alloc: Global, text: &[u8]) -> Result<Option<KeyLine>, AllocError>
+pub(crate) fn key_line_of(alloc: Global, text: &[u8]) -> Result<Option<KeyLine>, AllocError>
     requires more { is_blank_or_comment text.now ≡ false }
     requires key { is_key text.now ≡ true }
     ensures value { IfOk result (λ key. key ≡ key_line_of text.now) }
@@ -212,7 +251,7 @@ fn sight_asked_for(text: &[u8]) -> Option<Sight>
 }
 
 /// What a line asks to be seen.
-fn sight_of(text: &[u8]) -> Option<Sight>
+pub(crate) fn sight_of(text: &[u8]) -> Option<Sight>
     ensures { result ≡ sight_of text.now }
 {
     if let Some(sight) = screen_of(text) {
@@ -256,7 +295,7 @@ fn sights_among(lines: &[Text]) -> usize
 }
 
 /// Whether the block has room for one more line of this sort.
-fn block_has_room(lines: &[Text], text: &[u8]) -> bool
+pub(crate) fn block_has_room(lines: &[Text], text: &[u8]) -> bool
     ensures { result ≡ block_has_room lines.now text.now }
 {
     if is_key(text) {
@@ -312,7 +351,7 @@ fn keys_of(alloc: Global, lines: &[Text]) -> Result<List<KeyLine>, AllocError>
 /// What lines of a block ask to be seen, in their order.
 ///
 /// An error comes only where an allocation failed.
-fn sights_of(alloc: Global, lines: &[Text]) -> Result<List<Sight>, AllocError>
+pub(crate) fn sights_of(alloc: Global, lines: &[Text]) -> Result<List<Sight>, AllocError>
     ensures { IfOk result (λ sights. sights ≡ flat_map (λ l. sights_in (orders_line_of l)) lines.now) }
 {
     let mut sights = Vec::new(alloc);
@@ -324,15 +363,24 @@ fn sights_of(alloc: Global, lines: &[Text]) -> Result<List<Sight>, AllocError>
     Ok(List::from_vec(sights))
 }
 
-/// What a block of ORDERS asks, which looks at `most` states at most and has these lines.
+/// What a block of ORDERS asks, by what its first line asks and its other lines.
 ///
 /// An error comes only where an allocation failed.
 #[tactic(auto, unfolding(crate::specs::Orders::orders_block))]
-pub fn orders_block(alloc: Global, most: u32, lines: &[Text]) -> Result<OrdersBlock, AllocError>
-    ensures value { IfOk result (λ block. block ≡ orders_block most lines.now) }
+pub fn orders_block(
+    alloc: Global,
+    asked: OrdersAsked,
+    lines: &[Text],
+) -> Result<OrdersBlock, AllocError>
+    ensures value { IfOk result (λ block. block ≡ orders_block asked lines.now) }
     ensures keys_in_range { IfOk result (λ block. AllByRecursion IsFew block.keys) }
 {
     let keys = keys_of(alloc, lines)?;
     let sights = sights_of(alloc, lines)?;
-    Ok(OrdersBlock { most, keys, sights })
+    Ok(OrdersBlock {
+        most: asked.most,
+        typed_ahead: asked.typed_ahead,
+        keys,
+        sights,
+    })
 }

@@ -86,9 +86,9 @@ kept_by before old new name turn.Ended dump None is recorded dumped = refl
 kept_by before old new name (turn.TookExit code) dump None is recorded dumped = absurd (let no : true ≡ false = is in cc)
 kept_by before old new name (turn.Abended code) dump None is recorded dumped = absurd (let no : true ≡ false = is in cc)
 kept_by before old new name (turn.TookExit code) dump (Some abend_record) is recorded dumped =
-    record { last = _; kept = refl; of_task = refl; with_code = refl; abend_record = abend_record; recorded = recorded abend_record refl; dump = dump; dumped = dumped; explained = refl }
+    record { last = _; kept = refl; of_task = refl; with_code = refl; abend_record = abend_record; recorded = recorded abend_record refl; dump = dump; dumped = dumped; explained = refl; went_on = refl }
 kept_by before old new name (turn.Abended code) dump (Some abend_record) is recorded dumped =
-    record { last = _; kept = refl; of_task = refl; with_code = refl; abend_record = abend_record; recorded = recorded abend_record refl; dump = dump; dumped = dumped; explained = refl }
+    record { last = _; kept = refl; of_task = refl; with_code = refl; abend_record = abend_record; recorded = recorded abend_record refl; dump = dump; dumped = dumped; explained = refl; went_on = refl }
 kept_by before old new name turn.Idle dump (Some abend_record) is recorded dumped = absurd is
 kept_by before old new name turn.NoSuchTerminal dump (Some abend_record) is recorded dumped = absurd is
 kept_by before old new name turn.AtCommand dump (Some abend_record) is recorded dumped = absurd is

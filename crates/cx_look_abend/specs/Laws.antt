@@ -25,13 +25,15 @@ use Rattle.cx_look_levels.specs.FieldTexts.{field_line, typed}
 use Rattle.cx_look_levels.specs.KeptFields.{kept_field, kept_line}
 use Rattle.cx_look_levels.specs.declared.readings.NamedReading.{NamedReading}
 use Rattle.cx_look_abend.specs.Noting.{KeptAbends, AppliesWithAbends, with_last}
-use Rattle.cx_look_abend.specs.Abends.{before_turn, explanation_of, kept_task}
+use Rattle.cx_look_abend.specs.Abends.{before_turn, exit_place, explanation_of, kept_task}
 use Rattle.cx_look_abend.specs.Dumps.{Dump, IsAtAbend, TurnHasDump, dump_in}
 use Rattle.cx_look_abend.specs.declared.abends.LastAbend.{LastAbend}
 
 -- The last abend of a terminal is that to which a turn of its task led: with this code, the task's transaction, number
--- and callers, the arguments of its command, and the record and the DFHEISTG of this turn's abend.
-pub record IsLast (before : KeptAbends) (old new : RegionState) (name code : List ℕ) (after : KeptAbends) : Type 0 where
+-- and callers, the arguments of its command, the record and the DFHEISTG of this turn's abend, and where an exit that
+-- took it went on.
+pub record IsLast (before : KeptAbends) (old new : RegionState) (name code : List ℕ) (given : TurnReply)
+    (after : KeptAbends) : Type 0 where
   pub last : LastAbend
   pub kept : after ≡ with_last before name last
   pub of_task : last.task ≡ kept_task old name
@@ -41,11 +43,12 @@ pub record IsLast (before : KeptAbends) (old new : RegionState) (name code : Lis
   pub dump : Option Dump
   pub dumped : TurnHasDump old name dump
   pub explained : last.explanation ≡ Some (explanation_of new (before_turn old name) dump abend_record)
+  pub went_on : last.exit ≡ exit_place new name given
 
 -- a turn that was answered as an abend, whether an exit took it or not, is kept; any other leaves what is kept
 abbrev pub KeepsTurn : KeptAbends → RegionState → RegionState → List ℕ → TurnReply → KeptAbends → Type 0
-KeepsTurn before old new name (turn.TookExit code) after = IsLast before old new name code after
-KeepsTurn before old new name (turn.Abended code) after = IsLast before old new name code after
+KeepsTurn before old new name (turn.TookExit code) after = IsLast before old new name code (turn.TookExit code) after
+KeepsTurn before old new name (turn.Abended code) after = IsLast before old new name code (turn.Abended code) after
 KeepsTurn before old new name _ after = after ≡ before
 
 -- the DFHEISTG that is kept of a turn's abend is of the machine at the abend, whose registers are kept

@@ -4,3 +4,4 @@ mod PlaceLemmas
 mod OutcomeLemmas
 mod RunLemmas
 mod ScriptLemmas
+mod HeadLemmas

@@ -15,6 +15,7 @@ use Rattle.cx_look_lines.specs.Words.{Lines}
 use Rattle.cx_region.specs.State.{RegionState}
 use Rattle.cx_orders.specs.Moves.{Moves}
 use Rattle.cx_orders.specs.declared.states.KeyLine.{KeyLine}
+use Rattle.cx_orders.specs.declared.states.Keys.{Keys}
 use Rattle.cx_orders.specs.declared.states.OrdersState.{OrdersState}
 use Rattle.cx_look_orders.specs.Outcomes.{AreOutcomes, EndsWith, HasText, IsWritten, NoLater}
 use Rattle.cx_look_orders.specs.Parts.Ways.{AreFirstSteps, AreOfFirst, AreSorted, IsOfFirst, IsTextAt, Reaches}
@@ -41,7 +42,7 @@ rest_texts_decide Shows shown waits keys state one other p q =
     ∙ ap (λ s. flat_map (incident_line state.region) state.incidents ++ q.waits ++ keys_text state keys keys ++ s) (shown state.region p.sight q.sight p.seen q.seen)
     ∙ sym q.is
 
-module _ (Shows : RegionState → Lines → Type 0) (keys : List KeyLine) (start : OrdersState) (found : List (OrdersState × Origin)) (places : List ℕ)
+module _ (Shows : RegionState → Lines → Type 0) (keys : Keys) (start : OrdersState) (found : List (OrdersState × Origin)) (places : List ℕ)
     (shown : ShowsDecide Shows) (waits : WaitsTextsDecide) where
   abbrev First : ℕ → List Outcome → Type 0
   First = AreOfFirst Shows keys start found places
@@ -55,7 +56,7 @@ module _ (Shows : RegionState → Lines → Type 0) (keys : List KeyLine) (start
 
   text_at_one : (index : ℕ) (one other : Lines) → TextAt index one → TextAt index other → one ≡ other
   text_at_one index one other p q =
-      rest_texts_decide Shows shown waits keys q.state one other (subst (λ s. RestText Shows keys s one) (same_state index one other p q) p.shows) q.shows
+      rest_texts_decide Shows shown waits keys.lines q.state one other (subst (λ s. RestText Shows keys.lines s one) (same_state index one other p q) p.shows) q.shows
 
   pub first_none : First 0 []
   first_none = record {
@@ -71,19 +72,19 @@ module _ (Shows : RegionState → Lines → Type 0) (keys : List KeyLine) (start
   kept_text : (outcomes more : List Outcome) (text : Lines) → HasText outcomes text → HasText (outcomes ++ more) text
   kept_text outcomes more text h = record { place = h.place; one = h.one; at = item_kept outcomes more h.place h.one h.at; same = h.same }
 
-  kept_written : (outcomes more : List Outcome) (state : OrdersState) → IsWritten Shows keys outcomes state → IsWritten Shows keys (outcomes ++ more) state
+  kept_written : (outcomes more : List Outcome) (state : OrdersState) → IsWritten Shows keys.lines outcomes state → IsWritten Shows keys.lines (outcomes ++ more) state
   kept_written outcomes more state w = record { place = w.place; one = w.one; at = item_kept outcomes more w.place w.one w.at; shows = w.shows }
 
   -- where an outcome has its text, the state at the place is written
   abbrev AllWritten : ℕ → List Outcome → Type 0
   AllWritten many outcomes = (index place : ℕ) (state : OrdersState) → index < many → slice_get places index ≡ Some place → IsAt found place state
-      → IsWritten Shows keys outcomes state
+      → IsWritten Shows keys.lines outcomes state
 
   written_at : (many : ℕ) (outcomes : List Outcome) (text : Lines) → TextAt many text → HasText outcomes text → (place : ℕ) (state : OrdersState)
-      → slice_get places many ≡ Some place → IsAt found place state → IsWritten Shows keys outcomes state
+      → slice_get places many ≡ Some place → IsAt found place state → IsWritten Shows keys.lines outcomes state
   written_at many outcomes text at has place state there is =
       let same = one_state keys start found place at.state state (subst (λ k. IsAt found k at.state) (same_Some at.place place (sym at.there ∙ there)) at.at) is in
-      record { place = has.place; one = has.one; at = has.at; shows = subst (RestText Shows keys state) (sym has.same) (subst (λ s. RestText Shows keys s text) same at.shows) }
+      record { place = has.place; one = has.one; at = has.at; shows = subst (RestText Shows keys.lines state) (sym has.same) (subst (λ s. RestText Shows keys.lines s text) same at.shows) }
 
   all_written : (many : ℕ) (outcomes : List Outcome) (known : Lines) → AllWritten many outcomes → TextAt many known → HasText outcomes known
       → AllWritten (many + 1) outcomes

@@ -11,7 +11,7 @@ use Rattle.cx_search.specs.Laws.{FirstIsOne, SoonerOrders}
 use Rattle.cx_search.specs.Moves.{IsFirst, IsSooner, Leads}
 use Rattle.cx_search.specs.Rest.{IsNear}
 use Rattle.cx_orders.specs.Moves.{Moves}
-use Rattle.cx_orders.specs.declared.states.KeyLine.{KeyLine}
+use Rattle.cx_orders.specs.declared.states.Keys.{Keys}
 use Rattle.cx_orders.specs.declared.states.OrdersState.{OrdersState}
 use Rattle.cx_look_orders.specs.Outcomes.{AllCanRest, AreReached, HasReached, HasStates, IsCutAt, IsReached, IsStuck, LoopsFirst, NoLater}
 use Rattle.cx_look_orders.specs.Parts.Ways.{AreFirstSteps, Reaches}
@@ -27,7 +27,7 @@ no_longer ms ns (inl e) = omega (arith, ap length e)
 no_longer ms ns (inr (inl l)) = omega (arith, l)
 no_longer ms ns (inr (inr e)) = omega (arith, e.0)
 
-module _ (keys : List KeyLine) (start : OrdersState) (found : List (OrdersState × Origin)) where
+module _ (keys : Keys) (start : OrdersState) (found : List (OrdersState × Origin)) where
   abbrev Goes : OrdersState → ℕ → OrdersState → Type 0
   Goes = Moves keys
 

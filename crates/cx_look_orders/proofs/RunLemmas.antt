@@ -13,13 +13,14 @@ use Rattle.cx_region_laws.specs.Laws.Regions.{KeysKeepToTheirTerminal, TurnsKeep
 use Rattle.cx_orders.specs.Laws.{IsOrder}
 use Rattle.cx_orders.specs.Moves.{KeyMoves, TurnMoves, keys_of}
 use Rattle.cx_orders.specs.declared.states.KeyLine.{KeyLine}
+use Rattle.cx_orders.specs.declared.states.Keys.{Keys}
 use Rattle.cx_orders.specs.declared.states.OrdersState.{OrdersState}
 use Rattle.cx_look_orders.specs.Laws.{IsMoveReply, IsRunOf, StepsAreRuns, event_at, event_of_step}
 use Rattle.cx_look_orders.specs.Steps.{AreSteps}
 use Rattle.cx_look_orders.specs.declared.steps.Step.{Step}
 use Rattle.cx_look_orders.proofs.ListLemmas.{mapped_item}
 
-module _ (turned : TurnsKeepToTheirTask) (keyed : KeysKeepToTheirTerminal) (keys : List KeyLine) where
+module _ (turned : TurnsKeepToTheirTask) (keyed : KeysKeepToTheirTerminal) (keys : Keys) where
   abbrev names : OrdersState → List (List ℕ)
   names state = names_of state.region.terminals
 
@@ -27,7 +28,7 @@ module _ (turned : TurnsKeepToTheirTask) (keyed : KeysKeepToTheirTerminal) (keys
   record Does (from : OrdersState) (step : Step) (to : OrdersState) : Type 0 where
     what : Event
     answer : Reply
-    is : event_of_step (names from) keys step ≡ Some what
+    is : event_of_step (names from) keys.lines step ≡ Some what
     order : IsOrder what
     move : IsMoveReply answer
     applies : Applies from.region what answer to.region
@@ -45,7 +46,7 @@ module _ (turned : TurnsKeepToTheirTask) (keyed : KeysKeepToTheirTerminal) (keys
   does_by from to number name terminal came None at t = record {
     what = event.Turn name;
     answer = reply.Turn t.reply;
-    is = ap (λ o. option_and_then (λ (n : List ℕ). event_at keys n None) o) (name_there from number name terminal at);
+    is = ap (λ o. option_and_then (λ (n : List ℕ). event_at keys.lines n None) o) (name_there from number name terminal at);
     order = tt;
     move = t.moves;
     applies = t.takes;
@@ -54,27 +55,27 @@ module _ (turned : TurnsKeepToTheirTask) (keyed : KeysKeepToTheirTerminal) (keys
   does_by from to number name terminal came (Some before) at k = record {
     what = event.Key name k.1.key.aid k.1.key.bytes;
     answer = reply.Key k.1.comes.reply;
-    is = ap (λ o. option_and_then (λ (n : List ℕ). event_at keys n (Some before)) o) (name_there from number name terminal at)
-        ∙ ap (λ (o : Option KeyLine). option_map (λ (key : KeyLine). event.Key name key.aid key.bytes) o) (ap (λ n. slice_get (keys_of keys name) n) k.0 ∙ k.1.next);
+    is = ap (λ o. option_and_then (λ (n : List ℕ). event_at keys.lines n (Some before)) o) (name_there from number name terminal at)
+        ∙ ap (λ (o : Option KeyLine). option_map (λ (key : KeyLine). event.Key name key.aid key.bytes) o) (ap (λ n. slice_get (keys_of keys.lines name) n) k.0 ∙ k.1.next);
     order = tt;
     move = tt;
     applies = k.1.comes.takes;
     same = (keyed from.region name _ k.1.comes.reply to.region k.1.comes.takes).names;
   }
 
-  run_on : (from between to : OrdersState) (step : Step) (steps : List Step) → Does from step between → IsRunOf keys between steps to → IsRunOf keys from (step ∷ steps) to
+  run_on : (from between to : OrdersState) (step : Step) (steps : List Step) → Does from step between → IsRunOf keys.lines between steps to → IsRunOf keys.lines from (step ∷ steps) to
   unfolding Run
   run_on from between to step steps one rest = record {
     events = one.what ∷ rest.events;
     replies = one.answer ∷ rest.replies;
-    are = ap (λ e. e ∷ map (event_of_step (names from) keys) steps) one.is
-        ∙ ap (λ es. Some one.what ∷ es) (ap (λ ns. map (event_of_step ns keys) steps) (sym one.same) ∙ rest.are);
+    are = ap (λ e. e ∷ map (event_of_step (names from) keys.lines) steps) one.is
+        ∙ ap (λ es. Some one.what ∷ es) (ap (λ ns. map (event_of_step ns keys.lines) steps) (sym one.same) ∙ rest.are);
     orders = (one.order, rest.orders);
     moves = (one.move, rest.moves);
     run = (between.region, one.applies, rest.run);
   }
 
-  runs : (from to : OrdersState) (steps : List Step) → AreSteps keys from steps to → IsRunOf keys from steps to
+  runs : (from to : OrdersState) (steps : List Step) → AreSteps keys from steps to → IsRunOf keys.lines from steps to
   unfolding AreSteps Run
   runs from to [] are = record { events = []; replies = []; are = refl; orders = tt; moves = tt; run = ap (λ (s : OrdersState). s.region) are }
   runs from to (step ∷ steps) are =

@@ -1,27 +1,27 @@
 -- The steps of a list of moves.
-use Rattle.std.proofs.Common.{◌≡◌, ℕ, ◌+◌, ◌≤◌, suc, List, [], ◌∷◌, ◌++◌, length, drop, Option, Some, None, ap, refl, sym, subst, ◌∙◌, append_assoc, append-nil, add-one}
+use Rattle.std.proofs.Common.{◌≡◌, ℕ, ◌+◌, ◌/◌, ◌≤◌, suc, List, [], ◌∷◌, ◌++◌, length, drop, Option, Some, None, ap, refl, sym, subst, ◌∙◌, append_assoc, append-nil, add-one}
 use Rattle.std.specs.Prelude.{slice_get}
 use Rattle.cx_search.specs.Moves.{GoesOnly, GoesTo, IsFirst, Leads}
 use Rattle.cx_orders.specs.Moves.{Moves}
-use Rattle.cx_orders.specs.declared.states.KeyLine.{KeyLine}
+use Rattle.cx_orders.specs.declared.states.Keys.{Keys}
 use Rattle.cx_orders.specs.declared.states.OrdersState.{OrdersState}
 use Rattle.cx_look_orders.specs.Parts.Ways.{AreFirstSteps, AreStepsOf, came_between}
-use Rattle.cx_look_orders.specs.Steps.{AreSteps, IsStep, moves_of}
+use Rattle.cx_look_orders.specs.Steps.{AreSteps, IsStep, move_number, moves_of}
 use Rattle.cx_look_orders.specs.declared.steps.Step.{Step}
 use Rattle.std.proofs.lemmas.List.{drop_all}
 use Rattle.cx_look_orders.proofs.ListLemmas.{drop_item, drop_none}
-use Rattle.cx_look_orders.specs.Facts.Steps.{step_between, step_is}
+use Rattle.cx_look_orders.specs.Facts.Steps.{step_between, step_is, step_numbered}
 
-module _ (keys : List KeyLine) where
+module _ (keys : Keys) where
   -- ---- steps, and one more
   steps_on : (from s t : OrdersState) (steps : List Step) (step : Step) → AreSteps keys from steps s → IsStep keys s step t → AreSteps keys from (steps ++ step ∷ []) t
   unfolding AreSteps
   steps_on from s t [] step are is = record { between = t; is = subst (λ x. IsStep keys x step t) are is; rest = refl }
   steps_on from s t (first ∷ steps) step are is = record { between = are.between; is = are.is; rest = steps_on are.between s t steps step are.rest is }
 
-  moves_on : (steps : List Step) (step : Step) → moves_of (steps ++ step ∷ []) ≡ moves_of steps ++ step.number ∷ []
+  moves_on : (steps : List Step) (step : Step) → moves_of (steps ++ step ∷ []) ≡ moves_of steps ++ move_number step ∷ []
   moves_on [] step = refl
-  moves_on (first ∷ steps) step = ap (λ ms. first.number ∷ ms) (moves_on steps step)
+  moves_on (first ∷ steps) step = ap (λ ms. move_number first ∷ ms) (moves_on steps step)
 
   -- the first steps of a list of moves
   pub record Walks (start : OrdersState) (moves : List ℕ) (to : OrdersState) (done : ℕ) (at : OrdersState) (steps : List Step) : Type 0 where
@@ -77,6 +77,7 @@ module _ (keys : List KeyLine) where
       record {
         are = steps_on start at next steps (step_between at number next) w.are (step_is keys at next number only.goes);
         all = w.all ∙ ap (λ ms. moves_of steps ++ ms) first ∙ sym (append_assoc (moves_of steps) (number ∷ []) rest)
+            ∙ ap (λ n. (moves_of steps ++ n ∷ []) ++ rest) (sym (step_numbered keys at next number only.goes))
             ∙ ap (λ ms. ms ++ rest) (sym (moves_on steps (step_between at number next)));
         rest = subst (λ n. Leads (Moves keys) next (drop n moves) to) more
             (subst (λ s. Leads (Moves keys) s (drop (suc done) moves) to) (only.only by.0 by.1.0) by.1.1);
@@ -88,9 +89,9 @@ module _ (keys : List KeyLine) where
 
   pub walk_pushed : (start : OrdersState) (moves : List ℕ) (to : OrdersState) (done : ℕ) (at : OrdersState) (steps after : List Step) (number : ℕ) (next : OrdersState)
       (key : Option ℕ) → Walks start moves to done at steps → slice_get moves done ≡ Some number → GoesTo (Moves keys) at number (Some next)
-      → key ≡ came_between at.come next.come number → after ≡ steps ++ step_with number key ∷ [] → Walks start moves to (done + 1) next after
+      → key ≡ came_between at.come next.come (number / 2) → after ≡ steps ++ step_with (number / 2) key ∷ [] → Walks start moves to (done + 1) next after
   walk_pushed start moves to done at steps after number next key w is goes e pushed =
-      subst (Walks start moves to (done + 1) next) (sym (pushed ∙ ap (λ k. steps ++ step_with number k ∷ []) e))
+      subst (Walks start moves to (done + 1) next) (sym (pushed ∙ ap (λ k. steps ++ step_with (number / 2) k ∷ []) e))
       (walk_on start moves to done at steps number next w is goes)
 
   pub walk_ends : (start : OrdersState) (moves : List ℕ) (to : OrdersState) (done : ℕ) (at : OrdersState) (steps : List Step) → Walks start moves to done at steps

@@ -15,6 +15,7 @@ use Rattle.cx_region.specs.declared.replies.Reply.TheVariants as reply
 use Rattle.cx_orders.specs.Laws.{IsOrder}
 use Rattle.cx_orders.specs.Moves.{Moves, is_move, keys_of}
 use Rattle.cx_orders.specs.declared.states.KeyLine.{KeyLine}
+use Rattle.cx_orders.specs.declared.states.Keys.{Keys}
 use Rattle.cx_orders.specs.declared.states.OrdersState.{OrdersState}
 use Rattle.cx_look_orders.specs.Outcomes.{AreOutcomes, MayLoop}
 use Rattle.cx_look_orders.specs.Report.{OrdersText}
@@ -24,13 +25,13 @@ use Rattle.cx_look_orders.specs.Steps.{AreSteps}
 use Rattle.cx_look_orders.specs.declared.steps.Step.{Step}
 
 -- of a region in which no two terminals have one name one text is written
-abbrev pub ReportsDecide : (RegionState → Lines → Type 0) → List KeyLine → Type 0
+abbrev pub ReportsDecide : (RegionState → Lines → Type 0) → Keys → Type 0
 ReportsDecide Shows keys = (region : RegionState) (edf : List (List ℕ)) (most : ℕ) (one other : Lines)
     → IsDistinct is_name (names_of region.terminals) → OrdersText Shows keys region edf most one
     → OrdersText Shows keys region edf most other → one ≡ other
 
 -- no text stands twice among outcomes
-abbrev pub TextsStandOnce : (RegionState → Lines → Type 0) → List KeyLine → Type 0
+abbrev pub TextsStandOnce : (RegionState → Lines → Type 0) → Keys → Type 0
 TextsStandOnce Shows keys = (start : OrdersState) (cut : Option ℕ) (outcomes : List Outcome)
     → AreOutcomes Shows keys start cut outcomes → (j k : ℕ) (one other : Outcome) → slice_get outcomes j ≡ Some one
     → slice_get outcomes k ≡ Some other → one.text ≡ other.text → j ≡ k
@@ -61,11 +62,11 @@ pub record IsRunOf (keys : List KeyLine) (from : OrdersState) (steps : List Step
 
 -- where steps lead, the run of their turns and keys leads the region, without EDF
 abbrev pub StepsAreRuns : Type 0
-StepsAreRuns = (keys : List KeyLine) (from to : OrdersState) (steps : List Step) → AreSteps keys from steps to
-    → IsRunOf keys from steps to
+StepsAreRuns = (keys : Keys) (from to : OrdersState) (steps : List Step) → AreSteps keys from steps to
+    → IsRunOf keys.lines from steps to
 
 -- the list that is written of moves without an end stands there exactly where there are lists of any length
-pub record LoopsAreEndless (keys : List KeyLine) : Type 0 where
+pub record LoopsAreEndless (keys : Keys) : Type 0 where
   pub endless : (start : OrdersState) (steps : List Step) → MayLoop keys start (Some steps) → (least : ℕ)
       → IsLong (Moves keys) start least
   pub bounded : (start : OrdersState) → MayLoop keys start None → ((least : ℕ) → IsLong (Moves keys) start least) → ⊥

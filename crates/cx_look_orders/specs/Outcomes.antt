@@ -7,6 +7,7 @@ use Rattle.cx_region.specs.State.{RegionState}
 use Rattle.cx_look_lines.specs.Words.{Lines}
 use Rattle.cx_orders.specs.Moves.{Moves}
 use Rattle.cx_orders.specs.declared.states.KeyLine.{KeyLine}
+use Rattle.cx_orders.specs.declared.states.Keys.{Keys}
 use Rattle.cx_orders.specs.declared.states.OrdersState.{OrdersState}
 use Rattle.cx_look_orders.specs.Rest.{RestText}
 use Rattle.cx_look_orders.specs.Steps.{AreSteps, moves_of}
@@ -33,13 +34,13 @@ pub record IsWritten (Shows : RegionState → Lines → Type 0) (keys : List Key
   pub shows : RestText Shows keys state one.text
 
 -- ---- what lists of moves end with
-module _ (Shows : RegionState → Lines → Type 0) (keys : List KeyLine) (start : OrdersState) where
+module _ (Shows : RegionState → Lines → Type 0) (keys : Keys) (start : OrdersState) where
   -- the list of moves ends at rest, and that is written of it
   pub record EndsWith (moves : List ℕ) (text : Lines) : Type 0 where
     pub to : OrdersState
     pub leads : Leads (Moves keys) start moves to
     pub rest : AtRest (Moves keys) to
-    pub shows : RestText Shows keys to text
+    pub shows : RestText Shows keys.lines to text
 
   -- an outcome: what is written of the state that its steps end with, at rest, the soonest of the lists that end with
   -- that text; it has at most so many moves, where they are limited
@@ -47,7 +48,7 @@ module _ (Shows : RegionState → Lines → Type 0) (keys : List KeyLine) (start
     pub to : OrdersState
     pub steps : AreSteps keys start one.steps to
     pub rest : AtRest (Moves keys) to
-    pub shows : RestText Shows keys to one.text
+    pub shows : RestText Shows keys.lines to one.text
     pub near : IsNear cut (length one.steps)
     pub soonest : (moves : List ℕ) → EndsWith moves one.text → NoLater (moves_of one.steps) moves
 
@@ -57,13 +58,13 @@ module _ (Shows : RegionState → Lines → Type 0) (keys : List KeyLine) (start
     pub each : (place : ℕ) (one : Outcome) → slice_get outcomes place ≡ Some one → IsOutcome cut one
     pub all : (moves : List ℕ) (text : Lines) → EndsWith moves text → IsNear cut (length moves) → HasText outcomes text
     pub written : (moves : List ℕ) (to : OrdersState) → Leads (Moves keys) start moves to → AtRest (Moves keys) to
-        → IsNear cut (length moves) → IsWritten Shows keys outcomes to
+        → IsNear cut (length moves) → IsWritten Shows keys.lines outcomes to
     pub ordered : (j k : ℕ) (one other : Outcome) → j < k → slice_get outcomes j ≡ Some one
         → slice_get outcomes k ≡ Some other
         → IsSooner (moves_of one.steps) (moves_of other.steps)
 
 -- ---- states that lists of moves lead to
-module _ (keys : List KeyLine) (start : OrdersState) where
+module _ (keys : Keys) (start : OrdersState) where
   -- a list of at most so many moves leads to the state, where they are limited
   pub record IsReached (cut : Option ℕ) (state : OrdersState) : Type 0 where
     pub moves : List ℕ

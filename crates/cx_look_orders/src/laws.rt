@@ -1,8 +1,7 @@
 //! What holds of the report of every order.
 
-ghost use Rattle.std.specs.Prelude.{List};
 ghost use Rattle.cx_look_orders.specs.Laws.{LoopsAreEndless, ReportsDecide, ScriptsAskForSteps, StepsAreRuns, TextsStandOnce};
-ghost use Rattle.cx_orders.specs.declared.states.KeyLine.{KeyLine};
+ghost use Rattle.cx_orders.specs.declared.states.Keys.{Keys as TheKeys};
 
 use crate::seen::Seen;
 use cx_orders::laws::moves_decide;
@@ -12,8 +11,8 @@ use cx_storage::Store;
 
 /// ORDERS writes one text of a region, and no two of its outcomes have one text.
 pub fn reports_decide<S: Store + Drop, V: Seen<S>>()
-    ensures decide { (seen : V) (keys : List KeyLine) → ReportsDecide (V.shows seen) keys }
-    ensures once { (seen : V) (keys : List KeyLine) → TextsStandOnce (V.shows seen) keys }
+    ensures decide { (seen : V) (keys : TheKeys) → ReportsDecide (V.shows seen) keys }
+    ensures once { (seen : V) (keys : TheKeys) → TextsStandOnce (V.shows seen) keys }
 {
     moves_decide();
     a_turn_keeps_to_its_task();
@@ -23,7 +22,7 @@ pub fn reports_decide<S: Store + Drop, V: Seen<S>>()
 
 /// ORDERS writes that some orders never rest exactly where there are lists of moves of any length.
 pub fn loops_are_endless()
-    ensures { (keys : List KeyLine) → LoopsAreEndless keys }
+    ensures { (keys : TheKeys) → LoopsAreEndless keys }
 {}
 
 /// Steps lead a region where the run of their turns and keys leads it, without EDF.

@@ -11,8 +11,9 @@ mod steps;
 
 pub use outcomes::Outcome;
 pub use report::orders_text;
-pub use rest::rest_text;
+pub use rest::{incident_lines, many_of, rest_text};
 #[doc(hidden)]
 pub use script::Row;
+pub use script::script_lines;
 pub use seen::Seen;
 pub use steps::Step;

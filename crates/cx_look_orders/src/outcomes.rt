@@ -71,12 +71,12 @@ fn add_outcome<S: Store + Drop, V: Seen<S>>(
     index: usize,
     outcomes: &mut Vec<Outcome>,
 ) -> Result<(), AllocError>
-    requires found { Finds (Moves searched.now.orders.now.keys.items) (begun searched.now.region.now)
+    requires found { Finds (Moves searched.now.orders.now.keys) (begun searched.now.region.now)
         searched.now.found.now.states.entries }
     requires sorted { AreSorted places.now }
-    requires so_far { AreOfFirst (V.shows searched.now.seen.now) searched.now.orders.now.keys.items
+    requires so_far { AreOfFirst (V.shows searched.now.seen.now) searched.now.orders.now.keys
         (begun searched.now.region.now) searched.now.found.now.states.entries places.now index outcomes.old.items }
-    ensures { OnOk result (AreOfFirst (V.shows searched.now.seen.now) searched.now.orders.now.keys.items
+    ensures { OnOk result (AreOfFirst (V.shows searched.now.seen.now) searched.now.orders.now.keys
         (begun searched.now.region.now) searched.now.found.now.states.entries places.now (index + 1)
         outcomes.new.items) }
 {
@@ -94,7 +94,7 @@ fn add_outcome<S: Store + Drop, V: Seen<S>>(
         orders.alloc,
         work,
         state,
-        orders.keys.as_slice(),
+        orders.keys.lines.as_slice(),
         searched.seen,
     )?;
     if has_text(outcomes.as_slice(), &text) {
@@ -113,12 +113,12 @@ pub(crate) fn outcomes_of<S: Store + Drop, V: Seen<S>>(
     work: &mut Region<S>,
     cut: Option<usize>,
 ) -> Result<Vec<Outcome>, AllocError>
-    requires finds { Finds (Moves searched.now.orders.now.keys.items) (begun searched.now.region.now)
+    requires finds { Finds (Moves searched.now.orders.now.keys) (begun searched.now.region.now)
         searched.now.found.now.states.entries }
-    requires reaches { Reaches searched.now.orders.now.keys.items (begun searched.now.region.now)
+    requires reaches { Reaches searched.now.orders.now.keys (begun searched.now.region.now)
         searched.now.found.now.states.entries cut }
     ensures { IfOk result (λ outcomes. AreOutcomes (V.shows searched.now.seen.now)
-        searched.now.orders.now.keys.items (begun searched.now.region.now) cut outcomes.items) }
+        searched.now.orders.now.keys (begun searched.now.region.now) cut outcomes.items) }
 {
     searched.seen.shows_decide();
     texts_decide();

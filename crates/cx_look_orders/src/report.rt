@@ -2,7 +2,7 @@
 
 ghost use Rattle.std.specs.Prelude.{◌≡◌, ◌≤◌, ◌++◌, IfOk, MatchBool, None, OnOk, length};
 ghost use Rattle.cx_look_orders.specs.Outcomes.{AllCanRest, AreOutcomes, HasStates, IsStuck, MayLoop};
-ghost use Rattle.cx_look_orders.specs.Report.{OrdersText, cut_line, loop_lines, outcome_lines, number_line, outcomes_lines, stuck_line, whole_line};
+ghost use Rattle.cx_look_orders.specs.Report.{OrdersText, cut_line, loop_lines, outcome_lines, number_line, outcomes_lines, stuck_line, when_words, whole_line};
 ghost use Rattle.std.specs.Option.{option_copied};
 ghost use Rattle.cx_orders.specs.Moves.{Moves, begun};
 ghost use Rattle.cx_search.specs.Finds.{Finds, IsWhole};
@@ -14,7 +14,7 @@ use crate::steps::{Step, steps_to};
 use cx_base::List;
 use cx_ebcdic::Name4;
 use cx_look_lines::{Report, decimal};
-use cx_orders::{KeyLine, Orders};
+use cx_orders::{KeyLine, Keys, Orders};
 use cx_region::Region;
 use cx_region_snapshot::RegionSnapshot;
 use cx_search::Found;
@@ -22,32 +22,68 @@ use cx_search::laws::one_list_is_sooner;
 use cx_storage::Store;
 use std::alloc::AllocError;
 
-/// Adds the line with how many states and outcomes there are.
-fn whole_line(report: &mut Report, states: usize, outcomes: usize) -> Result<(), AllocError>
-    ensures { OnOk result (report.new ≡ report.old ++ whole_line states outcomes) }
+/// When keys may come.
+fn when_words(typed_ahead: bool) -> &'static [u8]
+    ensures { result.now ≡ when_words typed_ahead }
+{
+    if typed_ahead {
+        b"KEYS TYPED AHEAD"
+    } else {
+        b"KEYS WHEN ASKED"
+    }
+}
+
+/// Adds the line with how many states and outcomes there are, and when keys may come, where there are some.
+fn whole_line(
+    report: &mut Report,
+    keys: &Keys,
+    states: usize,
+    outcomes: usize,
+) -> Result<(), AllocError>
+    ensures { OnOk result (report.new ≡ report.old ++ whole_line keys.now states outcomes) }
 {
     let states = decimal(report.alloc(), states)?;
     let outcomes = decimal(report.alloc(), outcomes)?;
+    if keys.lines.as_slice().is_empty() {
+        return report.line(&[
+            b"ORDERS STATES",
+            states.as_slice(),
+            b"OUTCOMES",
+            outcomes.as_slice(),
+        ]);
+    }
     report.line(&[
         b"ORDERS STATES",
         states.as_slice(),
         b"OUTCOMES",
         outcomes.as_slice(),
+        when_words(keys.typed_ahead),
     ])
 }
 
-/// Adds the line that says that there are more states, and which lists of moves were tried: all of at most so many.
-fn cut_line(report: &mut Report, most: usize, moves: usize) -> Result<(), AllocError>
-    ensures { OnOk result (report.new ≡ report.old ++ cut_line most moves) }
+/// Adds the line that says that there are more states, and which lists of moves were tried: all of at most so many; and
+/// when keys may come, where there are some.
+fn cut_line(report: &mut Report, keys: &Keys, most: usize, moves: usize) -> Result<(), AllocError>
+    ensures { OnOk result (report.new ≡ report.old ++ cut_line keys.now most moves) }
 {
     let most = decimal(report.alloc(), most)?;
     let moves = decimal(report.alloc(), moves)?;
+    if keys.lines.as_slice().is_empty() {
+        return report.line(&[
+            b"ORDERS MORE THAN",
+            most.as_slice(),
+            b"STATES, ALL OF",
+            moves.as_slice(),
+            b"MOVES",
+        ]);
+    }
     report.line(&[
         b"ORDERS MORE THAN",
         most.as_slice(),
         b"STATES, ALL OF",
         moves.as_slice(),
         b"MOVES",
+        when_words(keys.typed_ahead),
     ])
 }
 
@@ -103,10 +139,10 @@ fn loop_of<S: Store + Drop>(
     found: &Found<Orders<S>>,
     work: &mut Region<S>,
 ) -> Result<Option<List<Step>>, AllocError>
-    requires finds { Finds (Moves orders.now.keys.items) (begun region.now) found.now.states.entries }
-    requires whole { IsWhole (Moves orders.now.keys.items) (begun region.now) found.now.states.entries
+    requires finds { Finds (Moves orders.now.keys) (begun region.now) found.now.states.entries }
+    requires whole { IsWhole (Moves orders.now.keys) (begun region.now) found.now.states.entries
         found.now.links.items }
-    ensures { IfOk result (MayLoop orders.now.keys.items (begun region.now)) }
+    ensures { IfOk result (MayLoop orders.now.keys (begun region.now)) }
 {
     one_list_is_sooner();
     let Some(place) = found.looping()? else {
@@ -124,14 +160,14 @@ fn is_stuck<S: Store + Drop>(
     orders: &Orders<S>,
     found: &Found<Orders<S>>,
 ) -> Result<bool, AllocError>
-    requires finds { Finds (Moves orders.now.keys.items) (begun region.now) found.now.states.entries }
-    requires whole { IsWhole (Moves orders.now.keys.items) (begun region.now) found.now.states.entries
+    requires finds { Finds (Moves orders.now.keys) (begun region.now) found.now.states.entries }
+    requires whole { IsWhole (Moves orders.now.keys) (begun region.now) found.now.states.entries
         found.now.links.items }
-    ensures { IfOk result (λ stuck. MatchBool stuck (IsStuck orders.now.keys.items (begun region.now))
-        (AllCanRest orders.now.keys.items (begun region.now))) }
+    ensures { IfOk result (λ stuck. MatchBool stuck (IsStuck orders.now.keys (begun region.now))
+        (AllCanRest orders.now.keys (begun region.now))) }
 {
     region.counter();
-    orders.keys.len();
+    orders.keys.lines.as_slice().len();
     let place = found.restless()?;
     Ok(place.is_some())
 }
@@ -182,20 +218,20 @@ fn whole_of<S: Store + Drop, V: Seen<S>>(
     searched: &Searched<S, V>,
     work: &mut Region<S>,
 ) -> Result<Whole, AllocError>
-    requires finds { Finds (Moves searched.now.orders.now.keys.items) (begun searched.now.region.now)
+    requires finds { Finds (Moves searched.now.orders.now.keys) (begun searched.now.region.now)
         searched.now.found.now.states.entries }
-    requires whole { IsWhole (Moves searched.now.orders.now.keys.items) (begun searched.now.region.now)
+    requires whole { IsWhole (Moves searched.now.orders.now.keys) (begun searched.now.region.now)
         searched.now.found.now.states.entries searched.now.found.now.links.items }
     ensures many { IfOk result (λ whole. whole.states ≡ length searched.now.found.now.states.entries) }
     ensures count { IfOk result (λ whole.
-        HasStates searched.now.orders.now.keys.items (begun searched.now.region.now) whole.states) }
+        HasStates searched.now.orders.now.keys (begun searched.now.region.now) whole.states) }
     ensures outcomes { IfOk result (λ whole. AreOutcomes (V.shows searched.now.seen.now)
-        searched.now.orders.now.keys.items (begun searched.now.region.now) None whole.outcomes.items) }
+        searched.now.orders.now.keys (begun searched.now.region.now) None whole.outcomes.items) }
     ensures looping { IfOk result (λ whole.
-        MayLoop searched.now.orders.now.keys.items (begun searched.now.region.now) whole.looping) }
+        MayLoop searched.now.orders.now.keys (begun searched.now.region.now) whole.looping) }
     ensures stuck { IfOk result (λ whole. MatchBool whole.is_stuck
-        (IsStuck searched.now.orders.now.keys.items (begun searched.now.region.now))
-        (AllCanRest searched.now.orders.now.keys.items (begun searched.now.region.now))) }
+        (IsStuck searched.now.orders.now.keys (begun searched.now.region.now))
+        (AllCanRest searched.now.orders.now.keys (begun searched.now.region.now))) }
 {
     one_list_is_sooner();
     let outcomes = outcomes_of(searched, work, None)?;
@@ -218,14 +254,15 @@ fn whole_report<S: Store + Drop>(
     edf: &[Name4],
     whole: &Whole,
 ) -> Result<Report, AllocError>
-    ensures { IfOk result (λ report. report ≡ whole_line whole.now.states (length whole.now.outcomes.items)
-        ++ outcomes_lines region.now orders.now.keys.items edf.now 1 whole.now.outcomes.items
-        ++ loop_lines region.now orders.now.keys.items edf.now whole.now.looping ++ stuck_line whole.now.is_stuck) }
+    ensures { IfOk result (λ report. report
+        ≡ whole_line orders.now.keys whole.now.states (length whole.now.outcomes.items)
+        ++ outcomes_lines region.now orders.now.keys.lines edf.now 1 whole.now.outcomes.items
+        ++ loop_lines region.now orders.now.keys.lines edf.now whole.now.looping ++ stuck_line whole.now.is_stuck) }
 {
-    let keys = orders.keys.as_slice();
+    let keys = orders.keys.lines.as_slice();
     let outcomes = whole.outcomes.as_slice();
     let mut report = Report::new(orders.alloc);
-    whole_line(&mut report, whole.states, outcomes.len())?;
+    whole_line(&mut report, &orders.keys, whole.states, outcomes.len())?;
     outcomes_lines(&mut report, region, keys, edf, outcomes)?;
     loop_lines(&mut report, region, keys, edf, whole.looping.as_ref())?;
     stuck_line(&mut report, whole.is_stuck)?;
@@ -244,11 +281,12 @@ fn cut_report<S: Store + Drop>(
     outcomes: &[Outcome],
 ) -> Result<Report, AllocError>
     ensures { IfOk result (λ report. report
-        ≡ cut_line most moves ++ outcomes_lines region.now orders.now.keys.items edf.now 1 outcomes.now) }
+        ≡ cut_line orders.now.keys most moves
+        ++ outcomes_lines region.now orders.now.keys.lines edf.now 1 outcomes.now) }
 {
-    let keys = orders.keys.as_slice();
+    let keys = orders.keys.lines.as_slice();
     let mut report = Report::new(orders.alloc);
-    cut_line(&mut report, most, moves)?;
+    cut_line(&mut report, &orders.keys, most, moves)?;
     outcomes_lines(&mut report, region, keys, edf, outcomes)?;
     Ok(report)
 }
@@ -267,7 +305,7 @@ pub fn orders_text<S: Store + Drop, V: Seen<S>>(
     seen: &V,
 ) -> Result<Report, AllocError>
     requires { 1 ≤ most }
-    ensures { IfOk result (OrdersText (V.shows seen.now) orders.now.keys.items region.now edf.now most) }
+    ensures { IfOk result (OrdersText (V.shows seen.now) orders.now.keys region.now edf.now most) }
 {
     one_list_is_sooner();
     let start = RegionSnapshot::take(orders.alloc, region, None)?;

@@ -69,7 +69,9 @@ fn incident_line<S: Store + Drop>(
 }
 
 /// Adds a line for each that was kept.
-fn incident_lines<S: Store + Drop>(
+///
+/// An error comes only where memory was refused.
+pub fn incident_lines<S: Store + Drop>(
     report: &mut Report,
     region: &Region<S>,
     incidents: &[IncidentAt],
@@ -95,7 +97,7 @@ fn came_of<S: Store + Drop>(region: &Region<S>, state: &OrdersState, name: Name4
 }
 
 /// How many keys there are of a terminal.
-fn many_of(keys: &[KeyLine], name: Name4) -> usize
+pub fn many_of(keys: &[KeyLine], name: Name4) -> usize
     ensures { result ≡ length (keys_of keys.now name) }
 {
     keys.iter().filter(|key| key.name == name).count()

@@ -163,8 +163,10 @@ fn off_lines(report: &mut Report, edf: &[Name4]) -> Result<(), AllocError>
 }
 
 /// Adds the lines of a script that does steps, without EDF: these terminals have it on.
+///
+/// An error comes only where memory was refused.
 #[tactic(auto, unfolding(crate::specs::Script::script_lines))]
-pub(crate) fn script_lines<S: Store + Drop>(
+pub fn script_lines<S: Store + Drop>(
     report: &mut Report,
     region: &Region<S>,
     keys: &[KeyLine],

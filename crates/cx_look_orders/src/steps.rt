@@ -43,8 +43,8 @@ fn steps_of<S: Store + Drop>(
     start: OrdersState,
     moves: &[usize],
 ) -> Result<List<Step>, AllocError>
-    ensures { (to : TheState) → Leads (Moves orders.now.keys.items) start moves.now to
-        → IfOk result (AreStepsOf orders.now.keys.items start moves.now to) }
+    ensures { (to : TheState) → Leads (Moves orders.now.keys) start moves.now to
+        → IfOk result (AreStepsOf orders.now.keys start moves.now to) }
 {
     let mut at = start;
     let mut steps = Vec::new(orders.alloc);
@@ -52,9 +52,11 @@ fn steps_of<S: Store + Drop>(
         let Some(to) = orders.go(work, &at, *number)? else {
             return Ok(List::from_vec(steps));
         };
-        let key = came_between(at.come.as_slice(), to.come.as_slice(), *number);
+        // The terminal's number: its turn has twice that, its next key one more.
+        let terminal = *number / 2;
+        let key = came_between(at.come.as_slice(), to.come.as_slice(), terminal);
         steps.push(Step {
-            number: *number,
+            number: terminal,
             key,
         })?;
         at = to;
@@ -82,9 +84,9 @@ pub(crate) fn steps_to<S: Store + Drop>(
     work: &mut Region<S>,
     place: usize,
 ) -> Result<List<Step>, AllocError>
-    ensures { (state : TheState) → Finds (Moves orders.now.keys.items) (begun region.now) found.now.states.entries
+    ensures { (state : TheState) → Finds (Moves orders.now.keys) (begun region.now) found.now.states.entries
         → IsAt found.now.states.entries place state
-        → IfOk result (AreFirstSteps orders.now.keys.items (begun region.now) state) }
+        → IfOk result (AreFirstSteps orders.now.keys (begun region.now) state) }
 {
     let moves = found.path(place, orders.alloc)?;
     let start = begin_at(orders.alloc, region)?;

@@ -154,6 +154,7 @@ did old (action.Watch w) text watched new p = did_nothing old (action.Watch w) t
 did old (action.Cover on) text watched new p = did_nothing old (action.Cover on) text watched new (refl, p.0) p.1
 did old (action.Look l) text watched new p = did_nothing old (action.Look l) text watched new (refl, p.0) p.1
 did old (action.Orders block) text watched new p = did_nothing old (action.Orders block) text watched new (refl, p.0) p.1
+did old (action.Choices block) text watched new p = did_nothing old (action.Choices block) text watched new (refl, p.0) p.1
 did old (action.BadLook number s) text watched new p = did_nothing old (action.BadLook number s) text watched new (refl, p.0) p.1
 
 append_plain : (old : LookState) (xs : List Action) (s : List ℕ) (mid : LookState) (ys : List Action) (t : List ℕ) (new : LookState)
@@ -179,6 +180,7 @@ kept_same old (action.Watch w) plain done = refl
 kept_same old (action.Cover on) plain done = refl
 kept_same old (action.Look l) plain done = refl
 kept_same old (action.Orders block) plain done = refl
+kept_same old (action.Choices block) plain done = refl
 
 in_front : (old : LookState) (a : LookAction) (own first watched : List ℕ) (between : LookState) (actions : List LookAction) (rest text : List ℕ) (new : LookState)
     → Did old a own watched between → IsWatchedText old (cause_of a) between watched → first ≡ own ++ watched → ChangesNothing between actions rest new → text ≡ first ++ rest → ChangesNothing old (a ∷ actions) text new

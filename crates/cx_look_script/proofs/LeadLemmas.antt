@@ -167,6 +167,7 @@ leads (action.Watch w ∷ actions) old new text region all p way = absurd all.0
 leads (action.Cover on ∷ actions) old new text region all p way = absurd all.0
 leads (action.Look l ∷ actions) old new text region all p way = absurd all.0
 leads (action.Orders block ∷ actions) old new text region all p way = absurd all.0
+leads (action.Choices block ∷ actions) old new text region all p way = absurd all.0
 leads (action.BadLook number s ∷ actions) old new text region all p way = absurd all.0
 
 -- ---- EDF OFF

@@ -2,6 +2,7 @@ mod WatchLemmas
 mod WatchLawLemmas
 mod TurnLemmas
 mod StopLemmas
+mod ChoicesLemmas
 mod LawLemmas
 mod MarkLemmas
 mod NoteLemmas

@@ -9,7 +9,7 @@ use Rattle.cx_look_ahead.specs.Laws.{AheadDecides}
 use Rattle.cx_look_ahead.specs.Laws.Ats.{AtDecides}
 use Rattle.cx_look_tasks.specs.Laws.{ResourcesTextsDecide, TasksTextsDecide}
 use Rattle.cx_look_script.specs.Looking.{AreLookLines}
-use Rattle.cx_look_script.specs.Laws.Looks.{LooksAreMarked, LooksAreReportedOnce, OrdersAreMarked}
+use Rattle.cx_look_script.specs.Laws.Looks.{ChoicesAreMarked, LooksAreMarked, LooksAreReportedOnce, OrdersAreMarked}
 use Rattle.cx_look_script.specs.State.{LookState}
 
 pub looks_are_marked : LooksAreMarked
@@ -17,6 +17,9 @@ looks_are_marked look state text it = subst IsOfLooks (sym it.is) (marked_is_of_
 
 pub orders_are_marked : OrdersAreMarked
 orders_are_marked block state text it = subst IsOfLooks (sym it.is) (marked_is_of_looks it.lines)
+
+pub choices_are_marked : ChoicesAreMarked
+choices_are_marked block state text it = subst IsOfLooks (sym it.is) (marked_is_of_looks it.lines)
 
 pub same_lines : TasksTextsDecide → ResourcesTextsDecide → AheadDecides → AtDecides → (look : Look) (state : LookState) (one other : Lines) → AreLookLines look state one → AreLookLines look state other → one ≡ other
 unfolding AreLookLines

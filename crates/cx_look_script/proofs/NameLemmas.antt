@@ -247,6 +247,7 @@ module _ (P : List (List ℕ) → Type 0) (May : List ℕ → Type 0)
   acts_kept old new (action.Cover on) own may h held = same_names old.edf.region new.edf.region (ap (λ (s : LookState). names_of s.edf.region.terminals) h.1) held
   acts_kept old new (action.Look l) own may h held = same_look old new h.1 held
   acts_kept old new (action.Orders block) own may h held = same_look old new h.1 held
+  acts_kept old new (action.Choices block) own may h held = same_look old new h.1 held
   acts_kept old new (action.BadLook number s) own may h held = same_look old new h.1 held
 
   pub one_kept : (old new : LookState) (a : LookAction) (text : List ℕ) → MayAsk May a → LookPerforms old a text new
@@ -295,6 +296,7 @@ any_asked (action.Watch w) = tt
 any_asked (action.Cover on) = tt
 any_asked (action.Look l) = tt
 any_asked (action.Orders block) = tt
+any_asked (action.Choices block) = tt
 any_asked (action.BadLook number s) = tt
 
 -- ---- each has a spelling

@@ -1,6 +1,6 @@
 -- Each terminal of a script has a name that is spelled: its line spells it.
 use Rattle.std.proofs.Common.{ℕ, ◌+◌, zero, suc, ◌-◌, Bool, true, false, Option, Some, None, List, [], ◌∷◌, ◌++◌, codes, length, map, nat_le, take}
-use Rattle.std.specs.Prelude.{⊤, IfSome, Result, Ok, Err, if◌then◌else◌, unwrap_or}
+use Rattle.std.specs.Prelude.{◌&&◌, ⊤, IfSome, Result, Ok, Err, if◌then◌else◌, unwrap_or}
 use Rattle.std.specs.Char.{to_ascii_uppercase}
 use Rattle.std.specs.List.{AllByRecursion, IsDistinct}
 use Rattle.std.specs.Map.{keys_of as names_of}
@@ -12,7 +12,8 @@ use Rattle.cx_asm_build.specs.declared.faults.PrepareFault.{PrepareFault}
 use Rattle.cx_asm_build.specs.declared.program.Prepared.{Prepared}
 use Rattle.cx_ebcdic.specs.Names.{is_name, padded_name}
 use Rattle.cx_look.specs.Looks.{count_up_to, look_of, subject_of}
-use Rattle.cx_look.specs.Orders.{orders_block, states_of}
+use Rattle.cx_look.specs.Choices.{choices_asked, choices_block}
+use Rattle.cx_look.specs.Orders.{orders_asked, orders_block}
 use Rattle.cx_look.specs.declared.look.Look.{Look}
 use Rattle.cx_look.specs.declared.look.Subject.{Subject}
 use Rattle.cx_look.specs.declared.look.Subject.TheVariants as subject
@@ -147,7 +148,8 @@ subject_names number read subject.Cover =
     asked_names (asked_by subject.Cover read) number subject.Cover
     (mapped (λ (on : Bool). action.Cover on) (option_and_then cover_of (after_first_blank read)) (λ on. tt))
 subject_names number read subject.Faults = lines_names (λ name. line.Lines (heading.Faults name)) (option_and_then (padded_name 8) (after_first_blank read)) (λ name. tt)
-subject_names number read subject.Orders = lines_names (λ n. line.Lines (heading.Orders n)) (states_of (after_first_blank read)) (λ n. tt)
+subject_names number read subject.Orders = lines_names (λ asked. line.Lines (heading.Orders asked)) (orders_asked (after_first_blank read)) (λ asked. tt)
+subject_names number read subject.Choices = lines_names (λ asked. line.Lines (heading.Choices asked)) (choices_asked (after_first_blank read)) (λ asked. tt)
 
 own_names : (number : ℕ) (text : List ℕ) → IfSome (own_line number text) LineNames
 unfolding own_line
@@ -192,9 +194,14 @@ source_names name lines first (Err fault) = tt
 
 block_names : (first : ℕ) (h : Heading) (lines : List (List ℕ)) → IfSome (block_asks first h lines) Names
 block_names first (heading.Faults name) lines = tt
-block_names first (heading.Orders most) lines = by (nat_le 1 most)
+block_names first (heading.Orders asked) lines = by (nat_le 1 asked.most)
   where
-    by : (b : Bool) → IfSome (if b then Some (action.Orders (orders_block most lines)) else None) Names
+    by : (b : Bool) → IfSome (if b then Some (action.Orders (orders_block asked lines)) else None) Names
+    by true = tt
+    by false = tt
+block_names first (heading.Choices asked) lines = by (nat_le 1 asked.keys && nat_le 1 asked.most)
+  where
+    by : (b : Bool) → IfSome (if b then Some (action.Choices (choices_block asked lines)) else None) Names
     by true = tt
     by false = tt
 
@@ -238,6 +245,7 @@ each_names (action.Watch w) h = (tt, tt)
 each_names (action.Cover on) h = (tt, tt)
 each_names (action.Look l) h = (tt, tt)
 each_names (action.Orders block) h = (tt, tt)
+each_names (action.Choices block) h = (tt, tt)
 each_names (action.BadLook number s) h = (tt, tt)
 
 asked_all : (o : Option LookAction) → IfSome o Names → AllByRecursion Names (actions_of look_language o)

@@ -28,6 +28,7 @@ use Rattle.cx_script.specs.Script.{script_in}
 use Rattle.cx_script.specs.Transcript.{EndsScript, PerformsAll, Wrote}
 use Rattle.cx_look_abend.specs.Laws.{NotedDecide}
 use Rattle.cx_look_script.specs.Laws.Looks.{LooksAreReportedOnce, turn_action}
+use Rattle.cx_look_script.specs.Laws.Choices.{ChoicesAreReportedOnce}
 use Rattle.cx_look_script.specs.Laws.Orders.{OrdersAreReportedOnce}
 use Rattle.cx_look_script.specs.Laws.Outcomes.{HasApartNames, LookActionsDecide, LookInputsDecide, LookTranscriptsDecide}
 use Rattle.cx_look_script.specs.Laws.Turns.{StopsDecide}
@@ -61,7 +62,7 @@ abbrev Twice : List ℕ → List ℕ → LookState → LookState → Type 0
 Twice text other new another = (text ≡ other) × (new ≡ another)
 
 module _ (noted : NotedDecide) (edf_actions : (old : EdfState) (a : Action) (text other : List ℕ) (new another : EdfState) → Performs old a text new → Performs old a other another → (text ≡ other) × (new ≡ another))
-    (stops : StopsDecide) (looks : LooksAreReportedOnce) (orders : OrdersAreReportedOnce) (watched : WatchedTextsDecide) (tallies : TalliesDecide) where
+    (stops : StopsDecide) (looks : LooksAreReportedOnce) (orders : OrdersAreReportedOnce) (choices : ChoicesAreReportedOnce) (watched : WatchedTextsDecide) (tallies : TalliesDecide) where
   -- an event
   applies_once : (old new another : LookState) (e : EdfEvent) (given other : Answer) → AppliesAtLooks old e given new → AppliesAtLooks old e other another
       → (given ≡ other) × (new ≡ another)
@@ -132,6 +133,7 @@ module _ (noted : NotedDecide) (edf_actions : (old : EdfState) (a : Action) (tex
   acts_once old new another (action.Cover on) text other apart p q = (p.0 ∙ sym q.0, p.1 ∙ sym q.1)
   acts_once old new another (action.Look l) text other apart p q = (looks l old text other p.0 q.0, p.1 ∙ sym q.1)
   acts_once old new another (action.Orders block) text other apart p q = (orders block old text other apart p.0 q.0, p.1 ∙ sym q.1)
+  acts_once old new another (action.Choices block) text other apart p q = (choices block old text other p.0 q.0, p.1 ∙ sym q.1)
   acts_once old new another (action.BadLook number s) text other apart p q = (p.0 ∙ sym q.0, p.1 ∙ sym q.1)
 
   pub actions_decide : LookActionsDecide

@@ -144,6 +144,7 @@ same_one a (action.Watch w) e = cc
 same_one a (action.Cover on) e = cc
 same_one a (action.Look l) e = cc
 same_one a (action.Orders block) e = cc
+same_one a (action.Choices block) e = cc
 same_one a (action.BadLook number s) e = cc
 
 same_asked : (a : Option Action) (h : Option LookAction) → option_map plain_action h ≡ option_map (λ (x : Action). Some x) a → IsSameAsked a h
@@ -239,6 +240,7 @@ acts_same old (action.Watch w) b text new e p = cc
 acts_same old (action.Cover on) b text new e p = cc
 acts_same old (action.Look l) b text new e p = cc
 acts_same old (action.Orders block) b text new e p = cc
+acts_same old (action.Choices block) b text new e p = cc
 
 performs_same : (old : LookState) (a : LookAction) (b : Action) (text : List ℕ) (new : LookState) → plain_action a ≡ Some b → old.watched ≡ [] → LookPerforms old a text new
     → Performs old.edf b text new.edf
@@ -256,6 +258,7 @@ no_watch (action.Watch w) b e = cc
 no_watch (action.Cover on) b e = refl
 no_watch (action.Look l) b e = refl
 no_watch (action.Orders block) b e = refl
+no_watch (action.Choices block) b e = refl
 
 pub actions_stay : ActionsStay
 unfolding PerformsAll

@@ -119,6 +119,7 @@ watches_change_nothing old (action.Cover on) own new ranges e p = (p.0, same_wat
 watches_change_nothing old (action.Look l) own new ranges e p =
     (record { lines = p.0.lines; are = same_lines l old (watching old ranges) p.0.lines (λ no. (refl, refl, refl)) p.0.are; is = p.0.is }, same_watching new old ranges p.1)
 watches_change_nothing old (action.Orders block) own new ranges e p = (p.0, same_watching new old ranges p.1)
+watches_change_nothing old (action.Choices block) own new ranges e p = (p.0, same_watching new old ranges p.1)
 watches_change_nothing old (action.BadLook number s) own new ranges e p = (p.0, same_watching new old ranges p.1)
 
 -- ---- what is watched stays
@@ -156,4 +157,5 @@ watches_stay old (action.Watch w) own new e p = cc
 watches_stay old (action.Cover on) own new e p = same_watched new _ p.1
 watches_stay old (action.Look l) own new e p = same_watched new old p.1
 watches_stay old (action.Orders block) own new e p = same_watched new old p.1
+watches_stay old (action.Choices block) own new e p = same_watched new old p.1
 watches_stay old (action.BadLook number s) own new e p = same_watched new old p.1

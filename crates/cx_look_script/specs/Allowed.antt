@@ -11,4 +11,6 @@ abbrev pub IsAllowedLook : LookAction → Type 0
 IsAllowedLook (action.Script a) = IsAllowedAction a
 IsAllowedLook (action.Source name lines a) = IsAllowedAction a
 IsAllowedLook (action.Orders block) = (1 ≤ block.most) × AllByRecursion IsFew block.keys
+IsAllowedLook (action.Choices block) =
+    (1 ≤ block.asked.keys) × (1 ≤ block.asked.most) × AllByRecursion IsFew block.choices
 IsAllowedLook _ = ⊤

@@ -35,7 +35,10 @@ help_row subject.Symbol = codes "SYMBOL program name  a symbol of the program's 
 help_row subject.Symbols = codes "SYMBOLS program      all symbols of the program's source"
 help_row subject.Xref = codes "XREF program         which lines use its symbols, literals and base registers"
 help_row subject.Faults = codes "FAULTS name          and the lines of a source, and /*: its faulty lines"
-help_row subject.Orders = codes "ORDERS [n]           and keys and looks, and /*: what every order leads to"
+help_row subject.Orders =
+    codes "ORDERS [n]           and keys and looks, and /*: what every order leads to; also TYPED AHEAD"
+help_row subject.Choices =
+    codes "CHOICES n [states]   and keys and looks, and /*: what every list of n keys leads to; also ONE NUMBER"
 help_row subject.Help = codes "HELP [word]          this table, or the line of a word in it"
 
 -- the words in the order of the table
@@ -44,7 +47,8 @@ help_table =
     subject.Run ∷ subject.Watch ∷ subject.Cover ∷ subject.Covered ∷ subject.Queues ∷ subject.Queue ∷ subject.Programs
     ∷ subject.Tasks ∷ subject.Resources ∷ subject.Terminals ∷ subject.Command ∷ subject.Ahead ∷ subject.Task
     ∷ subject.Field ∷ subject.Fields ∷ subject.Areas ∷ subject.Storage ∷ subject.Where ∷ subject.Abend
-    ∷ subject.Symbol ∷ subject.Symbols ∷ subject.Xref ∷ subject.Faults ∷ subject.Orders ∷ subject.Help ∷ []
+    ∷ subject.Symbol ∷ subject.Symbols ∷ subject.Xref ∷ subject.Faults ∷ subject.Orders ∷ subject.Choices
+    ∷ subject.Help ∷ []
 
 abbrev pub form_lines : List Subject → Lines
 form_lines subjects = flat_map (λ s. look_line (help_row s ∷ [])) subjects

@@ -1,4 +1,5 @@
 -- The statements of laws.
+pub mod Choices
 pub mod Looks
 pub mod Marks
 pub mod Notes

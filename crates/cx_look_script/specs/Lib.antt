@@ -9,6 +9,7 @@ pub mod Allowed
 pub mod Faults
 pub mod Help
 pub mod Orders
+pub mod Choices
 pub mod Looking
 pub mod Laws
 pub use Rattle.cx_script_actions.specs.Actions
@@ -18,7 +19,9 @@ pub use Rattle.cx_script_actions.specs.Effects
 pub use Rattle.cx_script_blocks.specs.Shown
 pub use Rattle.cx_look.specs.Looks
 pub use Rattle.cx_look.specs.Orders as Blocks
+pub use Rattle.cx_look.specs.Choices as ChoicesBlocks
 pub use Rattle.cx_look_orders.specs.Report as OrdersReports
+pub use Rattle.cx_look_choices.specs.Report as ChoicesReports
 pub use Rattle.cx_look_faults.specs.Faults as FaultyLines
 pub use Rattle.cx_asm_build.specs.Kinds
 pub use Rattle.cx_look_tables.specs.Words

@@ -8,6 +8,7 @@ use Rattle.cx_script_actions.specs.Texts.{answer_text}
 use Rattle.cx_script_actions.specs.declared.actions.Action.{Action}
 use Rattle.cx_script_actions.specs.declared.actions.Action.TheVariants as edf_action
 use Rattle.cx_look.specs.declared.look.Look.{Look}
+use Rattle.cx_look.specs.declared.choices.ChoicesBlock.{ChoicesBlock}
 use Rattle.cx_look.specs.declared.orders.OrdersBlock.{OrdersBlock}
 use Rattle.cx_look.specs.declared.look.Look.TheVariants as look
 use Rattle.cx_look_tables.specs.Words.{Lines, marked}
@@ -35,6 +36,7 @@ use Rattle.cx_look_script.specs.Runs.{AppliesAtLooks, StopsWith, run_over, still
 use Rattle.cx_look_script.specs.Watched.{IsWatchedText, cause_of, watch_lines, watched_after}
 use Rattle.cx_look_script.specs.Faults.{faults_text}
 use Rattle.cx_look_script.specs.Help.{bad_look_text, help_text}
+use Rattle.cx_look_script.specs.Choices.{IsChoicesText}
 use Rattle.cx_look_script.specs.Orders.{IsOrdersText}
 use Rattle.cx_look_script.specs.declared.action.LookAction.{LookAction}
 use Rattle.cx_look_script.specs.declared.action.LookAction.TheVariants as action
@@ -94,6 +96,11 @@ pub record IsLookText (look : Look) (state : LookState) (text : List ℕ) : Type
 abbrev pub ShowsOrders : OrdersBlock → LookState → List ℕ → Type 0
 ShowsOrders block state text = IsOrdersText (λ region l. AreLookLines l (at_region state region)) block state.edf text
 
+-- and for a block of CHOICES
+abbrev pub ShowsChoices : ChoicesBlock → LookState → List ℕ → Type 0
+ShowsChoices block state text =
+    IsChoicesText (λ region l. AreLookLines l (at_region state region)) block state.edf text
+
 -- an action of `cicsedf`: an event as its answer says, and the abend that it led to is kept; any other leaves what is
 -- kept
 unfoldable pub NotedPerforms : LookState → Action → List ℕ → LookState → Type 0
@@ -140,6 +147,7 @@ Acts old (action.Cover on) text new =
     (text ≡ marked (cover_lines on)) × (new ≡ record old { covered = covered_from on })
 Acts old (action.Look l) text new = IsLookText l old text × (new ≡ old)
 Acts old (action.Orders block) text new = ShowsOrders block old text × (new ≡ old)
+Acts old (action.Choices block) text new = ShowsChoices block old text × (new ≡ old)
 Acts old (action.BadLook number s) text new = (text ≡ marked (bad_look_text number s)) × (new ≡ old)
 
 -- One action: the state before, the action, what is written for it, and the state after; what is watched and has

@@ -11,6 +11,7 @@ use Rattle.cx_look.specs.declared.orders.OrdersBlock.{OrdersBlock}
 use Rattle.cx_look.specs.declared.orders.Sight.{Sight}
 use Rattle.cx_look.specs.declared.orders.Sight.TheVariants as sight
 use Rattle.cx_look_orders.specs.Report.{OrdersText}
+use Rattle.cx_orders.specs.declared.states.Keys.{Keys}
 use Rattle.cx_look_tables.specs.Words.{Lines, marked}
 
 -- ---- what is to be seen of a region, where `Says` is what looks at it have to say
@@ -37,6 +38,10 @@ abbrev pub sights_of : List Sight → RegionState → List Sight
 sights_of sights region = if length sights == 0 then map (λ t. sight.Screen t.0) region.terminals else sights
 
 -- ---- what is written
+-- the keys that a block asks for, and when they may come
+abbrev pub keys_asked : OrdersBlock → Keys
+keys_asked block = record { typed_ahead = block.typed_ahead; lines = block.keys }
+
 -- the terminals that have EDF on, in the order of their definition
 abbrev pub names_with_edf : EdfState → List (List ℕ)
 names_with_edf state = filter (λ name. is_some (session_at state name)) (keys_of state.region.terminals)
@@ -46,6 +51,6 @@ pub record IsOrdersText (Says : RegionState → Look → Lines → Type 0) (bloc
     (text : List ℕ) : Type 0 where
   pub lines : Lines
   pub are : let sights = sights_of block.sights state.region in
-      OrdersText (λ region. AreSeen (Says region) region sights) block.keys state.region (names_with_edf state)
-      block.most lines
+      OrdersText (λ region. AreSeen (Says region) region sights) (keys_asked block) state.region
+      (names_with_edf state) block.most lines
   pub is : text ≡ marked lines

@@ -1,5 +1,5 @@
 -- What a line of a script with looks asks (own).
-use Rattle.std.specs.Prelude.{ℕ, Bool, true, false, nat_le, if◌then◌else◌, Option, Some, None, unwrap_or, List, [], ◌∷◌, ◌++◌, length, map, codes}
+use Rattle.std.specs.Prelude.{ℕ, ◌&&◌, Bool, true, false, nat_le, if◌then◌else◌, Option, Some, None, unwrap_or, List, [], ◌∷◌, ◌++◌, length, map, codes}
 use Rattle.std.specs.Option.{option_and_then, option_map, option_map_or, option_or}
 use Rattle.std.specs.Str.{bytes_eq}
 use Rattle.std.specs.Char.{to_ascii_uppercase}
@@ -14,7 +14,8 @@ use Rattle.cx_script_actions.specs.declared.actions.Heading.TheVariants as headi
 use Rattle.cx_script_actions.specs.declared.actions.Line.{Line}
 use Rattle.cx_script_actions.specs.declared.actions.Line.TheVariants as line
 use Rattle.cx_script_blocks.specs.Blocks.{kept_lines}
-use Rattle.cx_look.specs.Orders.{orders_block, orders_with, states_of}
+use Rattle.cx_look.specs.Choices.{choices_asked, choices_block, choices_with}
+use Rattle.cx_look.specs.Orders.{orders_asked, orders_block, orders_with}
 use Rattle.cx_look.specs.Looks.{count_up_to, look_of, subject_of}
 use Rattle.cx_look.specs.declared.look.Look.TheVariants as look
 use Rattle.cx_look.specs.declared.look.Subject.{Subject}
@@ -87,12 +88,18 @@ faults_line text =
 
 -- the line that begins a block of ORDERS
 abbrev pub orders_line : List ℕ → Option (Line LookAction)
-orders_line text = option_map (λ n. line.Lines (heading.Orders n)) (states_of (after_first_blank text))
+orders_line text = option_map (λ asked. line.Lines (heading.Orders asked)) (orders_asked (after_first_blank text))
+
+-- and one of CHOICES
+abbrev pub choices_line : List ℕ → Option (Line LookAction)
+choices_line text =
+    option_map (λ asked. line.Lines (heading.Choices asked)) (choices_asked (after_first_blank text))
 
 -- Such a line; RUN or a look; or a bad look, which is reported.
 abbrev pub line_of_subject : ℕ → List ℕ → Subject → Option (Line LookAction)
 line_of_subject number text subject.Faults = faults_line text
 line_of_subject number text subject.Orders = orders_line text
+line_of_subject number text subject.Choices = choices_line text
 line_of_subject number text s = Some (line.Action (unwrap_or (asked_by s text) (action.BadLook number s)))
 
 -- What a line asks that begins with one of the words that no script of `cicsedf` has. Lower case is taken as upper
@@ -121,14 +128,17 @@ look_line_of number text = line_by (line_of text) (own_line number text)
 -- the lines of a block with one more: one of FAULTS may have any, of which the first 10,001 are kept
 abbrev pub block_with : Heading → List (List ℕ) → List ℕ → Option (List (List ℕ))
 block_with (heading.Faults name) lines text = Some (kept_lines (lines ++ text ∷ []))
-block_with (heading.Orders most) lines text = orders_with lines text
+block_with (heading.Orders asked) lines text = orders_with lines text
+block_with (heading.Choices asked) lines text = choices_with lines text
 
 -- what the end of a block asks: by the number of the line that begins it, what this says, and the lines
 abbrev pub block_asks : ℕ → Heading → List (List ℕ) → Option LookAction
 block_asks first (heading.Faults name) lines =
     Some (action.Look (look.Faults (record { first = first; name = name; lines = lines })))
-block_asks first (heading.Orders most) lines =
-    if nat_le 1 most then Some (action.Orders (orders_block most lines)) else None
+block_asks first (heading.Orders asked) lines =
+    if nat_le 1 asked.most then Some (action.Orders (orders_block asked lines)) else None
+block_asks first (heading.Choices asked) lines =
+    if nat_le 1 asked.keys && nat_le 1 asked.most then Some (action.Choices (choices_block asked lines)) else None
 
 abbrev pub is_bad_look : LookAction → Bool
 is_bad_look (action.BadLook number s) = true

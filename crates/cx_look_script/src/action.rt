@@ -5,14 +5,14 @@ ghost use Rattle.std.specs.Option.{option_copied, option_map_or};
 ghost use Rattle.cx_script_actions.specs.Allowed.{IsAllowedAction, IsAllowedLine};
 ghost use Rattle.cx_look.specs.Looks.{count_up_to};
 ghost use Rattle.cx_look_script.specs.Allowed.{IsAllowedLook};
-ghost use Rattle.cx_look_script.specs.Reading.{asked_by, cover_of, faults_line, look_language, look_line_of, line_of_subject, orders_line, own_line, run_of, run_with, source_line_of, stop_at_line, stop_asked_for, as_look_line, turns_of, watch_of, watched_field, watched_range};
+ghost use Rattle.cx_look_script.specs.Reading.{asked_by, choices_line, cover_of, faults_line, look_language, look_line_of, line_of_subject, orders_line, own_line, run_of, run_with, source_line_of, stop_at_line, stop_asked_for, as_look_line, turns_of, watch_of, watched_field, watched_range};
 ghost use Rattle.cx_look_script.specs.Runs.{look_actions_of};
 
 use cx_base::List;
 use cx_ebcdic::{Name4, Name8};
 use cx_look::{
-    Look, OrdersBlock, SourceLines, Subject, look_of, orders_block, orders_with, states_of,
-    subject_of,
+    ChoicesBlock, Look, OrdersBlock, SourceLines, Subject, choices_asked, choices_block,
+    choices_with, look_of, orders_asked, orders_block, orders_with, subject_of,
 };
 use cx_look_ahead::SourceLine;
 use cx_script_actions::{
@@ -77,6 +77,8 @@ pub enum LookAction {
     Look(Look),
     /// ORDERS: what its block asks.
     Orders(OrdersBlock),
+    /// CHOICES: what its block asks.
+    Choices(ChoicesBlock),
     /// The report of a bad look: the number of its line, and the word that it begins with.
     BadLook(usize, Subject),
 }
@@ -250,8 +252,18 @@ fn orders_line(text: &[u8]) -> Option<Line<LookAction>>
     ensures allowed { IfSome result (IsAllowedLine IsAllowedLook) }
 {
     let (_word, rest) = split_word(text);
-    let most = states_of(rest)?;
-    Some(Line::Lines(Heading::Orders(most)))
+    let asked = orders_asked(rest)?;
+    Some(Line::Lines(Heading::Orders(asked)))
+}
+
+/// The line that begins a block of CHOICES.
+fn choices_line(text: &[u8]) -> Option<Line<LookAction>>
+    ensures value { result ≡ choices_line text.now }
+    ensures allowed { IfSome result (IsAllowedLine IsAllowedLook) }
+{
+    let (_word, rest) = split_word(text);
+    let asked = choices_asked(rest)?;
+    Some(Line::Lines(Heading::Choices(asked)))
 }
 
 /// What a line asks that begins with one of these words.
@@ -264,6 +276,9 @@ fn line_of_subject(number: usize, text: &[u8], subject: Subject) -> Option<Line<
     }
     if subject == Subject::Orders {
         return orders_line(text);
+    }
+    if subject == Subject::Choices {
+        return choices_line(text);
     }
     match asked_by(subject, text) {
         Some(action) => Some(Line::Action(action)),
@@ -352,6 +367,7 @@ impl ScriptAction for LookAction {
         match heading {
             Heading::Faults(_) => Ok(Some(with_text(alloc, lines, text)?)),
             Heading::Orders(_) => orders_with(alloc, lines, text),
+            Heading::Choices(_) => choices_with(alloc, lines, text),
         }
     }
 
@@ -366,12 +382,19 @@ impl ScriptAction for LookAction {
                 let look = Look::Faults(SourceLines { first, name, lines });
                 Ok(Some(LookAction::Look(look)))
             }
-            Heading::Orders(most) => {
-                if most < 1 {
+            Heading::Orders(asked) => {
+                if asked.most < 1 {
                     return Ok(None);
                 }
-                let block = orders_block(alloc, most, lines.as_slice())?;
+                let block = orders_block(alloc, asked, lines.as_slice())?;
                 Ok(Some(LookAction::Orders(block)))
+            }
+            Heading::Choices(asked) => {
+                if asked.keys < 1 || asked.most < 1 {
+                    return Ok(None);
+                }
+                let block = choices_block(alloc, asked, lines.as_slice())?;
+                Ok(Some(LookAction::Choices(block)))
             }
         }
     }

@@ -8,7 +8,7 @@ use cx_look_tables::{Report, decimal};
 use std::alloc::{AllocError, Global};
 
 /// The words in the order of the table.
-const TABLE: [Subject; 25] = [
+const TABLE: [Subject; 26] = [
     Subject::Run,
     Subject::Watch,
     Subject::Cover,
@@ -33,6 +33,7 @@ const TABLE: [Subject; 25] = [
     Subject::Xref,
     Subject::Faults,
     Subject::Orders,
+    Subject::Choices,
     Subject::Help,
 ];
 
@@ -76,7 +77,9 @@ fn help_row(subject: Subject) -> &'static [u8]
         Subject::Faults =>
             b"FAULTS name          and the lines of a source, and /*: its faulty lines",
         Subject::Orders =>
-            b"ORDERS [n]           and keys and looks, and /*: what every order leads to",
+            b"ORDERS [n]           and keys and looks, and /*: what every order leads to; also TYPED AHEAD",
+        Subject::Choices =>
+            b"CHOICES n [states]   and keys and looks, and /*: what every list of n keys leads to; also ONE NUMBER",
         Subject::Help => b"HELP [word]          this table, or the line of a word in it",
     }
 }

@@ -1,6 +1,7 @@
 //! What follows from the definitions of a script with looks.
 
-ghost use Rattle.cx_look_script.specs.Laws.Looks.{LooksAreMarked, LooksAreReportedOnce, LooksChangeNothing, OrdersAreMarked};
+ghost use Rattle.cx_look_script.specs.Laws.Choices.{ChoicesAreReportedOnce};
+ghost use Rattle.cx_look_script.specs.Laws.Looks.{ChoicesAreMarked, LooksAreMarked, LooksAreReportedOnce, LooksChangeNothing, OrdersAreMarked};
 ghost use Rattle.cx_look_script.specs.Laws.Marks.{FaultsAreMarked};
 ghost use Rattle.cx_look_script.specs.Laws.Notes.{NotesRefuseNothing, RefusalsAreWritten};
 ghost use Rattle.cx_look_script.specs.Laws.Orders.{OrdersAreReportedOnce, ScriptsAskForEvents, ScriptsLeadThere};
@@ -18,11 +19,12 @@ pub fn looks_change_nothing()
     ensures { LooksChangeNothing }
 {}
 
-/// The text of a look, and what is written for a block of ORDERS, is lines that begin with `> `, each with one LF, at
+/// The text of a look, and what is written for a block of ORDERS or of CHOICES, is lines that begin with `> `, each with one LF, at
 /// its end.
 pub fn looks_are_marked()
     ensures looks { LooksAreMarked }
     ensures orders { OrdersAreMarked }
+    ensures choices { ChoicesAreMarked }
 {}
 
 /// The text of a look is a function of the state.
@@ -42,6 +44,17 @@ pub fn orders_are_reported_once()
     cx_orders::laws::moves_decide();
     cx_region_laws::laws::a_turn_keeps_to_its_task();
     cx_region_laws::laws::a_key_keeps_to_its_terminal();
+    cx_search::laws::one_list_is_sooner();
+}
+
+/// What is written for a block of CHOICES is a function of the state.
+pub fn choices_are_reported_once()
+    ensures { ChoicesAreReportedOnce }
+{
+    cx_look_tasks::laws::texts_decide();
+    cx_look_ahead::laws::the_next_turn_is_shown();
+    cx_look_ahead::laws::turns_reach_it();
+    cx_choices::laws::choices_decide();
     cx_search::laws::one_list_is_sooner();
 }
 
@@ -95,6 +108,7 @@ pub fn an_action_has_one_outcome()
     runs_end_before_abends();
     looks_are_reported_once();
     orders_are_reported_once();
+    choices_are_reported_once();
     watched_texts_decide();
     cx_look_cover::laws::tallies_decide();
 }

@@ -2,6 +2,7 @@
 #![tactic(auto)]
 
 mod action;
+mod choices;
 mod covered;
 mod faults;
 mod help;

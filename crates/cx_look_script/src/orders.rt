@@ -16,7 +16,7 @@ use cx_edf::Debugged;
 use cx_look::{OrdersBlock, Sight};
 use cx_look_orders::{Seen, orders_text};
 use cx_look_tables::Report;
-use cx_orders::Orders;
+use cx_orders::{Keys, Orders};
 use cx_region::Region;
 use cx_script_actions::screen_text;
 use cx_script_io::{Ending, last_line, split_line, strip_carriage_return};
@@ -108,9 +108,9 @@ fn sights_lines<S: Store + Drop>(
 
 /// What is to be seen of a region in place of the one that is looked at.
 #[derive(Drop)]
-struct Sights<'a, S: Store + Drop> {
-    looking: &'a LookedRegion<S>,
-    sights: &'a [Sight],
+pub(crate) struct Sights<'a, S: Store + Drop> {
+    pub looking: &'a LookedRegion<S>,
+    pub sights: &'a [Sight],
 }
 
 impl<'a, S: Store + Drop> Seen<S> for Sights<'a, S> {
@@ -128,7 +128,7 @@ impl<'a, S: Store + Drop> Seen<S> for Sights<'a, S> {
 }
 
 /// The terminals that have EDF on, in the order of their definition.
-fn names_with_edf<S: Store + Drop>(
+pub(crate) fn names_with_edf<S: Store + Drop>(
     alloc: Global,
     state: &Debugged<S>,
 ) -> Result<Vec<Name4>, AllocError>
@@ -157,7 +157,7 @@ fn screens<S: Store + Drop>(alloc: Global, region: &Region<S>) -> Result<Vec<Sig
 }
 
 /// What a block says is to be seen; where it says nothing, each terminal's screen.
-fn sights_of<S: Store + Drop>(
+pub(crate) fn sights_of<S: Store + Drop>(
     alloc: Global,
     sights: Vec<Sight>,
     region: &Region<S>,
@@ -181,9 +181,18 @@ pub(crate) fn orders_written<S: Store + Drop>(
     requires keys_in_range { AllByRecursion IsFew block.keys }
     ensures { IfOk result (λ text. ShowsOrders block looking.now text.items) }
 {
-    let OrdersBlock { most, keys, sights } = block;
+    let OrdersBlock {
+        most,
+        typed_ahead,
+        keys,
+        sights,
+    } = block;
     let region = looking.state.region();
-    let orders = Orders::new(alloc, keys.into_vec());
+    let keys = Keys {
+        typed_ahead,
+        lines: keys,
+    };
+    let orders = Orders::new(alloc, keys);
     let sights = sights_of(alloc, sights.into_vec(), region)?;
     let edf = names_with_edf(alloc, &looking.state)?;
     let seen = Sights {

@@ -14,6 +14,7 @@ ghost use Rattle.cx_look_ahead.specs.Watching.{ActionEffect, begun_watch, with_r
 ghost use Rattle.cx_look_tables.specs.Words.{marked};
 
 use crate::action::{LookAction, Stop, WatchLine};
+use crate::choices::choices_written;
 use crate::covered::{cover_line, tally};
 use crate::help::bad_look_text;
 use crate::looks::look_text;
@@ -309,6 +310,7 @@ impl<S: Store + Drop> LookedRegion<S> {
             LookAction::Cover(on) => self.cover_from(alloc, on),
             LookAction::Look(look) => look_text(alloc, self, look),
             LookAction::Orders(block) => orders_written(alloc, self, block),
+            LookAction::Choices(block) => choices_written(alloc, self, block),
             LookAction::BadLook(number, subject) => bad_look_text(alloc, number, subject),
         }
     }

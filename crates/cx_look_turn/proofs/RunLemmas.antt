@@ -39,10 +39,10 @@ record Run (limit : ℕ) (m : Machine) (visits : List Visit) : Type 0 where
   how : Halt
   after : Machine
   advances : Advances limit m how after
-  are : AreAsMany how m after visits
+  are : AreAsMany limit how m after visits
 
 one_before : (limit : ℕ) (m mid after : Machine) (how : Halt) (more : List Visit) → Steps m Done mid → Advances limit mid how after
-    → AreAsMany how mid after more → Advances (suc limit) m how after × AreAsMany how m after (visit m ∷ more)
+    → AreAsMany limit how mid after more → Advances (suc limit) m how after × AreAsMany (suc limit) how m after (visit m ∷ more)
 unfolding Advances Passes
 one_before limit m mid after halt.AtEntry more step (n, small, run, e) are =
     ((suc n, omega (arith, small), (mid, step, run), e), (mid, step, are))
@@ -56,20 +56,23 @@ one_before limit m mid after (halt.Interrupt cause place) more step (n, small, b
     steps = are.steps;
   },
 )
-one_before limit m mid after halt.Limit more step (run, apart) are = (((mid, step, run), apart), (mid, step, are))
+one_before limit m mid after halt.Limit more step (run, apart) (passes, same) = (((mid, step, run), apart), ((mid, step, passes), ap suc same))
 
 passes_none : (m : Machine) (visits : List Visit) → visits ≡ [] → Passes (length visits) m m
 unfolding Passes
 passes_none m visits none = subst (λ (l : List Visit). Passes (length l) m m) (sym none) refl
 
+no_more : (visits : List Visit) → visits ≡ [] → length visits ≡ zero
+no_more visits none = ap (λ (l : List Visit). length l) none
+
 none_left : (m : Machine) (visits : List Visit) → visits ≡ [] → Run zero m visits
 unfolding Advances Passes
 none_left m visits none = elim (cases_lt m.next entry) [
   | inl low ↦
-      record { how = halt.Limit; after = m; advances = (refl, λ e. absurd (omega (arith, low, e))); are = passes_none m visits none }
+      record { how = halt.Limit; after = m; advances = (refl, λ e. absurd (omega (arith, low, e))); are = (passes_none m visits none, no_more visits none) }
   | inr high ↦ elim (cases_lt entry m.next) [
     | inl more ↦
-        record { how = halt.Limit; after = m; advances = (refl, λ e. absurd (omega (arith, more, e))); are = passes_none m visits none }
+        record { how = halt.Limit; after = m; advances = (refl, λ e. absurd (omega (arith, more, e))); are = (passes_none m visits none, no_more visits none) }
     | inr low ↦
         record { how = halt.AtEntry; after = m; advances = (zero, omega arith, refl, omega (arith, high, low)); are = passes_none m visits none }
   ]
@@ -82,7 +85,7 @@ unfolding Advances Passes Steps
 from_one n m after visits Done steps run_from (more, are, goes_on) =
     let run = run_from more goes_on in
     let both = one_before n m after run.after run.how more steps run.advances run.are in
-    record { how = run.how; after = run.after; advances = both.0; are = subst (AreAsMany run.how m run.after) (sym are) both.1 }
+    record { how = run.how; after = run.after; advances = both.0; are = subst (AreAsMany (suc n) run.how m run.after) (sym are) both.1 }
 from_one n m after visits (Interrupt cause) steps run_from are =
     record {
       how = halt.Interrupt cause after.next;
@@ -128,6 +131,6 @@ pub visits_are_of_runs : ((limit : ℕ) → RunsDecide (Advances limit)) → Vis
 visits_are_of_runs decide limit m after how visits are advances =
     let run = run_of limit m visits are in
     let same = decide limit m run.how how run.after after run.advances advances in (
-      subst (λ (h : Halt). AreAsMany h m after visits) same.0 (subst (λ (x : Machine). AreAsMany run.how m x visits) same.1 run.are),
+      subst (λ (h : Halt). AreAsMany limit h m after visits) same.0 (subst (λ (x : Machine). AreAsMany limit run.how m x visits) same.1 run.are),
       each_visit limit m visits are,
     )

@@ -43,17 +43,18 @@ pub record IsInterrupted (cause : Interruption) (m after : Machine) (visits : Li
   pub passes : Passes (length done) m before
   pub steps : Steps before (Interrupt cause) after
 
--- as many as the run performs, by how it ends
-abbrev pub AreAsMany : Halt → Machine → Machine → List Visit → Type 0
-AreAsMany (halt.Interrupt cause place) m after visits = IsInterrupted cause m after visits
-AreAsMany _ m after visits = Passes (length visits) m after
+-- as many as a run of at most so many steps performs, by how it ends
+abbrev pub AreAsMany : ℕ → Halt → Machine → Machine → List Visit → Type 0
+AreAsMany limit (halt.Interrupt cause place) m after visits = IsInterrupted cause m after visits
+AreAsMany limit halt.Limit m after visits = Passes (length visits) m after × (length visits ≡ limit)
+AreAsMany limit halt.AtEntry m after visits = Passes (length visits) m after
 
-abbrev pub AreOfRun : Halt → Machine → Machine → List Visit → Type 0
-AreOfRun how m after visits = AreAsMany how m after visits × IsEachVisit m visits
+abbrev pub AreOfRun : ℕ → Halt → Machine → Machine → List Visit → Type 0
+AreOfRun limit how m after visits = AreAsMany limit how m after visits × IsEachVisit m visits
 
 abbrev pub VisitsAreOfRuns : Type 0
 VisitsAreOfRuns = (limit : ℕ) (m after : Machine) (how : Halt) (visits : List Visit)
-    → Visits limit m visits → Advances limit m how after → AreOfRun how m after visits
+    → Visits limit m visits → Advances limit m how after → AreOfRun limit how m after visits
 
 -- The turn runs the task's instructions, and they are those of its run: as many as it performs, and the one that is
 -- interrupted; and each is that at the machine after as many steps as come before it.
@@ -66,7 +67,7 @@ pub record RunsThem (region : RegionState) (name : List ℕ) (visits : List Visi
   pub abend_record : Option AbendRecord
   pub reached : TaskContext
   pub runs : RunsOn (context_of region terminal task) reply abend_record reached
-  pub are : AreOfRun runs.how (machine_of (context_of region terminal task)) (machine_of runs.between) visits
+  pub are : AreOfRun most_steps runs.how (machine_of (context_of region terminal task)) (machine_of runs.between) visits
   pub is : new ≡ put_back region name reached (task_after reply reached.task)
 
 -- so many are counted, and the last n of them are kept

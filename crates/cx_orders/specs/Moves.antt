@@ -1,10 +1,11 @@
 -- A move of a region with keys that are to come: a turn of a terminal, or the next of its keys (this product's own).
-use Rattle.std.specs.Prelude.{◌≡◌, ◌⊎◌, ℕ, ◌+◌, ◌≤◌, Bool, true, false, List, [], filter, length, replicate, Some, slice_get, slice_set}
+use Rattle.std.specs.Prelude.{◌≡◌, ◌⊎◌, ℕ, ◌+◌, ◌*◌, ◌≤◌, Bool, true, false, MatchBool, List, [], filter, length, replicate, Some, slice_get, slice_set}
 use Rattle.cx_ebcdic.specs.Names.{is_name}
 use Rattle.cx_region.specs.Attach.{TakesKey, input_from}
 use Rattle.cx_region.specs.State.{RegionState, TerminalState}
 use Rattle.cx_region.specs.Turn.{TakesTurn}
 use Rattle.cx_region.specs.declared.replies.KeyReply.{KeyReply}
+use Rattle.cx_region.specs.declared.replies.KeyReply.TheVariants as key
 use Rattle.cx_region_state.specs.declared.replies.TurnReply.{TurnReply}
 use Rattle.cx_region_state.specs.declared.replies.TurnReply.TheVariants as turn
 use Rattle.cx_look_tasks.specs.Activities.{IsActivity}
@@ -12,9 +13,11 @@ use Rattle.cx_look_tasks.specs.declared.activities.Activity.{Activity}
 use Rattle.cx_look_tasks.specs.declared.activities.Activity.TheVariants.{NoTask, Waiting}
 use Rattle.cx_region_task.specs.declared.decision.Wait.TheVariants as wait
 use Rattle.cx_orders.specs.declared.states.KeyLine.{KeyLine}
+use Rattle.cx_orders.specs.declared.states.Keys.{Keys}
 use Rattle.cx_orders.specs.declared.states.OrdersState.{OrdersState}
 use Rattle.cx_orders.specs.Incidents.{incident_of_key, incident_of_turn, with_incident}
 
+-- ---- turns
 -- a turn is a move unless it is answered so
 abbrev pub is_move : TurnReply → Bool
 is_move turn.Idle = false
@@ -30,6 +33,7 @@ pub record TurnMoves (from : OrdersState) (number : ℕ) (name : List ℕ) (to :
   pub come : to.come ≡ from.come
   pub incidents : to.incidents ≡ with_incident number (incident_of_turn reply) from.incidents
 
+-- ---- keys
 -- an operator could press a key: the terminal has no task, or its task waits for input
 abbrev pub is_ready : Activity → Bool
 is_ready NoTask = true
@@ -40,6 +44,16 @@ pub record IsReadyTerminal (from : OrdersState) (terminal : TerminalState) : Typ
   pub activity : Activity
   pub is : IsActivity from.region terminal activity
   pub ready : is_ready activity ≡ true
+
+-- a key is taken unless it is answered so: input is held already for the terminal's task
+abbrev pub is_taken : KeyReply → Bool
+is_taken key.AlreadyHeldInput = false
+is_taken _ = true
+
+-- when a key may come: typed ahead at any moment at which it is taken, else where an operator could press it
+abbrev pub MayCome : Bool → OrdersState → TerminalState → KeyReply → Type 0
+MayCome typed_ahead from terminal reply =
+    MatchBool typed_ahead (is_taken reply ≡ true) (IsReadyTerminal from terminal)
 
 -- a key has at most 1,920 bytes
 abbrev pub IsFew : KeyLine → Type 0
@@ -58,21 +72,31 @@ pub record KeyComes (from : OrdersState) (number : ℕ) (name : List ℕ) (came 
   pub incidents : to.incidents ≡ with_incident number (incident_of_key reply) from.incidents
 
 -- the next of the terminal's keys, of which so many came
-pub record KeyMoves (keys : List KeyLine) (from : OrdersState) (number : ℕ) (name : List ℕ)
+pub record KeyMoves (keys : Keys) (from : OrdersState) (number : ℕ) (name : List ℕ)
     (terminal : TerminalState) (came : ℕ) (to : OrdersState) : Type 0 where
-  pub ready : IsReadyTerminal from terminal
   pub key : KeyLine
-  pub next : slice_get (keys_of keys name) came ≡ Some key
+  pub next : slice_get (keys_of keys.lines name) came ≡ Some key
   pub comes : KeyComes from number name came key to
+  pub may : MayCome keys.typed_ahead from terminal comes.reply
 
--- A move: of the terminal with that number, in the order of their definition, a turn or its next key.
-pub record Moves (keys : List KeyLine) (from : OrdersState) (number : ℕ) (to : OrdersState) : Type 0 where
+-- ---- moves
+-- their numbers: of each terminal, by its number in the order of their definition, a turn and then its next key
+abbrev pub turn_number : ℕ → ℕ
+turn_number number = 2 * number
+
+abbrev pub key_number : ℕ → ℕ
+key_number number = 2 * number + 1
+
+-- A move: of the terminal with some number a turn, or its next key.
+pub record Moves (keys : Keys) (from : OrdersState) (move : ℕ) (to : OrdersState) : Type 0 where
+  pub number : ℕ
   pub name : List ℕ
   pub terminal : TerminalState
   pub at : slice_get from.region.terminals number ≡ Some (name, terminal)
   pub came : ℕ
   pub come : slice_get from.come number ≡ Some came
-  pub move : TurnMoves from number name to ⊎ KeyMoves keys from number name terminal came to
+  pub by : ((move ≡ turn_number number) × TurnMoves from number name to)
+      ⊎ ((move ≡ key_number number) × KeyMoves keys from number name terminal came to)
 
 -- the state in which orders begin: no key has come
 abbrev pub begun : RegionState → OrdersState

@@ -9,7 +9,7 @@ use cx_region::{KeyReply, TurnReply};
 use std::alloc::{AllocError, Global};
 
 /// What is kept of a turn, by its answer.
-pub(crate) fn incident_of_turn(reply: TurnReply) -> Option<Incident>
+pub fn incident_of_turn(reply: TurnReply) -> Option<Incident>
     ensures { result ≡ incident_of_turn reply }
 {
     match reply {
@@ -19,7 +19,7 @@ pub(crate) fn incident_of_turn(reply: TurnReply) -> Option<Incident>
 }
 
 /// What is kept of a key, by its answer.
-pub(crate) fn incident_of_key(reply: KeyReply) -> Option<Incident>
+pub fn incident_of_key(reply: KeyReply) -> Option<Incident>
     ensures { result ≡ incident_of_key reply }
 {
     match reply {

@@ -1,21 +1,21 @@
 //! Moves of a region with keys that are to come, as a space of states.
 
-ghost use Rattle.std.specs.Prelude.{◌≡◌, ◌<◌, IfOk, IfNone, IfSome, None, if◌then◌else◌, slice_get, slice_set, true, length};
+ghost use Rattle.std.specs.Prelude.{◌≡◌, ◌<◌, ◌+◌, ◌||◌, IfOk, IfNone, IfSome, None, Some, if◌then◌else◌, slice_get, slice_set, true, length};
 ghost use Rattle.std.specs.List.{AllByRecursion};
 ghost use Rattle.std.specs.Option.{option_copied};
 ghost use Rattle.cx_orders.specs.Facts.Keys.{AreFew-prop};
-ghost use Rattle.cx_orders.specs.Parts.{IsAsked, is_acting};
-ghost use Rattle.cx_orders.specs.Incidents.{with_incident};
-ghost use Rattle.cx_orders.specs.Moves.{IsFew, KeyComes, Moves, TurnMoves, is_ready, keys_of};
-ghost use Rattle.cx_orders.specs.declared.states.OrdersState.{OrdersState as TheState};
+ghost use Rattle.cx_orders.specs.Parts.{IsAsked, IsNowhere, has_come, is_acting};
+ghost use Rattle.cx_orders.specs.Incidents.{incident_of_key, with_incident};
+ghost use Rattle.cx_orders.specs.Moves.{IsFew, Moves, TurnMoves, is_ready, is_taken, key_number, keys_of, turn_number};
+ghost use Rattle.cx_search.specs.Moves.{GoesTo};
 
 use crate::incidents::{incident_of_key, incident_of_turn, with_incident};
-use crate::states::{IncidentAt, KeyLine, OrdersState};
+use crate::states::{IncidentAt, KeyLine, Keys, OrdersState};
 use cx_base::List;
 use cx_ebcdic::Name4;
 use cx_look_tasks::laws::{activities_decide, waits_are_reported};
 use cx_look_tasks::{Activity, Wait, activity};
-use cx_region::Region;
+use cx_region::{KeyReply, Region};
 use cx_region_laws::laws::calls_decide;
 use cx_region_snapshot::RegionSnapshot;
 use cx_region_task::laws::half_turns_stay;
@@ -24,15 +24,14 @@ use cx_storage::Store;
 use std::alloc::{AllocError, Global};
 use std::marker::PhantomData;
 
-/// The orders of a region's turns and of these keys, each of at most 1,920 bytes; each terminal's keys come in the
-/// order in which they stand here.
+/// The orders of a region's turns and of these keys, each of at most 1,920 bytes.
 #[derive(Drop)]
 pub struct Orders<S: Store + Drop> {
     pub alloc: Global,
-    /// The keys of all terminals that are to come.
-    pub keys: Vec<KeyLine>,
+    /// The keys that are to come.
+    pub keys: Keys,
     pub stores: PhantomData<S>,
-    ghost few: { AllByRecursion IsFew keys.items } by { AreFew-prop keys.items },
+    ghost few: { AllByRecursion IsFew keys.lines } by { AreFew-prop keys.lines },
 }
 
 /// What is known of a terminal, to find its moves.
@@ -60,6 +59,20 @@ fn is_ready(activity: &Activity) -> bool
     ensures { result ≡ is_ready activity.now }
 {
     matches!(activity, Activity::NoTask | Activity::Waiting(Wait::Input))
+}
+
+/// Whether a key is taken, by its answer.
+fn is_taken(reply: KeyReply) -> bool
+    ensures { result ≡ is_taken reply }
+{
+    !matches!(reply, KeyReply::AlreadyHeldInput)
+}
+
+/// Whether a key that was pressed has come: one that is typed ahead only where it was taken.
+fn has_come(typed_ahead: bool, reply: KeyReply) -> bool
+    ensures { result ≡ has_come typed_ahead reply }
+{
+    if typed_ahead { is_taken(reply) } else { true }
 }
 
 /// The key of a terminal that comes when `came` of its keys have come; None where no more is left.
@@ -95,35 +108,39 @@ fn come_with(
     Ok(List::from_vec(all))
 }
 
-impl<S: Store + Drop> Orders<S> {
-    /// What the terminal with that number is doing; `None` where there is none.
-    fn asked(&self, region: &Region<S>, from: &OrdersState, number: usize) -> Option<Asked>
-        requires { region.now ≡ from.now.region }
-        ensures asked { IfSome result (IsAsked from.now number) }
-        ensures none { IfNone result ((to : OrdersState) → Moves self.now.keys.items from.now number to → ⊥) }
-    {
-        region.counter();
-        let came = *from.come.as_slice().get(number)?;
-        let (name, terminal) = region.terminals().get_index(number)?;
-        let doing = activity(region, terminal);
-        Some(Asked {
-            name: *name,
-            number,
-            came,
-            doing,
-        })
-    }
+/// What the terminal with that number is doing; `None` where there is none.
+fn about_terminal<S: Store + Drop>(
+    region: &Region<S>,
+    from: &OrdersState,
+    number: usize,
+) -> Option<Asked>
+    requires { region.now ≡ from.now.region }
+    ensures asked { IfSome result (IsAsked from.now number) }
+    ensures none { IfNone result (IsNowhere from.now number) }
+{
+    region.counter();
+    let came = *from.come.as_slice().get(number)?;
+    let (name, terminal) = region.terminals().get_index(number)?;
+    let doing = activity(region, terminal);
+    Some(Asked {
+        name: *name,
+        number,
+        came,
+        doing,
+    })
+}
 
-    /// The key that a terminal may send now.
+impl<S: Store + Drop> Orders<S> {
+    /// The key of a terminal that may come next, as far as what its task is doing says: any that is typed ahead.
     fn next_key(&self, asked: &Asked) -> Option<&KeyLine>
         ensures { option_copied result
-            ≡ (if is_ready asked.now.doing
-            then slice_get (keys_of self.now.keys.items asked.now.name) asked.now.came else None) }
+            ≡ (if self.now.keys.typed_ahead || is_ready asked.now.doing
+            then slice_get (keys_of self.now.keys.lines asked.now.name) asked.now.came else None) }
     {
-        if !is_ready(&asked.doing) {
+        if !self.keys.typed_ahead && !is_ready(&asked.doing) {
             return None;
         }
-        key_of(self.keys.as_slice(), asked.name, asked.came)
+        key_of(self.keys.lines.as_slice(), asked.name, asked.came)
     }
 
     /// The state that a move leads to, by the region after it, how many keys came, and what is kept of the moves.
@@ -173,22 +190,24 @@ impl<S: Store + Drop> Orders<S> {
         Ok(to)
     }
 
-    /// A key of a terminal, from a state that the region was given.
+    /// The state after a key that came, by the region after it and the key's answer.
     ///
     /// An error comes only where an allocation failed.
-    fn keyed(
+    fn pressed(
         &self,
-        region: &mut Region<S>,
+        region: &Region<S>,
         from: &OrdersState,
         asked: &Asked,
-        key: &KeyLine,
+        reply: KeyReply,
     ) -> Result<OrdersState, AllocError>
-        requires given { region.old ≡ from.now.region }
-        requires asked { IsAsked from.now asked.now.number asked.now }
-        requires next { slice_get (keys_of self.now.keys.items asked.now.name) asked.now.came ≡ Some key.now }
-        ensures { IfOk result (KeyComes from.now asked.now.number asked.now.name asked.now.came key.now) }
+        requires asked { slice_get from.now.come asked.now.number ≡ Some asked.now.came }
+        requires left { asked.now.came < length self.now.keys.lines }
+        ensures region { IfOk result (λ to. to.region ≡ region.now) }
+        ensures come { IfOk result (λ to. to.come ≡ slice_set from.now.come asked.now.number (asked.now.came + 1)) }
+        ensures incidents { IfOk result (λ to. to.incidents
+            ≡ with_incident asked.now.number (incident_of_key reply) from.now.incidents) }
     {
-        let reply = region.key(asked.name, key.aid, key.bytes.as_slice())?;
+        self.keys.lines.as_slice().len();
         let came = asked.came + 1;
         let come = come_with(self.alloc, from.come.as_slice(), asked.number, came)?;
         let incident = incident_of_key(reply);
@@ -197,6 +216,81 @@ impl<S: Store + Drop> Orders<S> {
         let to = self.moved(region, from, come, incidents)?;
         Ok(to)
     }
+
+    /// A key of a terminal, from a state that the region was given; `None` where it is typed ahead and isn't taken.
+    ///
+    /// An error comes only where an allocation failed.
+    fn keyed(
+        &self,
+        region: &mut Region<S>,
+        from: &OrdersState,
+        asked: &Asked,
+        key: &KeyLine,
+    ) -> Result<Option<OrdersState>, AllocError>
+        requires given { region.old ≡ from.now.region }
+        requires asked { IsAsked from.now asked.now.number asked.now }
+        requires may { (self.now.keys.typed_ahead || is_ready asked.now.doing) ≡ true }
+        requires next { slice_get (keys_of self.now.keys.lines asked.now.name) asked.now.came ≡ Some key.now }
+        ensures { IfOk result (GoesTo (Moves self.now.keys) from.now (key_number asked.now.number)) }
+    {
+        calls_decide();
+        let reply = region.key(asked.name, key.aid, key.bytes.as_slice())?;
+        if has_come(self.keys.typed_ahead, reply) {
+            let to = self.pressed(region, from, asked, reply)?;
+            return Ok(Some(to));
+        }
+        Ok(None)
+    }
+
+    /// The state to which a turn of the terminal with that number leads; `None` where that is no move.
+    ///
+    /// An error comes only where an allocation failed.
+    fn turn_to(
+        &self,
+        region: &mut Region<S>,
+        from: &OrdersState,
+        number: usize,
+    ) -> Result<Option<OrdersState>, AllocError>
+        ensures { IfOk result (GoesTo (Moves self.now.keys) from.now (turn_number number)) }
+    {
+        calls_decide();
+        waits_are_reported();
+        half_turns_stay();
+        from.region.restore(region)?;
+        let Some(asked) = about_terminal(region, from, number) else {
+            return Ok(None);
+        };
+        if is_acting(&asked.doing) {
+            let to = self.turned(region, from, &asked)?;
+            return Ok(Some(to));
+        }
+        Ok(None)
+    }
+
+    /// The state to which the next key of the terminal with that number leads; `None` where it may not come.
+    ///
+    /// An error comes only where an allocation failed.
+    fn key_to(
+        &self,
+        region: &mut Region<S>,
+        from: &OrdersState,
+        number: usize,
+    ) -> Result<Option<OrdersState>, AllocError>
+        ensures { IfOk result (GoesTo (Moves self.now.keys) from.now (key_number number)) }
+    {
+        activities_decide();
+        if self.keys.lines.as_slice().is_empty() {
+            return Ok(None);
+        }
+        from.region.restore(region)?;
+        let Some(asked) = about_terminal(region, from, number) else {
+            return Ok(None);
+        };
+        let Some(key) = self.next_key(&asked) else {
+            return Ok(None);
+        };
+        self.keyed(region, from, &asked, key)
+    }
 }
 
 impl<S: Store + Drop> Space for Orders<S> {
@@ -204,11 +298,11 @@ impl<S: Store + Drop> Space for Orders<S> {
 
     type Work = Region<S>;
 
-    ghost goes = { λ orders. Moves orders.keys.items };
+    ghost goes = { λ orders. Moves orders.keys };
 
     #[tactic(auto, using(crate::proofs::MoveLemmas::numbered))]
     fn count(&self, from: &OrdersState) -> usize {
-        from.come.as_slice().len()
+        2 * from.come.as_slice().len()
     }
 
     fn go(
@@ -217,23 +311,11 @@ impl<S: Store + Drop> Space for Orders<S> {
         from: &OrdersState,
         number: usize,
     ) -> Result<Option<OrdersState>, AllocError> {
-        calls_decide();
-        activities_decide();
-        waits_are_reported();
-        half_turns_stay();
-        from.region.restore(region)?;
-        let Some(asked) = self.asked(region, from, number) else {
-            return Ok(None);
-        };
-        if is_acting(&asked.doing) {
-            let to = self.turned(region, from, &asked)?;
-            return Ok(Some(to));
+        if number % 2 == 0 {
+            self.turn_to(region, from, number / 2)
+        } else {
+            self.key_to(region, from, number / 2)
         }
-        let Some(key) = self.next_key(&asked) else {
-            return Ok(None);
-        };
-        let to = self.keyed(region, from, &asked, key)?;
-        Ok(Some(to))
     }
 
     ghost use Rattle.cx_orders.specs.Facts.Same.{same_is};

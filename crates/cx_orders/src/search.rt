@@ -6,7 +6,7 @@ ghost use Rattle.cx_search.specs.Finds.{Finds, FindsNearest, IsWhole};
 ghost use Rattle.cx_orders.specs.Moves.{IsFew, Moves, begun};
 
 use crate::moves::Orders;
-use crate::states::{KeyLine, OrdersState};
+use crate::states::{Keys, OrdersState};
 use cx_base::List;
 use cx_region::Region;
 use cx_region_snapshot::RegionSnapshot;
@@ -36,10 +36,9 @@ pub fn begin(
 }
 
 impl<S: Store + Drop> Orders<S> {
-    /// The orders of turns and of these keys, each of at most 1,920 bytes; each terminal's keys come in the order in
-    /// which they stand here.
-    pub fn new(alloc: Global, keys: Vec<KeyLine>) -> Orders<S>
-        requires { AllByRecursion IsFew keys.items }
+    /// The orders of turns and of these keys, each of at most 1,920 bytes.
+    pub fn new(alloc: Global, keys: Keys) -> Orders<S>
+        requires { AllByRecursion IsFew keys.lines }
         ensures { result.keys ≡ keys }
     {
         Orders {
@@ -62,10 +61,10 @@ impl<S: Store + Drop> Orders<S> {
     ) -> Result<Outcome<Orders<S>>, AllocError>
         requires { 1 ≤ most }
         ensures finds { IfOk result (λ outcome.
-            Finds (Moves self.now.keys.items) (begun start) outcome.found.states.entries) }
+            Finds (Moves self.now.keys) (begun start) outcome.found.states.entries) }
         ensures reaches { IfOk result (λ outcome. MatchOption outcome.cut
-            (IsWhole (Moves self.now.keys.items) (begun start) outcome.found.states.entries outcome.found.links.items)
-            (λ moves. FindsNearest (Moves self.now.keys.items) (begun start) outcome.found.states.entries most moves)) }
+            (IsWhole (Moves self.now.keys) (begun start) outcome.found.states.entries outcome.found.links.items)
+            (λ moves. FindsNearest (Moves self.now.keys) (begun start) outcome.found.states.entries most moves)) }
         ensures at_most_most { IfOk result (λ outcome. length outcome.found.states.entries ≤ most) }
     {
         start.restore(work)?;

@@ -22,6 +22,16 @@ pub struct KeyLine {
     pub line: List<u8>,
 }
 
+/// Keys that are to come.
+#[derive(Drop)]
+pub struct Keys {
+    /// Whether a key may come at any moment at which the region takes it, while its terminal's task runs too; else it
+    /// comes only where an operator could press it.
+    pub typed_ahead: bool,
+    /// The keys of all terminals; those of one terminal come in the order in which they stand here.
+    pub lines: List<KeyLine>,
+}
+
 /// What no later state of the region shows, and what therefore is kept of the turns and keys that led to a state.
 #[derive(Clone, Copy)]
 pub enum Incident {

@@ -43,13 +43,35 @@ pub enum Action {
     Previous(Name4, usize),
 }
 
+/// What ORDERS says of its search.
+#[derive(Clone, Copy)]
+pub struct OrdersAsked {
+    /// How many states are looked at, at most: 1 to 1,000,000 as a line asks it.
+    pub most: u32,
+    /// Whether a key may also come while its terminal's task runs, as long as no input is held there.
+    pub typed_ahead: bool,
+}
+
+/// What CHOICES says of its search.
+#[derive(Clone, Copy)]
+pub struct ChoicesAsked {
+    /// How many keys are pressed, at most: 1 to 64 as a line asks it.
+    pub keys: u32,
+    /// How many states are kept, at most: 1 to 1,000,000 as a line asks it.
+    pub most: u32,
+    /// Whether states that differ in the task counter alone are one.
+    pub one_number: bool,
+}
+
 /// What begins a block of lines that are handed over.
 #[derive(Clone, Copy)]
 pub enum Heading {
     /// FAULTS, with a program's name.
     Faults(Name8),
-    /// ORDERS, with the most states that are looked for.
-    Orders(u32),
+    /// ORDERS, with what it says of its search.
+    Orders(OrdersAsked),
+    /// CHOICES, with what it says of its search.
+    Choices(ChoicesAsked),
 }
 
 /// What a line asks where it is not in a block; `A` is an action of the script's language.

@@ -8,7 +8,7 @@ use Rattle.cx_search.specs.declared.marks.Rule.TheVariants.{All, Any}
 use Rattle.cx_search.specs.Finds.{IsWhole}
 use Rattle.cx_search.specs.Forever.{CanRest, IsFirstPlaceOf, IsPlaceOf, Loops}
 use Rattle.cx_search.specs.Found.{IsAt}
-use Rattle.cx_search.specs.Marks.{AreRight, AreStable, IsComeTo, is_free, is_marked}
+use Rattle.cx_search.specs.Parts.Marks.{AreRight, AreStable, IsComeTo, is_free, is_marked}
 use Rattle.cx_search.specs.Moves.{Leads}
 use Rattle.cx_search.specs.Nexts.{AreLinked}
 use Rattle.cx_search.proofs.ListLemmas.{item_at}

@@ -9,7 +9,7 @@ use Rattle.cx_search.specs.declared.marks.Rule.{Rule}
 use Rattle.cx_search.specs.declared.marks.Rule.TheVariants.{All, Any, To}
 use Rattle.cx_search.specs.Forever.{AtRest, CanRest, IsBounded, Loops}
 use Rattle.cx_search.specs.Found.{IsAt}
-use Rattle.cx_search.specs.Marks.{AreRight, AreStable, LeadsOn, Says, is_due, is_marked, unmarked}
+use Rattle.cx_search.specs.Parts.Marks.{AreRight, AreStable, LeadsOn, Says, is_due, is_marked, unmarked}
 use Rattle.cx_search.specs.Moves.{Leads}
 use Rattle.cx_search.specs.Nexts.{AreLinked, AreNexts, LeadsTo}
 use Rattle.cx_search.proofs.ListLemmas.{item_at}

@@ -4,7 +4,8 @@ use Rattle.std.proofs.lemmas.Option.{slice_get_within}
 use Rattle.cx_search.specs.declared.found.Origin.{Origin}
 use Rattle.cx_search.specs.Found.{IsAt}
 use Rattle.cx_search.specs.Moves.{GoesOnly}
-use Rattle.cx_search.specs.Nexts.{AreFirstNexts, AreLinked, AreNexts, IsAmong}
+use Rattle.cx_search.specs.Nexts.{AreLinked, AreNexts, IsAmong}
+use Rattle.cx_search.specs.Parts.Searching.{AreFirstNexts}
 use Rattle.cx_search.specs.Facts.Items.{item_appended, item_kept, item_last}
 use Rattle.cx_search.proofs.ListLemmas.{item_at}
 use Rattle.cx_search.proofs.SearchLemmas.{at_kept, at_same, below_next}

@@ -6,7 +6,8 @@ use Rattle.std.proofs.lemmas.Option.{slice_get_within}
 use Rattle.std.proofs.lemmas.Bool.{cases_lt, cases_order}
 use Rattle.cx_search.specs.declared.found.Origin.{Origin}
 use Rattle.cx_search.specs.Moves.{IsSooner, Leads, IsFirst}
-use Rattle.cx_search.specs.Found.{IsAt, IsFound, IsBefore, IsFoundBy, Searched, IsCut}
+use Rattle.cx_search.specs.Found.{IsAt, IsFound, IsBefore, IsFoundBy, Searched}
+use Rattle.cx_search.specs.Parts.Searching.{IsCut}
 use Rattle.cx_search.specs.Finds.{Finds, FindsAll, FindsNearest}
 use Rattle.cx_search.proofs.ListLemmas.{item_at}
 use Rattle.cx_search.proofs.OrderLemmas.{sooner_trans, sooner_not_self, shorter_back, length_back, more_back, last_back}

@@ -5,7 +5,8 @@ use Rattle.std.proofs.lemmas.Bool.{cases_lt, cases_order}
 use Rattle.std.proofs.lemmas.Option.{none-some, same_Some, slice_get_within}
 use Rattle.cx_search.specs.declared.found.Origin.{Origin}
 use Rattle.cx_search.specs.Finds.{Finds, FindsAll, FindsNearest}
-use Rattle.cx_search.specs.Found.{IsAt, IsCut, Searched}
+use Rattle.cx_search.specs.Found.{IsAt, Searched}
+use Rattle.cx_search.specs.Parts.Searching.{IsCut}
 use Rattle.cx_search.specs.Moves.{IsSooner}
 use Rattle.cx_search.specs.Within.{FindsWithin, IsClosed, IsOpen, Reaches}
 use Rattle.cx_search.specs.declared.within.Reach.{Reach}

@@ -55,17 +55,3 @@ pub record Searched {State : Type 0} (Goes : State → ℕ → State → Type 0)
   pub small : (place : ℕ) (s : State) (o : Origin) → slice_get found place ≡ Some (s, o) → o.moves ≤ place
   pub closed : (place number : ℕ) (s t : State) (o : Origin) → IsBefore place number done tried
       → slice_get found place ≡ Some (s, o) → Goes s number t → IsFoundBy found t place number
-
--- A search was cut: a state isn't among those that were found, to which a move from the next one leads, and no more may
--- be.
-pub record IsCut {State : Type 0} (Goes : State → ℕ → State → Type 0) (found : List (State × Origin)) (done : ℕ)
-    (most : ℕ) : Type 0 where
-  pub tried : ℕ
-  pub searched : Searched Goes found done tried
-  pub full : most ≤ length found
-  pub from : State
-  pub by : Origin
-  pub at : slice_get found done ≡ Some (from, by)
-  pub more : State
-  pub goes : Goes from tried more
-  pub new : (place : ℕ) → IsAt found place more → ⊥

@@ -7,4 +7,4 @@ pub mod Forever
 pub mod Rest
 pub mod Laws
 pub mod Facts
-pub mod Marks
+pub mod Parts

@@ -1,5 +1,5 @@
 -- Where moves lead from the states that were found, by places (own).
-use Rattle.std.specs.Prelude.{◌≡◌, ℕ, ◌<◌, List, Some, length, slice_get}
+use Rattle.std.specs.Prelude.{◌≡◌, ℕ, List, Some, length, slice_get}
 use Rattle.cx_search.specs.declared.found.Origin.{Origin}
 use Rattle.cx_search.specs.Found.{IsAt}
 
@@ -17,11 +17,6 @@ module _ {State : Type 0} (Goes : State → ℕ → State → Type 0) (found : L
     pub to : ℕ
     pub among : slice_get nexts index ≡ Some to
     pub at : IsAt found to state
-
-  -- the places that the first moves from a state lead to
-  pub record AreFirstNexts (state : State) (tried : ℕ) (nexts : List ℕ) : Type 0 where
-    pub each : (index to : ℕ) → slice_get nexts index ≡ Some to → LeadsTo state to
-    pub all : (number : ℕ) (next : State) → number < tried → Goes state number next → IsAmong nexts next
 
   -- the places that moves from a state lead to
   pub record AreNexts (state : State) (nexts : List ℕ) : Type 0 where

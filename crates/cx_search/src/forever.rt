@@ -5,7 +5,7 @@ ghost use Rattle.std.specs.Option.{option_copied};
 ghost use Rattle.cx_search.specs.Finds.{Finds, IsWhole};
 ghost use Rattle.cx_search.specs.Forever.{CanRest, IsBounded, IsFirstPlaceOf, IsPlaceOf, Loops};
 ghost use Rattle.cx_search.specs.Found.{IsAt};
-ghost use Rattle.cx_search.specs.Marks.{AreStable, is_free, is_marked};
+ghost use Rattle.cx_search.specs.Parts.Marks.{AreStable, is_free, is_marked};
 ghost use Rattle.cx_search.specs.Moves.{Leads};
 ghost use Rattle.cx_search.specs.Nexts.{AreLinked};
 ghost use Rattle.cx_search.specs.declared.marks.Rule.TheVariants.{All};

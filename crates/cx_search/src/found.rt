@@ -2,8 +2,9 @@
 
 ghost use Rattle.std.specs.Prelude.{◌≡◌, ◌<◌, ◌≤◌, ◌+◌, ◌++◌, ◌∷◌, [], ℕ, IfOk, OnErr, OnOk, IfSome, IfNone, MatchBool, MatchOption, Some, None, ⊤, length, slice_get, option_map};
 ghost use Rattle.cx_search.specs.Finds.{Finds, FindsNearest, IsWhole};
-ghost use Rattle.cx_search.specs.Found.{IsAt, IsCut, Searched};
-ghost use Rattle.cx_search.specs.Nexts.{AreFirstNexts, AreLinked};
+ghost use Rattle.cx_search.specs.Found.{IsAt, Searched};
+ghost use Rattle.cx_search.specs.Parts.Searching.{AreFirstNexts, IsCut};
+ghost use Rattle.cx_search.specs.Nexts.{AreLinked};
 ghost use Rattle.cx_search.specs.Moves.{IsFirst};
 
 use crate::space::Space;
@@ -77,8 +78,8 @@ impl<T: Space> Found<T> {
         Some(origin.moves)
     }
 
-    /// The place of a state.
-    fn place_of(&self, state: &T::State) -> Option<usize>
+    /// The place of a state; `None` where it isn't among those that were found.
+    pub fn place_of(&self, state: &T::State) -> Option<usize>
         ensures found { IfSome result (λ place. IsAt self.now.states.entries place state.now) }
         ensures absent { IfNone result ((place : ℕ) → IsAt self.now.states.entries place state.now → ⊥) }
     {

@@ -2,7 +2,7 @@
 
 ghost use Rattle.std.specs.Prelude.{◌≡◌, ◌<◌, ◌≤◌, ◌+◌, ℕ, Bool, true, false, Some, IfOk, List as Items, length, slice_get, slice_set, replicate, ◌⊎◌, ◌||◌, ◌==◌};
 ghost use Rattle.std.specs.List.{list_all, list_any};
-ghost use Rattle.cx_search.specs.Marks.{AreRight, AreStable, is_due, is_marked, unmarked};
+ghost use Rattle.cx_search.specs.Parts.Marks.{AreRight, AreStable, is_due, is_marked, unmarked};
 ghost use Rattle.cx_search.specs.Nexts.{AreLinked};
 
 use crate::found::Found;

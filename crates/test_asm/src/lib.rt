@@ -1,5 +1,5 @@
-//! Tests of the assembler, over public calls: of its parts, and of whole sources. `checks/refuse-places` refuses each
-//! allocation of the first pass in turn.
+//! Tests of the assembler's parts, over public calls. `checks/refuse-places` refuses each allocation of the first pass in
+//! turn; whole sources are tested by scripts.
 #![tactic(auto)]
 
 #[cfg(test)]
@@ -33,12 +33,6 @@ mod pass1_places;
 #[cfg(test)]
 mod pass1_texts;
 #[cfg(test)]
-mod refused_sources;
-#[cfg(test)]
 mod statements;
 #[cfg(test)]
 mod symbols;
-#[cfg(test)]
-mod whole_images;
-#[cfg(test)]
-mod whole_texts;

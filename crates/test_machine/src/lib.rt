@@ -1,4 +1,4 @@
-//! Tests of the machine's libraries over their public calls: characters, commands, storage, code, execution, loading.
+//! Tests of the machine's libraries over their public calls: characters, commands, storage, code, loading.
 #![tactic(auto)]
 
 #[cfg(test)]
@@ -8,12 +8,6 @@ mod command;
 #[cfg(test)]
 mod ebcdic;
 #[cfg(test)]
-mod exec;
-#[cfg(test)]
 mod load;
 #[cfg(test)]
-mod machine;
-#[cfg(test)]
 mod storage;
-#[cfg(test)]
-mod strings;

@@ -3,16 +3,8 @@
 #![tactic(auto)]
 
 #[cfg(test)]
-mod acts;
-#[cfg(test)]
-mod alter;
-#[cfg(test)]
 mod arrival;
 #[cfg(test)]
 mod call;
-#[cfg(test)]
-mod looks;
-#[cfg(test)]
-mod programs;
 #[cfg(test)]
 mod region;

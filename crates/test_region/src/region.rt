@@ -1,226 +1,113 @@
-//! Regions by rows worked by hand, and each call once.
+//! A region's calls, each by itself, with what no line of a script can say: bytes past the last address. What a region
+//! answers and what is seen of it is tested by scripts.
 
-use crate::acts::{Act, FIRST, NONE, Turned, done, empty, terminal};
-use crate::looks::Shown;
-use crate::programs::{
-    HALF_A_PAIR, LOOP, NO_FUNCTION, NO_HIGH_BIT, NO_LIST, NO_OPTION, RETURN, SUSPEND,
-    SUSPEND_AFTER_FF, SUSPEND_WITH_RESP, Text,
-};
-use Act::*;
-use cx_ebcdic::Aid;
-use cx_region::{DefineFault, Event, KeyReply, Reply, TurnReply, command_name};
-use std::alloc::Global;
+use cx_code::{Bytes, Image, Offsets};
+use cx_ebcdic::{Aid, Name4, Name8};
+use cx_load::{CheckedImage, check};
+use cx_region::{AlterReply, Change, Event, KeyReply, Region, Reply, TurnReply, command_name};
+use cx_storage::FlatStore;
+use std::alloc::{AllocError, Global};
 
-/// The address of the first task's EIB.
-const EIB: u32 = 0x20_0000;
-
-/// The first task as it is attached.
-const ATTACHED: Shown = Shown {
-    number: 1,
-    eib: EIB,
-    stg: 0x20_0060,
-    stg_len: 80,
-    next: 0x01_0000,
-    due: false,
-};
-
-/// Cases: a program's text, and acts in a region in which nothing is defined at first.
-#[rattlefmt::skip]
-const CASES: &[(&str, Text, &[Act])] = &[
-    ("a task returns", Text::Is(&RETURN), &[
-        Program(FIRST, 80, Ok((0x01_0000, 32))),
-        Terminal(FIRST, Ok(())),
-        Transaction(FIRST, FIRST, Ok(())),
-        Clock,
-        Key(FIRST, Aid::Enter, 4, KeyReply::Attached),
-        Turn(FIRST, Turned::AtCommand),
-        Turn(FIRST, Turned::Ended),
-    ]),
-    ("an event is answered as its call", Text::Is(&RETURN), &[
-        Defined,
-        TerminalEvent(FIRST, Err(DefineFault::Duplicate)),
-        KeyEvent(FIRST, KeyReply::Attached),
-        KeyEvent(FIRST, KeyReply::AlreadyHeldInput),
-    ]),
-    ("a list at an absent address abends", Text::Is(&NO_LIST), &[
-        Attached,
-        Turn(FIRST, Turned::AtCommand),
-        Turn(FIRST, Turned::Abended("XARG")),
-    ]),
-    ("a list without a high bit abends", Text::Is(&NO_HIGH_BIT), &[
-        Attached,
-        Turn(FIRST, Turned::AtCommand),
-        Turn(FIRST, Turned::Abended("XARG")),
-    ]),
-    ("an unknown function abends", Text::Is(&NO_FUNCTION), &[
-        Attached,
-        Turn(FIRST, Turned::AtCommand),
-        Turn(FIRST, Turned::Abended("XFUN")),
-    ]),
-    ("an illegal option byte 1 abends", Text::Is(&HALF_A_PAIR), &[
-        Attached,
-        Turn(FIRST, Turned::AtCommand),
-        Turn(FIRST, Turned::Abended("XFUN")),
-    ]),
-    ("an illegal option byte 2 abends", Text::Is(&NO_OPTION), &[
-        Attached,
-        Turn(FIRST, Turned::AtCommand),
-        Turn(FIRST, Turned::Abended("XFUN")),
-    ]),
-    ("a loop abends", Text::Is(&LOOP), &[
-        Attached,
-        Turn(FIRST, Turned::Abended("AICA")),
-        Turn(FIRST, Turned::Idle),
-    ]),
-    ("the EIB at attach", Text::Is(&RETURN), &[
-        Defined,
-        Clock,
-        Key(FIRST, Aid::Pf3, 4, KeyReply::Attached),
-        Storage(EIB, &[
-            0x01, 0x23, 0x45, 0x6C, 0x00, 0x98, 0x36, 0x5C, 0xD9, 0xC5, 0xE3, 0xF1, 0x00, 0x00, 0x00, 0x1C,
-            0xE3, 0xF0, 0xF0, 0xF1, 0x00, 0x00, 0x00, 0x00, 0x00, 0x00, 0xF3,
-        ]),
-        Zeros(EIB + 27, 61),
-        Absent(EIB + 88),
-        Absent(0xFFFF_FFFF),
-    ]),
-    ("a task is shown", Text::Is(&RETURN), &[
-        Defined,
-        Task(FIRST, None),
-        Key(FIRST, Aid::Enter, 4, KeyReply::Attached),
-        Task(FIRST, Some(ATTACHED)),
-        Turn(FIRST, Turned::AtCommand),
-        Task(FIRST, Some(Shown { next: 0x800, due: true, ..ATTACHED })),
-    ]),
-    // of the EIB, which was all FF: EIBFN 1208, EIBRCODE and EIBRESP zero
-    ("SUSPEND writes its fields alone", Text::Is(&SUSPEND_AFTER_FF), &[
-        Attached,
-        Turn(FIRST, Turned::AtCommand),
-        Turn(FIRST, Turned::Performed),
-        Storage(EIB, &[
-            0xFF, 0xFF, 0xFF, 0xFF, 0xFF, 0xFF, 0xFF, 0xFF, 0xFF, 0xFF, 0xFF, 0xFF, 0xFF, 0xFF, 0xFF, 0xFF,
-            0xFF, 0xFF, 0xFF, 0xFF, 0xFF, 0xFF, 0xFF, 0xFF, 0xFF, 0xFF, 0xFF, 0x12, 0x08, 0x00, 0x00, 0x00,
-            0x00, 0x00, 0x00, 0xFF, 0xFF, 0xFF, 0xFF, 0xFF, 0xFF, 0xFF, 0xFF, 0xFF, 0xFF, 0xFF, 0xFF, 0xFF,
-            0xFF, 0xFF, 0xFF, 0xFF, 0xFF, 0xFF, 0xFF, 0xFF, 0xFF, 0xFF, 0xFF, 0xFF, 0xFF, 0xFF, 0xFF, 0xFF,
-            0xFF, 0xFF, 0xFF, 0xFF, 0xFF, 0xFF, 0xFF, 0xFF, 0xFF, 0xFF, 0xFF, 0xFF, 0x00, 0x00, 0x00, 0x00,
-            0xFF, 0xFF, 0xFF, 0xFF, 0xFF, 0xFF, 0xFF, 0xFF,
-        ]),
-        Absent(EIB + 88),
-    ]),
-    ("an abend leaves nothing", Text::Is(&SUSPEND_AFTER_FF), &[
-        Attached,
-        Turn(FIRST, Turned::AtCommand),
-        Turn(FIRST, Turned::Performed),
-        Task(FIRST, Some(Shown { next: 0x01_0020, ..ATTACHED })),
-        Turn(FIRST, Turned::Abended("ASRA")),
-        Task(FIRST, None),
-        Absent(EIB),
-    ]),
-    ("RESP gets the condition's number", Text::Is(&SUSPEND_WITH_RESP), &[
-        Attached,
-        Storage(0x01_001C, &[0xFF, 0xFF, 0xFF, 0xFF]),
-        Turn(FIRST, Turned::AtCommand),
-        Turn(FIRST, Turned::Performed),
-        Storage(0x01_001C, &[0x00, 0x00, 0x00, 0x00]),
-    ]),
-    ("sixteen tasks have areas of their own", Text::Is(&SUSPEND), &[
-        Program(FIRST, 80, Ok((0x01_0000, 32))),
-        Transaction(FIRST, FIRST, Ok(())),
-        Terminals(1, 17),
-        Numbered(16),
-        Terminal(17, Err(DefineFault::Full)),
-        Terminal(16, Err(DefineFault::Duplicate)),
-        Turns(2, 17, Turned::AtCommand),
-        Turns(2, 17, Turned::Performed),
-        // EIBFN of each
-        Storage(EIB + 27, &[0x00, 0x00]),
-        Storage(EIB + 27 + 1 * 0xB0, &[0x12, 0x08]),
-        Storage(EIB + 27 + 2 * 0xB0, &[0x12, 0x08]),
-        Storage(EIB + 27 + 3 * 0xB0, &[0x12, 0x08]),
-        Storage(EIB + 27 + 4 * 0xB0, &[0x12, 0x08]),
-        Storage(EIB + 27 + 5 * 0xB0, &[0x12, 0x08]),
-        Storage(EIB + 27 + 6 * 0xB0, &[0x12, 0x08]),
-        Storage(EIB + 27 + 7 * 0xB0, &[0x12, 0x08]),
-        Storage(EIB + 27 + 8 * 0xB0, &[0x12, 0x08]),
-        Storage(EIB + 27 + 9 * 0xB0, &[0x12, 0x08]),
-        Storage(EIB + 27 + 10 * 0xB0, &[0x12, 0x08]),
-        Storage(EIB + 27 + 11 * 0xB0, &[0x12, 0x08]),
-        Storage(EIB + 27 + 12 * 0xB0, &[0x12, 0x08]),
-        Storage(EIB + 27 + 13 * 0xB0, &[0x12, 0x08]),
-        Storage(EIB + 27 + 14 * 0xB0, &[0x12, 0x08]),
-        Storage(EIB + 27 + 15 * 0xB0, &[0x12, 0x08]),
-    ]),
-    ("the sixty-fifth program and transaction are refused", Text::Is(&RETURN), &[
-        Programs(0, 64),
-        Transactions(0, 64),
-        Program(64, 80, Err(DefineFault::Full)),
-        Program(0, 80, Err(DefineFault::Duplicate)),
-        Transaction(64, 0, Err(DefineFault::Full)),
-        Transaction(0, 0, Err(DefineFault::Duplicate)),
-    ]),
-    // 31 programs of 65,536 bytes leave no room
-    ("a program without a place is refused", Text::Long(65_536), &[
-        Programs(1, 32),
-        Program(32, 80, Err(DefineFault::NoRoom)),
-    ]),
-    ("keys are answered", Text::Is(&RETURN), &[
-        Defined,
-        Key(NONE, Aid::Enter, 4, KeyReply::NoSuchTerminal),
-        Key(FIRST, Aid::Clear, 4, KeyReply::NoSuchTransaction),
-        Key(FIRST, Aid::Enter, 4, KeyReply::Attached),
-        Key(FIRST, Aid::Enter, 4, KeyReply::AlreadyHeldInput),
-    ]),
-    ("turns without a task are idle", Text::Is(&RETURN), &[
-        Defined,
-        Turn(NONE, Turned::NoSuchTerminal),
-        Turn(FIRST, Turned::Idle),
-    ]),
-    ("a new terminal's screen is blank", Text::Is(&RETURN), &[
-        Terminal(FIRST, Ok(())),
-        Blank(FIRST, Some(true)),
-        Blank(NONE, None),
-    ]),
-    ("a transaction needs its program", Text::Is(&RETURN), &[
-        Transaction(1, 1, Err(DefineFault::NoProgram)),
-    ]),
-    ("the longest program runs", Text::Long(65_536), &[
-        Program(FIRST, 80, Ok((0x01_0000, 65_536))),
-        Transaction(FIRST, FIRST, Ok(())),
-        Terminal(FIRST, Ok(())),
-        Key(FIRST, Aid::Enter, 4, KeyReply::Attached),
-        Turn(FIRST, Turned::AtCommand),
-        Turn(FIRST, Turned::Ended),
-    ]),
-    ("the longest DFHEISTG is given", Text::Is(&RETURN), &[
-        Program(FIRST, 65_520, Ok((0x01_0000, 32))),
-        Transaction(FIRST, FIRST, Ok(())),
-        Terminal(FIRST, Ok(())),
-        Key(FIRST, Aid::Enter, 4, KeyReply::Attached),
-        Task(FIRST, Some(Shown { stg_len: 65_520, ..ATTACHED })),
-        Zeros(0x20_0060, 65_520),
-        Absent(0x21_0050),
-    ]),
-    ("the longest input is held", Text::Is(&RETURN), &[
-        Defined,
-        Key(FIRST, Aid::Enter, 1920, KeyReply::Attached),
-        Key(FIRST, Aid::Enter, 1920, KeyReply::AlreadyHeldInput),
-    ]),
+/// A program that builds an argument list with one word and gives RETURN.
+const RETURN: [u8; 32] = [
+    0x41, 0x00, 0xF0, 0x1C, 0x50, 0x00, 0xF0, 0x18, 0x96, 0x80, 0xF0, 0x18, 0x41, 0x10, 0xF0, 0x18,
+    0x41, 0xE0, 0x08, 0x00, 0x05, 0xEE, 0x00, 0x00, 0x00, 0x00, 0x00, 0x00, 0x0E, 0x08, 0x00, 0x00,
 ];
 
+/// The terminal and the transaction, T001.
+const T001: [u8; 4] = [0xE3, 0xF0, 0xF0, 0xF1];
+
+/// The program, PGM.
+const PGM: [u8; 8] = [0xD7, 0xC7, 0xD4, 0x40, 0x40, 0x40, 0x40, 0x40];
+
+/// A region without programs, transactions and terminals. An error means out of memory.
+fn empty(alloc: Global) -> Result<Region<FlatStore>, AllocError> {
+    Region::new(alloc, FlatStore::new(alloc))
+}
+
+/// The checked image of the program; None where it has a fault. An error means out of memory.
+fn checked(alloc: Global) -> Result<Option<CheckedImage>, AllocError> {
+    let image = Image {
+        text: Bytes::from_vec(RETURN.to_vec(alloc)?),
+        entry: 0,
+        relocs: Offsets::from_vec(Vec::new(alloc)),
+        stg_len: 80,
+    };
+    Ok(check(image).ok())
+}
+
+// The calls without what their contracts ensure: a test looks at what they answer.
+
+fn define_program(region: &mut Region<FlatStore>, image: &CheckedImage) -> bool {
+    region.define_program(Name8::from_bytes(PGM), image).is_ok()
+}
+
+fn define_transaction(region: &mut Region<FlatStore>) -> bool {
+    let program = Name8::from_bytes(PGM);
+    region.define_transaction(Name4::from_bytes(T001), program) == Ok(())
+}
+
+fn define_terminal(region: &mut Region<FlatStore>) -> bool {
+    region.define_terminal(Name4::from_bytes(T001)) == Ok(())
+}
+
+fn is_attached(region: &mut Region<FlatStore>) -> bool {
+    region.key(Name4::from_bytes(T001), Aid::Enter, &T001) == Ok(KeyReply::Attached)
+}
+
+fn is_at_command(region: &mut Region<FlatStore>) -> bool {
+    region.turn(Name4::from_bytes(T001)) == Ok(TurnReply::AtCommand)
+}
+
+fn has_no_byte(region: &mut Region<FlatStore>, address: u32) -> bool {
+    let change = Change::Byte(address, 0);
+    region.alter(Name4::from_bytes(T001), change) == AlterReply::NoByte
+}
+
+fn is_absent(region: &Region<FlatStore>, address: u32) -> bool {
+    region.byte(address).is_none()
+}
+
+/// Whether the program is defined.
+fn is_defined(alloc: Global, region: &mut Region<FlatStore>) -> bool {
+    match checked(alloc) {
+        Ok(Some(image)) => define_program(region, &image),
+        _ => false,
+    }
+}
+
+/// Whether the program, its transaction and the terminal are defined, and the task comes to its command.
+fn begins(alloc: Global, region: &mut Region<FlatStore>) -> bool {
+    is_defined(alloc, region)
+        && define_transaction(region)
+        && define_terminal(region)
+        && is_attached(region)
+        && is_at_command(region)
+}
+
+/// Whether there is no byte past the last address, neither to be altered nor to be seen.
+fn ends_at_the_last_address(region: &mut Region<FlatStore>) -> bool {
+    has_no_byte(region, 0x0100_0000)
+        && has_no_byte(region, 0xFFFF_FFFF)
+        && is_absent(region, 0xFFFF_FFFF)
+}
+
 #[test]
-fn acts_are_answered(rt: HostRuntime) {
-    for &(case, text, acts) in CASES {
-        let done = done(rt.alloc(), text, acts);
-        assert!(rt; done == acts.len(), "{case}: {done}");
+fn no_byte_is_past_the_last_address(rt: HostRuntime) {
+    match empty(rt.alloc()) {
+        Ok(mut region) => {
+            assert!(rt; begins(rt.alloc(), &mut region) && ends_at_the_last_address(&mut region));
+        }
+        Err(_) => assert!(rt; false),
     }
 }
 
 /// The replies to a terminal's definition, a clock and a turn, as one run.
 fn replies(alloc: Global) -> Option<Vec<Reply>> {
     let events = [
-        Event::Terminal(terminal(FIRST)),
+        Event::Terminal(Name4::from_bytes(T001)),
         Event::Clock(123_456, 98_365),
-        Event::Turn(terminal(FIRST)),
+        Event::Turn(Name4::from_bytes(T001)),
     ];
     empty(alloc).ok()?.run(&events).ok()
 }

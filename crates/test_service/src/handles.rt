@@ -189,10 +189,19 @@ fn answered(table: &mut HandleTable, calls: &[Call]) -> usize {
     calls.len()
 }
 
-#[test]
-fn calls_of_handles_are_answered(rt: HostRuntime) {
+/// The first case that has a call which isn't answered as it should be; empty where none has.
+fn failing() -> &'static str {
     for &(case, calls) in CALLS {
         let mut table = HandleTable::new();
-        assert_eq!(rt; answered(&mut table, calls), calls.len(), "{case}");
+        if answered(&mut table, calls) != calls.len() {
+            return case;
+        }
     }
+    ""
+}
+
+#[test]
+fn calls_of_handles_are_answered(rt: HostRuntime) {
+    let failing = failing();
+    assert!(rt; failing.is_empty(), "{failing}");
 }

@@ -162,12 +162,21 @@ fn answered(stack: &mut LevelStack, calls: &[Call]) -> usize {
     calls.len()
 }
 
-#[test]
-fn calls_of_levels_are_answered(rt: HostRuntime) {
+/// The first case that has a call which isn't answered as it should be; empty where none has.
+fn failing() -> &'static str {
     for &(case, calls) in CALLS {
         let mut stack = LevelStack::new(level(FIRST));
-        assert_eq!(rt; answered(&mut stack, calls), calls.len(), "{case}");
+        if answered(&mut stack, calls) != calls.len() {
+            return case;
+        }
     }
+    ""
+}
+
+#[test]
+fn calls_of_levels_are_answered(rt: HostRuntime) {
+    let failing = failing();
+    assert!(rt; failing.is_empty(), "{failing}");
 }
 
 #[test]

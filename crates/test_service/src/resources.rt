@@ -2,8 +2,7 @@
 //! one changes.
 use cx_base::{Replica, Same};
 use cx_service::{Enqueues, ResourceName, ServiceFault};
-use std::alloc::{AllocError, Global};
-use std::test::Fail;
+use std::alloc::Global;
 
 type Answer = Result<(), ServiceFault>;
 
@@ -94,7 +93,10 @@ use Step::*;
 /// A resource whose name are two zero bytes.
 const ZEROS: Name = Bytes(&[0, 0]);
 
-/// What comes once resources are made anew from 255 addresses and two zero bytes, which task 1 holds.
+/// Task 1 holds 255 addresses and two zero bytes.
+const BEFORE: &[Call] = &[Each(255), Enq(1, ZEROS, Ok(()))];
+
+/// What comes once resources are made anew from those.
 const ANEW: &[Step] = &[
     Same(true),
     Of(Deq(1, ZEROS)),
@@ -196,30 +198,61 @@ fn goes(resources: &mut Enqueues, anew: &mut Enqueues, step: Step) -> bool {
     }
 }
 
-/// How many steps go as they should, once resources are made anew, before the first that doesn't.
-fn gone(alloc: Global, resources: &mut Enqueues, steps: &[Step]) -> Result<usize, AllocError> {
-    let mut anew = resources.replica(alloc)?;
+/// How many steps go as they should before the first that doesn't.
+fn gone(resources: &mut Enqueues, anew: &mut Enqueues, steps: &[Step]) -> usize {
     for (number, step) in steps.iter().enumerate() {
-        if !goes(resources, &mut anew, *step) {
-            return Ok(number);
+        if !goes(resources, anew, *step) {
+            return number;
         }
     }
-    Ok(steps.len())
+    steps.len()
 }
 
-#[test]
-fn calls_of_resources_are_answered(rt: HostRuntime) -> Result<(), Fail> {
-    for &(case, calls) in CALLS {
-        let mut resources = Enqueues::new(rt.alloc())?;
-        assert_eq!(rt; answered(&mut resources, calls), calls.len(), "{case}");
+// Without memory nothing goes as it should.
+
+/// Whether all calls are answered as they should be where none is held at first.
+fn are_answered(alloc: Global, calls: &[Call]) -> bool {
+    match Enqueues::new(alloc) {
+        Ok(mut resources) => answered(&mut resources, calls) == calls.len(),
+        Err(_) => false,
     }
-    Ok(())
+}
+
+/// Whether all steps go as they should once resources are made anew.
+fn go_anew(alloc: Global, resources: &mut Enqueues, steps: &[Step]) -> bool {
+    match resources.replica(alloc) {
+        Ok(mut anew) => gone(resources, &mut anew, steps) == steps.len(),
+        Err(_) => false,
+    }
+}
+
+/// Whether all calls are answered as they should be, and then all steps go so.
+fn are_made_anew(alloc: Global, calls: &[Call], steps: &[Step]) -> bool {
+    match Enqueues::new(alloc) {
+        Ok(mut resources) => {
+            answered(&mut resources, calls) == calls.len() && go_anew(alloc, &mut resources, steps)
+        }
+        Err(_) => false,
+    }
+}
+
+/// The first case that has a call which isn't answered as it should be; empty where none has.
+fn failing(alloc: Global) -> &'static str {
+    for &(case, calls) in CALLS {
+        if !are_answered(alloc, calls) {
+            return case;
+        }
+    }
+    ""
 }
 
 #[test]
-fn resources_are_made_anew(rt: HostRuntime) -> Result<(), Fail> {
-    let mut resources = Enqueues::new(rt.alloc())?;
-    assert!(rt; answered(&mut resources, &[Each(255), Enq(1, ZEROS, Ok(()))]) == 2);
-    assert_eq!(rt; gone(rt.alloc(), &mut resources, ANEW)?, ANEW.len());
-    Ok(())
+fn calls_of_resources_are_answered(rt: HostRuntime) {
+    let failing = failing(rt.alloc());
+    assert!(rt; failing.is_empty(), "{failing}");
+}
+
+#[test]
+fn resources_are_made_anew(rt: HostRuntime) {
+    assert!(rt; are_made_anew(rt.alloc(), BEFORE, ANEW));
 }

@@ -1,7 +1,7 @@
 //! Screens by rows worked by hand: texts that are sent, and lines that the screen shows then.
 use cx_base::{Replica, Same};
 use cx_service::{COLUMNS, ROWS, Screen};
-use std::alloc::Global;
+use std::alloc::{AllocError, Global};
 use std::test::Fail;
 
 /// The codes of letters.
@@ -31,7 +31,7 @@ const SHOWN: &[(Text, bool, &[Text])] = &[
 ];
 
 /// The bytes of a text.
-fn bytes(alloc: Global, text: &[(u8, usize)]) -> Result<Vec<u8>, Fail> {
+fn bytes(alloc: Global, text: &[(u8, usize)]) -> Result<Vec<u8>, AllocError> {
     let mut bytes = Vec::new(alloc);
     for &(byte, count) in text {
         for _ in 0..count {
@@ -48,26 +48,55 @@ fn send(screen: &mut Screen, text: &[u8], erase: bool) {
 
 /// Whether a line of the screen is the text filled with blanks.
 fn shows(screen: &Screen, row: usize, text: &[u8]) -> bool {
-    screen.cells().get(row).is_some_and(|line| {
-        line.iter()
-            .enumerate()
-            .all(|(i, cell)| *cell == text.get(i).copied().unwrap_or(BLANK))
-    })
+    let Some(line) = screen.cells().get(row) else {
+        return false;
+    };
+    for (i, cell) in line.iter().enumerate() {
+        if *cell != text.get(i).copied().unwrap_or(BLANK) {
+            return false;
+        }
+    }
+    true
+}
+
+/// Sends a text to a screen.
+fn sends(
+    alloc: Global,
+    screen: &mut Screen,
+    text: &[(u8, usize)],
+    erase: bool,
+) -> Result<(), AllocError> {
+    let text = bytes(alloc, text)?;
+    send(screen, text.as_slice(), erase);
+    Ok(())
+}
+
+/// Whether the screen's lines from the top are these.
+fn has_lines(alloc: Global, screen: &Screen, lines: &[Text]) -> Result<bool, AllocError> {
+    for (row, line) in lines.iter().enumerate() {
+        let line = bytes(alloc, line)?;
+        if !shows(screen, row, line.as_slice()) {
+            return Ok(false);
+        }
+    }
+    Ok(true)
+}
+
+/// How many texts are shown as they should be before the first that isn't.
+fn count_shown(alloc: Global, screen: &mut Screen) -> Result<usize, AllocError> {
+    for (number, (text, erase, lines)) in SHOWN.iter().enumerate() {
+        sends(alloc, screen, text, *erase)?;
+        if !has_lines(alloc, screen, lines)? {
+            return Ok(number);
+        }
+    }
+    Ok(SHOWN.len())
 }
 
 #[test]
-fn texts_are_shown(rt: HostRuntime) -> Result<(), Fail> {
-    let mut screen = Screen::new();
-    for &(text, erase, lines) in SHOWN {
-        send(&mut screen, bytes(rt.alloc(), text)?.as_slice(), erase);
-        for (row, line) in lines.iter().enumerate() {
-            assert!(rt;
-                shows(&screen, row, bytes(rt.alloc(), line)?.as_slice()),
-                "{row}"
-            );
-        }
-    }
-    Ok(())
+fn texts_are_shown(rt: HostRuntime) {
+    let shown = count_shown(rt.alloc(), &mut Screen::new());
+    assert!(rt; shown == Ok(SHOWN.len()));
 }
 
 /// A letter on each of 25 lines, which new lines end.

@@ -4,7 +4,7 @@
 ghost use Rattle.std.specs.Prelude.{◌<◌, ◌^◌};
 
 use crate::rows::get;
-use cx_exec::{Cpu, Halt, advance};
+use cx_exec::{Cpu, Halt, Step, advance, step};
 use cx_storage::{Kind, Owner, Store, address_in};
 use std::alloc::AllocError;
 
@@ -143,4 +143,36 @@ pub(crate) fn a_fetched_instruction_is_changed<S: Store>(
     let first = advance(&mut cpu, store, 4) == Halt::Limit && cpu.regs[2] == 103;
     let second = advance(&mut cpu, store, 4) == Halt::Limit && cpu.regs[2] == 100;
     Ok(first && second)
+}
+
+/// Whether a processor ends the instructions of a limit with this word in register 1.
+fn comes_to<S: Store>(cpu: &mut Cpu, store: &mut S, limit: u32, word: u32) -> bool {
+    advance(cpu, store, limit) == Halt::Limit && cpu.regs[1] == word
+}
+
+/// The third instruction changes the fourth, which is performed as it is by then, and again when it was changed back.
+pub(crate) fn a_changed_instruction_is_performed<S: Store>(
+    store: &mut S,
+) -> Result<bool, AllocError> {
+    // AR 1,1; LR 3,5; MVI 11(15),X'12'; AR 1,1, which becomes AR 1,2; BCT 5,0(15)
+    let program = [
+        0x1A, 0x11, 0x18, 0x35, 0x92, 0x12, 0xF0, 0x09, 0x1A, 0x11, 0x46, 0x50, 0xF0, 0x00,
+    ];
+    let at = PAGE_END - 32;
+    get(store, AREA, AREA + 8191, 8192, OWNER)?;
+    store.write(at, &program);
+    let mut regs = [0; 16];
+    regs[1] = 1;
+    regs[2] = 5;
+    regs[5] = 100;
+    regs[15] = at;
+    let mut cpu = Cpu {
+        regs,
+        cc: 0,
+        next: at,
+    };
+    let first = comes_to(&mut cpu, store, 4, 7) && cpu.next == at + 10;
+    let second = step(&mut cpu, store) == Step::Done && cpu.next == at;
+    store.write(at + 8, &[0x1B, 0x11]);
+    Ok(first && second && comes_to(&mut cpu, store, 4, 9))
 }

@@ -1,13 +1,11 @@
-//! Tests of stores, written once and run over each: areas, bytes, spans, slices and what is freed, and runs
-//! of instructions.
+//! Tests of stores, written once and run over each: areas, bytes, spans, slices and what is freed, and
+//! programs that change themselves.
 #![tactic(auto)]
 
 #[cfg(test)]
 mod changes;
 #[cfg(test)]
 mod rows;
-#[cfg(test)]
-mod runs;
 #[cfg(test)]
 mod seen;
 #[cfg(test)]

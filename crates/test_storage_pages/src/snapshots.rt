@@ -1,13 +1,12 @@
 //! Snapshots of stores: they are the areas, owners and bytes that are there, and nothing else; and a store gets them
 //! back.
+ghost use Rattle.std.specs.Prelude.{◌<◌, ◌^◌};
 
 use crate::stores::renew;
 use cx_storage::{FlatStore, Kind, Owner, Store};
 use cx_storage_pages::{KeepingStore, PagedStore};
 use cx_storage_snapshot::StorageSnapshot;
 use std::alloc::{AllocError, Global};
-use std::process::Abort;
-use std::test::Fail;
 
 const OWNER: Owner = Owner {
     slot: 1,
@@ -23,42 +22,118 @@ const LOW: u32 = 0x1000;
 
 const HIGH: u32 = 0xFF_FFFF;
 
-/// An area over several pages is kept, changed, kept again and given back; what was fetched before is not kept.
-fn is_given_back<S: Store + Drop>(alloc: Global, store: &mut S) -> Result<bool, AllocError> {
+// The calls without what their contracts ensure: a test looks at what they answer.
+
+fn take<S: Store>(
+    alloc: Global,
+    store: &S,
+    earlier: Option<&StorageSnapshot>,
+) -> Result<StorageSnapshot, AllocError> {
+    StorageSnapshot::take(alloc, store, earlier)
+}
+
+/// Gives a store back what a snapshot has.
+fn give_back<S: Store + Drop>(store: &mut S, kept: &StorageSnapshot) -> Result<(), AllocError> {
+    *store = kept.store_like(store)?;
+    Ok(())
+}
+
+fn are_same(one: &StorageSnapshot, other: &StorageSnapshot) -> bool {
+    one.is_same(other)
+}
+
+fn have_one_hash(one: &StorageSnapshot, other: &StorageSnapshot) -> bool {
+    one.hash() == other.hash()
+}
+
+/// Makes an area of a length at 001000, in the place of the one that is there.
+fn place<S: Store>(store: &mut S, len: u32, owner: Owner) -> Result<(), AllocError>
+    requires { 0 < len }
+{
+    store.free_area(LOW);
+    store.get_area(LOW, HIGH, len, owner)?;
+    Ok(())
+}
+
+/// Four bytes from 002FFE on, and the eight that are fetched at 003000.
+fn bytes_of<S: Store>(store: &mut S) -> (bool, [u8; 4], Option<[u8; 8]>) {
+    let mut bytes = [0; 4];
+    let read = store.read(0x2FFE, &mut bytes);
+    (read, bytes, store.fetch(0x3000))
+}
+
+/// Areas over several pages, with four bytes.
+fn begin<S: Store>(store: &mut S) -> Result<(), AllocError> {
     store.get_area(LOW, HIGH, 40_000, OWNER)?;
     store.get_area(LOW, HIGH, 100, OTHER_OWNER)?;
     store.write(0x2FFE, &[1, 2, 3, 4]);
-    let before = StorageSnapshot::take(alloc, store, None)?;
+    Ok(())
+}
+
+/// Changes a byte; whether another storage is kept then, and the first one once it was given back.
+fn changes_and_comes_back<S: Store + Drop>(
+    alloc: Global,
+    store: &mut S,
+    before: &StorageSnapshot,
+) -> Result<bool, AllocError> {
     store.write(0x3000, &[9]);
     let fetched = store.fetch(0x3000);
-    let after = StorageSnapshot::take(alloc, store, Some(&before))?;
-    *store = before.store_like(store)?;
-    let again = StorageSnapshot::take(alloc, store, Some(&after))?;
-    let mut bytes = [0; 4];
-    let read = store.read(0x2FFE, &mut bytes);
-    let fetched_again = store.fetch(0x3000);
+    let after = take(alloc, store, Some(before))?;
+    give_back(store, before)?;
+    let again = take(alloc, store, Some(&after))?;
     Ok(
-        !before.is_same(&after)
-            && before.is_same(&again)
-            && before.hash() == again.hash()
-            && read
-            && bytes == [1, 2, 3, 4]
-            && fetched == Some([9, 4, 0, 0, 0, 0, 0, 0])
-            && fetched_again == Some([3, 4, 0, 0, 0, 0, 0, 0]),
+        fetched == Some([9, 4, 0, 0, 0, 0, 0, 0])
+            && !are_same(before, &after)
+            && are_same(before, &again)
+            && have_one_hash(before, &again),
     )
+}
+
+/// An area over several pages is kept, changed, kept again and given back; what was fetched before is not kept.
+fn is_given_back<S: Store + Drop>(alloc: Global, store: &mut S) -> Result<bool, AllocError> {
+    begin(store)?;
+    let before = take(alloc, store, None)?;
+    let comes_back = changes_and_comes_back(alloc, store, &before)?;
+    let due = (true, [1, 2, 3, 4], Some([3, 4, 0, 0, 0, 0, 0, 0]));
+    Ok(comes_back && bytes_of(store) == due)
+}
+
+/// Writes an area full, and frees it.
+fn write_and_free<S: Store>(store: &mut S) -> Result<(), AllocError> {
+    store.get_area(LOW, HIGH, 64, OWNER)?;
+    store.write(LOW, &[0xFF; 64]);
+    store.free_area(LOW);
+    Ok(())
 }
 
 /// Bytes that were written and freed are none: a store that never had them has the same snapshot.
 fn freed_bytes_are_none<S: Store + Drop>(alloc: Global, store: &mut S) -> Result<bool, AllocError> {
     let mut clean = store.emptied();
-    store.get_area(LOW, HIGH, 64, OWNER)?;
-    store.write(LOW, &[0xFF; 64]);
-    store.free_area(LOW);
-    store.get_area(LOW, HIGH, 20, OWNER)?;
-    clean.get_area(LOW, HIGH, 20, OWNER)?;
-    let one = StorageSnapshot::take(alloc, store, None)?;
-    let other = StorageSnapshot::take(alloc, &clean, None)?;
-    Ok(one.is_same(&other) && one.hash() == other.hash())
+    write_and_free(store)?;
+    place(store, 20, OWNER)?;
+    place(&mut clean, 20, OWNER)?;
+    let one = take(alloc, store, None)?;
+    let other = take(alloc, &clean, None)?;
+    Ok(are_same(&one, &other) && have_one_hash(&one, &other))
+}
+
+/// Whether a store is another one than was kept.
+fn differs<S: Store>(alloc: Global, store: &S, kept: &StorageSnapshot) -> Result<bool, AllocError> {
+    let now = take(alloc, store, Some(kept))?;
+    Ok(!are_same(kept, &now))
+}
+
+/// Whether a byte makes a store another one than was kept, and not once it's as it was.
+fn differs_by_a_byte<S: Store>(
+    alloc: Global,
+    store: &mut S,
+    kept: &StorageSnapshot,
+) -> Result<bool, AllocError> {
+    store.set(LOW + 19, 1);
+    let written = take(alloc, store, Some(kept))?;
+    store.set(LOW + 19, 0);
+    let same = take(alloc, store, Some(&written))?;
+    Ok(!are_same(kept, &written) && are_same(kept, &same))
 }
 
 /// Another owner, another length and one byte each make another storage.
@@ -66,26 +141,41 @@ fn small_changes_are_seen<S: Store + Drop>(
     alloc: Global,
     store: &mut S,
 ) -> Result<bool, AllocError> {
-    store.get_area(LOW, HIGH, 20, OWNER)?;
-    let one = StorageSnapshot::take(alloc, store, None)?;
-    store.free_area(LOW);
-    store.get_area(LOW, HIGH, 20, OTHER_OWNER)?;
-    let owned = StorageSnapshot::take(alloc, store, Some(&one))?;
-    store.free_area(LOW);
-    store.get_area(LOW, HIGH, 21, OWNER)?;
-    let longer = StorageSnapshot::take(alloc, store, Some(&one))?;
-    store.free_area(LOW);
-    store.get_area(LOW, HIGH, 20, OWNER)?;
-    store.set(LOW + 19, 1);
-    let written = StorageSnapshot::take(alloc, store, Some(&one))?;
-    store.set(LOW + 19, 0);
-    let same = StorageSnapshot::take(alloc, store, Some(&written))?;
-    Ok(
-        !one.is_same(&owned)
-            && !one.is_same(&longer)
-            && !one.is_same(&written)
-            && one.is_same(&same),
-    )
+    place(store, 20, OWNER)?;
+    let one = take(alloc, store, None)?;
+    place(store, 20, OTHER_OWNER)?;
+    let owned = differs(alloc, store, &one)?;
+    place(store, 21, OWNER)?;
+    let longer = differs(alloc, store, &one)?;
+    place(store, 20, OWNER)?;
+    Ok(owned && longer && differs_by_a_byte(alloc, store, &one)?)
+}
+
+/// Whether so many areas of 16 bytes are made.
+fn makes_many<S: Store>(store: &mut S, areas: u32) -> Result<bool, AllocError> {
+    for _k in 0..areas {
+        if store.get_area(0, HIGH, 16, OWNER)?.is_none() {
+            return Ok(false);
+        }
+    }
+    Ok(true)
+}
+
+/// Whether a store gets back one area, whose byte at an address is 7, and then all that it has now.
+fn comes_back<S: Store + Drop>(
+    alloc: Global,
+    store: &mut S,
+    whole: &StorageSnapshot,
+    last: u32,
+) -> Result<bool, AllocError>
+    requires { last < 2 ^ 24 }
+{
+    let many = take(alloc, store, Some(whole))?;
+    give_back(store, whole)?;
+    let found = store.byte(last);
+    give_back(store, &many)?;
+    let again = take(alloc, store, Some(&many))?;
+    Ok(found == Some(7) && are_same(&many, &again) && !are_same(&many, whole))
 }
 
 /// One area of this length, and as many of 16 bytes, are kept and given back.
@@ -98,66 +188,50 @@ fn one_and_many<S: Store + Drop>(
     if len == 0 {
         return Ok(false);
     }
+    let last = (len - 1) % (HIGH + 1);
     store.get_area(0, HIGH, len, OWNER)?;
-    store.set((len - 1) % (HIGH + 1), 7);
-    let whole = StorageSnapshot::take(alloc, store, None)?;
+    store.set(last, 7);
+    let whole = take(alloc, store, None)?;
     store.free_slot(1);
-    for _k in 0..areas {
-        if store.get_area(0, HIGH, 16, OWNER)?.is_none() {
-            return Ok(false);
-        }
-    }
-    let many = StorageSnapshot::take(alloc, store, Some(&whole))?;
-    *store = whole.store_like(store)?;
-    let last = store.byte((len - 1) % (HIGH + 1));
-    *store = many.store_like(store)?;
-    let again = StorageSnapshot::take(alloc, store, Some(&many))?;
-    Ok(last == Some(7) && many.is_same(&again) && !many.is_same(&whole))
+    Ok(makes_many(store, areas)? && comes_back(alloc, store, &whole, last)?)
 }
 
 /// What a snapshot is to be, each over a store made anew. One area of a length, and as many small ones, are kept too.
-fn expect_snapshots<R: Abort, S: Store + Drop>(
-    rt: &R,
+fn meets<S: Store + Drop>(
     alloc: Global,
     store: &mut S,
     (len, areas): (u32, u32),
-) -> Result<(), AllocError> {
+) -> Result<bool, AllocError> {
     renew(store);
-    assert!(rt; is_given_back(alloc, store)?);
+    let is_back = is_given_back(alloc, store)?;
     renew(store);
-    assert!(rt; freed_bytes_are_none(alloc, store)?);
+    let are_none = freed_bytes_are_none(alloc, store)?;
     renew(store);
-    assert!(rt; small_changes_are_seen(alloc, store)?);
+    let are_seen = small_changes_are_seen(alloc, store)?;
     renew(store);
-    assert!(rt; one_and_many(alloc, store, len, areas)?);
-    Ok(())
+    Ok(is_back && are_none && are_seen && one_and_many(alloc, store, len, areas)?)
 }
 
 #[test]
-fn snapshots_of_the_plain_store(rt: HostRuntime) -> Result<(), Fail> {
-    let alloc = rt.alloc();
-    expect_snapshots(&rt, alloc, &mut FlatStore::new(alloc), (0x2000, 100))?;
-    Ok(())
+fn snapshots_of_the_plain_store(rt: HostRuntime) {
+    let mut flat = FlatStore::new(rt.alloc());
+    assert!(rt; meets(rt.alloc(), &mut flat, (0x2000, 100)) == Ok(true));
 }
 
 #[test]
-fn snapshots_of_the_store_in_pages(rt: HostRuntime) -> Result<(), Fail> {
-    let alloc = rt.alloc();
-    expect_snapshots(&rt, alloc, &mut PagedStore::new(alloc), (0x10_0000, 1000))?;
-    Ok(())
+fn snapshots_of_the_store_in_pages(rt: HostRuntime) {
+    let mut paged = PagedStore::new(rt.alloc());
+    assert!(rt; meets(rt.alloc(), &mut paged, (0x10_0000, 1000)) == Ok(true));
 }
 
 #[test]
-fn snapshots_of_the_keeping_store(rt: HostRuntime) -> Result<(), Fail> {
-    let alloc = rt.alloc();
-    let mut keeping = KeepingStore::new(PagedStore::new(alloc));
-    expect_snapshots(&rt, alloc, &mut keeping, (0x10_0000, 1000))?;
-    Ok(())
+fn snapshots_of_the_keeping_store(rt: HostRuntime) {
+    let mut kept = KeepingStore::new(PagedStore::new(rt.alloc()));
+    assert!(rt; meets(rt.alloc(), &mut kept, (0x10_0000, 1000)) == Ok(true));
 }
 
 #[test]
-fn snapshots_of_all_of_storage(rt: HostRuntime) -> Result<(), Fail> {
-    let alloc = rt.alloc();
-    assert!(rt; one_and_many(alloc, &mut PagedStore::new(alloc), 0x100_0000, 1)?);
-    Ok(())
+fn snapshots_of_all_of_storage(rt: HostRuntime) {
+    let mut paged = PagedStore::new(rt.alloc());
+    assert!(rt; one_and_many(rt.alloc(), &mut paged, 0x100_0000, 1) == Ok(true));
 }

@@ -19,27 +19,39 @@ fn perform_over(alloc: Global, word: &str, job: &Job) -> Result<Option<u64>, All
     }
 }
 
+/// The image that digits spell; None where they spell none.
+fn image_of(alloc: Global, digits: &str) -> Result<Option<Vec<u8>>, AllocError> {
+    let mut image = vec![in alloc; 0; digits.len() / 2]?;
+    match hex::decode_to_slice(digits, image.as_mut_slice()) {
+        Ok(()) => Ok(Some(image)),
+        Err(_) => Ok(None),
+    }
+}
+
+/// Performs the loop of a line, and returns how many instructions that took.
+fn perform_line(alloc: Global, line: &str) -> Result<Option<u64>, AllocError> {
+    let (word, rest) = line.split_once(' ').unwrap_or(("", ""));
+    let (count, digits) = rest.split_once(' ').unwrap_or(("", ""));
+    let slices = count.parse().unwrap_or(0);
+    match image_of(alloc, digits)? {
+        Some(image) => perform_over(alloc, word, &Job { image, slices }),
+        None => Ok(None),
+    }
+}
+
+/// Performs the loop of a line, and prints how many instructions that took.
+fn run_line(rt: &HostRuntime, line: &str) -> io::Result<()> {
+    match perform_line(rt.alloc(), line)? {
+        Some(count) => println!(rt; "{count} instructions"),
+        None => println!(rt; "not performed"),
+    }
+}
+
 /// Performs the loop of each line, and prints how many instructions that took.
 pub fn run<R: BufRead + Drop>(rt: &HostRuntime, reader: R) -> io::Result<()> {
     for line in reader.lines(rt.alloc()) {
         let line = line?;
-        let (word, rest) = line.as_str().split_once(' ').unwrap_or(("", ""));
-        let (count, digits) = rest.split_once(' ').unwrap_or(("", ""));
-        let mut image = vec![in rt.alloc(); 0; digits.len() / 2]?;
-        let is_read = hex::decode_to_slice(digits, image.as_mut_slice()).is_ok();
-        let job = Job {
-            image,
-            slices: count.parse().unwrap_or(0),
-        };
-        let count = if is_read {
-            perform_over(rt.alloc(), word, &job)?
-        } else {
-            None
-        };
-        match count {
-            Some(count) => println!(rt; "{count} instructions")?,
-            None => println!(rt; "not performed")?,
-        }
+        run_line(rt, line.as_str())?;
     }
     Ok(())
 }

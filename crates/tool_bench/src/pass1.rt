@@ -20,6 +20,22 @@ fn place(rt: &HostRuntime, source: &Source, is_last: bool) -> io::Result<()> {
     }
 }
 
+/// Places a source so often.
+fn place_often(rt: &HostRuntime, source: &Source, turns: u32) -> io::Result<()> {
+    for turn in 0..turns {
+        place(rt, source, turn + 1 == turns)?;
+    }
+    Ok(())
+}
+
+/// Reads a text as a source, and places it so often.
+fn place_text(rt: &HostRuntime, text: &[u8], turns: u32) -> io::Result<()> {
+    match read_source(rt.alloc(), text) {
+        Ok(source) => place_often(rt, &source, turns),
+        Err(_) => println!(rt; "no source"),
+    }
+}
+
 /// Reads sources, places each as often as the line before it says, and prints how many statements have a place, or why
 /// none has.
 pub fn run<R: BufRead + Drop>(rt: &HostRuntime, mut reader: R) -> io::Result<()> {
@@ -28,11 +44,5 @@ pub fn run<R: BufRead + Drop>(rt: &HostRuntime, mut reader: R) -> io::Result<()>
     let turns = line.as_str().trim().parse::<u32>().unwrap_or(1);
     let mut bytes = Vec::new(rt.alloc());
     reader.read_to_end(&mut bytes)?;
-    let Ok(source) = read_source(rt.alloc(), bytes.as_slice()) else {
-        return println!(rt; "no source");
-    };
-    for turn in 0..turns {
-        place(rt, &source, turn + 1 == turns)?;
-    }
-    Ok(())
+    place_text(rt, bytes.as_slice(), turns)
 }

@@ -198,21 +198,28 @@ fn time<S: Store>(rt: &HostRuntime, store: &mut S, name: &str, count: u32) -> io
     )
 }
 
+fn time_kept(rt: &HostRuntime, name: &str, count: u32) -> io::Result<()> {
+    let mut store = KeepingStore::new(PagedStore::new(rt.alloc()));
+    time(rt, &mut store, name, count)
+}
+
+/// Times the store of a line, and prints nanoseconds for each call.
+fn run_line(rt: &HostRuntime, line: &str) -> io::Result<()> {
+    let (name, count) = line.split_once(' ').unwrap_or(("", ""));
+    let count = count.parse::<u32>().unwrap_or(0);
+    match name {
+        "flat" => time(rt, &mut FlatStore::new(rt.alloc()), name, count),
+        "paged" => time(rt, &mut PagedStore::new(rt.alloc()), name, count),
+        "kept" => time_kept(rt, name, count),
+        _ => println!(rt; "no store is named so"),
+    }
+}
+
 /// Times the store of each line, and prints nanoseconds for each call.
 pub fn run<R: BufRead + Drop>(rt: &HostRuntime, reader: R) -> io::Result<()> {
     for line in reader.lines(rt.alloc()) {
         let line = line?;
-        let (name, count) = line.as_str().split_once(' ').unwrap_or(("", ""));
-        let count = count.parse::<u32>().unwrap_or(0);
-        match name {
-            "flat" => time(rt, &mut FlatStore::new(rt.alloc()), name, count)?,
-            "paged" => time(rt, &mut PagedStore::new(rt.alloc()), name, count)?,
-            "kept" => {
-                let mut store = KeepingStore::new(PagedStore::new(rt.alloc()));
-                time(rt, &mut store, name, count)?;
-            }
-            _ => println!(rt; "no store is named so")?,
-        }
+        run_line(rt, line.as_str())?;
     }
     Ok(())
 }

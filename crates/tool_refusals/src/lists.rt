@@ -75,7 +75,7 @@ impl<S: Store + Drop> List<S> {
     fn image(&mut self, rt: &HostRuntime, name: Name8, image: Image) -> io::Result<()> {
         match check(image) {
             Ok(image) => self.event(rt, &EdfEvent::Plain(Event::Program(name, image))),
-            Err((_, fault)) => print_refused(rt, name, fault.name()),
+            Err((_image, fault)) => print_refused(rt, name, fault.name()),
         }
     }
 
@@ -144,12 +144,30 @@ impl<S: Store + Drop> List<S> {
         Ok(rest)
     }
 
+    /// Does what lines ask.
+    fn lines(&mut self, rt: &HostRuntime, lines: &[u8]) -> io::Result<()> {
+        let mut rest = lines;
+        for _ in 0..MOST_LINES {
+            let Some((line, after)) = split_line(rest) else {
+                break;
+            };
+            rest = self.text(rt, line, after)?;
+        }
+        Ok(())
+    }
+
     /// Prints what is left at the end.
-    fn end(self, rt: &HostRuntime) -> io::Result<()> {
+    fn end(&self, rt: &HostRuntime) -> io::Result<()> {
         for name in &self.terminals {
             print_all(rt, &self.region, *name)?;
         }
         Ok(())
+    }
+
+    /// Does what lines ask, and prints what is left at the end.
+    fn all(&mut self, rt: &HostRuntime, lines: &[u8]) -> io::Result<()> {
+        self.lines(rt, lines)?;
+        self.end(rt)
     }
 }
 
@@ -197,14 +215,7 @@ fn split_heading(lines: &[u8]) -> (Heading, Option<&[u8]>, &[u8]) {
 /// Does a list's events, each by itself.
 fn do_each<S: Store + Drop>(rt: &HostRuntime, region: Debugged<S>, lines: &[u8]) -> io::Result<()> {
     let mut list = List::new(rt, region);
-    let mut rest = lines;
-    for _ in 0..MOST_LINES {
-        let Some((line, after)) = split_line(rest) else {
-            break;
-        };
-        rest = list.text(rt, line, after)?;
-    }
-    list.end(rt)
+    list.all(rt, lines)
 }
 
 /// The lines of a list, and those after it, which begin with the next one's heading.

@@ -264,11 +264,16 @@ fn define_terminal<S: Store + Drop>(region: &mut Debugged<S>, name: Name4) -> Re
     Reply::Terminal(region.define_terminal(name))
 }
 
+/// Whether a display of a terminal is kept, so many before the newest.
+fn is_kept<S: Store + Drop>(region: &Debugged<S>, name: Name4, back: usize) -> bool {
+    region.previous(name, back).is_some()
+}
+
 /// How many displays are kept of a terminal.
 fn kept<S: Store + Drop>(region: &Debugged<S>, name: Name4) -> usize {
     let mut count = 0usize;
     for back in 0..MORE_THAN_KEPT {
-        if region.previous(name, back).is_some() {
+        if is_kept(region, name, back) {
             count = count.saturating_add(1);
         }
     }
@@ -287,16 +292,34 @@ fn defined<S: Store + Drop>(region: &mut Debugged<S>, event: &EdfEvent) -> Optio
     }
 }
 
-/// Does a definition, and prints its answer. Keeps the name of a terminal that was defined.
+/// Does a definition, if there is one, and prints its answer. Keeps the name of a terminal that was defined.
 fn define<S: Store + Drop>(
     rt: &HostRuntime,
     region: &mut Debugged<S>,
     terminals: &mut Vec<Name4>,
-    event: &EdfEvent,
+    event: &Option<EdfEvent>,
 ) -> io::Result<()> {
+    let Some(event) = event else {
+        return Ok(());
+    };
     match defined(region, event) {
         Some(reply) => print_and_keep(rt, terminals, event, &Answer::Region(reply)),
         None => println!(rt; "no definition"),
+    }
+}
+
+/// Does the definition that a text asks. Answers the lines that are left; the lines after it begin with its block where
+/// it begins one.
+fn define_text<'a, S: Store + Drop>(
+    rt: &HostRuntime,
+    region: &mut Debugged<S>,
+    terminals: &mut Vec<Name4>,
+    (text, after): (&[u8], &'a [u8]),
+) -> io::Result<&'a [u8]> {
+    let (event, rest) = event_and_rest(rt.alloc(), text, after)?;
+    match define(rt, region, terminals, &event) {
+        Ok(()) => Ok(rest),
+        Err(fault) => Err(fault),
     }
 }
 
@@ -328,13 +351,48 @@ fn define_first<'a, S: Store + Drop>(
         if line == b"RUN".as_slice() {
             return Ok(after);
         }
-        let (event, left) = event_and_rest(rt.alloc(), line, after)?;
-        if let Some(event) = event {
-            define(rt, region, terminals, &event)?;
-        }
-        rest = left;
+        rest = define_text(rt, region, terminals, (line, after))?;
     }
     Ok(rest)
+}
+
+// What a function owns is dropped at each of its ends: one that owns a region, a list or answers has one end.
+
+/// Prints the answers of events, and keeps the names of terminals that were defined.
+fn print_answers(
+    rt: &HostRuntime,
+    terminals: &mut Vec<Name4>,
+    events: &[EdfEvent],
+    answers: &[Answer],
+) -> io::Result<()> {
+    for (event, answer) in events.iter().zip(answers.iter()) {
+        print_and_keep(rt, terminals, event, answer)?;
+    }
+    Ok(())
+}
+
+/// Does the events of a list by one call, and prints their answers.
+fn run_list<S: Store + Drop>(
+    rt: &HostRuntime,
+    region: &mut Debugged<S>,
+    terminals: &mut Vec<Name4>,
+    list: &EdfEvents,
+) -> io::Result<()> {
+    match run_under_edf(region, list) {
+        Ok(answers) => print_answers(rt, terminals, list.events(), answers.as_slice()),
+        Err(done) => println!(rt; "stopped at {done}"),
+    }
+}
+
+/// Puts the events that lines ask last, does those of the list by one call, and prints their answers.
+fn put_and_run<S: Store + Drop>(
+    rt: &HostRuntime,
+    region: &mut Debugged<S>,
+    terminals: &mut Vec<Name4>,
+    (list, lines): (&mut EdfEvents, &[u8]),
+) -> io::Result<()> {
+    put_all(rt.alloc(), list, lines)?;
+    run_list(rt, region, terminals, list)
 }
 
 /// Does the events that lines ask by one call, and prints their answers.
@@ -347,16 +405,31 @@ fn run_lines<S: Store + Drop>(
     let mut list = EdfEvents {
         events: Vec::new(rt.alloc()),
     };
-    put_all(rt.alloc(), &mut list, lines)?;
-    match run_under_edf(region, &list) {
-        Ok(answers) => {
-            for (event, answer) in list.events().iter().zip(answers.iter()) {
-                print_and_keep(rt, terminals, event, answer)?;
-            }
-            Ok(())
-        }
-        Err(done) => println!(rt; "stopped at {done}"),
+    put_and_run(rt, region, terminals, (&mut list, lines))
+}
+
+/// Prints how many displays are kept of each terminal.
+fn print_all_kept<S: Store + Drop>(
+    rt: &HostRuntime,
+    region: &Debugged<S>,
+    terminals: &[Name4],
+) -> io::Result<()> {
+    for name in terminals {
+        print_kept(rt, *name, kept(region, *name))?;
     }
+    Ok(())
+}
+
+/// Does definitions, each by a call, and after a line `RUN` events, all by one call, and prints what is due of them.
+fn define_and_run<S: Store + Drop>(
+    rt: &HostRuntime,
+    region: &mut Debugged<S>,
+    terminals: &mut Vec<Name4>,
+    lines: &[u8],
+) -> io::Result<()> {
+    let rest = define_first(rt, region, terminals, lines)?;
+    run_lines(rt, region, terminals, rest)?;
+    print_all_kept(rt, region, terminals.as_slice())
 }
 
 /// Does a list of definitions, each by a call, and after its line `RUN` events, all by one call. Prints last how many
@@ -367,12 +440,38 @@ pub fn do_at_once<S: Store + Drop>(
     lines: &[u8],
 ) -> io::Result<()> {
     let mut terminals = Vec::new(rt.alloc());
-    let rest = define_first(rt, &mut region, &mut terminals, lines)?;
-    run_lines(rt, &mut region, &mut terminals, rest)?;
-    for name in &terminals {
-        print_kept(rt, *name, kept(&region, *name))?;
+    define_and_run(rt, &mut region, &mut terminals, lines)
+}
+
+/// Prints the replies to events of a region without EDF.
+fn print_replies(rt: &HostRuntime, events: &[Event], replies: &[Reply]) -> io::Result<()> {
+    for (event, reply) in events.iter().zip(replies.iter()) {
+        print_answer_of(rt, event, *reply)?;
     }
     Ok(())
+}
+
+/// Does the events of a list by one call of a region without EDF, and prints the replies.
+fn run_list_alone<S: Store + Drop>(
+    rt: &HostRuntime,
+    region: &mut Region<S>,
+    list: &Events,
+) -> io::Result<()> {
+    match run_events(region, list) {
+        Ok(replies) => print_replies(rt, list.events(), replies.as_slice()),
+        Err(done) => println!(rt; "stopped at {done}"),
+    }
+}
+
+/// Puts the events that lines ask last, does those of the list by one call, and prints the replies.
+fn put_and_run_alone<S: Store + Drop>(
+    rt: &HostRuntime,
+    region: &mut Region<S>,
+    list: &mut Events,
+    lines: &[u8],
+) -> io::Result<()> {
+    put_all(rt.alloc(), list, lines)?;
+    run_list_alone(rt, region, list)
 }
 
 /// Does a list of events by one call of a region without EDF.
@@ -384,14 +483,5 @@ pub fn do_alone<S: Store + Drop>(
     let mut list = Events {
         events: Vec::new(rt.alloc()),
     };
-    put_all(rt.alloc(), &mut list, lines)?;
-    match run_events(&mut region, &list) {
-        Ok(replies) => {
-            for (event, reply) in list.events().iter().zip(replies.iter()) {
-                print_answer_of(rt, event, *reply)?;
-            }
-            Ok(())
-        }
-        Err(done) => println!(rt; "stopped at {done}"),
-    }
+    put_and_run_alone(rt, &mut region, &mut list, lines)
 }

@@ -68,32 +68,28 @@ fn print_listing(rt: &HostRuntime, assembly: &Assembly) -> io::Result<()> {
     Ok(())
 }
 
-fn print_disassembly(rt: &HostRuntime, assembly: &Assembly) -> io::Result<()> {
-    let lines = disassembled(rt.alloc(), assembly)?;
-    for line in &lines {
-        let text = text_of(rt.alloc(), line)?;
-        rt.println(text.as_str())?;
+// What a function owns is dropped at each of its ends: one that owns a source, or lines, has few.
+
+fn print_line(rt: &HostRuntime, line: &Line) -> io::Result<()> {
+    let text = text_of(rt.alloc(), line)?;
+    rt.println(text.as_str())
+}
+
+fn print_lines(rt: &HostRuntime, lines: &[Line]) -> io::Result<()> {
+    for line in lines {
+        print_line(rt, line)?;
     }
     Ok(())
 }
 
-/// The assembly of a source's text; None where the source is faulty, and its fault is printed.
-fn assembly_of(rt: &HostRuntime, text: &[u8]) -> io::Result<Option<Assembly>> {
-    let source = match read(rt.alloc(), text) {
-        Ok(source) => source,
-        Err(fault) => {
-            println!(rt; "{fault}")?;
-            return Ok(None);
-        }
-    };
-    let source = match translated(rt.alloc(), &source) {
-        Ok(source) => source,
-        Err(fault) => {
-            println!(rt; "{fault}")?;
-            return Ok(None);
-        }
-    };
-    match assembled(rt.alloc(), &source) {
+fn print_disassembly(rt: &HostRuntime, assembly: &Assembly) -> io::Result<()> {
+    let lines = disassembled(rt.alloc(), assembly)?;
+    print_lines(rt, lines.as_slice())
+}
+
+/// The assembly of a translated source; None where it is faulty, and its fault is printed.
+fn assembly_of_translated(rt: &HostRuntime, source: &Source) -> io::Result<Option<Assembly>> {
+    match assembled(rt.alloc(), source) {
         Ok(assembly) => Ok(Some(assembly)),
         Err(fault) => {
             println!(rt; "{fault}")?;
@@ -102,17 +98,44 @@ fn assembly_of(rt: &HostRuntime, text: &[u8]) -> io::Result<Option<Assembly>> {
     }
 }
 
+/// The assembly of a source; None where it is faulty, and its fault is printed.
+fn assembly_of_source(rt: &HostRuntime, source: &Source) -> io::Result<Option<Assembly>> {
+    match translated(rt.alloc(), source) {
+        Ok(source) => assembly_of_translated(rt, &source),
+        Err(fault) => {
+            println!(rt; "{fault}")?;
+            Ok(None)
+        }
+    }
+}
+
+/// The assembly of a source's text; None where the source is faulty, and its fault is printed.
+fn assembly_of(rt: &HostRuntime, text: &[u8]) -> io::Result<Option<Assembly>> {
+    match read(rt.alloc(), text) {
+        Ok(source) => assembly_of_source(rt, &source),
+        Err(fault) => {
+            println!(rt; "{fault}")?;
+            Ok(None)
+        }
+    }
+}
+
+fn print_wanted(rt: &HostRuntime, wanted: Wanted, assembly: &Assembly) -> io::Result<()> {
+    if wanted.listing {
+        print_listing(rt, assembly)?;
+    }
+    if wanted.disassembly {
+        print_disassembly(rt, assembly)?;
+    }
+    Ok(())
+}
+
 /// The image of a source, after printing what is wanted of it; None where the source is faulty: then its fault is
 /// printed.
 pub fn program_of(rt: &HostRuntime, wanted: Wanted, text: &[u8]) -> io::Result<Option<Image>> {
     let Some(assembly) = assembly_of(rt, text)? else {
         return Ok(None);
     };
-    if wanted.listing {
-        print_listing(rt, &assembly)?;
-    }
-    if wanted.disassembly {
-        print_disassembly(rt, &assembly)?;
-    }
+    print_wanted(rt, wanted, &assembly)?;
     Ok(Some(assembly.into_image()))
 }

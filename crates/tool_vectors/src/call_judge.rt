@@ -106,6 +106,18 @@ fn name_in(text: &str) -> Option<(usize, &str)> {
     Some((width, name.strip_suffix("'")?))
 }
 
+/// Whether storage has bytes, eight at most, at an address.
+fn has_bytes(store: &FlatStore, place: u32, bytes: Option<&[u8]>) -> bool {
+    let Some(bytes) = bytes else {
+        return false;
+    };
+    let mut found = [0; 8];
+    match found.get_mut(..bytes.len()) {
+        Some(found) => store.read(address_in(place), found) && bytes == &*found,
+        None => false,
+    }
+}
+
 /// Whether storage has a name, filled with blanks, at an address.
 fn holds(
     alloc: Global,
@@ -115,14 +127,10 @@ fn holds(
     name: &str,
 ) -> Result<bool, AllocError> {
     let name = format!(in alloc; "{name:<8}")?;
-    let Ok(bytes) = encode_line(alloc, name.as_str()) else {
-        return Ok(false);
-    };
-    let mut found = [0; 8];
-    let Some(found) = found.get_mut(..width) else {
-        return Ok(false);
-    };
-    Ok(store.read(address_in(place), found) && bytes.as_slice().get(..width) == Some(&*found))
+    match encode_line(alloc, name.as_str()) {
+        Ok(bytes) => Ok(has_bytes(store, place, bytes.as_slice().get(..width))),
+        Err(_) => Ok(false),
+    }
 }
 
 /// Whether each argument's place is the one that its expression has.
@@ -157,6 +165,22 @@ fn is_command(case: &Case, call: &Call) -> bool {
         && call.conditions() == case.listed.as_slice()
 }
 
+/// The call whose list is at an address, where there is one.
+fn call_at(store: &FlatStore, address: u32) -> Option<Call> {
+    read_call(store, address_in(address)).ok()
+}
+
+/// Whether a call is the case's, and its arguments are where it says.
+fn is_call(
+    alloc: Global,
+    layout: &Layout<'_>,
+    regs: &[u32; 16],
+    store: &FlatStore,
+    call: &Call,
+) -> Result<bool, AllocError> {
+    Ok(is_command(layout.case, call) && are_places(alloc, layout, regs, store, call.places())?)
+}
+
 /// Runs a loaded program. Whether the call at its end is the case's.
 fn arrives(
     alloc: Global,
@@ -178,26 +202,21 @@ fn arrives(
     if layout.case.ends.as_str() != "AtEntry" {
         return Ok(true);
     }
-    match read_call(store, address_in(cpu.regs[1])) {
-        Ok(call) => Ok(
-            is_command(layout.case, &call)
-                && are_places(alloc, layout, &regs, store, call.places())?,
-        ),
-        Err(_) => Ok(false),
+    match call_at(store, cpu.regs[1]) {
+        Some(call) => is_call(alloc, layout, &regs, store, &call),
+        None => Ok(false),
     }
 }
 
-/// Whether a case ends as it says.
-pub fn agrees(alloc: Global, case: &Case) -> Result<bool, AllocError> {
-    let Some(image) = image_of(alloc, case)? else {
-        return Ok(false);
-    };
-    let mut store = FlatStore::new(alloc);
-    let Some(loaded) = loaded(alloc, case, &image, &mut store)? else {
-        return Ok(false);
-    };
+/// Runs a case's program that is loaded. Whether it ends as the case says.
+fn runs(
+    alloc: Global,
+    case: &Case,
+    loaded: Loaded,
+    store: &mut FlatStore,
+) -> Result<bool, AllocError> {
     let storage = case.storage.unwrap_or(END.saturating_sub(loaded.stg_len));
-    if !has_area(&mut store, EIB, EIB_LENGTH)? || !has_area(&mut store, storage, loaded.stg_len)? {
+    if !has_area(store, EIB, EIB_LENGTH)? || !has_area(store, storage, loaded.stg_len)? {
         return Ok(false);
     }
     let symbols = symbols_of(alloc, case)?;
@@ -208,5 +227,26 @@ pub fn agrees(alloc: Global, case: &Case) -> Result<bool, AllocError> {
         storage,
         eib: EIB,
     };
-    arrives(alloc, &layout, loaded.entry, &mut store)
+    arrives(alloc, &layout, loaded.entry, store)
+}
+
+/// Loads a case's image and runs it. Whether it ends as the case says.
+fn ends_in(
+    alloc: Global,
+    case: &Case,
+    image: &CheckedImage,
+    store: &mut FlatStore,
+) -> Result<bool, AllocError> {
+    match loaded(alloc, case, image, store)? {
+        Some(loaded) => runs(alloc, case, loaded, store),
+        None => Ok(false),
+    }
+}
+
+/// Whether a case ends as it says.
+pub fn agrees(alloc: Global, case: &Case) -> Result<bool, AllocError> {
+    match image_of(alloc, case)? {
+        Some(image) => ends_in(alloc, case, &image, &mut FlatStore::new(alloc)),
+        None => Ok(false),
+    }
 }

@@ -18,6 +18,20 @@ fn statement(
     Text::from_slice(alloc, line.as_bytes())
 }
 
+fn push(lines: &mut Vec<Text>, line: Text) -> Result<(), AllocError> {
+    lines.push(line)?;
+    Ok(())
+}
+
+fn push_statement(
+    alloc: Global,
+    lines: &mut Vec<Text>,
+    (name, operation, operand): (&str, &str, &str),
+) -> Result<(), AllocError> {
+    let line = statement(name, operation, operand, alloc)?;
+    push(lines, line)
+}
+
 /// The fields of a section.
 fn push_fields(
     alloc: Global,
@@ -27,21 +41,48 @@ fn push_fields(
 ) -> Result<(), AllocError> {
     for field in case.fields.iter() {
         if field.section.as_str() == section {
-            let name = field.name.as_str();
-            let definition = field.definition.as_str();
-            lines.push(statement(name, "DS", definition, alloc)?)?;
+            let (name, definition) = (field.name.as_str(), field.definition.as_str());
+            push_statement(alloc, lines, (name, "DS", definition))?;
         }
     }
     Ok(())
 }
 
+fn after_a_blank(alloc: Global, line: &str) -> Result<Text, AllocError> {
+    let line = format!(in alloc; " {line}")?;
+    Text::from_slice(alloc, line.as_bytes())
+}
+
 /// Lines as they are given, after a blank.
 fn push_lines(alloc: Global, lines: &mut Vec<Text>, given: &[String]) -> Result<(), AllocError> {
     for line in given {
-        let line = format!(in alloc; " {line}")?;
-        lines.push(Text::from_slice(alloc, line.as_bytes())?)?;
+        let line = after_a_blank(alloc, line.as_str())?;
+        push(lines, line)?;
     }
     Ok(())
+}
+
+/// Puts what a line of the EXEC statement has after its head last, with column 72.
+fn extend(line: &mut Vec<u8>, part: &[u8], is_continued: bool) -> Result<(), AllocError> {
+    line.extend_from_slice(part)?;
+    if is_continued {
+        line.push(b'X')?;
+    }
+    Ok(())
+}
+
+/// A line of the EXEC statement.
+fn part_of_exec(
+    alloc: Global,
+    head: &[u8],
+    part: &[u8],
+    is_continued: bool,
+) -> Result<Text, AllocError> {
+    let mut line = Vec::from_slice(alloc, head)?;
+    match extend(&mut line, part, is_continued) {
+        Ok(()) => Ok(Text::from_vec(line)),
+        Err(fault) => Err(fault),
+    }
 }
 
 /// The EXEC statement, on as many lines as it needs; column 72 continues it.
@@ -49,34 +90,55 @@ fn push_exec(alloc: Global, lines: &mut Vec<Text>, operand: &str) -> Result<(), 
     let mut head: &[u8] = b"         EXEC  ";
     let mut left = operand.len();
     for part in operand.as_bytes().chunks(OPERAND) {
-        let mut line = Vec::from_slice(alloc, head)?;
-        line.extend_from_slice(part)?;
         left = left.saturating_sub(part.len());
-        if left > 0 {
-            line.push(b'X')?;
-        }
-        lines.push(Text::from_vec(line))?;
+        let line = part_of_exec(alloc, head, part, left > 0)?;
+        push(lines, line)?;
         head = b"               ";
     }
     Ok(())
+}
+
+/// A section with its fields.
+fn push_section(
+    alloc: Global,
+    lines: &mut Vec<Text>,
+    case: &Case,
+    (section, operation): (&str, &str),
+) -> Result<(), AllocError> {
+    push_statement(alloc, lines, (section, operation, ""))?;
+    push_fields(alloc, lines, case, section)
+}
+
+/// The sections of storage: DFHEISTG, and the program's own DSECTs.
+fn push_dsects(alloc: Global, lines: &mut Vec<Text>, case: &Case) -> Result<(), AllocError> {
+    push_section(alloc, lines, case, ("DFHEISTG", "DSECT"))?;
+    for section in case.sections.iter() {
+        push_section(alloc, lines, case, (section.name.as_str(), "DSECT"))?;
+    }
+    Ok(())
+}
+
+/// The instructions, the EXEC statement and the end.
+fn push_code(alloc: Global, lines: &mut Vec<Text>, case: &Case) -> Result<(), AllocError> {
+    push_statement(alloc, lines, ("BEGIN", "DS", "0H"))?;
+    push_lines(alloc, lines, case.code.as_slice())?;
+    push_exec(alloc, lines, case.statement.as_str())?;
+    push_statement(alloc, lines, ("", "END", "BEGIN"))
+}
+
+fn push_source(alloc: Global, lines: &mut Vec<Text>, case: &Case) -> Result<(), AllocError> {
+    push_dsects(alloc, lines, case)?;
+    push_section(alloc, lines, case, ("P", "CSECT"))?;
+    push_lines(alloc, lines, case.lines.as_slice())?;
+    push_code(alloc, lines, case)
 }
 
 /// The source: DFHEISTG, the program's own DSECTs, and the control section P with its fields, its further lines, its
 /// instructions and the EXEC statement, which has a label.
 pub fn source_of(alloc: Global, case: &Case) -> Result<Vec<Text>, AllocError> {
     let mut lines = Vec::new(alloc);
-    lines.push(statement("DFHEISTG", "DSECT", "", alloc)?)?;
-    push_fields(alloc, &mut lines, case, "DFHEISTG")?;
-    for section in case.sections.iter() {
-        lines.push(statement(section.name.as_str(), "DSECT", "", alloc)?)?;
-        push_fields(alloc, &mut lines, case, section.name.as_str())?;
+    match push_source(alloc, &mut lines, case) {
+        Ok(()) => Ok(lines),
+        Err(fault) => Err(fault),
     }
-    lines.push(statement("P", "CSECT", "", alloc)?)?;
-    push_fields(alloc, &mut lines, case, "P")?;
-    push_lines(alloc, &mut lines, case.lines.as_slice())?;
-    lines.push(statement("BEGIN", "DS", "0H", alloc)?)?;
-    push_lines(alloc, &mut lines, case.code.as_slice())?;
-    push_exec(alloc, &mut lines, case.statement.as_str())?;
-    lines.push(statement("", "END", "BEGIN", alloc)?)?;
-    Ok(lines)
 }

@@ -65,6 +65,16 @@ impl Part {
         }
     }
 
+    /// Takes a line, which may begin another part: then the counts of this one are printed.
+    fn take(&mut self, rt: &HostRuntime, line: &str) -> io::Result<()> {
+        if !line.starts_with("VECTORS ") {
+            return self.line(rt, line);
+        }
+        self.print(rt)?;
+        *self = Part::from_heading(rt, line)?;
+        Ok(())
+    }
+
     /// Prints the counts.
     fn print(&self, rt: &HostRuntime) -> io::Result<()> {
         match self {
@@ -80,12 +90,7 @@ fn main(rt: HostRuntime) -> io::Result<()> {
     let mut part = Part::Stray(StrayLines::new());
     for line in BufReader::new(rt.alloc(), rt.reader())?.lines(rt.alloc()) {
         let line = line?;
-        if line.as_str().starts_with("VECTORS ") {
-            part.print(&rt)?;
-            part = Part::from_heading(&rt, line.as_str())?;
-        } else {
-            part.line(&rt, line.as_str())?;
-        }
+        part.take(&rt, line.as_str())?;
     }
     part.print(&rt)
 }

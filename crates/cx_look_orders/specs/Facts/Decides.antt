@@ -1,32 +1,31 @@
 -- One text is written of a region.
-use Rattle.std.proofs.Common.{◌≡◌, ℕ, zero, suc, ◌+◌, ◌<◌, ◌≤◌, List, [], ◌∷◌, ◌++◌, length, drop, Bool, true, false, true≢false, ◌||◌, get_or, Option, Some, None, ◌⊎◌, inl, inr, ap, refl, sym, subst, ◌∙◌, arith}
+use Rattle.std.proofs.Common.{◌≡◌, ℕ, zero, suc, ◌+◌, ◌/◌, ◌<◌, ◌≤◌, List, [], ◌∷◌, ◌++◌, length, drop, Bool, true, false, Option, Some, None, inl, inr, ap, refl, sym, subst, ◌∙◌, arith}
 use Rattle.std.specs.Prelude.{MatchBool, slice_get}
-use Rattle.std.specs.List.{IsDistinct, list_any}
-use Rattle.std.proofs.lemmas.Map.Keys.{IsDistinct-from_apart}
-use Rattle.std.proofs.lemmas.Map.Made.{length-le_from_is_member}
+use Rattle.std.specs.List.{IsDistinct}
 use Rattle.std.specs.Map.{keys_of as names_of}
 use Rattle.std.proofs.lemmas.Bool.{cases_order}
-use Rattle.std.proofs.lemmas.Option.{none-some, same_Some, slice_get-get_or}
+use Rattle.std.proofs.lemmas.Option.{none-some, same_Some}
 use Rattle.cx_ebcdic.specs.Names.{is_name}
 use Rattle.cx_search.specs.Laws.{BoundedNeverLoop, SoonerOrders}
 use Rattle.cx_search.specs.Moves.{IsSooner}
 use Rattle.cx_region_laws.specs.Laws.Regions.{KeysKeepToTheirTerminal, TurnsKeepToTheirTask}
 use Rattle.cx_look_lines.specs.Words.{Lines}
 use Rattle.cx_region.specs.State.{RegionState}
-use Rattle.cx_orders.specs.Facts.Same.{is_same, same_equivalence, same_is, same_state}
+use Rattle.cx_orders.specs.Facts.Same.{same_equivalence, same_is, same_state}
 use Rattle.cx_orders.specs.Laws.{MovesDecide}
 use Rattle.cx_orders.specs.Moves.{Moves, begun}
-use Rattle.cx_orders.specs.declared.states.KeyLine.{KeyLine}
+use Rattle.cx_orders.specs.declared.states.Keys.{Keys}
 use Rattle.cx_orders.specs.declared.states.OrdersState.{OrdersState}
 use Rattle.cx_look_orders.specs.Laws.{ReportsDecide}
 use Rattle.cx_look_orders.specs.Outcomes.{AllCanRest, AreOutcomes, AreReached, HasReached, HasStates, IsCutAt, IsOutcome, IsReached, IsStuck, MayLoop}
 use Rattle.cx_look_orders.specs.Parts.Ways.{came_between}
 use Rattle.cx_look_orders.specs.Report.{cut_line, loop_lines, outcomes_lines, stuck_line, whole_line}
-use Rattle.cx_look_orders.specs.Steps.{AreSteps, moves_of}
+use Rattle.cx_look_orders.specs.Steps.{AreSteps, move_number, moves_of}
 use Rattle.cx_look_orders.specs.declared.outcomes.Outcome.{Outcome}
 use Rattle.cx_look_orders.specs.declared.steps.Step.{Step}
+use Rattle.cx_look_orders.specs.Facts.Items.{at_most as items_at_most}
 use Rattle.cx_look_orders.specs.Facts.Outcomes.{both_soonest, ends_with, many_moves, move_of, near_less, same_moves, steps_lead}
-use Rattle.cx_look_orders.specs.Facts.Steps.{key_of_step}
+use Rattle.cx_look_orders.specs.Facts.Steps.{half_of_step, key_of_step}
 
 -- ---- two sorted lists with the same items
 module _ {X : Type 0} (Less : X → X → Type 0) (never : (x : X) → Less x x → ⊥)
@@ -72,16 +71,16 @@ module _ {X : Type 0} (Less : X → X → Type 0) (never : (x : X) → Less x x 
       (later_within y x ys xs (sym e) other back))
 
 module _ (decide : MovesDecide) (turned : TurnsKeepToTheirTask) (keyed : KeysKeepToTheirTerminal)
-    (keys : List KeyLine) where
+    (keys : Keys) where
   -- ---- steps
   abbrev Named : OrdersState → Type 0
   Named state = IsDistinct is_name (names_of state.region.terminals)
 
-  move_names : (from to : OrdersState) (number : ℕ) → Moves keys from number to → Named from → Named to
-  move_names from to number m named = elim m.move [
-    | inl t ↦ subst (IsDistinct is_name) (sym (turned from.region m.name t.reply to.region t.takes).names) named
+  move_names : (from to : OrdersState) (move : ℕ) → Moves keys from move to → Named from → Named to
+  move_names from to move m named = elim m.by [
+    | inl t ↦ subst (IsDistinct is_name) (sym (turned from.region m.name t.1.reply to.region t.1.takes).names) named
     | inr k ↦ subst (IsDistinct is_name)
-        (sym (keyed from.region m.name _ k.comes.reply to.region k.comes.takes).names) named
+        (sym (keyed from.region m.name _ k.1.comes.reply to.region k.1.comes.takes).names) named
   ]
 
   same_steps : (one other : Step) → one.number ≡ other.number → one.key ≡ other.key → one ≡ other
@@ -94,20 +93,23 @@ module _ (decide : MovesDecide) (turned : TurnsKeepToTheirTask) (keyed : KeysKee
   unfolding AreSteps
   steps_decide from s t [] [] named are too e = refl
   steps_decide from s t [] (other ∷ others) named are too e =
-      absurd (none-some other.number (ap (λ ms. slice_get ms 0) e))
+      absurd (none-some (move_number other) (ap (λ ms. slice_get ms 0) e))
   steps_decide from s t (one ∷ ones) [] named are too e =
-      absurd (none-some one.number (ap (λ ms. slice_get ms 0) (sym e)))
+      absurd (none-some (move_number one) (ap (λ ms. slice_get ms 0) (sym e)))
   steps_decide from s t (one ∷ ones) (other ∷ others) named are too e =
-      let number : one.number ≡ other.number = same_Some one.number other.number (ap (λ ms. slice_get ms 0) e) in
+      let move : move_number one ≡ move_number other =
+      same_Some (move_number one) (move_number other) (ap (λ ms. slice_get ms 0) e) in
+      let number : one.number ≡ other.number =
+      sym (half_of_step one) ∙ ap (λ n. n / 2) move ∙ half_of_step other in
       let first = move_of keys from are.between one are.is in
-      let second = subst (λ n. Moves keys from n too.between) (sym number)
+      let second = subst (λ n. Moves keys from n too.between) (sym move)
       (move_of keys from too.between other too.is) in
-      let between = decide keys from are.between too.between one.number named first second in
+      let between = decide keys from are.between too.between (move_number one) named first second in
       let key = key_of_step keys from are.between one are.is
       ∙ ap (λ (to : OrdersState). came_between from.come to.come one.number) between
       ∙ ap (λ n. came_between from.come too.between.come n) number
       ∙ sym (key_of_step keys from too.between other too.is) in
-      let rest = steps_decide are.between s t ones others (move_names from are.between one.number first named) are.rest
+      let rest = steps_decide are.between s t ones others (move_names from are.between (move_number one) first named) are.rest
       (subst (λ x. AreSteps keys x others t) (sym between) too.rest) (ap (λ ms. drop 1 ms) e) in
       ap (λ z. z ∷ ones) (same_steps one other number key) ∙ ap (λ zs. other ∷ zs) rest
 
@@ -168,58 +170,14 @@ module _ (decide : MovesDecide) (turned : TurnsKeepToTheirTask) (keyed : KeysKee
     stuck_decides false true p q = absurd (q.never (p q.moves q.there q.leads))
 
 -- ---- how many states there are
-or_either : (b c : Bool) → (b || c) ≡ true → (b ≡ true) ⊎ (c ≡ true)
-or_either true c is = inl refl
-or_either false c is = inr is
-
-or_first : (b c : Bool) → b ≡ true → (b || c) ≡ true
-or_first true c is = refl
-or_first false c is = absurd (true≢false (sym is))
-
-or_second : (b c : Bool) → c ≡ true → (b || c) ≡ true
-or_second true c is = refl
-or_second false c is = is
-
-any_at : (q : OrdersState) (states : List OrdersState) → list_any (same_state q) states ≡ true
-    → (k : ℕ) × (slice_get states k ≡ Some q)
-any_at q [] is = absurd (true≢false (sym is))
-any_at q (x ∷ xs) is = elim (or_either (same_state q x) (list_any (same_state q) xs) is) [
-  | inl e ↦ (0, ap Some (sym (same_is q x e)))
-  | inr r ↦ let it = any_at q xs r in (suc it.0, it.1)
-]
-
-at_any : (q : OrdersState) (states : List OrdersState) (k : ℕ) → slice_get states k ≡ Some q
-    → list_any (same_state q) states ≡ true
-at_any q [] k is = absurd (none-some q is)
-at_any q (x ∷ xs) zero is =
-    or_first (same_state q x) (list_any (same_state q) xs) (is_same q x (sym (same_Some x q is)))
-at_any q (x ∷ xs) (suc k) is = or_second (same_state q x) (list_any (same_state q) xs) (at_any q xs k is)
-
-not_true : (b : Bool) → (b ≡ true → ⊥) → b ≡ false
-not_true true never = absurd (never refl)
-not_true false never = refl
-
-module _ (keys : List KeyLine) (start : OrdersState) where
-  distinct : (cut : Option ℕ) (states : List OrdersState) → AreReached keys start cut states
-      → IsDistinct same_state states
-  distinct cut states are =
-      IsDistinct-from_apart same_state states (λ i j d l within.
-      not_true (same_state (get_or states i d) (get_or states j d)) (λ e.
-      let one = slice_get-get_or states i d (omega (arith, l, within)) in
-      let other = slice_get-get_or states j d within
-      ∙ ap Some (sym (same_is (get_or states i d) (get_or states j d) e)) in
-      let same = are.once i j (get_or states i d) one other in
-      omega (arith, l, same)))
-
+module _ (keys : Keys) (start : OrdersState) where
   -- states that stand in a list once are at most those of a list that has them
   pub at_most : (near far : Option ℕ) (ones others : List OrdersState)
       → ((state : OrdersState) → IsReached keys start near state → IsReached keys start far state)
       → AreReached keys start near ones → HasReached keys start far others → length ones ≤ length others
   at_most near far ones others on are has =
-      length-le_from_is_member same_equivalence ones others (distinct near ones are) (λ q is.
-      let it = any_at q ones is in
-      let there = has q (on q (are.each it.0 q it.1)) in
-      at_any q others there.place there.at)
+      items_at_most same_state same_equivalence same_is ones others are.once (λ k state at.
+      let there = has state (on state (are.each k state at)) in (there.place, there.at))
 
   reached_more : (near far : ℕ) → near ≤ far → (state : OrdersState) → IsReached keys start (Some near) state
       → IsReached keys start (Some far) state
@@ -258,31 +216,31 @@ module _ (keys : List KeyLine) (start : OrdersState) where
 -- ---- the whole
 pub reports_decide : (Shows : RegionState → Lines → Type 0) → MovesDecide → TurnsKeepToTheirTask
     → KeysKeepToTheirTerminal → SoonerOrders
-    → (keys : List KeyLine) → BoundedNeverLoop (Moves keys) → ReportsDecide Shows keys
+    → (keys : Keys) → BoundedNeverLoop (Moves keys) → ReportsDecide Shows keys
 reports_decide Shows decide turned keyed sooner keys never region edf most one other named (inl p) (inl q) =
     let start = begun region in
     p.is
-    ∙ ap (λ n. whole_line n (length p.outcomes) ++ outcomes_lines region keys edf 1 p.outcomes
-    ++ loop_lines region keys edf p.loop ++ stuck_line p.is_stuck)
+    ∙ ap (λ n. whole_line keys n (length p.outcomes) ++ outcomes_lines region keys.lines edf 1 p.outcomes
+    ++ loop_lines region keys.lines edf p.loop ++ stuck_line p.is_stuck)
     (states_decide keys start p.states q.states p.count q.count)
-    ∙ ap (λ (os : List Outcome). whole_line q.states (length os) ++ outcomes_lines region keys edf 1 os
-    ++ loop_lines region keys edf p.loop ++ stuck_line p.is_stuck)
+    ∙ ap (λ (os : List Outcome). whole_line keys q.states (length os) ++ outcomes_lines region keys.lines edf 1 os
+    ++ loop_lines region keys.lines edf p.loop ++ stuck_line p.is_stuck)
     (outcomes_decide decide turned keyed keys sooner start named Shows None p.outcomes q.outcomes p.are q.are)
-    ∙ ap (λ (l : Option (List Step)). whole_line q.states (length q.outcomes)
-    ++ outcomes_lines region keys edf 1 q.outcomes ++ loop_lines region keys edf l ++ stuck_line p.is_stuck)
+    ∙ ap (λ (l : Option (List Step)). whole_line keys q.states (length q.outcomes)
+    ++ outcomes_lines region keys.lines edf 1 q.outcomes ++ loop_lines region keys.lines edf l ++ stuck_line p.is_stuck)
     (loops_decide decide turned keyed keys sooner start named never p.loop q.loop p.may_loop q.may_loop)
-    ∙ ap (λ b. whole_line q.states (length q.outcomes) ++ outcomes_lines region keys edf 1 q.outcomes
-    ++ loop_lines region keys edf q.loop ++ stuck_line b)
+    ∙ ap (λ b. whole_line keys q.states (length q.outcomes) ++ outcomes_lines region keys.lines edf 1 q.outcomes
+    ++ loop_lines region keys.lines edf q.loop ++ stuck_line b)
     (stuck_decides decide turned keyed keys sooner start named p.is_stuck q.is_stuck p.may_stick q.may_stick)
     ∙ sym q.is
 reports_decide Shows decide turned keyed sooner keys never region edf most one other named (inr p) (inr q) =
     let start = begun region in
     let moves = cuts_decide keys start most p.moves q.moves p.cut q.cut in
     p.is
-    ∙ ap (λ (os : List Outcome). cut_line most p.moves ++ outcomes_lines region keys edf 1 os)
+    ∙ ap (λ (os : List Outcome). cut_line keys most p.moves ++ outcomes_lines region keys.lines edf 1 os)
     (outcomes_decide decide turned keyed keys sooner start named Shows (Some q.moves) p.outcomes q.outcomes
     (subst (λ m. AreOutcomes Shows keys start (Some m) p.outcomes) moves p.are) q.are)
-    ∙ ap (λ m. cut_line most m ++ outcomes_lines region keys edf 1 q.outcomes) moves
+    ∙ ap (λ m. cut_line keys most m ++ outcomes_lines region keys.lines edf 1 q.outcomes) moves
     ∙ sym q.is
 reports_decide Shows decide turned keyed sooner keys never region edf most one other named (inl p) (inr q) =
     absurd (not_both keys (begun region) most p.states q.moves p.count p.few q.cut)

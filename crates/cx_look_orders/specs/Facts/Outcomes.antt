@@ -1,39 +1,51 @@
 -- Steps lead as their moves do; and no two outcomes have one text.
-use Rattle.std.proofs.Common.{List, None, Option, Some, [], arith, inl, inr, length, refl, subst, sym, ℕ, ◌∷◌, ◌≡◌, ◌≤◌, ◌⊎◌}
-use Rattle.std.specs.Prelude.{MatchOption}
+use Rattle.std.proofs.Common.{List, None, Option, Some, [], arith, inl, inr, length, refl, subst, sym, ℕ, ◌∷◌, ◌≡◌, ◌≤◌}
+use Rattle.std.specs.Prelude.{MatchOption, slice_get}
 use Rattle.std.proofs.lemmas.Bool.{cases_order}
 use Rattle.cx_search.specs.Laws.{SoonerOrders}
 use Rattle.cx_search.specs.Moves.{IsSooner, Leads}
-use Rattle.cx_region.specs.State.{RegionState}
+use Rattle.cx_region.specs.State.{RegionState, TerminalState}
 use Rattle.cx_orders.specs.Moves.{KeyMoves, Moves, TurnMoves}
-use Rattle.cx_orders.specs.declared.states.KeyLine.{KeyLine}
+use Rattle.cx_orders.specs.declared.states.Keys.{Keys}
 use Rattle.cx_orders.specs.declared.states.OrdersState.{OrdersState}
 use Rattle.cx_look_lines.specs.Words.{Lines}
 use Rattle.cx_look_orders.specs.Laws.{TextsStandOnce}
 use Rattle.cx_look_orders.specs.Outcomes.{EndsWith, IsOutcome, NoLater}
 use Rattle.cx_look_orders.specs.Rest.{RestText}
-use Rattle.cx_look_orders.specs.Steps.{AreSteps, IsStep, moves_of}
+use Rattle.cx_look_orders.specs.Steps.{AreSteps, IsStep, move_number, moves_of}
 use Rattle.cx_look_orders.specs.declared.outcomes.Outcome.{Outcome}
 use Rattle.cx_look_orders.specs.declared.steps.Step.{Step}
 use Rattle.cx_search.specs.Rest.{IsNear}
 
 -- ---- steps
-module _ (keys : List KeyLine) where
-  pub move_of : (from to : OrdersState) (step : Step) → IsStep keys from step to → Moves keys from step.number to
-  move_of from to step is = record {
-    name = is.name;
-    terminal = is.terminal;
-    at = is.at;
-    came = is.came;
-    come = is.come;
-    move = by step.key is.move;
+module _ (keys : Keys) where
+  move_by : (from to : OrdersState) (number : ℕ) (name : List ℕ) (terminal : TerminalState) (came : ℕ) (key : Option ℕ)
+      → slice_get from.region.terminals number ≡ Some (name, terminal) → slice_get from.come number ≡ Some came
+      → MatchOption key (TurnMoves from number name to)
+      (λ before. (before ≡ came) × KeyMoves keys from number name terminal came to)
+      → Moves keys from (move_number (record { number = number; key = key })) to
+  move_by from to number name terminal came None at come turn = record {
+    number = number;
+    name = name;
+    terminal = terminal;
+    at = at;
+    came = came;
+    come = come;
+    by = inl (refl, turn);
   }
-    where
-      by : (key : Option ℕ) → MatchOption key (TurnMoves from step.number is.name to)
-          (λ before. (before ≡ is.came) × KeyMoves keys from step.number is.name is.terminal is.came to)
-          → TurnMoves from step.number is.name to ⊎ KeyMoves keys from step.number is.name is.terminal is.came to
-      by None turn = inl turn
-      by (Some before) key = inr key.1
+  move_by from to number name terminal came (Some before) at come key = record {
+    number = number;
+    name = name;
+    terminal = terminal;
+    at = at;
+    came = came;
+    come = come;
+    by = inr (refl, key.1);
+  }
+
+  pub move_of : (from to : OrdersState) (step : Step) → IsStep keys from step to → Moves keys from (move_number step) to
+  move_of from to step is =
+      move_by from to step.number is.name is.terminal is.came step.key is.at is.come is.move
 
   pub steps_lead : (from to : OrdersState) (steps : List Step) → AreSteps keys from steps to
       → Leads (Moves keys) from (moves_of steps) to
@@ -62,19 +74,19 @@ both_soonest sooner ms ns (inr l) (inl e) = sym e
 both_soonest sooner ms ns (inr l) (inr m) = absurd (sooner.not_self ms (sooner.onward ms ns ms l m))
 
 -- ---- outcomes of one text
-module _ (Shows : RegionState → Lines → Type 0) (keys : List KeyLine) (start : OrdersState) (cut : Option ℕ) where
+module _ (Shows : RegionState → Lines → Type 0) (keys : Keys) (start : OrdersState) (cut : Option ℕ) where
   pub ends_with : (one : Outcome) (text : Lines) → IsOutcome Shows keys start cut one → one.text ≡ text
       → EndsWith Shows keys start (moves_of one.steps) text
   ends_with one text is e = record {
     to = is.to;
     leads = steps_lead keys start is.to one.steps is.steps;
     rest = is.rest;
-    shows = subst (RestText Shows keys is.to) e is.shows;
+    shows = subst (RestText Shows keys.lines is.to) e is.shows;
   }
 
 -- they have one list of moves
 pub same_moves : SoonerOrders
-    → (Shows : RegionState → Lines → Type 0) (keys : List KeyLine) (start : OrdersState) (cut : Option ℕ)
+    → (Shows : RegionState → Lines → Type 0) (keys : Keys) (start : OrdersState) (cut : Option ℕ)
     (one other : Outcome)
     → IsOutcome Shows keys start cut one → IsOutcome Shows keys start cut other → one.text ≡ other.text
     → moves_of one.steps ≡ moves_of other.steps
@@ -84,7 +96,7 @@ same_moves sooner Shows keys start cut one other is too e =
     (too.soonest (moves_of one.steps) (ends_with Shows keys start cut one other.text is e))
 
 -- and stand at one place
-pub texts_stand_once : SoonerOrders → (Shows : RegionState → Lines → Type 0) (keys : List KeyLine)
+pub texts_stand_once : SoonerOrders → (Shows : RegionState → Lines → Type 0) (keys : Keys)
     → TextsStandOnce Shows keys
 texts_stand_once sooner Shows keys start cut outcomes are j k one other at there e =
     let moves = same_moves sooner Shows keys start cut one other (are.each j one at) (are.each k other there) e in

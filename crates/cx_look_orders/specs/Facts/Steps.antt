@@ -1,16 +1,16 @@
 -- The step of a move.
-use Rattle.std.proofs.Common.{◌≡◌, ℕ, ◌+◌, ◌<◌, List, length, Bool, true, false, Option, Some, None, ◌⊎◌, inl, inr, ap, refl, sym, subst, ◌∙◌, arith}
+use Rattle.std.proofs.Common.{◌≡◌, ℕ, ◌+◌, ◌/◌, ◌<◌, List, length, Bool, true, false, Option, Some, None, inl, inr, ap, refl, sym, subst, ◌∙◌, arith}
 use Rattle.std.specs.Prelude.{◌==◌, if◌then◌else◌, get_or, slice_get, slice_set, MatchOption}
 use Rattle.std.specs.Option.{option_and_then}
 use Rattle.std.proofs.lemmas.Bool.{eq-eqb, eqb-true}
 use Rattle.std.proofs.lemmas.List.{get_or-set_same}
 use Rattle.std.proofs.lemmas.Option.{get_or_from_slice_get, slice_get_within}
 use Rattle.cx_region.specs.State.{TerminalState}
-use Rattle.cx_orders.specs.Moves.{KeyMoves, Moves, TurnMoves}
-use Rattle.cx_orders.specs.declared.states.KeyLine.{KeyLine}
+use Rattle.cx_orders.specs.Moves.{KeyMoves, Moves, TurnMoves, key_number, turn_number}
+use Rattle.cx_orders.specs.declared.states.Keys.{Keys}
 use Rattle.cx_orders.specs.declared.states.OrdersState.{OrdersState}
 use Rattle.cx_look_orders.specs.Parts.Ways.{came_between}
-use Rattle.cx_look_orders.specs.Steps.{IsStep}
+use Rattle.cx_look_orders.specs.Steps.{IsStep, move_number}
 use Rattle.cx_look_orders.specs.declared.steps.Step.{Step}
 
 same_number : (n : ℕ) → (n == n) ≡ true
@@ -43,54 +43,97 @@ one_between before number came is =
     (set_there before number (came + 1) 0 (slice_get_within before number came is))
     ∙ ap (λ b. if b then None else Some came) (more_not came)
 
+-- the terminal of a move is half of its number
 abbrev pub step_between : OrdersState → ℕ → OrdersState → Step
-step_between from number to = record { number = number; key = came_between from.come to.come number }
+step_between from move to = record { number = move / 2; key = came_between from.come to.come (move / 2) }
 
-module _ (keys : List KeyLine) where
-  step_move : (from to : OrdersState) (number : ℕ) (m : Moves keys from number to) (key : Option ℕ)
-      → key ≡ came_between from.come to.come number
-      → MatchOption key (TurnMoves from number m.name to)
-      (λ before. (before ≡ m.came) × KeyMoves keys from number m.name m.terminal m.came to)
-  step_move from to number m key e = elim m.move [
+half_turn : (number : ℕ) → turn_number number / 2 ≡ number
+half_turn number = omega arith
+
+half_key : (number : ℕ) → key_number number / 2 ≡ number
+half_key number = omega arith
+
+-- a step's terminal is that of its number
+half_move : (number : ℕ) (key : Option ℕ) → move_number (record { number = number; key = key }) / 2 ≡ number
+half_move number None = half_turn number
+half_move number (Some came) = half_key number
+
+pub half_of_step : (step : Step) → move_number step / 2 ≡ step.number
+half_of_step step = half_move step.number step.key
+
+module _ (keys : Keys) where
+  -- a step that is a move of that number
+  record Steps (from : OrdersState) (move : ℕ) (to : OrdersState) (step : Step) : Type 0 where
+    is : IsStep keys from step to
+    numbered : move_number step ≡ move
+
+  step_by_turn : (from to : OrdersState) (number : ℕ) (name : List ℕ) (terminal : TerminalState) (came : ℕ)
+      → slice_get from.region.terminals number ≡ Some (name, terminal) → slice_get from.come number ≡ Some came
+      → TurnMoves from number name to
+      → Steps from (turn_number number) to (record { number = number; key = came_between from.come to.come number })
+  step_by_turn from to number name terminal came at come t =
+      let none : came_between from.come to.come number ≡ None =
+      ap (λ after. came_between from.come after number) t.come ∙ none_between from.come number came come in
+      let step : Step = record { number = number; key = None } in
+      let it : Steps from (turn_number number) to step = record {
+        is = record { name = name; terminal = terminal; at = at; came = came; come = come; move = t };
+        numbered = refl;
+      } in
+      subst (λ k. Steps from (turn_number number) to (record { number = number; key = k })) (sym none) it
+
+  step_by_key : (from to : OrdersState) (number : ℕ) (name : List ℕ) (terminal : TerminalState) (came : ℕ)
+      → slice_get from.region.terminals number ≡ Some (name, terminal) → slice_get from.come number ≡ Some came
+      → KeyMoves keys from number name terminal came to
+      → Steps from (key_number number) to (record { number = number; key = came_between from.come to.come number })
+  step_by_key from to number name terminal came at come k =
+      let some : came_between from.come to.come number ≡ Some came =
+      ap (λ after. came_between from.come after number) k.comes.come ∙ one_between from.come number came come in
+      let step : Step = record { number = number; key = Some came } in
+      let it : Steps from (key_number number) to step = record {
+        is = record { name = name; terminal = terminal; at = at; came = came; come = come; move = (refl, k) };
+        numbered = refl;
+      } in
+      subst (λ k. Steps from (key_number number) to (record { number = number; key = k })) (sym some) it
+
+  at_half : (from to : OrdersState) (move number : ℕ) → number ≡ move / 2
+      → Steps from move to (record { number = number; key = came_between from.come to.come number })
+      → Steps from move to (step_between from move to)
+  at_half from to move number e it =
+      subst (λ n. Steps from move to (record { number = n; key = came_between from.come to.come n })) e it
+
+  step_of : (from to : OrdersState) (move : ℕ) → Moves keys from move to → Steps from move to (step_between from move to)
+  step_of from to move m = elim m.by [
     | inl t ↦
-        subst (λ o. MatchOption o (TurnMoves from number m.name to)
-        (λ before. (before ≡ m.came) × KeyMoves keys from number m.name m.terminal m.came to))
-        (sym (e ∙ ap (λ after. came_between from.come after number) t.come
-        ∙ none_between from.come number m.came m.come)) t
+        at_half from to move m.number (sym (half_turn m.number) ∙ ap (λ n. n / 2) (sym t.0))
+        (subst (λ n. Steps from n to (record { number = m.number; key = came_between from.come to.come m.number }))
+        (sym t.0) (step_by_turn from to m.number m.name m.terminal m.came m.at m.come t.1))
     | inr k ↦
-        subst (λ o. MatchOption o (TurnMoves from number m.name to)
-        (λ before. (before ≡ m.came) × KeyMoves keys from number m.name m.terminal m.came to))
-        (sym (e ∙ ap (λ after. came_between from.come after number) k.comes.come
-        ∙ one_between from.come number m.came m.come)) (refl, k)
+        at_half from to move m.number (sym (half_key m.number) ∙ ap (λ n. n / 2) (sym k.0))
+        (subst (λ n. Steps from n to (record { number = m.number; key = came_between from.come to.come m.number }))
+        (sym k.0) (step_by_key from to m.number m.name m.terminal m.came m.at m.come k.1))
   ]
 
-  pub step_is : (from to : OrdersState) (number : ℕ) → Moves keys from number to
-      → IsStep keys from (step_between from number to) to
-  step_is from to number m = record {
-    name = m.name;
-    terminal = m.terminal;
-    at = m.at;
-    came = m.came;
-    come = m.come;
-    move = step_move from to number m (came_between from.come to.come number) refl;
-  }
+  pub step_is : (from to : OrdersState) (move : ℕ) → Moves keys from move to
+      → IsStep keys from (step_between from move to) to
+  step_is from to move m = (step_of from to move m).is
 
-  -- so a step is a move, and which one is seen by the keys that came
-  moved_by : (from to : OrdersState) (number : ℕ) (name : List ℕ) (terminal : TerminalState) (came : ℕ) (key : Option ℕ)
+  pub step_numbered : (from to : OrdersState) (move : ℕ) → Moves keys from move to
+      → move_number (step_between from move to) ≡ move
+  step_numbered from to move m = (step_of from to move m).numbered
+
+  -- which step it is, is seen by the keys that came
+  key_by : (from to : OrdersState) (number : ℕ) (name : List ℕ) (terminal : TerminalState) (came : ℕ) (key : Option ℕ)
       → slice_get from.come number ≡ Some came
       → MatchOption key (TurnMoves from number name to)
       (λ before. (before ≡ came) × KeyMoves keys from number name terminal came to)
-      → (TurnMoves from number name to ⊎ KeyMoves keys from number name terminal came to)
-      × (key ≡ came_between from.come to.come number)
-  moved_by from to number name terminal came None come t =
-      (inl t, sym (ap (λ after. came_between from.come after number) t.come ∙ none_between from.come number came come))
-  moved_by from to number name terminal came (Some before) come k = (
-    inr k.1,
-    ap Some k.0
-        ∙ sym (ap (λ after. came_between from.come after number) k.1.comes.come
-        ∙ one_between from.come number came come),
-  )
+      → key ≡ came_between from.come to.come number
+  key_by from to number name terminal came None come t =
+      sym (ap (λ after. came_between from.come after number) t.come ∙ none_between from.come number came come)
+  key_by from to number name terminal came (Some before) come k =
+      ap Some k.0
+      ∙ sym (ap (λ after. came_between from.come after number) k.1.comes.come
+      ∙ one_between from.come number came come)
 
   pub key_of_step : (from to : OrdersState) (step : Step) → IsStep keys from step to
       → step.key ≡ came_between from.come to.come step.number
-  key_of_step from to step is = (moved_by from to step.number is.name is.terminal is.came step.key is.come is.move).1
+  key_of_step from to step is = key_by from to step.number is.name is.terminal is.came step.key is.come is.move

@@ -8,7 +8,7 @@ use Rattle.cx_search.specs.Rest.{IsNear}
 use Rattle.cx_region.specs.State.{RegionState}
 use Rattle.cx_look_lines.specs.Words.{Lines}
 use Rattle.cx_orders.specs.Moves.{Moves}
-use Rattle.cx_orders.specs.declared.states.KeyLine.{KeyLine}
+use Rattle.cx_orders.specs.declared.states.Keys.{Keys}
 use Rattle.cx_orders.specs.declared.states.OrdersState.{OrdersState}
 use Rattle.cx_look_orders.specs.Outcomes.{HasText, IsWritten}
 use Rattle.cx_look_orders.specs.Rest.{RestText}
@@ -22,13 +22,13 @@ came_between before after number =
     option_and_then (λ came. if get_or after number 0 == came then None else Some came) (slice_get before number)
 
 -- the steps are those of a list of moves, and lead to a state
-pub record AreStepsOf (keys : List KeyLine) (from : OrdersState) (moves : List ℕ) (to : OrdersState) (steps : List Step)
+pub record AreStepsOf (keys : Keys) (from : OrdersState) (moves : List ℕ) (to : OrdersState) (steps : List Step)
     : Type 0 where
   pub are : AreSteps keys from steps to
   pub of : moves_of steps ≡ moves
 
 -- the steps of the soonest list that leads to a state
-pub record AreFirstSteps (keys : List KeyLine) (from to : OrdersState) (steps : List Step) : Type 0 where
+pub record AreFirstSteps (keys : Keys) (from to : OrdersState) (steps : List Step) : Type 0 where
   pub are : AreSteps keys from steps to
   pub first : IsFirst (Moves keys) from (moves_of steps) to
 
@@ -38,12 +38,12 @@ AreSorted places =
     (one other p q : ℕ) → one < other → slice_get places one ≡ Some p → slice_get places other ≡ Some q → p < q
 
 -- each state that a list of at most so many moves leads to was found, where they are limited
-abbrev pub Reaches : List KeyLine → OrdersState → List (OrdersState × Origin) → Option ℕ → Type 0
+abbrev pub Reaches : Keys → OrdersState → List (OrdersState × Origin) → Option ℕ → Type 0
 Reaches keys start found cut =
     (moves : List ℕ) (state : OrdersState) → Leads (Moves keys) start moves state → IsNear cut (length moves)
     → IsFound found state
 
-module _ (Shows : RegionState → Lines → Type 0) (keys : List KeyLine) (start : OrdersState)
+module _ (Shows : RegionState → Lines → Type 0) (keys : Keys) (start : OrdersState)
     (found : List (OrdersState × Origin))
     (places : List ℕ) where
   -- what is written of the state at one of the places
@@ -52,7 +52,7 @@ module _ (Shows : RegionState → Lines → Type 0) (keys : List KeyLine) (start
     pub there : slice_get places index ≡ Some place
     pub state : OrdersState
     pub at : IsAt found place state
-    pub shows : RestText Shows keys state text
+    pub shows : RestText Shows keys.lines state text
 
   -- an outcome of one of the first places, and of none before it
   pub record IsOfFirst (many : ℕ) (one : Outcome) : Type 0 where
@@ -67,7 +67,7 @@ module _ (Shows : RegionState → Lines → Type 0) (keys : List KeyLine) (start
     pub each : (k : ℕ) (one : Outcome) → slice_get outcomes k ≡ Some one → IsOfFirst many one
     pub all : (index : ℕ) (text : Lines) → index < many → IsTextAt index text → HasText outcomes text
     pub written : (index place : ℕ) (state : OrdersState) → index < many → slice_get places index ≡ Some place
-        → IsAt found place state → IsWritten Shows keys outcomes state
+        → IsAt found place state → IsWritten Shows keys.lines outcomes state
     pub ordered : (j k : ℕ) (one other : Outcome) → j < k → slice_get outcomes j ≡ Some one
         → slice_get outcomes k ≡ Some other
         → IsSooner (moves_of one.steps) (moves_of other.steps)

@@ -7,8 +7,9 @@ use Rattle.cx_script_actions.specs.declared.actions.Action.TheVariants as edf_ac
 use Rattle.cx_script.specs.Transcript.{PerformsAll}
 use Rattle.cx_look_tables.specs.Marked.{IsOfLooks}
 use Rattle.cx_look.specs.declared.look.Look.{Look}
+use Rattle.cx_look.specs.declared.choices.ChoicesBlock.{ChoicesBlock}
 use Rattle.cx_look.specs.declared.orders.OrdersBlock.{OrdersBlock}
-use Rattle.cx_look_script.specs.Looking.{IsLookText, LookPerforms, NotedPerforms, ShowsOrders}
+use Rattle.cx_look_script.specs.Looking.{IsLookText, LookPerforms, NotedPerforms, ShowsChoices, ShowsOrders}
 use Rattle.cx_look_tables.specs.Words.{marked}
 use Rattle.cx_look_script.specs.Covered.{cover_lines, covered_from}
 use Rattle.cx_look_script.specs.Help.{bad_look_text}
@@ -56,6 +57,7 @@ IsPart there (action.Watch w) part = (part.plain ≡ []) × (part.looked ≡ mar
 IsPart there (action.Cover on) part = (part.plain ≡ []) × (part.looked ≡ marked (cover_lines on))
 IsPart there (action.Look look) part = (part.plain ≡ []) × IsLookText look there part.looked
 IsPart there (action.Orders block) part = (part.plain ≡ []) × ShowsOrders block there part.looked
+IsPart there (action.Choices block) part = (part.plain ≡ []) × ShowsChoices block there part.looked
 IsPart there (action.BadLook number s) part = (part.plain ≡ []) × (part.looked ≡ marked (bad_look_text number s))
 
 -- after a part of RUN that has no turn RUN is over
@@ -111,6 +113,11 @@ LooksAreMarked = (look : Look) (state : LookState) (text : List ℕ) → IsLookT
 abbrev pub OrdersAreMarked : Type 0
 OrdersAreMarked =
     (block : OrdersBlock) (state : LookState) (text : List ℕ) → ShowsOrders block state text → IsOfLooks text
+
+-- or of CHOICES
+abbrev pub ChoicesAreMarked : Type 0
+ChoicesAreMarked =
+    (block : ChoicesBlock) (state : LookState) (text : List ℕ) → ShowsChoices block state text → IsOfLooks text
 
 -- the text of a look is a function of the state
 abbrev pub LooksAreReportedOnce : Type 0

@@ -7,9 +7,9 @@ use Rattle.cx_look_orders.proofs.outcomes.outcomes_of.Goals as goal
 
 pub loop-index-init : goal.loop-index-init
 loop-index-init g c =
-    subst (AreOfFirst (g.V.Seen.shows c.args.searched.now.seen.now) c.args.searched.now.orders.now.keys.items (begun c.args.searched.now.region.now) c.args.searched.now.found.now.states.entries c.as_slice-places.result.now 0)
+    subst (AreOfFirst (g.V.Seen.shows c.args.searched.now.seen.now) c.args.searched.now.orders.now.keys (begun c.args.searched.now.region.now) c.args.searched.now.found.now.states.entries c.as_slice-places.result.now 0)
     (sym c.new-outcomes.ensures.items)
-    (first_none (g.V.Seen.shows c.args.searched.now.seen.now) c.args.searched.now.orders.now.keys.items (begun c.args.searched.now.region.now) c.args.searched.now.found.now.states.entries c.as_slice-places.result.now
+    (first_none (g.V.Seen.shows c.args.searched.now.seen.now) c.args.searched.now.orders.now.keys (begun c.args.searched.now.region.now) c.args.searched.now.found.now.states.entries c.as_slice-places.result.now
     c.shows_decide.ensures c.texts_decide.ensures.waits)
 
 pub add_outcome-requires-clause-sorted : goal.add_outcome-requires-clause-sorted
@@ -18,7 +18,7 @@ add_outcome-requires-clause-sorted g c = subst AreSorted (sym c.as_slice-places.
 pub returns : goal.returns
 returns g c =
     let shows = g.V.Seen.shows c.args.searched.now.seen.now in
-    let keys = c.args.searched.now.orders.now.keys.items in
+    let keys = c.args.searched.now.orders.now.keys in
     let start = begun c.args.searched.now.region.now in
     let found = c.args.searched.now.found.now.states.entries in
     let places = c.as_slice-places.result.now in

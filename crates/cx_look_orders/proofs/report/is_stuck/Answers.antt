@@ -7,7 +7,7 @@ use Rattle.cx_look_orders.proofs.report.is_stuck.Goals as goal
 
 pub returns : goal.returns
 returns g c =
-    let keys = c.args.orders.now.keys.items in
+    let keys = c.args.orders.now.keys in
     let start = begun c.args.region.now in
     subst (λ b. MatchBool b (IsStuck keys start) (AllCanRest keys start)) (sym c.is_some.ensures)
     (stuck_cases keys start c.args.found.now.states.entries c.requires.finds c.in_ok-place.place

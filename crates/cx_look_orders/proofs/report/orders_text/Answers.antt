@@ -4,7 +4,7 @@ use Rattle.cx_region.specs.State.{RegionState}
 use Rattle.cx_search.specs.declared.found.Origin.{Origin}
 use Rattle.cx_search.specs.Finds.{Finds, FindsNearest, IsWhole}
 use Rattle.cx_orders.specs.Moves.{Moves, begun}
-use Rattle.cx_orders.specs.declared.states.KeyLine.{KeyLine}
+use Rattle.cx_orders.specs.declared.states.Keys.{Keys}
 use Rattle.cx_orders.specs.declared.states.OrdersState.{OrdersState}
 use Rattle.cx_look_orders.specs.Report.{OrdersText, cut_line, loop_lines, outcomes_lines, stuck_line, whole_line}
 use Rattle.cx_look_orders.proofs.ListLemmas.{ok_on}
@@ -12,7 +12,7 @@ use Rattle.cx_look_orders.proofs.PlaceLemmas.{cut_at, cut_reaches}
 use Rattle.cx_look_orders.proofs.report.orders_text.Goals as goal
 
 -- what a search from a snapshot of a region finds is found from the region
-module _ (keys : List KeyLine) (start region : RegionState) (same : start ≡ region)
+module _ (keys : Keys) (start region : RegionState) (same : start ≡ region)
     (found : List (OrdersState × Origin)) (links : List (List ℕ)) (most : ℕ) where
   finds_of : Finds (Moves keys) (begun start) found → Finds (Moves keys) (begun region) found
   finds_of finds = subst (λ r. Finds (Moves keys) (begun r) found) same finds
@@ -36,7 +36,7 @@ search-requires g c = c.requires
 
 pub whole_of-requires : goal.whole_of-requires
 whole_of-requires g c =
-    let keys = c.args.orders.now.keys.items in
+    let keys = c.args.orders.now.keys in
     let found = c.in_ok-end.end.found in
     record {
       finds = finds_of keys c.in_ok-start.start c.args.region.now c.in_ok-start.ensures found.states.entries found.links.items
@@ -48,12 +48,12 @@ whole_of-requires g c =
 pub returns-in_default : goal.returns-in_default
 returns-in_default g c =
     let region = c.args.region.now in
-    let keys = c.args.orders.now.keys.items in
+    let keys = c.args.orders.now.keys in
     let edf = c.args.edf.now in
     let whole = c.in_ok-whole.whole in
     ok_on
-    (λ report. report ≡ whole_line whole.states (length whole.outcomes.items)
-    ++ outcomes_lines region keys edf 1 whole.outcomes.items ++ loop_lines region keys edf whole.looping
+    (λ report. report ≡ whole_line keys whole.states (length whole.outcomes.items)
+    ++ outcomes_lines region keys.lines edf 1 whole.outcomes.items ++ loop_lines region keys.lines edf whole.looping
     ++ stuck_line whole.is_stuck)
     (OrdersText (g.V.Seen.shows c.args.seen.now) keys region edf c.args.most) c.whole_report.result
     (λ report is. inl (record {
@@ -72,7 +72,7 @@ returns-in_default g c =
 
 pub outcomes_of-requires : goal.outcomes_of-requires
 outcomes_of-requires g c =
-    let keys = c.args.orders.now.keys.items in
+    let keys = c.args.orders.now.keys in
     let region = c.args.region.now in
     let found = c.in_ok-end.end.found in
     let most = c.args.most in
@@ -89,7 +89,7 @@ outcomes_of-requires g c =
 pub returns : goal.returns
 returns g c =
     let region = c.args.region.now in
-    let keys = c.args.orders.now.keys.items in
+    let keys = c.args.orders.now.keys in
     let edf = c.args.edf.now in
     let found = c.in_ok-end.end.found in
     let most = c.args.most in
@@ -99,7 +99,7 @@ returns g c =
     c.in_ok-end.ensures.finds in
     let nearest = nearest_of keys c.in_ok-start.start region c.in_ok-start.ensures found.states.entries found.links.items most
     c.in_ok-end.end.cut moves c.in-Some.is c.in_ok-end.ensures.reaches in
-    ok_on (λ report. report ≡ cut_line most moves ++ outcomes_lines region keys edf 1 c.as_slice.result.now)
+    ok_on (λ report. report ≡ cut_line keys most moves ++ outcomes_lines region keys.lines edf 1 c.as_slice.result.now)
     (OrdersText (g.V.Seen.shows c.args.seen.now) keys region edf most) c.cut_report.result
     (λ report is. inr (record {
       moves = moves;
@@ -107,6 +107,6 @@ returns g c =
           c.in_ok-end.ensures.at_most_most;
       outcomes = outcomes;
       are = c.in_ok-outcomes.ensures;
-      is = subst (λ os. report ≡ cut_line most moves ++ outcomes_lines region keys edf 1 os) c.as_slice.ensures.value is;
+      is = subst (λ os. report ≡ cut_line keys most moves ++ outcomes_lines region keys.lines edf 1 os) c.as_slice.ensures.value is;
     }))
     c.cut_report.ensures

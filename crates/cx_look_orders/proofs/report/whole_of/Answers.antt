@@ -7,7 +7,7 @@ use Rattle.cx_look_orders.proofs.report.whole_of.Goals as goal
 pub outcomes_of-requires : goal.outcomes_of-requires
 outcomes_of-requires g c = record {
   finds = c.requires.finds;
-  reaches = whole_reaches c.args.searched.now.orders.now.keys.items (begun c.args.searched.now.region.now) c.args.searched.now.found.now.states.entries
+  reaches = whole_reaches c.args.searched.now.orders.now.keys (begun c.args.searched.now.region.now) c.args.searched.now.found.now.states.entries
       c.requires.whole.all;
 }
 
@@ -20,8 +20,8 @@ is_stuck-requires g c = record { finds = c.requires.finds; whole = c.requires.wh
 pub returns : goal.returns
 returns g c = record {
   many = c.len.ensures.len;
-  count = subst (HasStates c.args.searched.now.orders.now.keys.items (begun c.args.searched.now.region.now)) (sym c.len.ensures.len)
-      (counted c.args.searched.now.orders.now.keys.items (begun c.args.searched.now.region.now) c.args.searched.now.found.now.states.entries
+  count = subst (HasStates c.args.searched.now.orders.now.keys (begun c.args.searched.now.region.now)) (sym c.len.ensures.len)
+      (counted c.args.searched.now.orders.now.keys (begun c.args.searched.now.region.now) c.args.searched.now.found.now.states.entries
       c.one_list_is_sooner.ensures c.requires.finds c.requires.whole.all);
   outcomes = c.in_ok-outcomes.ensures;
   looping = c.in_ok-looping.ensures;

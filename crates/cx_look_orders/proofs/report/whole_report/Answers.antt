@@ -8,7 +8,7 @@ returns g c =
     let keys = c.as_slice-keys.result.now in
     let outcomes = c.as_slice-outcomes.result.now in
     let added = four_added c.new-report.result c.whole_line.new.report c.outcomes_lines.new.report c.loop_lines.new.report
-    c.stuck_line.new.report (whole_line c.args.whole.now.states (length outcomes))
+    c.stuck_line.new.report (whole_line c.args.orders.now.keys c.args.whole.now.states (length outcomes))
     (outcomes_lines c.args.region.now keys c.args.edf.now 1 outcomes)
     (loop_lines c.args.region.now keys c.args.edf.now c.args.whole.now.looping) (stuck_line c.args.whole.now.is_stuck)
     c.new-report.ensures c.in_ok-whole_line.ensures c.in_ok-outcomes_lines.ensures

@@ -8,7 +8,7 @@ use Rattle.cx_look_orders.proofs.steps.steps_to.Goals as goal
 
 pub returns : goal.returns
 returns g c = λ state f at.
-    let keys = c.args.orders.now.keys.items in
+    let keys = c.args.orders.now.keys in
     let from = begun c.args.region.now in
     let start = c.in_ok-start.start in
     let moves = c.in_ok-moves.moves.items in

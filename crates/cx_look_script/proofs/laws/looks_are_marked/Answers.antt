@@ -6,3 +6,6 @@ returns-clause-looks c = lemmas.looks_are_marked
 
 pub returns-clause-orders : goal.returns-clause-orders
 returns-clause-orders c = lemmas.orders_are_marked
+
+pub returns-clause-choices : goal.returns-clause-choices
+returns-clause-choices c = lemmas.choices_are_marked

@@ -1,5 +1,5 @@
 use Rattle.std.proofs.Common.{◌∙◌, ap, arith, inl, inr, sym}
-use Rattle.cx_search.specs.Marks.{is_marked}
+use Rattle.cx_search.specs.Parts.Marks.{is_marked}
 use Rattle.cx_search.proofs.SearchLemmas.{below_next}
 use Rattle.cx_search.proofs.forever.first_unmarked.Goals as goal
 

@@ -1,6 +1,7 @@
 use Rattle.std.proofs.Common.{◌<◌, ◌+◌, ◌++◌, ◌∷◌, [], ap, arith, refl, subst, sym, ◌∙◌}
 use Rattle.cx_search.specs.Found.{IsAt}
-use Rattle.cx_search.specs.Nexts.{AreFirstNexts, AreLinked, AreNexts}
+use Rattle.cx_search.specs.Nexts.{AreLinked, AreNexts}
+use Rattle.cx_search.specs.Parts.Searching.{AreFirstNexts}
 use Rattle.cx_search.proofs.ListLemmas.{item_at}
 use Rattle.cx_search.proofs.NextLemmas.{linked_kept, linked_more, nexts_all, no_nexts}
 use Rattle.cx_search.proofs.SearchLemmas.{all_tried, at_same, match_true, within_kept}

@@ -1,6 +1,6 @@
 use Rattle.std.proofs.Common.{ℕ, ◌≡◌, ◌<◌, ◌≤◌, length}
 use Rattle.cx_search.specs.Found.{IsAt, Searched}
-use Rattle.cx_search.specs.Nexts.{AreFirstNexts}
+use Rattle.cx_search.specs.Parts.Searching.{AreFirstNexts}
 use Rattle.cx_search.proofs.found.Found.expand.Given as goal
 
 abbrev pub invariant-loop-number : goal.invariant-loop-number

@@ -1,6 +1,6 @@
 use Rattle.std.proofs.Common.{◌≡◌, ◌∙◌, true≢false, ap, length, rules, subst, sym}
 use Rattle.std.proofs.lemmas.List.{length-replicate}
-use Rattle.cx_search.specs.Marks.{AreRight}
+use Rattle.cx_search.specs.Parts.Marks.{AreRight}
 use Rattle.cx_search.proofs.MarkLemmas.{none_right, swept_less}
 use Rattle.cx_search.proofs.found.Found.marks.Goals as goal
 

@@ -1,5 +1,5 @@
 use Rattle.std.proofs.Common.{◌≡◌, ◌+◌, ℕ, length, false, cond}
-use Rattle.cx_search.specs.Marks.{AreRight, AreStable, unmarked}
+use Rattle.cx_search.specs.Parts.Marks.{AreRight, AreStable, unmarked}
 use Rattle.cx_search.specs.Nexts.{AreLinked}
 use Rattle.cx_search.proofs.found.Found.marks.Given as goal
 

@@ -3,7 +3,7 @@ use Rattle.std.specs.Option.{option_copied}
 use Rattle.std.specs.Prelude.{find}
 use Rattle.std.proofs.lemmas.List.{length-replicate}
 use Rattle.std.proofs.lemmas.Option.{none-some, slice_get_within}
-use Rattle.cx_search.specs.Marks.{IsComeTo, is_free, unmarked}
+use Rattle.cx_search.specs.Parts.Marks.{IsComeTo, is_free, unmarked}
 use Rattle.cx_search.proofs.ForeverLemmas.{loops, next_free, seen_none, seen_on, some_next}
 use Rattle.cx_search.proofs.MarkLemmas.{fewer_unmarked, row_of}
 use Rattle.cx_search.proofs.found.Found.repeated.Goals as goal

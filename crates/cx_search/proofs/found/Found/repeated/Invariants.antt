@@ -1,6 +1,6 @@
 use Rattle.std.proofs.Common.{◌≡◌, ◌≤◌, ℕ, false, length}
 use Rattle.cx_search.specs.Found.{IsAt}
-use Rattle.cx_search.specs.Marks.{IsComeTo, is_marked, unmarked}
+use Rattle.cx_search.specs.Parts.Marks.{IsComeTo, is_marked, unmarked}
 use Rattle.cx_search.specs.Nexts.{AreLinked}
 use Rattle.cx_search.proofs.found.Found.repeated.Given as goal
 

@@ -1,6 +1,6 @@
 use Rattle.std.proofs.Common.{◌≡◌, arith, length, subst, sym}
 use Rattle.cx_search.specs.declared.marks.Rule.TheVariants.{Any}
-use Rattle.cx_search.specs.Marks.{AreRight, AreStable}
+use Rattle.cx_search.specs.Parts.Marks.{AreRight, AreStable}
 use Rattle.cx_search.proofs.ForeverLemmas.{rest_of}
 use Rattle.cx_search.proofs.found.Found.restless.Goals as goal
 

@@ -1,5 +1,5 @@
 use Rattle.std.proofs.Common.{ℕ}
-use Rattle.cx_search.specs.Marks.{AreRight}
+use Rattle.cx_search.specs.Parts.Marks.{AreRight}
 use Rattle.cx_search.specs.Nexts.{AreLinked}
 use Rattle.cx_search.proofs.MarkLemmas.{Swept}
 use Rattle.cx_search.proofs.found.Found.sweep.Given as goal

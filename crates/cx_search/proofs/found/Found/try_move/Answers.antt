@@ -2,7 +2,7 @@ use Rattle.std.proofs.Common.{◌+◌, ◌≤◌, arith, refl, subst, sym}
 use Rattle.cx_search.specs.declared.found.Origin.{Origin}
 use Rattle.cx_search.specs.Found.{IsAt, Searched}
 use Rattle.cx_search.specs.Moves.{GoesOnly, GoesTo}
-use Rattle.cx_search.specs.Nexts.{AreFirstNexts}
+use Rattle.cx_search.specs.Parts.Searching.{AreFirstNexts}
 use Rattle.cx_search.proofs.NextLemmas.{nexts_new, nexts_none, nexts_to}
 use Rattle.cx_search.proofs.SearchLemmas.{at_kept, at_same, goes_none, goes_some, more_known, more_new, more_none, no_place}
 use Rattle.cx_search.proofs.found.Found.try_move.Goals as goal

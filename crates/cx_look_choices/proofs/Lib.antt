@@ -1,0 +1,10 @@
+mod ListLemmas
+mod ReportLemmas
+mod PressLemmas
+mod PlaceLemmas
+mod ArrowLemmas
+mod ScreenLemmas
+mod RowLemmas
+mod TextLemmas
+mod ItemLemmas
+mod PressRunLemmas

@@ -1,0 +1,30 @@
+use Rattle.std.proofs.Common.{◌≡◌, refl, subst}
+use Rattle.cx_look_choices.specs.Rows.{passage_incidents}
+use Rattle.cx_look_choices.proofs.PressLemmas.{chosen_none, chosen_some}
+use Rattle.cx_look_choices.proofs.arrows.arrow_of.Goals as goal
+
+pub returns-in_default : goal.returns-in_default
+returns-in_default g c =
+    chosen_none c.args.searched.now.choices.now.choices.items c.args.searched.now.choices.now.one_number c.args.from.now.region c.args.number
+    c.in_ok-passage.field-0 c.in_ok-passage.ensures.chosen c.in_default.is
+
+pub place_of-to-requires : goal.place_of-to-requires
+place_of-to-requires g c = c.requires.once
+
+pub returns : goal.returns
+returns g c =
+    let choices = c.args.searched.now.choices.now.choices.items in
+    let passage = c.in-Some.passage in
+    record {
+      is = record {
+        passage = passage;
+        chooses = chosen_some choices c.args.searched.now.choices.now.one_number c.args.from.now.region c.args.number c.in_ok-passage.field-0 passage
+            c.in_ok-passage.ensures.chosen c.in-Some.is;
+        to = c.in_ok-to.to;
+        leads = c.in_ok-to.ensures;
+        there = c.place_of-to.ensures;
+        incidents = subst (λ keys. c.in_ok-incidents.incidents ≡ passage_incidents c.args.searched.now.region.now keys c.args.number passage)
+            c.as_slice-keys.ensures.value c.in_ok-incidents.ensures;
+      };
+      of = refl;
+    }

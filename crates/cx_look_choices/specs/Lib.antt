@@ -1,0 +1,9 @@
+-- The definitions, in reading order.
+pub mod Presses
+pub mod States
+pub mod Rows
+pub mod Report
+pub mod Laws
+pub mod Facts
+pub use Rattle.cx_look_lines.specs.Words
+pub mod Parts

@@ -1,0 +1,3 @@
+-- The vocabulary of private functions.
+pub mod Marks
+pub mod Searching
