@@ -439,8 +439,9 @@ const KEYS = {
   "/": () => byId("find").focus(),
   a: all,
   c: () => view.isOpen && byId("large").querySelector(".copy").click(),
+  Escape: () => view.isOpen && shut(), // the dialog's own close tells it later, when the focus is already where it was before
 };
-const IN_LARGE = ["ArrowLeft", "ArrowRight", "Home", "End", "c"];
+const IN_LARGE = ["ArrowLeft", "ArrowRight", "Home", "End", "c", "Escape"];
 
 function pressed(event) {
   if (event.target.tagName === "INPUT") return event.key === "Escape" && event.target.blur();
