@@ -8,6 +8,7 @@ pub mod Alter
 pub mod Events
 pub mod Replies
 pub mod Looking
+pub mod Changes
 pub mod Sound
 pub mod Facts
 pub mod Parts

@@ -1,11 +1,16 @@
 //! All that a region keeps, read and put in its place.
-ghost use Rattle.std.specs.Prelude.{◌≡◌};
+ghost use Rattle.std.specs.Prelude.{◌≡◌, fold, unwrap_or};
+ghost use Rattle.std.specs.List.{AllByRecursion};
+ghost use Rattle.cx_storage.specs.Storage.{areas_of};
+ghost use Rattle.cx_region.specs.Changes.{IsNumberIn, with_changes, with_terminal};
 ghost use Rattle.cx_region.specs.Sound.{IsSound};
 
 use crate::state::{Region, Terminal};
 use cx_ebcdic::{Name4, Name8};
 use cx_region_state::{Shared, Task, TerminalEntry};
+use cx_service::{Enqueues, Queues};
 use cx_storage::Store;
+use cx_storage_snapshot::StorageSnapshot;
 use indexmap::IndexMap;
 use std::marker::Model;
 
@@ -40,6 +45,51 @@ impl<S: Store + Drop> Model for RegionParts<S> {
           terminals = parts.terminals.entries;
           counter = parts.counter;
         } };
+}
+
+/// A terminal that is put in the place of another.
+#[derive(Drop)]
+pub struct ChangedTerminal {
+    /// Its number in the order of the terminals' definition, counted from 0.
+    pub number: usize,
+    /// The terminal.
+    pub terminal: Terminal,
+}
+
+/// What is put in the place of some of what a region keeps.
+#[derive(Drop)]
+pub struct ChangedParts {
+    /// The queues, where they change.
+    pub queues: Option<Queues>,
+    /// The enqueued resources, where they change.
+    pub enqueues: Option<Enqueues>,
+    /// The terminals that change.
+    pub terminals: Vec<ChangedTerminal>,
+    /// The time, hhmmss.
+    pub time: u32,
+    /// The date, yyddd.
+    pub date: u32,
+    /// The number of the last task that was attached; 0 before the first.
+    pub counter: u32,
+}
+
+/// Puts what is given in the place of what is there.
+fn put_given<T: Drop>(place: &mut T, given: Option<T>)
+    ensures { place.new ≡ unwrap_or given place.old }
+{
+    if let Some(given) = given {
+        *place = given;
+    }
+}
+
+/// Puts terminals in the places of others.
+fn put_terminals(terminals: &mut IndexMap<Name4, Terminal>, changes: Vec<ChangedTerminal>)
+    requires { AllByRecursion (IsNumberIn terminals.old.entries) changes.items }
+    ensures { terminals.new.entries ≡ fold with_terminal terminals.old.entries changes.items }
+{
+    for change in changes {
+        terminals[change.number] = change.terminal;
+    }
 }
 
 impl Terminal {
@@ -92,6 +142,32 @@ impl<S: Store + Drop> Region<S> {
         self.shared = shared;
         self.transactions = transactions;
         self.terminals = terminals;
+        self.time = time;
+        self.date = date;
+        self.counter = counter;
+    }
+
+    /// Gives the region the storage of a snapshot, which has just the areas that are there, and puts these parts in the
+    /// place of those that it keeps; what then stands must be sound (`IsSound`). It takes no memory.
+    #[doc(hidden)]
+    pub fn put_over(&mut self, storage: &StorageSnapshot, parts: ChangedParts)
+        requires areas { areas_of self.old.shared.storage ≡ areas_of storage.now }
+        requires numbers { AllByRecursion (IsNumberIn self.old.terminals) parts.terminals.items }
+        requires sound { IsSound (with_changes self.old storage.now parts) }
+        ensures { self.new ≡ with_changes self.old storage.now parts }
+    {
+        let ChangedParts {
+            queues,
+            enqueues,
+            terminals,
+            time,
+            date,
+            counter,
+        } = parts;
+        storage.write_over(&mut self.shared.store);
+        put_given(&mut self.shared.queues, queues);
+        put_given(&mut self.shared.enqueues, enqueues);
+        put_terminals(&mut self.terminals, terminals);
         self.time = time;
         self.date = date;
         self.counter = counter;

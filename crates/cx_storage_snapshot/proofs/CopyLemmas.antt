@@ -1,5 +1,5 @@
 -- What copies of areas have, one after the other.
-use Rattle.std.proofs.Common.{◌≡◌, ℕ, zero, suc, ◌+◌, ◌-◌, ◌<◌, ◌≤◌, ◌^◌, refl, sym, ap, ◌∙◌, arith, inl, inr, List, [], ◌∷◌, ◌++◌, length, take, drop, get_or, slice_get, Option, Some, None, nat_le, fold, false}
+use Rattle.std.proofs.Common.{◌≡◌, ℕ, zero, suc, ◌+◌, ◌-◌, ◌<◌, ◌≤◌, ◌^◌, refl, sym, ap, ◌∙◌, arith, inl, inr, List, [], ◌∷◌, ◌++◌, length, map, take, drop, get_or, slice_get, Option, Some, None, nat_le, fold, false}
 use Rattle.std.specs.Prelude.{slice_index, slice_range, IfSome}
 use Rattle.std.specs.Global.{Global}
 use Rattle.std.specs.declared.rc.Rc.{Rc}
@@ -9,7 +9,7 @@ use Rattle.std.proofs.lemmas.Bool.{cases_Bool, le-leb, lt-leb, leb-true}
 use Rattle.std.proofs.lemmas.List.{drop_more, take-take, length-take-le, length-drop, get_or-take, get_or-drop, take-append-drop, drop-take}
 use Rattle.std.proofs.lemmas.Option.{slice_get-get_or, same_Some}
 use Rattle.cx_storage.specs.Address.{address_after}
-use Rattle.cx_storage.specs.Storage.{Held, Storage, end_of, byte_at, span, next_area, IsSoundStorage}
+use Rattle.cx_storage.specs.Storage.{Held, Storage, areas_of, end_of, byte_at, span, next_area, IsSoundStorage}
 use Rattle.cx_storage.specs.Facts.Sound.{IsSoundStorage-head, IsSoundStorage-tail, IsSoundStorage-apart, covers_cases, covers_from}
 use Rattle.cx_storage.specs.Facts.Spans.{span_from, span_at, span_length}
 use Rattle.cx_storage.specs.declared.areas.Area.{Area}
@@ -184,6 +184,13 @@ copied_more s from area copies copy ok e is so =
 
 pub next_bounds : (s : Storage) (from : ℕ) (area : Area) → IsSoundStorage s → next_area s from ≡ Some area → (from ≤ area.start) × (0 < area.len) × (end_of area ≤ 2 ^ 24)
 next_bounds s from area ok e = let next = next_held s from area ok e in (next.low, next.some, next.below)
+
+-- the areas from an address on, by the next one
+pub areas_more : (s : Storage) (from : ℕ) (area : Area) → IsSoundStorage s → next_area s from ≡ Some area → areas_of (areas_from from s) ≡ area ∷ areas_of (areas_from (area.start + area.len) s)
+unfolding areas_of
+areas_more s from area ok e =
+    let next = next_held s from area ok e in
+    rw next.rest (ap (λ (a : Area). a ∷ map (λ h. h.area) (areas_from (area.start + area.len) s)) next.same)
 
 -- the hash, one copy more
 pub hash_more : (xs : List (Rc Held Global)) (i hash : ℕ) (x : Rc Held Global) → i < length xs → x ≡ get_or xs i x

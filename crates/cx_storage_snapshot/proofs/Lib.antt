@@ -1,2 +1,4 @@
 pub mod CopyLemmas
+pub mod OverLemmas
+pub mod SameLemmas
 pub mod WriteLemmas

@@ -1,13 +1,13 @@
 //! `StorageSnapshot`: the areas of a store with their bytes.
 ghost use Rattle.std.specs.Prelude.{◌≡◌, ◌↔◌, ◌++◌, IsTrue, IfOk, Some};
-ghost use Rattle.cx_storage.specs.Storage.{area_at};
+ghost use Rattle.cx_storage.specs.Storage.{area_at, areas_of};
 ghost use Rattle.cx_storage_snapshot.specs.Hash.{storage_hash};
 ghost use Rattle.cx_base.specs.Shared.{values};
 ghost use Rattle.cx_storage_snapshot.specs.Parts.Copies.{areas_from, IsCopyOf};
 
 use crate::area::AreaCopy;
 use crate::reading::copy_of;
-use crate::writing::put_areas;
+use crate::writing::{has_areas, put_areas, write_areas};
 use cx_base::{are_same_shared, hash_with};
 use cx_storage::Store;
 use cx_storage::laws::{next_area_is_least, store_is_aligned, store_is_sound};
@@ -85,6 +85,21 @@ impl StorageSnapshot {
         let mut fresh = store.emptied();
         put_areas(&mut fresh, self.areas.as_slice())?;
         Ok(fresh)
+    }
+
+    /// Whether a store has just the areas of this storage, with their owners, whatever their bytes.
+    pub fn has_areas_of<S: Store>(&self, store: &S) -> bool
+        ensures { IsTrue result → areas_of (S.storage store.now) ≡ areas_of self.now }
+    {
+        has_areas(store, self.areas.as_slice())
+    }
+
+    /// Gives a store that has just the areas of this storage their bytes. It takes no memory.
+    pub fn write_over<S: Store>(&self, store: &mut S)
+        requires { areas_of (S.storage store.old) ≡ areas_of self.now }
+        ensures { S.storage store.new ≡ self.now }
+    {
+        write_areas(store, self.areas.as_slice());
     }
 
     /// The copy of the area at an address, or of the next one. It has no clause: `copy_of` compares what it is given

@@ -1,5 +1,5 @@
 -- What copies of areas are.
-use Rattle.std.specs.Prelude.{◌≡◌, ℕ, ◌-◌, ◌≤◌, List, [], ◌∷◌, ◌++◌, length, take, replicate, Some, nat_le, if◌then◌else◌}
+use Rattle.std.specs.Prelude.{◌≡◌, ℕ, ◌≤◌, List, [], ◌∷◌, ◌++◌, drop, take, Some, nat_le, if◌then◌else◌}
 use Rattle.std.specs.List.{AllByRecursion}
 use Rattle.cx_storage.specs.Storage.{Held, Storage, end_of, span}
 use Rattle.cx_storage.specs.declared.areas.Area.{Area}
@@ -18,6 +18,10 @@ areas_from from (h ∷ hs) = if nat_le from h.area.start then h ∷ hs else area
 abbrev pub EndBefore : ℕ → Storage → Type 0
 EndBefore start s = AllByRecursion (λ h. end_of h.area ≤ start) s
 
--- an area of which the first k bytes are written, and the others still zero
-unfoldable pub partly : Area → List ℕ → ℕ → Held
-partly area bytes k = record { area = area; bytes = take k bytes ++ replicate (length bytes - k) 0 }
+-- areas that all start at an address or above
+abbrev pub StartAfter : ℕ → Storage → Type 0
+StartAfter end s = AllByRecursion (λ h. end ≤ h.area.start) s
+
+-- an area of which the first k bytes are written, and the others are still the old ones
+unfoldable pub partly : Area → List ℕ → List ℕ → ℕ → Held
+partly area bytes old k = record { area = area; bytes = take k bytes ++ drop k old }

@@ -1,13 +1,14 @@
-use Rattle.std.proofs.Common.{◌≡◌, ◌≤◌, ◌-◌, ◌++◌, [], ◌∷◌, length}
-use Rattle.cx_storage.specs.Storage.{Storage}
-use Rattle.cx_storage_snapshot.specs.Parts.Copies.{EndBefore, partly}
+use Rattle.std.proofs.Common.{◌≡◌, ℕ, ◌≤◌, ◌-◌, ◌++◌, List, ◌∷◌, length}
+use Rattle.cx_storage.specs.Storage.{Storage, end_of}
+use Rattle.cx_storage_snapshot.specs.Parts.Copies.{EndBefore, StartAfter, partly}
 use Rattle.cx_storage_snapshot.proofs.writing.fill.Given as goal
 
 -- the first k bytes are written
 abbrev pub invariant-loop-k : goal.invariant-loop-k
 invariant-loop-k g l =
     (l.k ≤ length l.bytes)
-    × ((others : Storage) → EndBefore l.area.start others → g.S.Store.storage l.initial.store ≡ others ++ partly l.area l.bytes 0 ∷ [] → g.S.Store.storage l.store ≡ others ++ partly l.area l.bytes l.k ∷ [])
+    × ((others later : Storage) (old : List ℕ) → EndBefore l.area.start others → StartAfter (end_of l.area) later → length old ≡ l.area.len
+    → g.S.Store.storage l.initial.store ≡ others ++ partly l.area l.bytes old 0 ∷ later → g.S.Store.storage l.store ≡ others ++ partly l.area l.bytes old l.k ∷ later)
 
 abbrev pub decreases-loop-k : goal.decreases-loop-k
 decreases-loop-k g l = length l.bytes - l.k
