@@ -1,2 +1,4 @@
 -- The definitions.
 pub mod Hash
+-- Words of private functions.
+pub mod Parts

@@ -1,9 +1,10 @@
 //! `RegionSnapshot`: all that a region keeps.
-ghost use Rattle.std.specs.Prelude.{◌≡◌, ◌↔◌, IsTrue, IfOk, OnOk, OnErr, ◌+◌, ◌<◌, [], fold, length, take};
+ghost use Rattle.std.specs.Prelude.{◌≡◌, ◌↔◌, IsTrue, IfOk, IfSome, OnOk, OnErr, ◌+◌, ◌++◌, ◌<◌, [], Some, fold, length, slice_get, take, unwrap_or};
 ghost use Rattle.std.specs.List.{IsDistinct};
 ghost use Rattle.std.specs.Map.{keys_of};
 ghost use Rattle.cx_base.specs.Hash.{hash_with};
 ghost use Rattle.cx_ebcdic.specs.Names.{is_name};
+ghost use Rattle.cx_region_snapshot.specs.Parts.Changes.{ArePut, Becomes, changed_at};
 ghost use Rattle.cx_region_snapshot.specs.Hash.{region_hash, hash_with_task};
 
 use crate::terminal::TerminalSnapshot;
@@ -12,7 +13,7 @@ use cx_base::{
 };
 use cx_ebcdic::{Name4, Name8};
 use cx_load::Loaded;
-use cx_region::{Region, RegionParts, Shared, Terminal};
+use cx_region::{ChangedParts, ChangedTerminal, Region, RegionParts, Shared, Terminal};
 use cx_service::{Enqueues, Queue, Queues};
 use cx_storage::Store;
 use cx_storage_snapshot::StorageSnapshot;
@@ -164,6 +165,78 @@ fn put_terminal(
     Ok(())
 }
 
+/// The value that is kept, made again, where it is another than the one that is there.
+fn changed<T: Replica>(alloc: Global, there: &T, kept: &Rc<T>) -> Result<Option<T>, AllocError>
+    ensures { IfOk result (λ given. unwrap_or given there.now ≡ kept.now.value) }
+{
+    if kept.is_same(there) {
+        return Ok(None);
+    }
+    Ok(Some(kept.replica(alloc)?))
+}
+
+/// The terminal that is kept, made again, where it is another than the one that is there.
+fn changed_terminal(
+    alloc: Global,
+    there: &Terminal,
+    kept: &TerminalSnapshot,
+) -> Result<Option<Terminal>, AllocError>
+    ensures { IfOk result (λ given. unwrap_or given there.now ≡ kept.now.1) }
+{
+    let copy = TerminalSnapshot::take(alloc, kept.name(), there, Some(kept))?;
+    if copy.is_same(kept) {
+        return Ok(None);
+    }
+    Ok(Some(kept.terminal(alloc)?))
+}
+
+/// The terminal at a place, where it has that name.
+fn named_at(terminals: &IndexMap<Name4, Terminal>, i: usize, name: Name4) -> Option<&Terminal>
+    ensures { IfSome result (λ terminal. slice_get terminals.now.entries i ≡ Some (name, terminal.now)) }
+{
+    let (at, terminal) = terminals.get_index(i)?;
+    if *at == name { Some(terminal) } else { None }
+}
+
+/// Adds a terminal with its number, where one is given.
+fn push_changed(
+    changes: &mut Vec<ChangedTerminal>,
+    number: usize,
+    terminal: Option<Terminal>,
+) -> Result<(), AllocError>
+    ensures { OnOk result (changes.new.items ≡ changes.old.items ++ changed_at number terminal) }
+{
+    if let Some(terminal) = terminal {
+        changes.push(ChangedTerminal { number, terminal })?;
+    }
+    Ok(())
+}
+
+/// The terminals that are kept, made again, where they are others than those that are there; None where those have
+/// other names.
+#[tactic(auto, using(crate::proofs::ChangeLemmas::all_put))]
+fn changed_terminals(
+    alloc: Global,
+    there: &IndexMap<Name4, Terminal>,
+    kept: &[TerminalSnapshot],
+) -> Result<Option<Vec<ChangedTerminal>>, AllocError>
+    ensures { IfOk result (λ changes. IfSome changes (λ changes. ArePut there.now.entries kept.now changes.items)) }
+{
+    if there.len() != kept.len() {
+        return Ok(None);
+    }
+    let mut changes = Vec::new(alloc);
+    for i in 0..kept.len() {
+        let one = &kept[i];
+        let Some(terminal) = named_at(there, i, one.name()) else {
+            return Ok(None);
+        };
+        let changed = changed_terminal(alloc, terminal, one)?;
+        push_changed(&mut changes, i, changed)?;
+    }
+    Ok(Some(changes))
+}
+
 impl RegionSnapshot {
     /// The state of a region. What is the same as in an earlier snapshot, `before`, is shared with that, so that a
     /// snapshot of what is like one before takes little memory; `before` has no other effect.
@@ -218,14 +291,60 @@ impl RegionSnapshot {
         })
     }
 
-    /// Gives a region this state in place of the one that it has. The old state is dropped once all of the new one is
-    /// made, so that memory holds both until then.
+    /// Whether a region has the same programs and transactions.
+    fn is_defined_in<S: Store + Drop>(&self, region: &Region<S>) -> bool
+        ensures programs { IsTrue result → region.now.shared.programs ≡ self.now.shared.programs }
+        ensures transactions { IsTrue result → region.now.transactions ≡ self.now.transactions }
+    {
+        region.counter();
+        are_same_tables(&region.shared().programs, &self.defined.programs)
+            && are_same_tables(region.transactions(), &self.defined.transactions)
+    }
+
+    /// What has to be put over a region that is much like this state, so that it has it; None where other areas are
+    /// there, or other programs, transactions or terminals are defined.
+    ///
+    /// An error comes only where an allocation failed.
+    fn changes_of<S: Store + Drop>(
+        &self,
+        region: &Region<S>,
+    ) -> Result<Option<ChangedParts>, AllocError>
+        ensures { IfOk result (λ parts. IfSome parts (Becomes region.now self.now)) }
+    {
+        let shared = region.shared();
+        let alloc = shared.alloc;
+        if !self.storage.has_areas_of(&shared.store) || !self.is_defined_in(region) {
+            return Ok(None);
+        }
+        let terminals = changed_terminals(alloc, region.terminals(), self.terminals.as_slice())?;
+        let Some(terminals) = terminals else {
+            return Ok(None);
+        };
+        let queues = changed(alloc, &shared.queues, &self.queues)?;
+        let enqueues = changed(alloc, &shared.enqueues, &self.resources)?;
+        Ok(Some(ChangedParts {
+            queues,
+            enqueues,
+            terminals,
+            time: self.time,
+            date: self.date,
+            counter: self.counter,
+        }))
+    }
+
+    /// Gives a region this state in place of the one that it has. Where both have the same areas, programs, transactions
+    /// and terminals, only what differs is made anew. Else the old state is dropped once all of the new one is made, so
+    /// that memory holds both until then.
     ///
     /// An error comes only where an allocation failed; then the region is as before.
     pub fn restore<S: Store + Drop>(&self, region: &mut Region<S>) -> Result<(), AllocError>
         ensures ok { OnOk result (region.new ≡ self.now) }
         ensures err { OnErr result (region.new ≡ region.old) }
     {
+        if let Some(parts) = self.changes_of(region)? {
+            region.put_over(&self.storage, parts);
+            return Ok(());
+        }
         let shared = self.shared_like(region.shared())?;
         let alloc = shared.alloc;
         let transactions = replica_of_table(alloc, &self.defined.transactions)?;
