@@ -96,7 +96,7 @@ BUILT = [
     Sweep("checks/hostile-lines crates/cicsedf/out/cicsedf"),
     Sweep("checks/sizes crates/cicsedf/out/cicsedf"),
     Sweep("checks/sizes crates/cicslook/out/cicslook --looks"),
-    Sweep("bench/instructions crates/tool_bench/out/tool_bench crates/cicslook/out/cicslook"),
+    Sweep("bench/instructions crates/tool_bench/out/tool_bench"),
     Sweep("companions/test companions crates/cicsedf/out/cicsedf"),
     Sweep("companions/test film crates/cicsedf/out/cicsedf", 600),
     Sweep("companions/test terminals crates/cicsedf/out/cicsedf", 600),
