@@ -1,6 +1,6 @@
 -- What a source is refused for is the fault of one of its faulty lines.
 use Rattle.std.proofs.Common.{arith, ◌≡◌, ◌≢◌, inl, inr, ℕ, Bool, true, false, cond, Option, Some, None, List, [], ◌∷◌, ◌++◌, append-nil, map, slice_get, Result, Ok, Err, refl, sym, ◌∙◌, ap, ap₂, subst}
-use Rattle.std.specs.Prelude.{◌&&◌, ◌||◌, ◌==◌, ◌-◌, IfSome, drop, filter, is_some, fold, not, option_map}
+use Rattle.std.specs.Prelude.{◌&&◌, ◌||◌, ◌==◌, IfSome, filter, is_some, fold, not, option_map}
 use Rattle.std.specs.BTreeMap.{insert_entry, is_at}
 use Rattle.std.specs.List.{cons_option, list_any}
 use Rattle.std.specs.Map.{lookup}
@@ -23,6 +23,7 @@ use Rattle.cx_source.specs.declared.source.Item.{Item}
 use Rattle.cx_source.specs.declared.source.Source.{Source}
 use Rattle.cx_source.specs.declared.source.SourceFault.{SourceFault}
 use Rattle.cx_translate.specs.Facts.Mended.{translation_whole}
+use Rattle.cx_translate.specs.Sections.{begins_section}
 use Rattle.cx_translate.specs.Translation as translation
 use Rattle.cx_translate.specs.declared.faults.TransFault.{TransFault}
 use Rattle.cx_asm_build.specs.Facts.Faults.{prepared_not_memory}
@@ -31,8 +32,9 @@ use Rattle.cx_asm_build.specs.Prepared as prepared
 use Rattle.cx_asm_build.specs.declared.faults.PrepareFault.{PrepareFault}
 use Rattle.cx_asm_build.specs.declared.faults.PrepareFault.TheVariants.{At, Memory}
 use Rattle.cx_asm_build.specs.declared.faults.SourceKind.{SourceKind}
+use Rattle.cx_asm_build.specs.declared.faults.SourceKind.TheVariants.{BadContinuation, BadOperand, NoAddressability}
 use Rattle.cx_asm_build.specs.declared.program.Prepared.{Prepared}
-use Rattle.cx_look_faults.specs.Faults.{base_lines, by_number, continuations, faults_of, faulty, faulty_line, faulty_lines, follows, has_section, instead, is_adrift, is_bad_operand, is_cut, is_due, is_shown, is_unaddressed, is_unread, kind_beside, lines_by_stages, lost_from, of_pass, put_line, stage_lines, unknown_after, without_adrift, without_following}
+use Rattle.cx_look_faults.specs.Faults.{base_lines, continuations, faults_of, faulty, faulty_line, faulty_lines, follows, instead, is_due, is_same, is_shown, kind_at, kinds_beside, kinds_of, lines_by_stages, lost_from, of_pass, put_line, stage_lines, unknown_after, without_adrift, without_following}
 use Rattle.cx_look_faults.specs.Laws.First.{Has, IsAmong, prepare_fault_of}
 use Rattle.cx_look_faults.specs.declared.faults.FaultyLine.{FaultyLine}
 
@@ -81,7 +83,7 @@ all_stays fault table (one ∷ more) has = all_stays fault (put_line table one) 
 abbrev pub first_of : List FaultyLine → Option PrepareFault
 first_of faults = option_map prepare_fault_of (slice_get faults 0)
 
-pub first_there : (faults : List FaultyLine) → IsAmong (first_of faults) (by_number faults)
+pub first_there : (faults : List FaultyLine) → IsAmong (first_of faults) (listed (kinds_of faults))
 unfolding put_line
 first_there [] = refl
 first_there (one ∷ more) = all_stays (prepare_fault_of one) ((one.line, one.kind) ∷ []) more (inl refl)
@@ -100,10 +102,10 @@ no_memory fault due e h = λ m. h (e ∙ ap (λ f. Err f) m)
 
 -- the first pass: its first fault is never adrift
 not_adrift : (items : List Item) (fault : FaultyLine) → is_due items false None fault ≡ false
-unfolding is_adrift
-not_adrift items fault = go (is_bad_operand fault.kind)
+unfolding is_due
+not_adrift items fault = go (is_same fault.kind BadOperand)
   where
-    go : (b : Bool) → ((b && false) || false) ≡ false
+    go : (b : Bool) → (b && (false || false)) ≡ false
     go true = refl
     go false = refl
 
@@ -111,13 +113,13 @@ placed_first : (items : List Item) (fault : PrepareFault) (rest more : List Faul
     → Some fault ≡ first_of (without_adrift items false None (cons_option (faulty_line fault) rest) ++ more)
 placed_first items (At line kind) rest more h =
     let one = faulty line kind in
-    sym (ap (λ (b : Bool). first_of ((cond b [] (one ∷ []) ++ without_adrift items true (unknown_after None line kind) rest) ++ more)) (not_adrift items one))
+    sym (ap (λ (b : Bool). first_of ((cond b [] (one ∷ []) ++ without_adrift items true (unknown_after None one) rest) ++ more)) (not_adrift items one))
 placed_first items Memory rest more h = absurd (h refl)
 
 -- the second pass: its first fault follows from nothing
 not_following : (fault : FaultyLine) → follows None fault ≡ false
 unfolding follows
-not_following fault = go (is_unaddressed fault.kind)
+not_following fault = go (is_same fault.kind NoAddressability)
   where
     go : (b : Bool) → (b && false) ≡ false
     go true = refl
@@ -131,7 +133,7 @@ kept_first has lines beside (one ∷ more) =
 
 later_reported : (listing disassembly : Bool) (made : Source) (due : Result AssemblyParts AsmFault) (later : List LineFault)
     → result_err due ≡ option_map fault_at (slice_get later 0) → prepared.by_assembly listing disassembly due ≢ Err Memory
-    → Tells (prepared.by_assembly listing disassembly due) (without_following (has_section made.items) (base_lines made.items) (kind_beside made) None (faulty_lines of_pass later))
+    → Tells (prepared.by_assembly listing disassembly due) (without_following (list_any begins_section made.items) (base_lines made.items) (kind_at (kinds_beside made)) None (faulty_lines of_pass later))
 later_reported listing disassembly made (Ok parts) [] e h = refl
 later_reported listing disassembly made (Ok parts) (f ∷ more) e h = absurd (cc)
 later_reported listing disassembly made (Err fault) [] e h = absurd (cc)
@@ -140,7 +142,7 @@ later_reported listing disassembly made (Err fault) (f ∷ more) e h =
     ap (λ x. Some (of_assembly x)) same
     ∙ first_line (of_pass f) (faulty_lines of_pass more) [] (no_memory (of_pass f) (Err (of_assembly fault)) (ap (λ x. Err (of_assembly x)) same) h)
     ∙ ap first_of (append-nil (faulty_lines of_pass (f ∷ more)))
-    ∙ sym (kept_first (has_section made.items) (base_lines made.items) (kind_beside made) (faulty_lines of_pass (f ∷ more)))
+    ∙ sym (kept_first (list_any begins_section made.items) (base_lines made.items) (kind_at (kinds_beside made)) (faulty_lines of_pass (f ∷ more)))
 
 -- ---- all stages, by what each finds
 first_lines : (fault : PrepareFault) (rest more last : List FaultyLine) → fault ≢ Memory → Some fault ≡ first_of ((cons_option (faulty_line fault) rest ++ more) ++ last)
@@ -150,7 +152,7 @@ first_lines Memory rest more last h = absurd (h refl)
 -- the assembly
 passes_reported : (listing disassembly : Bool) (made : Source) (due : Result AssemblyParts AsmFault) (first : List LineFault) (more : List FaultyLine)
     → result_err due ≡ option_map fault_at (slice_get (first_found first (later_faults made)) 0) → prepared.by_assembly listing disassembly due ≢ Err Memory
-    → (first ≡ [] → more ≡ without_following (has_section made.items) (base_lines made.items) (kind_beside made) None (faulty_lines of_pass (later_faults made)))
+    → (first ≡ [] → more ≡ without_following (list_any begins_section made.items) (base_lines made.items) (kind_at (kinds_beside made)) None (faulty_lines of_pass (later_faults made)))
     → Tells (prepared.by_assembly listing disassembly due) (without_adrift made.items false None (faulty_lines of_pass first) ++ more)
 passes_reported listing disassembly made due [] more e h is =
     subst (Tells (prepared.by_assembly listing disassembly due)) (sym (is refl)) (later_reported listing disassembly made due (later_faults made) e h)
@@ -165,8 +167,8 @@ assembled_reported : (listing disassembly : Bool) (made : Source) → prepared.b
 unfolding assembly_faults
 assembled_reported listing disassembly made h =
     passes_reported listing disassembly made (assembly_of made) (place_faults made) _ (assembly.first_is_reported made) h
-    (λ none. ap (λ (first : List LineFault). without_following (has_section made.items) (base_lines made.items) (kind_beside made)
-    (fold (lost_from (has_section made.items) (base_lines made.items)) None (faulty_lines of_pass first))
+    (λ none. ap (λ (first : List LineFault). without_following (list_any begins_section made.items) (base_lines made.items) (kind_at (kinds_beside made))
+    (fold (lost_from (list_any begins_section made.items) (base_lines made.items)) None (faulty_lines of_pass first))
     (faulty_lines of_pass (later_faults made))) none)
 
 -- the translation
@@ -230,20 +232,13 @@ among_shown p None faults is h = ap (filter p) h
 among_shown p (Some one) faults is h = has_shown p one.line one.kind faults is h
 
 -- no line is cut where all can be read
-none_unread : (items : List Item) → list_any (is_unread []) items ≡ false
+none_unread : (items : List Item) → list_any (λ (item : Item). false) items ≡ false
 none_unread [] = refl
 none_unread (item ∷ items) = none_unread items
 
-none_cut : (items : List Item) (number : ℕ) → is_cut items [] number ≡ false
-none_cut items number = go (slice_get items (number - 1))
-  where
-    go : (item : Option Item) → option_map_or (λ (it : Item). list_any (is_unread []) (continuations it (drop it.line items))) item false ≡ false
-    go None = refl
-    go (Some it) = none_unread (continuations it (drop it.line items))
-
 shown_whole : (items : List Item) (fault : FaultyLine) → is_shown items [] fault ≡ true
 unfolding is_shown
-shown_whole items fault = ap (λ (b : Bool). not b) (none_cut items fault.line)
+shown_whole items fault = ap (λ (b : Bool). not b) (none_unread (continuations items fault.line))
 
 own_line : (n : ℕ) → (n == n) ≡ true
 own_line n = grind arith
@@ -252,7 +247,9 @@ own_line n = grind arith
 shown_itself : (items : List Item) (one : FaultyLine) (rest : List FaultyLine) → is_shown items (one ∷ rest) one ≡ true
 unfolding is_shown
 shown_itself items one rest =
-    ap (λ (b : Bool). (b || list_any (λ (it : FaultyLine). it.line == one.line) rest) || not (is_cut items (one ∷ rest) one.line)) (own_line one.line)
+    let is_unread = λ (item : Item).
+    list_any (λ (f : FaultyLine). f.line == item.line && not (is_same f.kind BadContinuation)) (one ∷ rest) in
+    ap (λ (b : Bool). (b || list_any (λ (f : FaultyLine). f.line == one.line) rest) || not (list_any is_unread (continuations items one.line))) (own_line one.line)
 
 first_shown : (items : List Item) (unread middle last : List FaultyLine) → IfSome (slice_get ((unread ++ middle) ++ last) 0) (λ one. is_shown items unread one ≡ true)
 first_shown items (one ∷ rest) middle last = shown_itself items one rest
@@ -267,6 +264,6 @@ unfolding faults_of
 is_among listing disassembly all =
     let unread = faulty_lines of_source (line_faults false 1 all) in
     let p = is_shown (source_read all).items unread in
-    subst (λ (fault : Option PrepareFault). IsAmong fault (filter p (by_number (lines_by_stages all)))) (sym (stages_reported listing disassembly all))
-    (among_shown p (slice_get (lines_by_stages all) 0) (by_number (lines_by_stages all))
+    subst (λ (fault : Option PrepareFault). IsAmong fault (filter p (listed (kinds_of (lines_by_stages all))))) (sym (stages_reported listing disassembly all))
+    (among_shown p (slice_get (lines_by_stages all) 0) (listed (kinds_of (lines_by_stages all)))
     (first_shown (source_read all).items unread _ _) (first_there (lines_by_stages all)))

@@ -1,5 +1,5 @@
 -- What a source is refused for is on one of its first 10,001 lines.
-use Rattle.std.proofs.Common.{◌≡◌, ◌≤◌, inl, inr, ℕ, zero, suc, ◌+◌, ◌-◌, ◌==◌, Bool, true, false, cond, Option, Some, None, List, [], ◌∷◌, ◌++◌, length, map, take, drop, reverse, slice_get, refl, sym, ◌∙◌, ap, subst, arith}
+use Rattle.std.proofs.Common.{◌≡◌, ◌≤◌, ℕ, zero, suc, ◌+◌, ◌-◌, ◌==◌, Bool, true, false, cond, Option, Some, None, List, [], ◌∷◌, ◌++◌, length, map, take, drop, reverse, slice_get, refl, sym, ◌∙◌, ap, subst, arith}
 use Rattle.std.specs.Prelude.{◌||◌, IfSome, codes, filter, is_some, nat_lt, option_and_then, option_map}
 use Rattle.std.specs.List.{AllByRecursion, cons_option, filter_map, find, list_any, position}
 use Rattle.std.specs.Option.{option_map_or, option_or, option_to_list}
@@ -12,7 +12,6 @@ use Rattle.cx_asm.specs.Assembly.{end_line, first_found, last_line, later_faults
 use Rattle.cx_asm_build.specs.Kinds.{of_assembly, of_source, of_translation}
 use Rattle.cx_asm_build.specs.Prepared.{prepared_of}
 use Rattle.cx_asm_build.specs.declared.faults.PrepareFault.{PrepareFault}
-use Rattle.cx_asm_build.specs.declared.faults.PrepareFault.TheVariants.{At}
 use Rattle.cx_asm_build.specs.declared.faults.SourceKind.{SourceKind}
 use Rattle.cx_asm_expressions.specs.Faults.{lower_of}
 use Rattle.cx_asm_expressions.specs.declared.faults.FaultKind.{FaultKind}
@@ -47,7 +46,7 @@ use Rattle.cx_translate.specs.declared.words.Word.{Word}
 use Rattle.cx_look_faults.proofs.FirstLemmas.{has_shown, is_among, stages_reported}
 use Rattle.cx_look_faults.specs.Faults.{faults_of, faulty_line, faulty_lines, follows, instead, is_due, lines_by_stages, lost_from, of_pass, unknown_after, without_adrift, without_following}
 use Rattle.cx_look_faults.specs.Kept.{is_kept, kept_faults}
-use Rattle.cx_look_faults.specs.Laws.First.{Has, IsAmong, prepare_fault_of as fault_of_line}
+use Rattle.cx_look_faults.specs.Laws.First.{IsAmong, prepare_fault_of as fault_of_line}
 use Rattle.cx_look_faults.specs.declared.faults.FaultyLine.{FaultyLine}
 
 -- ---- all of a list
@@ -248,7 +247,7 @@ without_low false one more h k = (h, k)
 
 adrift_low : (items : List Item) (met : Bool) (unknown : Option ℕ) (faults : List FaultyLine) → LinesLow faults → LinesLow (without_adrift items met unknown faults)
 adrift_low items met unknown [] h = tt
-adrift_low items met unknown (one ∷ more) h = without_low (is_due items met unknown one) one _ h.0 (adrift_low items true (unknown_after unknown one.line one.kind) more h.1)
+adrift_low items met unknown (one ∷ more) h = without_low (is_due items met unknown one) one _ h.0 (adrift_low items true (unknown_after unknown one) more h.1)
 
 instead_low : (b : Bool) (one : FaultyLine) (kind : Option SourceKind) (more : List FaultyLine) → one.line ≤ 10001 → LinesLow more
     → LinesLow (cond b (instead one kind) (one ∷ []) ++ more)

@@ -1,2 +1,4 @@
 -- The vocabulary of private functions.
+pub mod Names
+pub mod Sources
 pub mod Tests

@@ -2,7 +2,7 @@
 
 ghost use Rattle.std.specs.Prelude.{◌≡◌, ◌==◌, IfOk};
 ghost use Rattle.std.specs.List.{list_any};
-ghost use Rattle.cx_look_faults.specs.Faults.{base_lines, begins_any, has_section, loses_bases, lost_from, sets_bases};
+ghost use Rattle.cx_look_faults.specs.Faults.{base_lines, begins_any, loses_bases, lost_from, sets_bases};
 ghost use Rattle.cx_translate.specs.Sections.{begins_section, has_operation};
 
 use crate::faults::FaultyLine;
@@ -53,7 +53,7 @@ fn sets_bases(item: &Item) -> bool
 
 /// Whether a control section begins.
 fn has_section(items: &[Item]) -> bool
-    ensures { result ≡ has_section items.now }
+    ensures { result ≡ list_any begins_section items.now }
 {
     items.iter().any(|item| begins_section(item))
 }
@@ -68,7 +68,7 @@ fn has_line(lines: &[usize], number: usize) -> bool
 impl BaseLines {
     /// Those of lines.
     pub(crate) fn of(alloc: Global, items: &[Item]) -> Result<BaseLines, AllocError>
-        ensures section { IfOk result (λ bases. bases.has_section ≡ has_section items.now) }
+        ensures section { IfOk result (λ bases. bases.has_section ≡ list_any begins_section items.now) }
         ensures lines { IfOk result (λ bases. bases.lines.items ≡ base_lines items.now) }
     {
         let mut lines = Vec::new(alloc);

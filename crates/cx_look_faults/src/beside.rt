@@ -1,17 +1,19 @@
 //! What is wrong with an instruction beside an address that no base reaches.
 
-ghost use Rattle.std.specs.Prelude.{◌≡◌, ◌++◌, IfOk, OnOk, filter, option_and_then, option_map};
+ghost use Rattle.std.specs.Prelude.{◌≡◌, ◌++◌, IfOk, OnOk, None, filter, if◌then◌else◌, option_and_then, option_map};
 ghost use Rattle.std.specs.Result.{result_err};
 ghost use Rattle.cx_asm_build.specs.declared.faults.SourceKind.TheVariants as sourcekind;
 ghost use Rattle.cx_asm_operands.specs.Forms.{instruction_or_fault};
 ghost use Rattle.cx_asm_pass1.specs.PassState.{line_fault};
+ghost use Rattle.cx_asm_pass2.specs.Statements.{operation_of};
 ghost use Rattle.cx_asm_pass2.specs.Whole.{whole_by};
-ghost use Rattle.cx_look_faults.specs.Beside.{beside_on, fault_beside, faults_beside, is_without, operand_without, unless_unreached};
+ghost use Rattle.cx_look_faults.specs.Beside.{beside_on, fault_by, faults_beside, operand_without};
 ghost use Rattle.cx_look_faults.specs.Faults.{kind_at};
-ghost use Rattle.cx_look_faults.specs.Judging.{part_context};
+ghost use Rattle.cx_look_faults.specs.Judging.{has_fault, is_kind, part_context};
+ghost use Rattle.cx_look_faults.specs.Parts.Tests.{is_without};
 
 use crate::faults::{Kinds, kind_at};
-use crate::judging::Case;
+use crate::judging::{Case, is_kind};
 use crate::lists::push_some;
 use crate::operands::Test;
 use crate::spans::{Cell, Cut, Span, cells_of, spans_of, with_zeros};
@@ -25,17 +27,18 @@ use std::alloc::{AllocError, Global};
 
 /// A fault, unless it is NoAddressability.
 fn unless_unreached(fault: Option<FaultKind>) -> Option<FaultKind>
-    ensures { result ≡ unless_unreached fault }
+    ensures { result ≡ (if is_kind fault sourcekind.NoAddressability then None else fault) }
 {
-    match fault {
-        Some(FaultKind::NoAddressability) => None,
-        fault => fault,
+    if is_kind(fault, SourceKind::NoAddressability) {
+        None
+    } else {
+        fault
     }
 }
 
 impl Case<'_, '_, '_, '_> {
-    /// The parts between these characters that don't have the fault alone.
-    #[tactic(auto, unfolding(crate::specs::Beside::is_without))]
+    /// Those of some parts that don't have the fault alone, where these are the operand's characters.
+    #[tactic(auto, unfolding(crate::specs::Parts::Tests::is_without))]
     fn parts_without(
         &self,
         alloc: Global,
@@ -43,8 +46,8 @@ impl Case<'_, '_, '_, '_> {
         parts: &[Span],
     ) -> Result<Vec<Span>, AllocError>
         ensures { let c = self.now in
-            let kept = is_without (whole_by c.places.now) c.bases.now c.statement.now c.kind cells.now in
-            IfOk result (λ found. found.items ≡ filter kept parts.now) }
+            let has = has_fault (whole_by c.places.now) c.bases.now c.statement.now c.kind in
+            IfOk result (λ found. found.items ≡ filter (is_without has cells.now) parts.now) }
     {
         let mut kept = Vec::new(alloc);
         for part in parts {
@@ -56,13 +59,14 @@ impl Case<'_, '_, '_, '_> {
     }
 
     /// The operand with 0 in place of each subfield that has the fault alone.
+    #[tactic(auto, using(crate::proofs::JudgingLemmas::without_is))]
     fn operand_without(&self, alloc: Global) -> Result<Vec<u8>, AllocError>
         ensures { let c = self.now in
-            let due = operand_without (whole_by c.places.now) c.bases.now c.statement.now c.kind in
-            IfOk result (λ text. text.items ≡ due) }
+            let has = has_fault (whole_by c.places.now) c.bases.now c.statement.now c.kind in
+            IfOk result (λ text. text.items ≡ operand_without has c.statement.now.stmt.operand) }
     {
         let cells = cells_of(alloc, Cut::Subfields, self.operand())?;
-        let parts = spans_of(alloc, &cells)?;
+        let parts = spans_of(alloc, Cut::Subfields, self.operand())?;
         let kept = self.parts_without(alloc, &cells, &parts)?;
         with_zeros(alloc, &kept, &cells)
     }
@@ -75,9 +79,10 @@ impl Case<'_, '_, '_, '_> {
     ) -> Result<Option<FaultKind>, AllocError>
         ensures { let c = self.now in let whole = whole_by c.places.now in
             let by = part_context whole c.bases.now c.statement.now in
-            let operand = operand_without whole c.bases.now c.statement.now c.kind in
-            let due = unless_unreached (result_err (instruction_or_fault operation by operand)) in
-            IfOk result (λ fault. fault ≡ due) }
+            let has = has_fault whole c.bases.now c.statement.now c.kind in
+            let operand = operand_without has c.statement.now.stmt.operand in
+            let made = result_err (instruction_or_fault operation by operand) in
+            IfOk result (λ fault. fault ≡ (if is_kind made sourcekind.NoAddressability then None else made)) }
     {
         let operand = self.operand_without(alloc)?;
         let fault = self.instruction_fault(alloc, operation, &operand)?;
@@ -86,11 +91,10 @@ impl Case<'_, '_, '_, '_> {
 }
 
 /// What is wrong with an instruction beside NoAddressability, which is the fault of the case.
-#[tactic(auto, unfolding(crate::specs::Beside::fault_beside))]
 fn fault_beside(alloc: Global, case: &Case<'_, '_, '_, '_>) -> Result<Option<FaultKind>, AllocError>
     requires { case.now.kind ≡ sourcekind.NoAddressability }
     ensures { let c = case.now in
-        let due = fault_beside (whole_by c.places.now) c.bases.now c.at c.statement.now in
+        let due = fault_by (whole_by c.places.now) c.bases.now c.at c.statement.now (operation_of c.statement.now) in
         IfOk result (λ fault. fault ≡ due) }
 {
     match case.statement.operation() {

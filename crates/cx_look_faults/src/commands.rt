@@ -1,36 +1,30 @@
 //! The part of an EXEC statement that is at fault, and what it lacks.
 
-ghost use Rattle.std.specs.Prelude.{◌≡◌, ◌==◌, ◌++◌, IfOk, codes, length, option_map, slice_get};
-ghost use Rattle.std.specs.Option.{option_map_or};
+ghost use Rattle.std.specs.Prelude.{◌≡◌, ◌++◌, ◌&&◌, IfOk, OnOk, [], length, not, option_map, slice_get, take};
+ghost use Rattle.std.specs.Option.{option_map_or, option_zip};
 ghost use Rattle.std.specs.List.{find};
+ghost use Rattle.cx_base.specs.Legal.{has_bit, rule_holds};
+ghost use Rattle.cx_base.specs.Options.{option_name};
 ghost use Rattle.cx_look_faults.specs.Commands.{
+  asked,
   command_in_words,
-  has_option_with_bit,
-  head_before,
+  given_byte,
   is_at_fault,
-  is_lacking,
-  operand_has_word,
-  lacking,
-  lacking_first,
-  lacks,
   marked,
   missing,
   missing_in,
-  name_of_bit,
-  name_part,
+  operand_has_word,
   phrases,
-  tried,
-  word_text_at,
   word_at_fault,
   word_by,
   words_after,
-  word_spans,
   written_phrase,
 };
-ghost use Rattle.cx_look_faults.specs.Spans.{span};
+ghost use Rattle.cx_look_faults.specs.Parts.Names.{name_among};
+ghost use Rattle.cx_look_faults.specs.Spans.{span, span_text};
 
 use crate::judging::has_exec_fault;
-use crate::spans::{Cut, Span, cells_of, span_text, spans_of};
+use crate::spans::{Cut, Span, span_text, spans_of};
 use cx_asm_build::SourceKind;
 use cx_base::{Command, CommandOption, Rule};
 use cx_source::trim_blanks;
@@ -45,17 +39,9 @@ pub struct Phrase {
     pub full: Span,
 }
 
-/// The words of an operand.
-pub(crate) fn word_spans(alloc: Global, operand: &[u8]) -> Result<Vec<Span>, AllocError>
-    ensures { IfOk result (λ words. words.items ≡ word_spans operand.now) }
-{
-    let cells = cells_of(alloc, Cut::Words, operand)?;
-    spans_of(alloc, &cells)
-}
-
 /// The word at a place, empty past the end.
 fn word_text_at<'a>(operand: &'a [u8], words: &[Span], place: usize) -> &'a [u8]
-    ensures { result.now ≡ word_text_at operand.now words.now place }
+    ensures { result.now ≡ option_map_or (λ word. span_text word operand.now) (slice_get words.now place) [] }
 {
     match words.get(place) {
         Some(word) => span_text(*word, operand),
@@ -121,26 +107,6 @@ pub(crate) fn written_phrase(operand: &[u8], phrase: Phrase) -> Span
     }
 }
 
-/// The operand by which a word is judged.
-fn tried(
-    alloc: Global,
-    kind: SourceKind,
-    operand: &[u8],
-    head: &[u8],
-    full: Span,
-) -> Result<Vec<u8>, AllocError>
-    ensures { IfOk result (λ text. text.items ≡ tried kind operand.now head.now full) }
-{
-    if matches!(kind, SourceKind::UnknownOption | SourceKind::BadArgument) {
-        let mut text = head.to_vec(alloc)?;
-        text.push(b' ')?;
-        text.extend_from_slice(span_text(full, operand))?;
-        return Ok(text);
-    }
-    let (front, _) = operand.split_at(operand.len().min(full.end));
-    front.to_vec(alloc)
-}
-
 /// The part that is shown of a word at fault.
 fn marked(kind: SourceKind, operand: &[u8], phrase: Phrase) -> Span
     ensures { result ≡ marked kind operand.now phrase }
@@ -152,32 +118,37 @@ fn marked(kind: SourceKind, operand: &[u8], phrase: Phrase) -> Span
     }
 }
 
-/// Whether a statement has a fault by a word.
+/// What there is of an operand before a place.
+fn before(operand: &[u8], end: usize) -> &[u8]
+    ensures { result.now ≡ take end operand.now }
+{
+    let (front, _) = operand.split_at(operand.len().min(end));
+    front
+}
+
+/// Whether a statement has a fault up to a word with what follows it.
 fn is_at_fault(
     alloc: Global,
     kind: SourceKind,
     operand: &[u8],
-    head: &[u8],
     phrase: Phrase,
 ) -> Result<bool, AllocError>
-    ensures { IfOk result (λ is. is ≡ is_at_fault kind operand.now head.now phrase) }
+    ensures { IfOk result (λ is. is ≡ is_at_fault kind operand.now phrase) }
 {
-    let text = tried(alloc, kind, operand, head, phrase.full)?;
-    has_exec_fault(alloc, kind, &text)
+    has_exec_fault(alloc, kind, before(operand, phrase.full.end))
 }
 
-/// The first of some words by which a statement has a fault.
+/// The first of some words up to which a statement has a fault.
 fn first_at_fault(
     alloc: Global,
     kind: SourceKind,
     operand: &[u8],
-    head: &[u8],
     phrases: &[Phrase],
 ) -> Result<Option<Phrase>, AllocError>
-    ensures { IfOk result (λ found. found ≡ find (is_at_fault kind operand.now head.now) phrases.now) }
+    ensures { IfOk result (λ found. found ≡ find (is_at_fault kind operand.now) phrases.now) }
 {
     for phrase in phrases {
-        if is_at_fault(alloc, kind, operand, head, *phrase)? {
+        if is_at_fault(alloc, kind, operand, *phrase)? {
             return Ok(Some(*phrase));
         }
     }
@@ -195,14 +166,13 @@ pub(crate) fn words_after(words: &[Span], place: usize) -> &[Span]
 
 /// What there is of an operand up to the first of some words.
 fn head_before<'a>(operand: &'a [u8], more: &[Span]) -> &'a [u8]
-    ensures { result.now ≡ head_before operand.now more.now }
+    ensures { let end = option_map_or (λ next. next.start) (slice_get more.now 0) (length operand.now) in
+        result.now ≡ take end operand.now }
 {
-    let end = match more.first() {
-        Some(next) => next.start,
-        None => operand.len(),
-    };
-    let (head, _) = operand.split_at(operand.len().min(end));
-    trim_blanks(head)
+    match more.first() {
+        Some(next) => before(operand, next.start),
+        None => before(operand, operand.len()),
+    }
 }
 
 /// A word of some.
@@ -214,7 +184,8 @@ fn word_of(words: &[Span], place: usize) -> Option<Span>
 
 /// The words of a command's name, of which this is the last one's place.
 fn name_part(words: &[Span], last: usize) -> Option<Span>
-    ensures { result ≡ name_part words.now last }
+    ensures { let both = option_zip (slice_get words.now 1) (slice_get words.now last) in
+        result ≡ option_map (λ both. span both.0.start both.1.end) both }
 {
     let first = words.get(1)?;
     let last = words.get(last)?;
@@ -224,29 +195,22 @@ fn name_part(words: &[Span], last: usize) -> Option<Span>
     })
 }
 
-/// The word at fault of those of a command.
+/// The word at fault of those of a command, whose name ends with the one at a place.
 fn word_by(
     alloc: Global,
     kind: SourceKind,
     operand: &[u8],
     words: &[Span],
-    command: Option<(Command, usize)>,
+    last: usize,
 ) -> Result<Option<Span>, AllocError>
-    ensures { IfOk result (λ found. found ≡ word_by kind operand.now words.now command) }
+    ensures { IfOk result (λ found. found ≡ word_by kind operand.now words.now last) }
 {
-    let Some((_, last)) = command else {
-        return match word_of(words, 1) {
-            Some(word) => Ok(Some(word)),
-            None => Ok(word_of(words, 0)),
-        };
-    };
     let more = words_after(words, last);
-    let head = head_before(operand, more);
-    if has_exec_fault(alloc, kind, head)? {
+    if has_exec_fault(alloc, kind, head_before(operand, more))? {
         return Ok(name_part(words, last));
     }
     let phrases = phrases(alloc, operand, more)?;
-    match first_at_fault(alloc, kind, operand, head, &phrases)? {
+    match first_at_fault(alloc, kind, operand, &phrases)? {
         Some(phrase) => Ok(Some(marked(kind, operand, phrase))),
         None => Ok(None),
     }
@@ -261,9 +225,14 @@ pub(crate) fn word_at_fault(
 ) -> Result<Option<Span>, AllocError>
     ensures { IfOk result (λ found. found ≡ word_at_fault kind operand.now) }
 {
-    let words = word_spans(alloc, operand)?;
-    let command = command_in_words(operand, &words);
-    word_by(alloc, kind, operand, &words, command)
+    let words = spans_of(alloc, Cut::Words, operand)?;
+    if let Some((_, last)) = command_in_words(operand, &words) {
+        return word_by(alloc, kind, operand, &words, last);
+    }
+    match word_of(&words, 1) {
+        Some(word) => Ok(Some(word)),
+        None => Ok(word_of(&words, 0)),
+    }
 }
 
 /// Whether a name is one of some words.
@@ -273,104 +242,71 @@ pub(crate) fn operand_has_word(operand: &[u8], words: &[Span], name: &[u8]) -> b
     words.iter().any(|word| span_text(*word, operand) == name)
 }
 
-/// Whether an option of a bit is given.
-fn has_option_with_bit(options: &[CommandOption], operand: &[u8], words: &[Span], bit: u8) -> bool
-    ensures { result ≡ has_option_with_bit options.now operand.now words.now bit }
+/// The bits of those of some options whose names are among some words.
+fn given_byte(options: &[CommandOption], operand: &[u8], words: &[Span]) -> u8
+    ensures { result ≡ given_byte (operand_has_word operand.now words.now) options.now }
 {
-    options.iter().any(|option| {
-        option.bit == bit && operand_has_word(operand, words, option.name.name().as_bytes())
-    })
-}
-
-/// The option of a bit.
-fn option_of_bit(options: &[CommandOption], bit: u8) -> Option<&CommandOption>
-    ensures { option_map (λ option. option.now) result ≡ find (λ option. option.bit == bit) options.now }
-{
-    options.iter().find(|option| option.bit == bit)
-}
-
-/// The name of the option of a bit.
-fn name_of_bit(options: &[CommandOption], bit: u8) -> &'static [u8]
-    ensures { result.now ≡ name_of_bit options.now bit }
-{
-    match option_of_bit(options, bit) {
-        Some(option) => option.name.name().as_bytes(),
-        None => &[],
+    let mut byte = 0;
+    for option in options {
+        if operand_has_word(operand, words, option.name.name().as_bytes()) {
+            byte |= option.bit;
+        }
     }
+    byte
 }
 
-/// One name or another.
-fn either(alloc: Global, one: &[u8], other: &[u8]) -> Result<Vec<u8>, AllocError>
-    ensures { IfOk result (λ text. text.items ≡ one.now ++ codes " OR " ++ other.now) }
+/// Adds a name to others, after OR if it isn't the first.
+fn push_name(text: &mut Vec<u8>, is_first: bool, name: &[u8]) -> Result<(), AllocError>
+    ensures { OnOk result (text.new.items ≡ text.old.items ++ name_among is_first name.now) }
 {
-    let mut text = one.to_vec(alloc)?;
-    text.extend_from_slice(b" OR ")?;
-    text.extend_from_slice(other)?;
+    if !is_first {
+        text.extend_from_slice(b" OR ")?;
+    }
+    text.extend_from_slice(name)?;
+    Ok(())
+}
+
+/// What a rule asks for that doesn't hold of an option byte.
+fn asked(
+    alloc: Global,
+    options: &[CommandOption],
+    byte: u8,
+    rule: Rule,
+) -> Result<Vec<u8>, AllocError>
+    ensures { IfOk result (λ text. text.items ≡ asked options.now byte rule) }
+{
+    let mut text = Vec::new(alloc);
+    let mut is_first = true;
+    for option in options {
+        if rule.holds(byte | option.bit) {
+            push_name(&mut text, is_first, option.name.name().as_bytes())?;
+            is_first = false;
+        }
+    }
     Ok(text)
 }
 
-/// What a rule asks for and isn't there.
-fn lacking(
-    alloc: Global,
-    options: &[CommandOption],
-    operand: &[u8],
-    words: &[Span],
-    rule: Rule,
-) -> Result<Vec<u8>, AllocError>
-    ensures { IfOk result (λ text. text.items ≡ lacking options.now operand.now words.now rule) }
+/// The first of some rules that doesn't hold of an option byte.
+fn first_broken(rules: &[Rule], byte: u8) -> Option<&Rule>
+    ensures { option_map (λ rule. rule.now) result
+        ≡ find (λ rule. not (rule_holds (has_bit byte) rule)) rules.now }
 {
-    let has = |bit: u8| has_option_with_bit(options, operand, words, bit);
-    let name = |bit: u8| name_of_bit(options, bit);
-    match rule {
-        Rule::Together(a, b) if has(a) && !has(b) => name(b).to_vec(alloc),
-        Rule::Together(a, b) if has(b) && !has(a) => name(a).to_vec(alloc),
-        Rule::Needs(a, b) if has(a) && !has(b) => name(b).to_vec(alloc),
-        Rule::OneOfTwo(a, b) if !has(a) && !has(b) => either(alloc, name(a), name(b)),
-        Rule::OneOfThree(a, b, c) if !has(a) && !has(b) && !has(c) => {
-            let others = either(alloc, name(b), name(c))?;
-            either(alloc, name(a), &others)
-        }
-        _ => Ok(Vec::new(alloc)),
-    }
+    rules.iter().find(|rule| !rule.holds(byte))
 }
 
-/// What the first of some rules that lacks anything asks for.
-fn lacking_first(
-    alloc: Global,
-    options: &[CommandOption],
-    operand: &[u8],
-    words: &[Span],
-    rules: &[Rule],
-) -> Result<Vec<u8>, AllocError>
-    ensures { IfOk result (λ text. text.items ≡ lacking_first options.now operand.now words.now rules.now) }
-{
-    for rule in rules {
-        let names = lacking(alloc, options, operand, words, *rule)?;
-        if !names.is_empty() {
-            return Ok(names);
-        }
-    }
-    Ok(Vec::new(alloc))
-}
-
-/// Whether an option is required and isn't there.
-fn is_lacking(operand: &[u8], words: &[Span], option: &CommandOption) -> bool
-    ensures { result ≡ is_lacking operand.now words.now option.now }
-{
-    option.required && !operand_has_word(operand, words, option.name.name().as_bytes())
-}
-
-/// The first required option that isn't there.
-fn first_lacking<'a>(
+/// The first required option that isn't given.
+fn first_required<'a>(
     options: &'a [CommandOption],
     operand: &[u8],
     words: &[Span],
 ) -> Option<&'a CommandOption>
-    ensures { option_map (λ option. option.now) result ≡ find (is_lacking operand.now words.now) options.now }
+    ensures { let is = operand_has_word operand.now words.now in
+        option_map (λ option. option.now) result
+        ≡ find (λ o. o.required && not (is (option_name o.name))) options.now }
 {
-    options
-        .iter()
-        .find(|option| is_lacking(operand, words, option))
+    options.iter().find(|option| {
+        option.required && !operand_has_word(operand, words, option.name.name().as_bytes())
+    })
 }
 
 /// What a command lacks, of which these words are given.
@@ -380,15 +316,20 @@ fn missing_in(
     operand: &[u8],
     words: &[Span],
 ) -> Result<Vec<u8>, AllocError>
-    ensures { IfOk result (λ text. text.items ≡ missing_in command operand.now words.now) }
+    ensures { let gives = operand_has_word operand.now words.now in
+        IfOk result (λ text. text.items ≡ missing_in command gives) }
 {
     if command.lists_conditions() {
         return b"CONDITION".to_vec(alloc);
     }
     let options = command.options();
-    match first_lacking(options, operand, words) {
-        Some(option) => option.name.name().as_bytes().to_vec(alloc),
-        None => lacking_first(alloc, options, operand, words, command.rules()),
+    if let Some(option) = first_required(options, operand, words) {
+        return option.name.name().as_bytes().to_vec(alloc);
+    }
+    let byte = given_byte(options, operand, words);
+    match first_broken(command.rules(), byte) {
+        Some(rule) => asked(alloc, options, byte, *rule),
+        None => Ok(Vec::new(alloc)),
     }
 }
 
@@ -398,7 +339,7 @@ fn missing_in(
 pub(crate) fn missing(alloc: Global, operand: &[u8]) -> Result<Vec<u8>, AllocError>
     ensures { IfOk result (λ text. text.items ≡ missing operand.now) }
 {
-    let words = word_spans(alloc, operand)?;
+    let words = spans_of(alloc, Cut::Words, operand)?;
     match command_in_words(operand, &words) {
         Some((command, last)) => { missing_in(alloc, command, operand, words_after(&words, last)) }
         None => Ok(Vec::new(alloc)),

@@ -1,6 +1,6 @@
 //! The faulty lines of a source.
 
-ghost use Rattle.std.specs.Prelude.{◌≡◌, ◌==◌, ◌++◌, [], IfOk, OnOk, drop, filter, fold, map, None};
+ghost use Rattle.std.specs.Prelude.{◌≡◌, ◌==◌, ◌++◌, ◌&&◌, [], IfOk, OnOk, filter, fold, map, None, not};
 ghost use Rattle.std.specs.List.{list_any};
 ghost use Rattle.std.specs.Option.{option_to_list};
 ghost use Rattle.cx_asm.specs.Assembly.{later_faults};
@@ -9,18 +9,17 @@ ghost use Rattle.cx_asm_pass2.specs.Statements.{statements_of};
 ghost use Rattle.cx_asm_pass2.specs.Whole.{whole_by};
 ghost use Rattle.cx_look_faults.specs.Beside.{faults_beside};
 ghost use Rattle.cx_asm_build.specs.Kinds.{of_source, of_translation};
+ghost use Rattle.cx_asm_build.specs.declared.faults.SourceKind.TheVariants as sourcekind;
+ghost use Rattle.cx_source.specs.declared.source.Item.{Item as ItemValue};
 ghost use Rattle.cx_look_faults.specs.Faults.{
-  by_number,
   continuations,
   faulty,
   faulty_line,
   faulty_lines,
   follows,
   instead,
-  is_anew,
-  is_cut,
+  is_same,
   is_shown,
-  is_unread,
   kind_at,
   kinds_beside,
   kinds_of,
@@ -207,51 +206,30 @@ pub(crate) fn kind_at(kinds: &Kinds, line: usize) -> Option<SourceKind>
 
 /// The lines in the order of their numbers, each with its first fault.
 fn by_number(alloc: Global, lines: &[FaultyLine]) -> Result<Vec<FaultyLine>, AllocError>
-    ensures { IfOk result (λ sorted. sorted.items ≡ by_number lines.now) }
+    ensures { let all = map (λ entry. faulty entry.0 entry.1) (kinds_of lines.now) in
+        IfOk result (λ sorted. sorted.items ≡ all) }
 {
     let sorted = kinds_of(alloc, lines)?;
     listed(alloc, &sorted)
 }
 
-/// Whether a line begins anew, since it doesn't continue the one before it.
-fn is_anew(kind: SourceKind) -> bool
-    ensures { result ≡ is_anew kind }
-{
-    matches!(kind, SourceKind::BadContinuation)
-}
-
-/// Whether a line can't be read.
+/// Whether a line can't be read: it has a fault, and not that it doesn't continue the one before it.
 fn is_unread(unread: &[FaultyLine], item: &Item) -> bool
-    ensures { result ≡ is_unread unread.now item.now }
+    ensures { result ≡ list_any
+        (λ one. one.line == item.now.line && not (is_same one.kind sourcekind.BadContinuation)) unread.now }
 {
-    unread
-        .iter()
-        .any(|fault| fault.line == item.line && !is_anew(fault.kind))
-}
-
-/// Whether one of some lines can't be read.
-fn are_cut(unread: &[FaultyLine], lines: &[Item]) -> bool
-    ensures { result ≡ list_any (is_unread unread.now) lines.now }
-{
-    lines.iter().any(|line| is_unread(unread, line))
-}
-
-/// The lines that continue one of these.
-fn continuing<'a>(items: &'a [Item], item: &Item) -> &'a [Item]
-    ensures { result.now ≡ continuations item.now (drop item.now.line items.now) }
-{
-    let (_, after) = items.split_at(items.len().min(item.line));
-    continuations(item, after)
+    unread.iter().any(|fault| fault.line == item.line && fault.kind != SourceKind::BadContinuation)
 }
 
 /// Whether a line that continues the one of this number can't be read.
 fn is_cut(items: &[Item], unread: &[FaultyLine], number: usize) -> bool
-    ensures { result ≡ is_cut items.now unread.now number }
+    ensures { let is_unread = λ (item : ItemValue).
+        list_any (λ one. one.line == item.line && not (is_same one.kind sourcekind.BadContinuation)) unread.now in
+        result ≡ list_any is_unread (continuations items.now number) }
 {
-    match items.get(number.saturating_sub(1)) {
-        Some(item) => are_cut(unread, continuing(items, item)),
-        None => false,
-    }
+    continuations(items, number)
+        .iter()
+        .any(|line| is_unread(unread, line))
 }
 
 /// Whether a line has a fault of its own.
@@ -355,7 +333,8 @@ fn lines_by_number(
 ) -> Result<Vec<FaultyLine>, AllocError>
     requires places { IsPlaced (final_state placed.now.made.now) placed.now.places.now }
     requires statements { placed.now.statements.now ≡ statements_of placed.now.made.now }
-    ensures { IfOk result (λ all. all.items ≡ by_number (stage_lines unread.now untranslated.now placed.now.made.now)) }
+    ensures { let lines = stage_lines unread.now untranslated.now placed.now.made.now in
+        IfOk result (λ all. all.items ≡ map (λ entry. faulty entry.0 entry.1) (kinds_of lines)) }
 {
     let all = stage_lines(alloc, unread, untranslated, placed)?;
     by_number(alloc, &all)
@@ -372,7 +351,8 @@ pub(crate) fn faults_placed(
 ) -> Result<Vec<FaultyLine>, AllocError>
     requires places { IsPlaced (final_state placed.now.made.now) placed.now.places.now }
     requires statements { placed.now.statements.now ≡ statements_of placed.now.made.now }
-    ensures { let all = by_number (stage_lines unread.now untranslated.now placed.now.made.now) in
+    ensures { let lines = stage_lines unread.now untranslated.now placed.now.made.now in
+        let all = map (λ entry. faulty entry.0 entry.1) (kinds_of lines) in
         let shown = is_shown read.now.items (faulty_lines of_source unread.now) in
         IfOk result (λ found. found.items ≡ filter shown all) }
 {

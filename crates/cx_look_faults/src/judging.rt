@@ -1,19 +1,23 @@
 //! What is wrong with an operand by itself.
 
-ghost use Rattle.std.specs.Prelude.{◌≡◌, IfOk, Result, Some};
+ghost use Rattle.std.specs.Prelude.{◌≡◌, ℕ, List, IfOk, Result, Some, false, option_and_then, slice_get};
+ghost use Rattle.cx_translate.specs.Refusals.{refusal_of};
+ghost use Rattle.cx_translate.specs.Words.{words_of};
 ghost use Rattle.cx_asm_pass2.specs.Statements.{operation_of};
 ghost use Rattle.cx_asm_pass2.specs.Whole.{whole_by};
 ghost use Rattle.std.specs.Result.{result_err};
 ghost use Rattle.cx_asm_expressions.specs.Expressions.{Answers};
 ghost use Rattle.cx_asm_operands.specs.Directives.{drop_in, entry_in, using_in};
-ghost use Rattle.cx_asm_operands.specs.Forms.{instruction_or_fault, operands_of};
+ghost use Rattle.cx_asm_operands.specs.Forms.{instruction_or_fault, literal_in, operands_of};
 ghost use Rattle.cx_asm_operands.specs.Bases.{none_in_use};
 ghost use Rattle.cx_asm_expressions.specs.Expressions.{value_of};
 ghost use Rattle.cx_asm_operations.specs.declared.operations.Operation.TheVariants as operation;
-ghost use Rattle.cx_asm_pass2.specs.Whole.{counter_of, directive_context};
-ghost use Rattle.cx_look_faults.specs.Judging.{exec_source, fault_of_operand, has_exec_fault, has_fault, is_kind, made_literal_fault, part_context};
+ghost use Rattle.cx_asm_pass2.specs.Whole.{counter_of, directive_context, item_made};
+ghost use Rattle.cx_asm_pools.specs.Pools.{literal_text};
+ghost use Rattle.cx_look_faults.specs.Judging.{fault_of_operand, has_exec_fault, has_fault, is_kind, part_context};
+ghost use Rattle.cx_look_faults.specs.Parts.Sources.{exec_source};
 
-use cx_asm_build::{PrepareFault, SourceKind};
+use cx_asm_build::SourceKind;
 use cx_asm_expressions::{FaultKind, TermFault, Value, lower, value_of};
 use cx_asm_operands::{
     Bases, Context, copy_fault, literal_in, read_drop, read_entry, read_using, resolve,
@@ -23,7 +27,7 @@ use cx_asm_pass1::Places;
 use cx_asm_pass2::{Statement, control_name, counter_of, made_fault};
 use cx_asm_pools::literal_text;
 use cx_source::{Item, Items, Source, Stmt, Text};
-use cx_translate::translate_with_faults;
+use cx_translate::{TransFault, translate_with_faults};
 use std::alloc::{AllocError, Global};
 
 /// Whether a fault of the assembler is of a kind.
@@ -71,8 +75,10 @@ impl Case<'_, '_, '_, '_> {
         alloc: Global,
         operand: &[u8],
     ) -> Result<Option<FaultKind>, AllocError>
-        ensures { let c = self.now in
-            IfOk result (λ fault. fault ≡ made_literal_fault (whole_by c.places.now) c.statement.now operand.now) }
+        ensures { let c = self.now in let whole = whole_by c.places.now in
+            let made = λ (text : List ℕ). result_err (item_made whole false (counter_of c.statement.now) text) in
+            let text = option_and_then literal_text (literal_in operand.now) in
+            IfOk result (λ fault. fault ≡ option_and_then made text) }
     {
         let Some(part) = literal_in(alloc, operand)? else {
             return Ok(None);
@@ -149,6 +155,7 @@ impl Case<'_, '_, '_, '_> {
     }
 
     /// What is wrong with the operand of a directive.
+    #[tactic(auto, using(crate::proofs::JudgingLemmas::fault_stays), unfolding(cx_asm_operands::specs::Directives::bases_in))]
     fn directive_fault(
         &self,
         alloc: Global,
@@ -226,6 +233,23 @@ fn exec_source(alloc: Global, operand: &[u8]) -> Result<Source, AllocError>
     })
 }
 
+/// The first of some faults.
+fn first_of(faults: &[TransFault]) -> Option<TransFault>
+    ensures { result ≡ slice_get faults.now 0 }
+{
+    faults.first().copied()
+}
+
+/// The fault of an EXEC statement with this operand.
+#[tactic(auto, using(crate::proofs::JudgingLemmas::exec_fault))]
+fn exec_fault(alloc: Global, operand: &[u8]) -> Result<Option<TransFault>, AllocError>
+    ensures { IfOk result (λ fault. fault ≡ refusal_of 1 (words_of operand.now)) }
+{
+    let source = exec_source(alloc, operand)?;
+    let (_, faults) = translate_with_faults(alloc, &source)?;
+    Ok(first_of(faults.as_slice()))
+}
+
 /// Whether an EXEC statement with this operand has a fault of a kind.
 #[tactic(auto, unfolding(crate::specs::Judging::has_exec_fault))]
 pub(crate) fn has_exec_fault(
@@ -235,13 +259,8 @@ pub(crate) fn has_exec_fault(
 ) -> Result<bool, AllocError>
     ensures { IfOk result (λ has. has ≡ has_exec_fault kind operand.now) }
 {
-    let source = exec_source(alloc, operand)?;
-    let (_, faults) = translate_with_faults(alloc, &source)?;
-    let Some(fault) = faults.as_slice().first() else {
-        return Ok(false);
-    };
-    match PrepareFault::from(*fault) {
-        PrepareFault::At(_, found) => Ok(found.name().as_bytes() == kind.name().as_bytes()),
-        PrepareFault::Memory => Ok(false),
+    match exec_fault(alloc, operand)? {
+        Some(fault) => Ok(fault.name().as_bytes() == kind.name().as_bytes()),
+        None => Ok(false),
     }
 }

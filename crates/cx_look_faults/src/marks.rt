@@ -1,38 +1,37 @@
 //! Where on its line the part is that is at fault.
 
-ghost use Rattle.std.specs.Prelude.{◌≡◌, ◌<◌, ◌==◌, ◌-◌, [], IfOk, IfSome, Some, is_none, length, map, option_map, slice_get, unwrap_or};
-ghost use Rattle.std.specs.List.{find, position};
+ghost use Rattle.std.specs.Prelude.{◌≡◌, ◌<◌, ◌≤◌, ◌==◌, ◌+◌, ◌-◌, [], IfOk, IfSome, codes, drop, if◌then◌else◌, is_none, length, map, nat_lt, option_map, slice_get, slice_index, take, unwrap_or};
+ghost use Rattle.std.specs.List.{find, position, position_or_len, range_with_len};
+ghost use Rattle.std.specs.Option.{option_map_or};
+ghost use Rattle.std.specs.Str.{bytes_eq};
 ghost use Rattle.cx_ebcdic.specs.Characters.{code_of};
-ghost use Rattle.cx_source.specs.Lines.{is_blank, is_written};
+ghost use Rattle.cx_source.specs.Lines.{columns, is_blank, is_symbol_name_character, is_written, trim_blanks};
+ghost use Rattle.cx_source.specs.declared.source.Item.{Item as ItemValue};
+ghost use Rattle.cx_source.specs.declared.source.Stmt.{Stmt as StmtValue};
 ghost use Rattle.cx_asm_pass1.specs.Locations.{IsPlaced, final_state};
 ghost use Rattle.cx_asm_pass2.specs.Statements.{statements_of};
 ghost use Rattle.cx_look_faults.specs.Faults.{kinds_of};
 ghost use Rattle.cx_look_faults.specs.Marks.{
-  assembler_spot,
-  bad_character,
-  bad_continuation,
-  bad_name_spot,
-  byte_at,
-  is_border,
   mark_of,
   missing_by_kind,
-  missing_in_stmt,
   part_found,
   part_in,
   parts_at_fault,
-  place_in_operand,
+  spot,
   spot_by,
   stands_at,
-  statement_spot,
   stmt_spot,
-  too_long,
 };
+ghost use Rattle.cx_look_faults.specs.Commands.{missing, word_at_fault};
+ghost use Rattle.cx_look_faults.specs.Judging.{has_exec_fault};
+ghost use Rattle.cx_look_faults.specs.Spans.{is_one_of};
 
 use crate::commands::{missing, word_at_fault};
 use crate::faults::{FaultyLine, Kinds, Placed};
+use crate::judging::has_exec_fault;
 use crate::operands::{OperandPart, operand_parts_in};
 use crate::positions::{SourceStmt, Spot, columns};
-use crate::spans::{Span, span_text};
+use crate::spans::{Span, is_one_of, span_text};
 use cx_asm_build::SourceKind;
 use cx_ebcdic::to_ebcdic;
 use cx_source::{Item, Source, Text, is_symbol_name_character, trim_blanks};
@@ -63,11 +62,29 @@ fn first_uncoded(line: &[u8]) -> Option<usize>
         .position(|c| to_ebcdic(char::from(*c)).is_none())
 }
 
+/// How many characters precede it.
+#[tactic(auto, using(crate::proofs::MarkLemmas::first_or_length, crate::proofs::MarkLemmas::position_within))]
+fn coded_len(line: &[u8]) -> usize
+    ensures value { result ≡ position_or_len (λ c. is_none (code_of c)) line.now }
+    ensures bound { result ≤ length line.now }
+{
+    first_uncoded(line).unwrap_or(line.len())
+}
+
 /// The place of the first character that isn't blank.
 fn first_written(line: &[u8]) -> Option<usize>
     ensures { result ≡ position is_written line.now }
 {
     line.iter().position(|c| *c != b' ')
+}
+
+/// How many characters precede it.
+#[tactic(auto, using(crate::proofs::MarkLemmas::first_or_length, crate::proofs::MarkLemmas::position_within))]
+fn blank_len(line: &[u8]) -> usize
+    ensures value { result ≡ position_or_len is_written line.now }
+    ensures bound { result ≤ length line.now }
+{
+    first_written(line).unwrap_or(line.len())
 }
 
 /// The place of the first blank.
@@ -77,23 +94,31 @@ fn first_blank(line: &[u8]) -> Option<usize>
     line.iter().position(|c| *c == b' ')
 }
 
+/// How many characters precede it.
+#[tactic(auto, using(crate::proofs::MarkLemmas::first_or_length))]
+fn word_len(line: &[u8]) -> usize
+    ensures { result ≡ position_or_len is_blank line.now }
+{
+    first_blank(line).unwrap_or(line.len())
+}
+
 /// The first character without a code.
 fn bad_character(number: usize, line: &[u8]) -> Spot
-    ensures { result ≡ bad_character number line.now }
+    ensures { result ≡ spot number (position_or_len (λ c. is_none (code_of c)) line.now + 1) 1 }
 {
-    let at = first_uncoded(line).unwrap_or(line.len());
     Spot {
         line: number,
-        column: at + 1,
+        column: coded_len(line) + 1,
         length: 1,
     }
 }
 
 /// What isn't blank in the margin.
 fn bad_continuation(number: usize, line: &[u8]) -> Spot
-    ensures { result ≡ bad_continuation number line.now }
+    ensures { let at = position_or_len is_written line.now in let written = trim_blanks (columns 1 15 line.now) in
+        result ≡ spot number (at + 1) (length written - at) }
 {
-    let at = first_written(line).unwrap_or(line.len());
+    let at = blank_len(line);
     Spot {
         line: number,
         column: at + 1,
@@ -103,45 +128,22 @@ fn bad_continuation(number: usize, line: &[u8]) -> Spot
     }
 }
 
-/// What begins in column 1.
-fn bad_name_spot(number: usize, line: &[u8]) -> Spot
-    ensures { result ≡ bad_name_spot number line.now }
-{
-    Spot {
-        line: number,
-        column: 1,
-        length: first_blank(line).unwrap_or(line.len()),
-    }
-}
-
 /// What is past column 80, or else all of a line.
 fn too_long(number: usize, line: &[u8]) -> Spot
-    ensures { result ≡ too_long number line.now }
+    ensures { let from = if nat_lt 80 (length line.now) then 80 else 0 in
+        result ≡ spot number (from + 1) (length line.now - from) }
 {
-    if line.len() > COLUMNS {
-        return Spot {
-            line: number,
-            column: COLUMNS + 1,
-            length: line.len() - COLUMNS,
-        };
-    }
+    let from = if line.len() > COLUMNS { COLUMNS } else { 0 };
     Spot {
         line: number,
-        column: 1,
-        length: line.len(),
+        column: from + 1,
+        length: line.len() - from,
     }
-}
-
-/// Whether an argument's text may begin after a character.
-fn is_border(c: u8) -> bool
-    ensures { result ≡ is_border c }
-{
-    matches!(c, b'(' | b')' | b',' | b'+' | b'-')
 }
 
 /// The character at a place; 0 past the end.
 fn byte_at(text: &[u8], place: usize) -> u8
-    ensures { result ≡ byte_at text.now place }
+    ensures { result ≡ slice_index text.now place }
 {
     match text.get(place) {
         Some(c) => *c,
@@ -149,21 +151,49 @@ fn byte_at(text: &[u8], place: usize) -> u8
     }
 }
 
+/// Whether a character before which an argument's text may begin precedes a place.
+fn follows_border(operand: &[u8], at: usize) -> bool
+    ensures { result ≡ is_one_of (codes "(),+-") (slice_index operand.now (at - 1)) }
+{
+    is_one_of(b"(),+-", byte_at(operand, at.saturating_sub(1)))
+}
+
+/// What there is of a text from a place on.
+fn from(text: &[u8], at: usize) -> &[u8]
+    ensures { result.now ≡ drop at text.now }
+{
+    let (_, rest) = text.split_at(text.len().min(at));
+    rest
+}
+
+/// Whether one text begins with another.
+fn begins_with(rest: &[u8], text: &[u8]) -> bool
+    ensures { result ≡ bytes_eq (take (length text.now) rest.now) text.now }
+{
+    let (front, _) = rest.split_at(rest.len().min(text.len()));
+    front == text
+}
+
+/// Whether the character at a place may be of a name.
+fn goes_on(rest: &[u8], place: usize) -> bool
+    ensures { result ≡ is_symbol_name_character (slice_index rest.now place) }
+{
+    is_symbol_name_character(byte_at(rest, place))
+}
+
 /// Whether a text stands at a place of an operand as an argument, or a part of one.
 fn stands_at(text: &[u8], operand: &[u8], at: usize) -> bool
     ensures { result ≡ stands_at text.now operand.now at }
 {
-    let (_, rest) = operand.split_at(operand.len().min(at));
-    let (front, _) = rest.split_at(rest.len().min(text.len()));
-    is_border(byte_at(operand, at.saturating_sub(1)))
-        && front == text
-        && !is_symbol_name_character(byte_at(rest, text.len()))
+    let rest = from(operand, at);
+    follows_border(operand, at) && begins_with(rest, text) && !goes_on(rest, text.len())
 }
 
 /// The first place of a text in an argument.
 #[tactic(auto, using(crate::proofs::MarkLemmas::find_next, crate::proofs::MarkLemmas::find_end))]
 fn place_in_operand(text: &[u8], operand: &[u8]) -> Option<usize>
-    ensures value { result ≡ place_in_operand text.now operand.now }
+    ensures value { let places = range_with_len 1 (length operand.now - 1) in
+        result ≡ find (stands_at text.now operand.now) places }
     ensures within { IfSome result (λ at. at < length operand.now) }
 {
     for at in 1..operand.len() {
@@ -206,24 +236,23 @@ fn part_found(parts: &[OperandPart], line: usize, operand: &[u8]) -> Option<Span
     }
 }
 
-/// Where a fault of the assembler is.
-fn assembler_spot(
+/// The part of a statement's operand that is at fault.
+fn part_of(
     alloc: Global,
     parts: &[OperandPart],
     kind: SourceKind,
     found: &SourceStmt<'_>,
-) -> Result<Spot, AllocError>
-    ensures { let it = found.now in
-        IfOk result (λ spot. spot ≡ assembler_spot it.items.now parts.now kind it.item.now it.stmt.now) }
+) -> Result<Option<Span>, AllocError>
+    ensures { let it = found.now in let operand = it.stmt.now.operand in
+        let other = part_found parts.now it.item.now.line operand in
+        let part = if has_exec_fault kind operand then word_at_fault kind operand else other in
+        IfOk result (λ found. found ≡ part) }
 {
-    if kind != SourceKind::DuplicateSymbol {
-        let part = part_found(parts, found.item.line, found.operand());
-        return found.part_or_operation(alloc, part);
+    let operand = found.operand();
+    if has_exec_fault(alloc, kind, operand)? {
+        return word_at_fault(alloc, kind, operand);
     }
-    if found.stmt.name.as_slice().is_empty() {
-        return Ok(found.operation_spot());
-    }
-    Ok(found.name_spot())
+    Ok(part_found(parts, found.item.line, operand))
 }
 
 /// Where the fault of a statement is.
@@ -236,18 +265,12 @@ fn stmt_spot(
     ensures { let it = found.now in
         IfOk result (λ spot. spot ≡ stmt_spot it.items.now parts.now kind it.item.now it.stmt.now) }
 {
-    match kind {
-        SourceKind::UnknownCommand
-        | SourceKind::UnknownOption
-        | SourceKind::MissingOption
-        | SourceKind::Conflict
-        | SourceKind::TooManyConditions
-        | SourceKind::BadArgument => {
-            let part = word_at_fault(alloc, kind, found.operand())?;
-            found.part_or_operation(alloc, part)
-        }
-        _ => assembler_spot(alloc, parts, kind, found),
+    if kind == SourceKind::DuplicateSymbol {
+        return found.part_spot(alloc, None);
     }
+    let part = part_of(alloc, parts, kind, found)?;
+    let all = Span { start: 0, end: 0 };
+    found.part_spot(alloc, Some(part.unwrap_or(all)))
 }
 
 /// Where the fault of a line's statement is; without one the line's beginning.
@@ -258,8 +281,9 @@ fn statement_spot(
     kind: SourceKind,
     number: usize,
 ) -> Result<Spot, AllocError>
-    ensures { let item = slice_get items.now (number - 1) in
-        IfOk result (λ spot. spot ≡ statement_spot items.now parts.now kind number item) }
+    ensures { let beginning = spot number 1 0 in
+        let of_item = λ (it : ItemValue). option_map_or (stmt_spot items.now parts.now kind it) it.stmt beginning in
+        IfOk result (λ spot. spot ≡ option_map_or of_item (slice_get items.now (number - 1)) beginning) }
 {
     let beginning = Spot {
         line: number,
@@ -298,7 +322,11 @@ fn spot_by(
     let number = fault.line;
     match fault.kind {
         SourceKind::BadCharacter => Ok(bad_character(number, line)),
-        SourceKind::BadName => Ok(bad_name_spot(number, line)),
+        SourceKind::BadName => Ok(Spot {
+            line: number,
+            column: 1,
+            length: word_len(line),
+        }),
         SourceKind::BadContinuation => Ok(bad_continuation(number, line)),
         SourceKind::TooLong => Ok(too_long(number, line)),
         SourceKind::NoEnd => Ok(Spot {
@@ -312,7 +340,8 @@ fn spot_by(
 
 /// What the statement of a line lacks.
 fn missing_in_item(alloc: Global, item: &Item) -> Result<Vec<u8>, AllocError>
-    ensures { IfOk result (λ text. text.items ≡ missing_in_stmt (Some item.now)) }
+    ensures { let lacks = option_map_or (λ (s : StmtValue). missing s.operand) item.now.stmt [] in
+        IfOk result (λ text. text.items ≡ lacks) }
 {
     match &item.stmt {
         Some(stmt) => missing(alloc, stmt.operand.as_slice()),

@@ -1,50 +1,52 @@
 //! What is accepted and is most likely not meant.
 
-ghost use Rattle.std.specs.Prelude.{◌≡◌, ◌++◌, [], IfOk, OnOk, None, codes, false, option_map};
+ghost use Rattle.std.specs.Prelude.{◌≡◌, ◌++◌, [], IfOk, OnOk, None, codes, false, flat_map, if◌then◌else◌, is_none, map, option_and_then, option_map};
 ghost use Rattle.std.specs.List.{filter_map, find, list_all, list_any};
 ghost use Rattle.std.specs.Option.{option_map_or};
 ghost use Rattle.std.specs.Result.{result_ok};
 ghost use Rattle.std.specs.Str.{bytes_eq};
+ghost use Rattle.cx_asm_expressions.specs.Digits.{is_digit, is_number};
 ghost use Rattle.cx_asm_expressions.specs.Items.{Constant as ConstantValue, constant_in};
+ghost use Rattle.cx_asm_expressions.specs.Expressions.{value_of};
+ghost use Rattle.cx_asm_expressions.specs.declared.values.Value.{Value as ValueOf};
 ghost use Rattle.cx_asm_operands.specs.Storage.{is_literal};
 ghost use Rattle.cx_asm_pass1.specs.Locations.{IsPlaced, final_state};
 ghost use Rattle.cx_asm_pass2.specs.Whole.{whole_by, whole_of};
 ghost use Rattle.cx_base.specs.Options.{option_name};
+ghost use Rattle.cx_translate.specs.Names.{bare_argument};
 ghost use Rattle.cx_look_faults.specs.Notes.{
-  written_argument,
-  bare,
   copies_place,
-  halfword_literal,
+  copy_remark,
+  exec_remarks,
   if_absolute,
   if_literal,
-  is_absolute,
-  is_decimal_digit,
-  note_of_item,
-  note_of_phrase,
   note_on,
-  notes_of_stmt,
-  notes_of_words,
-  notes_in,
+  notes_on,
   of_read,
   of_written,
-  option_of_word,
   remark,
   remark_on,
+  remarks_in,
+  written_argument,
 };
+ghost use Rattle.cx_look_faults.specs.Commands.{written_phrase};
 ghost use Rattle.cx_look_faults.specs.Faults.{kind_at};
-ghost use Rattle.cx_look_faults.specs.Spans.{span_text};
+ghost use Rattle.cx_look_faults.specs.Spans.{span_text, spans_of};
+ghost use Rattle.cx_look_faults.specs.declared.spans.Cut.TheVariants.{Operands};
+ghost use Rattle.cx_base.specs.declared.options.CommandOption.{CommandOption as OptionValue};
+ghost use Rattle.cx_source.specs.declared.source.Stmt.{Stmt as StmtValue};
 
 use crate::commands::{
-    Phrase, command_in_words, operand_has_word, phrases, word_spans, words_after, written_phrase,
+    Phrase, command_in_words, operand_has_word, phrases, words_after, written_phrase,
 };
 use crate::faults::{Kinds, Placed, kind_at};
 use crate::lists::push_some;
 use crate::positions::{SourceStmt, Spot};
-use crate::spans::{Cut, Span, cells_of, span_text, spans_of};
+use crate::spans::{Cut, Span, span_text, spans_of};
 use cx_asm_expressions::{Constant, TermFault, parenthesized_body, value_of};
 use cx_asm_pass1::Places;
 use cx_base::{ArgumentKind, CommandOption};
-use cx_source::{Item, Source, Text, skip_blanks, trim_blanks};
+use cx_source::{Item, Source, Stmt, Text, skip_blanks, trim_blanks};
 use std::alloc::{AllocError, Global};
 
 /// What is said of an item of several copies with `*`.
@@ -60,8 +62,9 @@ pub struct Note {
 }
 
 /// A text without the blanks round it.
+#[tactic(auto, unfolding(cx_translate::specs::Names::bare_argument))]
 fn bare(text: &[u8]) -> &[u8]
-    ensures { result.now ≡ bare text.now }
+    ensures { result.now ≡ bare_argument text.now }
 {
     trim_blanks(skip_blanks(text))
 }
@@ -82,7 +85,8 @@ fn written_argument(operand: &[u8], phrase: Phrase) -> &[u8]
 
 /// Whether a text's value is absolute.
 fn is_absolute(alloc: Global, places: &Places<'_>, text: &[u8]) -> Result<bool, AllocError>
-    ensures { IfOk result (λ is. is ≡ is_absolute (whole_by places.now) text.now) }
+    ensures { let value = result_ok (value_of (whole_by places.now).find None text.now) in
+        IfOk result (λ is. is ≡ option_map_or (λ (value : ValueOf). is_none value.section) value false) }
 {
     match value_of(alloc, text, &places.symbols, None) {
         Ok(value) => Ok(value.section.is_none()),
@@ -101,11 +105,26 @@ fn is_literal(text: &[u8]) -> bool
     }
 }
 
-/// Whether a text is digits alone.
-fn is_digits(text: &[u8]) -> bool
-    ensures { result ≡ list_all is_decimal_digit text.now }
+/// Whether a character is a digit.
+#[tactic(auto, using(crate::proofs::NoteLemmas::one_digit))]
+fn is_digit(c: u8) -> bool
+    ensures { result ≡ is_digit 10 c }
 {
-    text.iter().all(|c| b'0' <= *c && *c <= b'9')
+    b'0' <= c && c <= b'9'
+}
+
+/// Whether a text has digits alone.
+fn are_digits(text: &[u8]) -> bool
+    ensures { result ≡ list_all (is_digit 10) text.now }
+{
+    text.iter().all(|c| is_digit(*c))
+}
+
+/// Whether a text is a number.
+fn is_digits(text: &[u8]) -> bool
+    ensures { result ≡ is_number 10 text.now }
+{
+    !text.is_empty() && are_digits(text)
 }
 
 /// A text between two others.
@@ -120,7 +139,8 @@ fn between(alloc: Global, before: &[u8], text: &[u8], after: &[u8]) -> Result<Ve
 
 /// The literal that has a value in a halfword.
 fn halfword_literal(alloc: Global, text: &[u8]) -> Result<Vec<u8>, AllocError>
-    ensures { IfOk result (λ made. made.items ≡ halfword_literal text.now) }
+    ensures { let digits = codes "=H'" ++ text.now ++ codes "'" in let other = codes "=AL2(" ++ text.now ++ codes ")" in
+        IfOk result (λ made. made.items ≡ (if is_number 10 text.now then digits else other)) }
 {
     if is_digits(text) {
         between(alloc, b"=H'", text, b"'")
@@ -200,13 +220,16 @@ fn remark(
     }
 }
 
-/// The option of a name.
-fn option_of_word<'a>(options: &'a [CommandOption], name: &[u8]) -> Option<&'a CommandOption>
-    ensures { option_map (λ option. option.now) result ≡ option_of_word options.now name.now }
+/// The option whose name a word is.
+fn option_of_word<'a>(
+    options: &'a [CommandOption],
+    operand: &[u8],
+    word: Span,
+) -> Option<&'a CommandOption>
+    ensures { option_map (λ option. option.now) result
+        ≡ find (λ o. bytes_eq (option_name o.name) (span_text word operand.now)) options.now }
 {
-    options
-        .iter()
-        .find(|option| option.name.name().as_bytes() == name)
+    options.iter().find(|option| option.name.name().as_bytes() == span_text(word, operand))
 }
 
 /// What the arguments of a command are judged by.
@@ -220,7 +243,39 @@ struct Arguments<'a, 'p> {
     options: &'a [CommandOption],
 }
 
+/// What is said of a word and its argument, with where they are.
+fn with_part(said: Option<Text>, operand: &[u8], phrase: Phrase) -> Option<(Text, Span)>
+    ensures { result ≡ option_map (λ text. (text, written_phrase operand.now phrase)) said }
+{
+    match said {
+        Some(said) => Some((said, written_phrase(operand, phrase))),
+        None => None,
+    }
+}
+
 impl Arguments<'_, '_> {
+    /// What is said of a word's argument; of none where there is no such option.
+    fn remark_of(
+        &self,
+        alloc: Global,
+        operand: &[u8],
+        phrase: Phrase,
+    ) -> Result<Option<Text>, AllocError>
+        ensures { let by = self.now in let text = written_argument operand.now phrase in
+            let name = span_text phrase.word operand.now in
+            let option = find (λ o. bytes_eq (option_name o.name) name) by.options.now in
+            let due = λ (o : OptionValue). remark (whole_by by.places.now) by.rewrites text o.kind in
+            IfOk result (λ said. said ≡ option_and_then due option) }
+    {
+        match option_of_word(self.options, operand, phrase.word) {
+            Some(option) => {
+                let text = written_argument(operand, phrase);
+                remark(alloc, self.places, self.rewrites, text, option.kind)
+            }
+            None => Ok(None),
+        }
+    }
+
     /// What is said of a word and its argument.
     #[tactic(auto, unfolding(crate::specs::Notes::remark_on))]
     fn remark_on(
@@ -228,101 +283,55 @@ impl Arguments<'_, '_> {
         alloc: Global,
         operand: &[u8],
         phrase: Phrase,
-    ) -> Result<Option<Text>, AllocError>
+    ) -> Result<Option<(Text, Span)>, AllocError>
         ensures { let by = self.now in
             let due = remark_on (whole_by by.places.now) by.rewrites by.options.now operand.now phrase in
             IfOk result (λ said. said ≡ due) }
     {
-        let Some(option) = option_of_word(self.options, span_text(phrase.word, operand)) else {
-            return Ok(None);
-        };
-        let text = written_argument(operand, phrase);
-        remark(alloc, self.places, self.rewrites, text, option.kind)
+        let said = self.remark_of(alloc, operand, phrase)?;
+        Ok(with_part(said, operand, phrase))
+    }
+
+    /// What is said of some words.
+    fn remarks_on(
+        &self,
+        alloc: Global,
+        operand: &[u8],
+        phrases: &[Phrase],
+    ) -> Result<Vec<(Text, Span)>, AllocError>
+        ensures { let by = self.now in
+            let remark = remark_on (whole_by by.places.now) by.rewrites by.options.now operand.now in
+            IfOk result (λ all. all.items ≡ filter_map remark phrases.now) }
+    {
+        let mut all = Vec::new(alloc);
+        for phrase in phrases {
+            let said = self.remark_on(alloc, operand, *phrase)?;
+            push_some(&mut all, said)?;
+        }
+        Ok(all)
     }
 }
 
-/// The note that says something of a part.
-#[tactic(auto, unfolding(crate::specs::Notes::note_on))]
-fn note_on(
+/// What is said of an EXEC statement.
+fn exec_remarks(
     alloc: Global,
-    found: &SourceStmt<'_>,
-    said: &[u8],
-    part: Span,
-) -> Result<Note, AllocError>
-    ensures { let it = found.now in
-        IfOk result (λ note. note ≡ note_on it.items.now it.item.now it.stmt.now said.now part) }
-{
-    let text = between(alloc, span_text(part, found.operand()), said, b"")?;
-    Ok(Note {
-        spot: found.part_spot(alloc, part)?,
-        text: Text::from_vec(text),
-    })
-}
-
-/// The note on a word and its argument, if there is one.
-fn note_of_phrase(
-    alloc: Global,
-    arguments: &Arguments<'_, '_>,
-    found: &SourceStmt<'_>,
-    phrase: Phrase,
-) -> Result<Option<Note>, AllocError>
-    ensures { let by = arguments.now in let it = found.now in
-        let due = note_of_phrase (whole_by by.places.now) by.rewrites by.options.now it.items.now it.item.now
-        it.stmt.now phrase in
-        IfOk result (λ note. note ≡ due) }
-{
-    let Some(said) = arguments.remark_on(alloc, found.operand(), phrase)? else {
-        return Ok(None);
-    };
-    let part = written_phrase(found.operand(), phrase);
-    let note = note_on(alloc, found, said.as_slice(), part)?;
-    Ok(Some(note))
-}
-
-/// Adds the notes on some words of a command.
-fn notes_of_phrases(
-    alloc: Global,
-    notes: &mut Vec<Note>,
-    arguments: &Arguments<'_, '_>,
-    found: &SourceStmt<'_>,
-    phrases: &[Phrase],
-) -> Result<(), AllocError>
-    ensures { let by = arguments.now in let it = found.now in
-        let note = note_of_phrase (whole_by by.places.now) by.rewrites by.options.now it.items.now it.item.now
-        it.stmt.now in
-        OnOk result (notes.new.items ≡ notes.old.items ++ filter_map note phrases.now) }
-{
-    for phrase in phrases {
-        let note = note_of_phrase(alloc, arguments, found, *phrase)?;
-        push_some(notes, note)?;
-    }
-    Ok(())
-}
-
-/// Adds the notes on an EXEC statement.
-fn notes_of_words(
-    alloc: Global,
-    notes: &mut Vec<Note>,
     places: &Places<'_>,
-    found: &SourceStmt<'_>,
-    words: &[Span],
-) -> Result<(), AllocError>
-    ensures { let it = found.now in
-        let more = notes_of_words (whole_by places.now) it.items.now it.item.now it.stmt.now words.now in
-        OnOk result (notes.new.items ≡ notes.old.items ++ more) }
+    operand: &[u8],
+) -> Result<Vec<(Text, Span)>, AllocError>
+    ensures { IfOk result (λ all. all.items ≡ exec_remarks (whole_by places.now) operand.now) }
 {
-    let operand = found.operand();
-    let Some((command, last)) = command_in_words(operand, words) else {
-        return Ok(());
+    let words = spans_of(alloc, Cut::Words, operand)?;
+    let Some((command, last)) = command_in_words(operand, &words) else {
+        return Ok(Vec::new(alloc));
     };
-    let words = words_after(words, last);
-    let phrases = phrases(alloc, operand, words)?;
+    let more = words_after(&words, last);
+    let phrases = phrases(alloc, operand, more)?;
     let arguments = Arguments {
         places,
-        rewrites: operand_has_word(operand, words, b"REWRITE"),
+        rewrites: operand_has_word(operand, more, b"REWRITE"),
         options: command.options(),
     };
-    notes_of_phrases(alloc, notes, &arguments, found, &phrases)
+    arguments.remarks_on(alloc, operand, &phrases)
 }
 
 /// How many copies an item of a DC has; 0 where it is none.
@@ -353,68 +362,90 @@ fn copies_place(alloc: Global, text: &[u8]) -> Result<bool, AllocError>
     if copies_of(text) < 2 {
         return Ok(false);
     }
-    let cells = cells_of(alloc, Cut::Terms, text)?;
-    let terms = spans_of(alloc, &cells)?;
+    let terms = spans_of(alloc, Cut::Terms, text)?;
     Ok(has_place(text, &terms))
 }
 
-/// The note on an item of a DC, if there is one.
-fn note_of_item(
+/// What is said of an item of a DC.
+fn copy_remark(
     alloc: Global,
-    found: &SourceStmt<'_>,
+    operand: &[u8],
     part: Span,
-) -> Result<Option<Note>, AllocError>
-    ensures { let it = found.now in
-        IfOk result (λ note. note ≡ note_of_item it.items.now it.item.now it.stmt.now part) }
+) -> Result<Option<(Text, Span)>, AllocError>
+    ensures { IfOk result (λ said. said ≡ copy_remark operand.now part) }
 {
-    if !copies_place(alloc, span_text(part, found.operand()))? {
+    if !copies_place(alloc, span_text(part, operand))? {
         return Ok(None);
     }
-    let note = note_on(alloc, found, SAME, part)?;
-    Ok(Some(note))
+    Ok(Some((Text::from_slice(alloc, SAME)?, part)))
 }
 
-/// Adds the notes on items of a DC.
-fn notes_of_items(
+/// What is said of the items of a DC.
+fn copy_remarks(alloc: Global, operand: &[u8]) -> Result<Vec<(Text, Span)>, AllocError>
+    ensures { let all = filter_map (copy_remark operand.now) (spans_of Operands operand.now) in
+        IfOk result (λ found. found.items ≡ all) }
+{
+    let parts = spans_of(alloc, Cut::Operands, operand)?;
+    let mut all = Vec::new(alloc);
+    for part in &parts {
+        let said = copy_remark(alloc, operand, *part)?;
+        push_some(&mut all, said)?;
+    }
+    Ok(all)
+}
+
+/// What is said of a statement.
+fn remarks_in(
+    alloc: Global,
+    places: &Places<'_>,
+    stmt: &Stmt,
+) -> Result<Vec<(Text, Span)>, AllocError>
+    ensures { IfOk result (λ all. all.items ≡ remarks_in (whole_by places.now) stmt.now) }
+{
+    let operation = stmt.operation.as_slice();
+    if operation == b"EXEC".as_slice() {
+        return exec_remarks(alloc, places, stmt.operand.as_slice());
+    }
+    if operation == b"DC".as_slice() {
+        return copy_remarks(alloc, stmt.operand.as_slice());
+    }
+    Ok(Vec::new(alloc))
+}
+
+/// The note that says something of a part.
+#[tactic(auto, unfolding(crate::specs::Notes::note_on))]
+fn note_on(alloc: Global, found: &SourceStmt<'_>, said: &(Text, Span)) -> Result<Note, AllocError>
+    ensures { let it = found.now in
+        IfOk result (λ note. note ≡ note_on it.items.now it.item.now it.stmt.now said.now) }
+{
+    let part = said.1;
+    let text = between(
+        alloc,
+        span_text(part, found.operand()),
+        said.0.as_slice(),
+        b"",
+    )?;
+    Ok(Note {
+        spot: found.part_spot(alloc, Some(part))?,
+        text: Text::from_vec(text),
+    })
+}
+
+/// Adds notes on a statement.
+fn push_notes(
     alloc: Global,
     notes: &mut Vec<Note>,
     found: &SourceStmt<'_>,
-    parts: &[Span],
+    remarks: &[(Text, Span)],
 ) -> Result<(), AllocError>
     ensures { let it = found.now in
-        let more = filter_map (note_of_item it.items.now it.item.now it.stmt.now) parts.now in
+        let more = map (note_on it.items.now it.item.now it.stmt.now) remarks.now in
         OnOk result (notes.new.items ≡ notes.old.items ++ more) }
 {
-    for part in parts {
-        let note = note_of_item(alloc, found, *part)?;
-        push_some(notes, note)?;
+    for said in remarks {
+        notes.push(note_on(alloc, found, said)?)?;
     }
     Ok(())
-}
-
-/// Adds the notes on a statement.
-fn notes_of_stmt(
-    alloc: Global,
-    notes: &mut Vec<Note>,
-    places: &Places<'_>,
-    found: &SourceStmt<'_>,
-) -> Result<(), AllocError>
-    ensures { let it = found.now in
-        let more = notes_of_stmt (whole_by places.now) it.items.now it.item.now it.stmt.now in
-        OnOk result (notes.new.items ≡ notes.old.items ++ more) }
-{
-    let operation = found.stmt.operation.as_slice();
-    if operation == b"EXEC".as_slice() {
-        let words = word_spans(alloc, found.operand())?;
-        notes_of_words(alloc, notes, places, found, &words)?;
-        return Ok(());
-    }
-    if operation != b"DC".as_slice() {
-        return Ok(());
-    }
-    let cells = cells_of(alloc, Cut::Operands, found.operand())?;
-    let parts = spans_of(alloc, &cells)?;
-    notes_of_items(alloc, notes, found, &parts)
 }
 
 /// Adds the notes on a line's statement.
@@ -425,25 +456,27 @@ fn notes_of_line(
     items: &[Item],
     item: &Item,
 ) -> Result<(), AllocError>
-    ensures { let more = option_map_or (notes_of_stmt (whole_by places.now) items.now item.now) item.now.stmt [] in
-        OnOk result (notes.new.items ≡ notes.old.items ++ more) }
+    ensures { let remarks = remarks_in (whole_by places.now) in
+        let more = λ (stmt : StmtValue). map (note_on items.now item.now stmt) (remarks stmt) in
+        OnOk result (notes.new.items ≡ notes.old.items ++ option_map_or more item.now.stmt []) }
 {
-    match &item.stmt {
-        Some(stmt) => notes_of_stmt(alloc, notes, places, &SourceStmt { items, item, stmt }),
-        None => Ok(()),
-    }
+    let Some(stmt) = &item.stmt else {
+        return Ok(());
+    };
+    let remarks = remarks_in(alloc, places, stmt)?;
+    push_notes(alloc, notes, &SourceStmt { items, item, stmt }, &remarks)
 }
 
 /// The notes on lines without a fault.
-#[tactic(auto, unfolding(crate::specs::Notes::notes_in, crate::specs::Notes::notes_on))]
+#[tactic(auto, unfolding(crate::specs::Notes::notes_on))]
 fn notes_in(
     alloc: Global,
     places: &Places<'_>,
     kinds: &Kinds,
     items: &[Item],
 ) -> Result<Vec<Note>, AllocError>
-    ensures { IfOk result (λ notes. notes.items
-        ≡ notes_in (whole_by places.now) (kind_at kinds.now.entries) items.now) }
+    ensures { let notes = notes_on (whole_by places.now) (kind_at kinds.now.entries) items.now in
+        IfOk result (λ found. found.items ≡ flat_map notes items.now) }
 {
     let mut notes = Vec::new(alloc);
     for item in items {
@@ -463,8 +496,8 @@ pub(crate) fn notes_placed(
     kinds: &Kinds,
 ) -> Result<Vec<Note>, AllocError>
     requires { IsPlaced (final_state placed.now.made.now) placed.now.places.now }
-    ensures { IfOk result (λ notes. notes.items
-        ≡ notes_in (whole_of placed.now.made.now) (kind_at kinds.now.entries) read.now.items) }
+    ensures { let notes = notes_on (whole_of placed.now.made.now) (kind_at kinds.now.entries) read.now.items in
+        IfOk result (λ found. found.items ≡ flat_map notes read.now.items) }
 {
     notes_in(alloc, placed.places, kinds, read.items.as_slice())
 }

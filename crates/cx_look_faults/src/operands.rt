@@ -1,19 +1,23 @@
 //! The part of a statement's operand that is at fault.
 
-ghost use Rattle.std.specs.Prelude.{◌≡◌, ◌++◌, ◌-◌, IfOk, OnOk, length, option_and_then, option_map, slice_get, unwrap_or};
+ghost use Rattle.std.specs.Prelude.{◌≡◌, ◌++◌, ◌-◌, IfOk, OnOk, Some, length, option_and_then, option_map, slice_index};
 ghost use Rattle.std.specs.List.{find, list_any};
-ghost use Rattle.cx_asm_operands.specs.Forms.{literal_in};
-ghost use Rattle.cx_asm_pass2.specs.Whole.{whole_by};
-ghost use Rattle.cx_look_faults.specs.Operands.{alone_in, begins_term, constant_part, has_name, is_later, is_term, last_part, later_part, operand_part, part_on, operand_parts_in, smallest_part, whole_part};
 ghost use Rattle.std.specs.Option.{option_or};
+ghost use Rattle.std.specs.Str.{bytes_eq};
+ghost use Rattle.cx_asm_operands.specs.Forms.{literal_in};
+ghost use Rattle.cx_asm_pass2.specs.Statements.{operation_of};
+ghost use Rattle.cx_asm_pass2.specs.Whole.{whole_by};
 ghost use Rattle.cx_look_faults.specs.Faults.{kind_at};
+ghost use Rattle.cx_look_faults.specs.Judging.{has_fault};
+ghost use Rattle.cx_look_faults.specs.Operands.{alone_in, constant_part, is_later, is_term, last_part, operand_parts_in, part_by, part_on, smallest_part, whole_part};
 ghost use Rattle.cx_look_faults.specs.Parts.Tests.{passes};
-ghost use Rattle.cx_look_faults.specs.Spans.{cells_of, span, span_text, spans_of};
+ghost use Rattle.cx_look_faults.specs.Spans.{span, span_text, spans_of};
+ghost use Rattle.cx_look_faults.specs.declared.spans.Cut.TheVariants.{Terms};
 
 use crate::faults::{Kinds, kind_at};
 use crate::judging::{Case, is_kind};
 use crate::lists::push_some;
-use crate::spans::{Cell, Cut, Span, cells_of, span_text, spans_of, with_zeros};
+use crate::spans::{Cell, Cut, Span, cells_of, is_one_of, span_text, spans_of, with_zeros};
 use cx_asm_build::SourceKind;
 use cx_asm_operands::{Bases, literal_in};
 use cx_asm_operations::{Directive, Operation};
@@ -33,18 +37,13 @@ pub struct OperandPart {
     pub part: Span,
 }
 
-/// Whether a statement has a name.
-fn has_name(statement: &Statement<'_>, name: &[u8]) -> bool
-    ensures { result ≡ has_name name.now statement.now }
-{
-    statement.stmt().name.as_slice() == name
-}
-
 /// Whether one of some statements has a name.
 fn any_has_name(statements: &[Statement<'_>], name: &[u8]) -> bool
-    ensures { result ≡ list_any (has_name name.now) statements.now }
+    ensures { result ≡ list_any (λ s. bytes_eq s.stmt.name name.now) statements.now }
 {
-    statements.iter().any(|statement| has_name(statement, name))
+    statements
+        .iter()
+        .any(|statement| statement.stmt().name.as_slice() == name)
 }
 
 /// Whether a symbol isn't known yet at a place: a statement from there on defines it, and none before.
@@ -83,16 +82,9 @@ pub(crate) enum Test<'a> {
     Term,
 }
 
-/// Whether a term begins after a character.
-fn begins_term(c: u8) -> bool
-    ensures { result ≡ begins_term c }
-{
-    c == b'(' || c == b'+' || c == b'-'
-}
-
 /// The character before a place.
 fn byte_before(text: &[u8], place: usize) -> u8
-    ensures { result ≡ unwrap_or (slice_get text.now (place - 1)) 0 }
+    ensures { result ≡ slice_index text.now (place - 1) }
 {
     match text.get(place.saturating_sub(1)) {
         Some(c) => *c,
@@ -128,7 +120,7 @@ impl Case<'_, '_, '_, '_> {
             IfOk result (λ is. is ≡ is_term (whole_by c.places.now) c.statement.now c.kind part) }
     {
         let operand = self.operand();
-        if !begins_term(byte_before(operand, part.start)) {
+        if !is_one_of(b"(+-", byte_before(operand, part.start)) {
             return Ok(false);
         }
         let fault = self.value_fault(alloc, span_text(part, operand))?;
@@ -152,18 +144,18 @@ impl Case<'_, '_, '_, '_> {
         }
     }
 
-    /// The first of the parts between these characters that passes a test.
+    /// The first part of the operand, cut in one way, that passes a test.
     fn first_part(
         &self,
         alloc: Global,
         test: Test<'_>,
-        cells: &[Cell],
+        cut: Cut,
     ) -> Result<Option<Span>, AllocError>
         ensures { let c = self.now in let whole = whole_by c.places.now in
             let does = passes whole c.bases.now c.statement.now c.kind test.entry in
-            IfOk result (λ found. found ≡ find does (spans_of cells.now)) }
+            IfOk result (λ found. found ≡ find does (spans_of cut c.statement.now.stmt.operand)) }
     {
-        let parts = spans_of(alloc, cells)?;
+        let parts = spans_of(alloc, cut, self.operand())?;
         for part in &parts {
             if self.passes(alloc, test, *part)? {
                 return Ok(Some(*part));
@@ -174,23 +166,23 @@ impl Case<'_, '_, '_, '_> {
 
     /// The first part of the operand, cut in one way, that has the fault alone.
     fn alone_in(&self, alloc: Global, cut: Cut) -> Result<Option<Span>, AllocError>
-        ensures { let c = self.now in let cells = cells_of cut c.statement.now.stmt.operand in
-            let part = alone_in (whole_by c.places.now) c.bases.now c.statement.now c.kind cells in
-            IfOk result (λ found. found ≡ part) }
+        ensures { let c = self.now in
+            let has = has_fault (whole_by c.places.now) c.bases.now c.statement.now c.kind in
+            IfOk result (λ found. found ≡ alone_in has c.statement.now.stmt.operand cut) }
     {
         let cells = cells_of(alloc, cut, self.operand())?;
         let test = Test::Alone(&cells);
         if self.passes(alloc, test, Span { start: 0, end: 0 })? {
             return Ok(None);
         }
-        self.first_part(alloc, test, &cells)
+        self.first_part(alloc, test, cut)
     }
 
     /// All of the operand, where it has the fault.
     fn whole_part(&self, alloc: Global) -> Result<Option<Span>, AllocError>
         ensures { let c = self.now in
-            let part = whole_part (whole_by c.places.now) c.bases.now c.statement.now c.kind in
-            IfOk result (λ found. found ≡ part) }
+            let has = has_fault (whole_by c.places.now) c.bases.now c.statement.now c.kind in
+            IfOk result (λ found. found ≡ whole_part has c.statement.now.stmt.operand) }
     {
         let operand = self.operand();
         if operand.is_empty() || !self.has_fault(alloc, operand)? {
@@ -205,8 +197,8 @@ impl Case<'_, '_, '_, '_> {
     /// The smallest part of the operand that has the fault alone.
     fn smallest_part(&self, alloc: Global) -> Result<Option<Span>, AllocError>
         ensures { let c = self.now in
-            let part = smallest_part (whole_by c.places.now) c.bases.now c.statement.now c.kind in
-            IfOk result (λ found. found ≡ part) }
+            let has = has_fault (whole_by c.places.now) c.bases.now c.statement.now c.kind in
+            IfOk result (λ found. found ≡ smallest_part has c.statement.now.stmt.operand) }
     {
         if let Some(part) = self.alone_in(alloc, Cut::Terms)? {
             return Ok(Some(part));
@@ -222,13 +214,12 @@ impl Case<'_, '_, '_, '_> {
 
     /// The first term that is a symbol which isn't known yet, or else all of the operand.
     fn later_part(&self, alloc: Global) -> Result<Option<Span>, AllocError>
-        ensures { let c = self.now in
-            let part = later_part c.statements.now c.at c.statement.now.stmt.operand in
-            IfOk result (λ found. found ≡ part) }
+        ensures { let c = self.now in let operand = c.statement.now.stmt.operand in
+            let later = find (λ part. is_later c.statements.now c.at (span_text part operand)) (spans_of Terms operand) in
+            IfOk result (λ found. found ≡ option_or later (Some (span 0 (length operand)))) }
     {
         let operand = self.operand();
-        let cells = cells_of(alloc, Cut::Terms, operand)?;
-        let parts = spans_of(alloc, &cells)?;
+        let parts = spans_of(alloc, Cut::Terms, operand)?;
         match first_later(self.statements, self.at, operand, &parts) {
             Some(part) => Ok(Some(part)),
             None => Ok(Some(Span {
@@ -245,7 +236,8 @@ impl Case<'_, '_, '_, '_> {
         operation: Option<Operation>,
     ) -> Result<Option<Span>, AllocError>
         ensures { let c = self.now in
-            IfOk result (λ found. found ≡ last_part c.statements.now c.at c.statement.now operation c.kind) }
+            let operand = c.statement.now.stmt.operand in
+            IfOk result (λ found. found ≡ last_part c.statements.now c.at operand operation c.kind) }
     {
         let operand = self.operand();
         match (operation, self.kind) {
@@ -263,12 +255,10 @@ impl Case<'_, '_, '_, '_> {
             let part = constant_part (whole_by c.places.now) c.bases.now c.statement.now c.kind in
             IfOk result (λ found. found ≡ part) }
     {
-        let terms = cells_of(alloc, Cut::Terms, self.operand())?;
-        if let Some(part) = self.first_part(alloc, Test::Term, &terms)? {
+        if let Some(part) = self.first_part(alloc, Test::Term, Cut::Terms)? {
             return Ok(Some(part));
         }
-        let items = cells_of(alloc, Cut::Operands, self.operand())?;
-        self.first_part(alloc, Test::Item, &items)
+        self.first_part(alloc, Test::Item, Cut::Operands)
     }
 
     /// The part of another statement's operand that has the fault, in a statement of this operation.
@@ -277,10 +267,10 @@ impl Case<'_, '_, '_, '_> {
         alloc: Global,
         operation: Option<Operation>,
     ) -> Result<Option<Span>, AllocError>
-        ensures { let c = self.now in
-            let smallest = smallest_part (whole_by c.places.now) c.bases.now c.statement.now c.kind in
-            let last = last_part c.statements.now c.at c.statement.now operation c.kind in
-            IfOk result (λ found. found ≡ option_or smallest last) }
+        ensures { let c = self.now in let operand = c.statement.now.stmt.operand in
+            let has = has_fault (whole_by c.places.now) c.bases.now c.statement.now c.kind in
+            let last = last_part c.statements.now c.at operand operation c.kind in
+            IfOk result (λ found. found ≡ option_or (smallest_part has operand) last) }
     {
         if let Some(part) = self.smallest_part(alloc)? {
             return Ok(Some(part));
@@ -289,11 +279,10 @@ impl Case<'_, '_, '_, '_> {
     }
 
     /// The part of the operand that has the fault.
-    #[tactic(auto, unfolding(crate::specs::Operands::operand_part))]
     fn part(&self, alloc: Global) -> Result<Option<Span>, AllocError>
-        ensures { let c = self.now in
-            let part = operand_part (whole_by c.places.now) c.bases.now c.statements.now c.at c.statement.now c.kind in
-            IfOk result (λ found. found ≡ part) }
+        ensures { let c = self.now in let operation = operation_of c.statement.now in
+            let by = part_by (whole_by c.places.now) c.bases.now c.statements.now c.at in
+            IfOk result (λ found. found ≡ by c.statement.now c.kind operation) }
     {
         match self.statement.operation() {
             Some(Operation::Directive(Directive::Dc | Directive::Ds)) => self.constant_part(alloc),

@@ -1,13 +1,17 @@
 //! Where the parts of a statement stand.
 
-ghost use Rattle.std.specs.Prelude.{◌≡◌, ◌≤◌, ◌+◌, ◌-◌, ◌++◌, IfOk, OnOk, drop, length, take};
+ghost use Rattle.std.specs.Prelude.{◌≡◌, ◌≤◌, ◌+◌, ◌-◌, ◌++◌, IfOk, OnOk, drop, length, take, true};
 ghost use Rattle.std.specs.List.{flat_map, position, prefix_len};
+ghost use Rattle.std.specs.Option.{option_map_or};
 ghost use Rattle.cx_source.specs.Lines.{columns, is_written};
-ghost use Rattle.cx_look_faults.specs.Faults.{continuations, is_continued_on};
-ghost use Rattle.cx_look_faults.specs.Marks.{name_spot, operand_positions, operation_column, operation_spot, part_or_operation, part_spot, positions_after, spot, spot_at, positions_written_on};
+ghost use Rattle.cx_source.specs.Statements.{is_continued};
+ghost use Rattle.cx_look_faults.specs.Faults.{continuations};
+ghost use Rattle.cx_look_faults.specs.Marks.{part_spot, positions_on, skip_unwritten, spot, spot_at};
+ghost use Rattle.cx_look_faults.specs.Parts.Names.{spot_in};
+ghost use Rattle.cx_look_faults.specs.declared.spans.Span.{Span as SpanValue};
 
 use crate::spans::Span;
-use cx_source::{Item, Stmt, is_continued, skip_blanks};
+use cx_source::{Item, Stmt, is_continued};
 use std::alloc::{AllocError, Global};
 
 /// The last column on which a statement is written.
@@ -50,9 +54,9 @@ pub(crate) fn columns(text: &[u8], first: usize, last: usize) -> &[u8]
 }
 
 /// Adds the characters of a line from a column on.
-#[tactic(auto, unfolding(crate::specs::Marks::positions_written_on))]
+#[tactic(auto, unfolding(crate::specs::Marks::positions_on))]
 fn push_written(positions: &mut Vec<Position>, first: usize, item: &Item) -> Result<(), AllocError>
-    ensures { OnOk result (positions.new.items ≡ positions.old.items ++ positions_written_on first item.now) }
+    ensures { OnOk result (positions.new.items ≡ positions.old.items ++ positions_on first item.now) }
 {
     let text = columns(item.text.as_slice(), first, LAST);
     let mut column = first;
@@ -69,7 +73,7 @@ fn push_written(positions: &mut Vec<Position>, first: usize, item: &Item) -> Res
 
 /// How many lines there are before the first that isn't continued.
 fn continued_count(items: &[Item]) -> usize
-    ensures count { result ≡ prefix_len is_continued_on items.now }
+    ensures count { result ≡ prefix_len (λ it. is_continued true it.text) items.now }
     ensures bound { result ≤ length items.now }
 {
     for (i, item) in items.iter().enumerate() {
@@ -80,22 +84,19 @@ fn continued_count(items: &[Item]) -> usize
     items.len()
 }
 
-/// The lines that continue a line, of those after it.
-pub(crate) fn continuations<'a>(item: &Item, after: &'a [Item]) -> &'a [Item]
-    ensures { result.now ≡ continuations item.now after.now }
+/// The lines that continue the one of a number.
+pub(crate) fn continuations(items: &[Item], number: usize) -> &[Item]
+    ensures { result.now ≡ continuations items.now number }
 {
-    let count = if is_continued(true, item.text.as_slice()) {
-        continued_count(after) + 1
-    } else {
-        0
-    };
-    let (lines, _) = after.split_at(after.len().min(count));
+    let (_, from) = items.split_at(items.len().min(number.saturating_sub(1)));
+    let (_, after) = items.split_at(items.len().min(number));
+    let (lines, _) = after.split_at(after.len().min(continued_count(from)));
     lines
 }
 
 /// Adds the characters of lines that continue one.
 fn push_continued(positions: &mut Vec<Position>, items: &[Item]) -> Result<(), AllocError>
-    ensures { OnOk result (positions.new.items ≡ positions.old.items ++ flat_map (positions_written_on 16) items.now) }
+    ensures { OnOk result (positions.new.items ≡ positions.old.items ++ flat_map (positions_on 16) items.now) }
 {
     for item in items {
         push_written(positions, CONTINUED, item)?;
@@ -121,13 +122,30 @@ fn first_written(positions: &[Position]) -> Option<usize>
     positions.iter().position(|position| position.byte != b' ')
 }
 
-/// A part of these characters.
-fn among(positions: &[Position], part: Span) -> &[Position]
-    ensures { result.now ≡ drop part.start (take part.end positions.now) }
+/// These characters from the first that isn't blank on.
+#[tactic(auto, using(crate::proofs::MarkLemmas::first_or_length))]
+fn skip_unwritten(all: &[Position]) -> &[Position]
+    ensures { result.now ≡ skip_unwritten all.now }
 {
-    let (front, _) = positions.split_at(positions.len().min(part.end));
-    let (_, here) = front.split_at(front.len().min(part.start));
-    here
+    let blanks = first_written(all).unwrap_or(all.len());
+    let (_, written) = all.split_at(all.len().min(blanks));
+    written
+}
+
+/// These characters before a place.
+fn before(all: &[Position], end: usize) -> &[Position]
+    ensures { result.now ≡ take end all.now }
+{
+    let (front, _) = all.split_at(all.len().min(end));
+    front
+}
+
+/// These characters from a place on.
+fn from(all: &[Position], start: usize) -> &[Position]
+    ensures { result.now ≡ drop start all.now }
+{
+    let (_, back) = all.split_at(all.len().min(start));
+    back
 }
 
 /// What there is of some characters on the first one's line.
@@ -147,6 +165,21 @@ fn spot_at(here: &[Position], otherwise: Spot) -> Spot
     }
 }
 
+/// A part of the characters of an operand, or without one those of a name.
+fn part_among<'a>(
+    operand: &'a [Position],
+    name: &'a [Position],
+    part: Option<Span>,
+) -> &'a [Position]
+    ensures { let of = λ (it : SpanValue). drop it.start (take it.end operand.now) in
+        result.now ≡ option_map_or of part name.now }
+{
+    match part {
+        Some(part) => from(before(operand, part.end), part.start),
+        None => name,
+    }
+}
+
 impl SourceStmt<'_> {
     /// The operand.
     pub(crate) fn operand(&self) -> &[u8]
@@ -155,79 +188,65 @@ impl SourceStmt<'_> {
         self.stmt.operand.as_slice()
     }
 
-    /// The name.
-    pub(crate) fn name_spot(&self) -> Spot
-        ensures { result ≡ name_spot self.now.item.now self.now.stmt.now }
+    /// The characters of the statement.
+    fn characters(&self, alloc: Global) -> Result<Vec<Position>, AllocError>
+        ensures { let it = self.now in let more = continuations it.items.now it.item.now.line in
+            IfOk result (λ all. all.items ≡ positions_on 1 it.item.now ++ flat_map (positions_on 16) more) }
     {
-        Spot {
-            line: self.item.line,
-            column: 1,
-            length: self.stmt.name.as_slice().len(),
-        }
-    }
-
-    /// The column of the operation.
-    fn operation_column(&self) -> usize
-        ensures value { result ≡ operation_column self.now.item.now self.now.stmt.now }
-        ensures bound { result ≤ 72 }
-    {
-        let body = columns(self.item.text.as_slice(), 1, LAST);
-        let (_, after) = body.split_at(body.len().min(self.stmt.name.as_slice().len()));
-        body.len() - skip_blanks(after).len() + 1
-    }
-
-    /// The operation, or where there is none the name.
-    pub(crate) fn operation_spot(&self) -> Spot
-        ensures { result ≡ operation_spot self.now.item.now self.now.stmt.now }
-    {
-        let length = self.stmt.operation.as_slice().len();
-        if length == 0 {
-            return self.name_spot();
-        }
-        Spot {
-            line: self.item.line,
-            column: self.operation_column(),
-            length,
-        }
-    }
-
-    /// The characters after the operation.
-    #[tactic(auto, unfolding(crate::specs::Marks::positions_after))]
-    fn positions_after(&self, alloc: Global) -> Result<Vec<Position>, AllocError>
-        ensures { let it = self.now in
-            IfOk result (λ all. all.items ≡ positions_after it.items.now it.item.now it.stmt.now) }
-    {
-        let first = self.operation_column() + self.stmt.operation.as_slice().len();
-        let (_, after) = self.items.split_at(self.items.len().min(self.item.line));
         let mut all = Vec::new(alloc);
-        push_written(&mut all, first, self.item)?;
-        push_continued(&mut all, continuations(self.item, after))?;
+        push_written(&mut all, 1, self.item)?;
+        push_continued(&mut all, continuations(self.items, self.item.line))?;
         Ok(all)
     }
 
-    /// A part of the operand.
-    pub(crate) fn part_spot(&self, alloc: Global, part: Span) -> Result<Spot, AllocError>
+    /// The operation, or else the name; these are the characters of the statement.
+    fn operation_spot(&self, all: &[Position]) -> Spot
+        ensures { let it = self.now.stmt.now in let name = take (length it.name) all.now in
+            let after = skip_unwritten (drop (length it.name) all.now) in
+            let named = spot_at name (spot self.now.item.now.line 1 0) in
+            result ≡ spot_at (take (length it.operation) after) named }
+    {
+        let name = self.stmt.name.as_slice().len();
+        let operation = self.stmt.operation.as_slice().len();
+        let beginning = Spot {
+            line: self.item.line,
+            column: 1,
+            length: 0,
+        };
+        let named = spot_at(before(all, name), beginning);
+        spot_at(before(skip_unwritten(from(all, name)), operation), named)
+    }
+
+    /// The characters of a part of the operand, or without one of the name; these are those of the statement.
+    fn part_of<'a>(&self, all: &'a [Position], part: Option<Span>) -> &'a [Position]
+        ensures { let it = self.now.stmt.now in let name = take (length it.name) all.now in
+            let after = skip_unwritten (drop (length it.name) all.now) in
+            let operand = skip_unwritten (drop (length it.operation) after) in
+            let of = λ (it : SpanValue). drop it.start (take it.end operand) in
+            result.now ≡ option_map_or of part name }
+    {
+        let name = self.stmt.name.as_slice().len();
+        let operation = self.stmt.operation.as_slice().len();
+        let after = skip_unwritten(from(all, name));
+        let operand = skip_unwritten(from(after, operation));
+        part_among(operand, before(all, name), part)
+    }
+
+    /// The part of the operand, or without one the name; of what has no character the operation, or else the name. These
+    /// are the characters of the statement.
+    fn spot_in(&self, all: &[Position], part: Option<Span>) -> Spot
+        ensures { result ≡ spot_in self.now.item.now.line self.now.stmt.now part all.now }
+    {
+        spot_at(self.part_of(all, part), self.operation_spot(all))
+    }
+
+    /// A part of the operand, or without one the name; of what has no character the operation, or else the name.
+    #[tactic(auto, unfolding(crate::specs::Marks::part_spot))]
+    pub(crate) fn part_spot(&self, alloc: Global, part: Option<Span>) -> Result<Spot, AllocError>
         ensures { let it = self.now in
             IfOk result (λ spot. spot ≡ part_spot it.items.now it.item.now it.stmt.now part) }
     {
-        let all = self.positions_after(alloc)?;
-        let blanks = first_written(&all).unwrap_or(all.len());
-        let (_, operand) = all.split_at(all.len().min(blanks));
-        Ok(spot_at(among(operand, part), self.operation_spot()))
-    }
-
-    /// A part of the operand, or the operation.
-    pub(crate) fn part_or_operation(
-        &self,
-        alloc: Global,
-        part: Option<Span>,
-    ) -> Result<Spot, AllocError>
-        ensures { let it = self.now in
-            IfOk result (λ spot. spot ≡ part_or_operation it.items.now it.item.now it.stmt.now part) }
-    {
-        match part {
-            Some(part) => self.part_spot(alloc, part),
-            None => Ok(self.operation_spot()),
-        }
+        let all = self.characters(alloc)?;
+        Ok(self.spot_in(&all, part))
     }
 }

@@ -3,7 +3,11 @@
 ghost use Rattle.std.specs.Prelude.{◌≡◌, ◌++◌, ◌&&◌, ◌==◌, false, length, nat_lt, None, not, OnOk, option_map, reverse};
 ghost use Rattle.std.specs.List.{find, list_any};
 ghost use Rattle.std.specs.Option.{option_map_or};
-ghost use Rattle.cx_look_faults.specs.Faults.{begins_any, begins_before, begins_named, begins_on, is_adrift, is_due, is_late, is_outside, section_before, unknown_after, without_adrift};
+ghost use Rattle.cx_asm_build.specs.declared.faults.SourceKind.TheVariants as sourcekind;
+ghost use Rattle.cx_source.specs.declared.source.Item.{Item as ItemValue};
+ghost use Rattle.cx_source.specs.declared.source.Stmt.{Stmt as StmtValue};
+ghost use Rattle.cx_translate.specs.Sections.{begins_section};
+ghost use Rattle.cx_look_faults.specs.Faults.{begins_any, is_due, is_late, is_outside, is_same, unknown_after, without_adrift};
 
 use crate::bases::{begins_any, begins_section};
 use crate::faults::FaultyLine;
@@ -13,7 +17,8 @@ use std::alloc::AllocError;
 
 /// The last line before this one on which a section begins.
 fn section_before(items: &[Item], number: usize) -> Option<&Item>
-    ensures { option_map (λ item. item.now) result ≡ section_before items.now number }
+    ensures { option_map (λ item. item.now) result
+        ≡ find (λ item. nat_lt item.line number && begins_any item) (reverse items.now) }
 {
     items
         .iter()
@@ -32,9 +37,9 @@ fn is_outside(items: &[Item], unknown: usize, number: usize) -> bool
 }
 
 /// Whether a fault is BadOperand after an unknown operation outside the control section.
-#[tactic(auto, unfolding(crate::specs::Faults::is_adrift))]
 fn is_adrift(items: &[Item], unknown: Option<usize>, fault: FaultyLine) -> bool
-    ensures { result ≡ is_adrift items.now unknown fault }
+    ensures { let is_adrift = option_map_or (λ line. is_outside items.now line fault.line) unknown false in
+        result ≡ (is_same fault.kind sourcekind.BadOperand && is_adrift) }
 {
     match (fault.kind, unknown) {
         (SourceKind::BadOperand, Some(line)) => is_outside(items, line, fault.line),
@@ -44,7 +49,8 @@ fn is_adrift(items: &[Item], unknown: Option<usize>, fault: FaultyLine) -> bool
 
 /// Whether the control section begins on a line, with a name.
 fn begins_named(item: &Item) -> bool
-    ensures { result ≡ begins_named item.now }
+    ensures { let is_named = option_map_or (λ (s : StmtValue). not (length s.name == 0)) item.now.stmt false in
+        result ≡ (begins_section item.now && is_named) }
 {
     match &item.stmt {
         Some(stmt) => begins_section(item) && !stmt.name.as_slice().is_empty(),
@@ -54,7 +60,7 @@ fn begins_named(item: &Item) -> bool
 
 /// Whether the control section begins before a line.
 fn begins_before(items: &[Item], number: usize) -> bool
-    ensures { result ≡ begins_before items.now number }
+    ensures { result ≡ list_any (λ item. nat_lt item.line number && begins_section item) items.now }
 {
     items
         .iter()
@@ -63,7 +69,9 @@ fn begins_before(items: &[Item], number: usize) -> bool
 
 /// Whether the control section begins on a line, with a name.
 fn begins_on(items: &[Item], number: usize) -> bool
-    ensures { result ≡ begins_on items.now number }
+    ensures { let is_named = λ (item : ItemValue).
+        option_map_or (λ (s : StmtValue). not (length s.name == 0)) item.stmt false in
+        result ≡ list_any (λ item. item.line == number && begins_section item && is_named item) items.now }
 {
     items
         .iter()
@@ -71,9 +79,8 @@ fn begins_on(items: &[Item], number: usize) -> bool
 }
 
 /// Whether a fault is BadOperand of the first CSECT or START.
-#[tactic(auto, unfolding(crate::specs::Faults::is_late))]
 fn is_late(items: &[Item], fault: FaultyLine) -> bool
-    ensures { result ≡ is_late items.now fault }
+    ensures { result ≡ (is_same fault.kind sourcekind.BadOperand && is_late items.now fault.line) }
 {
     match fault.kind {
         SourceKind::BadOperand => {
@@ -84,6 +91,7 @@ fn is_late(items: &[Item], fault: FaultyLine) -> bool
 }
 
 /// Whether a fault is due to a line before, where there is one with a fault.
+#[tactic(auto, unfolding(crate::specs::Faults::is_due))]
 fn is_due(items: &[Item], met: bool, unknown: Option<usize>, fault: FaultyLine) -> bool
     ensures { result ≡ is_due items.now met unknown fault }
 {
@@ -92,7 +100,7 @@ fn is_due(items: &[Item], met: bool, unknown: Option<usize>, fault: FaultyLine) 
 
 /// The line of an unknown operation after which there was no BadOperand, after one more fault.
 fn unknown_after(before: Option<usize>, fault: FaultyLine) -> Option<usize>
-    ensures { result ≡ unknown_after before fault.line fault.kind }
+    ensures { result ≡ unknown_after before fault }
 {
     match fault.kind {
         SourceKind::UnknownOperation => Some(fault.line),

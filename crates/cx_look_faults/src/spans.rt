@@ -1,10 +1,10 @@
 //! Texts cut into parts, and what a part is by itself.
 
-ghost use Rattle.std.specs.Prelude.{◌≡◌, ◌≤◌, ◌<◌, ◌+◌, ◌++◌, ◌^◌, IfOk, OnOk, drop, false, option_map, slice_get, take, true, unwrap_or};
+ghost use Rattle.std.specs.Prelude.{◌≡◌, ◌≤◌, ◌<◌, ◌+◌, ◌∷◌, ◌++◌, ◌&&◌, ◌^◌, [], IfOk, OnOk, drop, false, filter, nat_le, nat_lt, option_map, slice_get, take, true, unwrap_or};
 ghost use Rattle.std.specs.List.{list_any};
 ghost use Rattle.cx_source.specs.Marks.{outside_apostrophes};
 ghost use Rattle.cx_translate.specs.Pieces.{depth_after};
-ghost use Rattle.cx_look_faults.specs.Spans.{cell, cells_from, cells_of, is_covered, span_covers, separates, span, spans_from, spans_of, span_text, with_zeros, nonempty_span, zeros_from};
+ghost use Rattle.cx_look_faults.specs.Spans.{cells_from, cells_of, is_one_of, separates, span, spans_from, spans_of, span_text, zeros_from};
 
 use cx_source::outside;
 use std::alloc::{AllocError, Global};
@@ -54,16 +54,22 @@ fn depth_after(depth: usize, is_outside: bool, c: u8) -> usize
     }
 }
 
+/// Whether a character is one of some.
+pub(crate) fn is_one_of(some: &[u8], c: u8) -> bool
+    ensures { result ≡ is_one_of some.now c }
+{
+    some.iter().any(|one| *one == c)
+}
+
 /// Whether a character separates parts.
 fn separates(cut: Cut, depth: usize, is_outside: bool, c: u8) -> bool
     ensures { result ≡ separates cut depth is_outside c }
 {
-    let is_bracket = c == b'(' || c == b')';
     match cut {
-        Cut::Words => depth != 0 || (is_outside && (c == b' ' || is_bracket)),
+        Cut::Words => depth != 0 || (is_outside && is_one_of(b" ()", c)),
         Cut::Operands => is_outside && depth == 0 && c == b',',
-        Cut::Subfields => is_outside && (c == b',' || is_bracket),
-        Cut::Terms => is_outside && (c == b',' || is_bracket || c == b'+' || c == b'-'),
+        Cut::Subfields => is_outside && is_one_of(b",()", c),
+        Cut::Terms => is_outside && is_one_of(b",()+-", c),
     }
 }
 
@@ -97,7 +103,8 @@ pub(crate) fn cells_of(alloc: Global, cut: Cut, text: &[u8]) -> Result<Vec<Cell>
 
 /// Adds a part that isn't empty.
 fn push_written(spans: &mut Vec<Span>, start: usize, end: usize) -> Result<(), AllocError>
-    ensures { OnOk result (spans.new.items ≡ spans.old.items ++ nonempty_span start end) }
+    ensures { let found = filter (λ part. nat_lt part.start part.end) (span start end ∷ []) in
+        OnOk result (spans.new.items ≡ spans.old.items ++ found) }
 {
     if start < end {
         spans.push(Span { start, end })?;
@@ -105,9 +112,10 @@ fn push_written(spans: &mut Vec<Span>, start: usize, end: usize) -> Result<(), A
     Ok(())
 }
 
-/// The parts of a text that aren't empty.
-pub(crate) fn spans_of(alloc: Global, cells: &[Cell]) -> Result<Vec<Span>, AllocError>
-    ensures { IfOk result (λ spans. spans.items ≡ spans_of cells.now) }
+/// The parts between these characters that aren't empty.
+fn spans_between(alloc: Global, cells: &[Cell]) -> Result<Vec<Span>, AllocError>
+    ensures { let found = filter (λ part. nat_lt part.start part.end) (spans_from 0 0 cells.now) in
+        IfOk result (λ spans. spans.items ≡ found) }
 {
     let mut spans = Vec::new(alloc);
     let mut start = 0;
@@ -121,18 +129,19 @@ pub(crate) fn spans_of(alloc: Global, cells: &[Cell]) -> Result<Vec<Span>, Alloc
     Ok(spans)
 }
 
-/// Whether a place is in a part.
-fn span_covers(span: Span, at: usize) -> bool
-    ensures { result ≡ span_covers span at }
+/// The parts of a text that aren't empty.
+pub(crate) fn spans_of(alloc: Global, cut: Cut, text: &[u8]) -> Result<Vec<Span>, AllocError>
+    ensures { IfOk result (λ spans. spans.items ≡ spans_of cut text.now) }
 {
-    span.start <= at && at < span.end
+    let cells = cells_of(alloc, cut, text)?;
+    spans_between(alloc, &cells)
 }
 
 /// Whether a place is in one of some parts.
 fn is_covered(kept: &[Span], at: usize) -> bool
-    ensures { result ≡ is_covered kept.now at }
+    ensures { result ≡ list_any (λ part. nat_le part.start at && nat_lt at part.end) kept.now }
 {
-    kept.iter().any(|part| span_covers(*part, at))
+    kept.iter().any(|part| part.start <= at && at < part.end)
 }
 
 /// A text with 0 in place of each of its parts but some.
@@ -141,7 +150,7 @@ pub(crate) fn with_zeros(
     kept: &[Span],
     cells: &[Cell],
 ) -> Result<Vec<u8>, AllocError>
-    ensures { IfOk result (λ text. text.items ≡ with_zeros kept.now cells.now) }
+    ensures { IfOk result (λ text. text.items ≡ zeros_from kept.now true 0 cells.now) }
 {
     let mut text = Vec::new(alloc);
     let mut is_new = true;
