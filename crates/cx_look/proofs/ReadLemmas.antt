@@ -15,7 +15,8 @@ use Rattle.cx_script_actions.specs.declared.actions.Line.{Line}
 use Rattle.cx_script_actions.specs.declared.actions.Line.TheVariants as line
 use Rattle.cx_script_actions.specs.declared.actions.ChoicesAsked.{ChoicesAsked}
 use Rattle.cx_script_actions.specs.declared.actions.OrdersAsked.{OrdersAsked}
-use Rattle.cx_look.specs.Choices.{choice_of, choices_block, choices_in, lines_meant}
+use Rattle.cx_look.specs.Choices.{choice_of, choices_block, lines_meant}
+use Rattle.cx_look.specs.Parts.{choices_in}
 use Rattle.cx_look.specs.Laws.{IsAskedByItsLine}
 use Rattle.cx_look.specs.Orders.{event_in, is_key, key_in, key_line_of, keys_in, orders_block, orders_line_of, sight_of}
 use Rattle.cx_look.specs.declared.orders.OrdersLine.TheVariants as says

@@ -12,21 +12,19 @@ use Rattle.cx_look.specs.Sets.{texts_meant}
 use Rattle.cx_look.specs.declared.choices.ChoicesBlock.{ChoicesBlock}
 
 -- ---- what follows the word
--- the most keys of a list: 1 to 64
-abbrev pub keys_asked : List ℕ → Option ℕ
-keys_asked text = option_and_then (at_most 64) (number_with_digits 1 2 text)
-
--- and the most states, after which ONE NUMBER may follow
+-- the most keys of a list, and the most states, after which ONE NUMBER may follow
 abbrev pub choices_with_keys : ℕ → Option (List ℕ) → Option ChoicesAsked
 choices_with_keys keys rest =
     option_map
     (λ asked. let it : ChoicesAsked = record { keys = keys; most = asked.0; one_number = asked.1 } in it)
     (states_and (codes "ONE NUMBER") rest)
 
+-- a list has 1 to 64 keys
 abbrev pub choices_asked : Option (List ℕ) → Option ChoicesAsked
 choices_asked None = None
 choices_asked (Some text) =
-    option_and_then (λ keys. choices_with_keys keys (after_first_blank text)) (keys_asked (word text))
+    option_and_then (λ keys. choices_with_keys keys (after_first_blank text))
+    (option_and_then (at_most 64) (number_with_digits 1 2 (word text)))
 
 -- ---- a line of the block
 -- the lines that a KEY line stands for: KEY, and each text that what follows it stands for
@@ -46,30 +44,25 @@ unfoldable pub asks_keys : List ℕ → Bool
 asks_keys text =
     not (length (lines_meant text) == 0) && list_all (λ line. is_some (choice_of line)) (lines_meant text)
 
--- a line says which keys can be pressed, or what is to be seen of a state, as a line of ORDERS does
-abbrev pub is_choices_line : List ℕ → Bool
-is_choices_line text = if is_key text then asks_keys text else is_some (sight_of text)
-
 -- ---- the block
 -- at most 256 KEY lines and 64 others, and the KEY lines stand for at most 10,000 lines
 abbrev pub choices_have_room : List (List ℕ) → List ℕ → Bool
 choices_have_room lines text =
     block_has_room lines text && nat_le (length (flat_map lines_meant (lines ++ text ∷ []))) 10000
 
--- The lines of the block with one more, where it may have that line: empty lines and comments aren't kept.
+-- The lines of the block with one more, where it may have that line: empty lines and comments aren't kept. A line says
+-- which keys can be pressed, or what is to be seen of a state, as a line of ORDERS does.
 unfoldable pub choices_with : List (List ℕ) → List ℕ → Option (List (List ℕ))
 choices_with lines text =
+    let is_one = if is_key text then asks_keys text else is_some (sight_of text) in
     if is_blank_or_comment text then Some lines
-    else if choices_have_room lines text && is_choices_line text then Some (lines ++ text ∷ []) else None
-
-abbrev pub choices_in : List ℕ → List KeyLine
-choices_in text = filter_map choice_of (lines_meant text)
+    else if choices_have_room lines text && is_one then Some (lines ++ text ∷ []) else None
 
 -- What the block asks, by what its first line asks: the keys, and what is to be seen, in the order of its lines.
 unfoldable pub choices_block : ChoicesAsked → List (List ℕ) → ChoicesBlock
 choices_block asked lines =
     record {
       asked = asked;
-      choices = flat_map choices_in lines;
+      choices = flat_map (λ l. filter_map choice_of (lines_meant l)) lines;
       sights = flat_map (λ l. sights_in (orders_line_of l)) lines;
     }

@@ -1,6 +1,6 @@
 -- What a line that looks at a region asks (own).
 use Rattle.std.specs.Prelude.{ℕ, ◌==◌, ◌&&◌, nat_le, if◌then◌else◌, Option, Some, None, List, [], ◌∷◌, length, codes}
-use Rattle.std.specs.List.{find}
+use Rattle.std.specs.Map.{lookup}
 use Rattle.std.specs.Option.{option_and_then, option_map}
 use Rattle.std.specs.Str.{bytes_eq}
 use Rattle.cx_ebcdic.specs.Names.{padded_name}
@@ -12,44 +12,20 @@ use Rattle.cx_look.specs.declared.look.Subject.{Subject}
 use Rattle.cx_look.specs.declared.look.Subject.TheVariants as subject
 
 -- the word that a look at each subject begins with, and the words that begin other lines of `cicslook`
-abbrev pub subject_name : Subject → List ℕ
-subject_name subject.Storage = codes "STORAGE"
-subject_name subject.Where = codes "WHERE"
-subject_name subject.Areas = codes "AREAS"
-subject_name subject.Task = codes "TASK"
-subject_name subject.Tasks = codes "TASKS"
-subject_name subject.Abend = codes "ABEND"
-subject_name subject.Queues = codes "QUEUES"
-subject_name subject.Queue = codes "QUEUE"
-subject_name subject.Resources = codes "RESOURCES"
-subject_name subject.Programs = codes "PROGRAMS"
-subject_name subject.Command = codes "COMMAND"
-subject_name subject.Ahead = codes "AHEAD"
-subject_name subject.Symbol = codes "SYMBOL"
-subject_name subject.Symbols = codes "SYMBOLS"
-subject_name subject.Xref = codes "XREF"
-subject_name subject.Terminals = codes "TERMINALS"
-subject_name subject.Field = codes "FIELD"
-subject_name subject.Fields = codes "FIELDS"
-subject_name subject.Run = codes "RUN"
-subject_name subject.Watch = codes "WATCH"
-subject_name subject.Cover = codes "COVER"
-subject_name subject.Covered = codes "COVERED"
-subject_name subject.Faults = codes "FAULTS"
-subject_name subject.Orders = codes "ORDERS"
-subject_name subject.Choices = codes "CHOICES"
-subject_name subject.Help = codes "HELP"
-
-abbrev pub subjects : List Subject
+abbrev pub subjects : List (List ℕ × Subject)
 subjects =
-    subject.Storage ∷ subject.Where ∷ subject.Areas ∷ subject.Task ∷ subject.Tasks ∷ subject.Abend ∷ subject.Queues
-    ∷ subject.Queue ∷ subject.Resources ∷ subject.Programs ∷ subject.Command ∷ subject.Ahead ∷ subject.Symbol
-    ∷ subject.Symbols ∷ subject.Xref ∷ subject.Terminals ∷ subject.Field ∷ subject.Fields ∷ subject.Run
-    ∷ subject.Watch ∷ subject.Cover ∷ subject.Covered ∷ subject.Faults ∷ subject.Orders ∷ subject.Choices
-    ∷ subject.Help ∷ []
+    (codes "STORAGE", subject.Storage) ∷ (codes "WHERE", subject.Where) ∷ (codes "AREAS", subject.Areas)
+    ∷ (codes "TASK", subject.Task) ∷ (codes "TASKS", subject.Tasks) ∷ (codes "ABEND", subject.Abend)
+    ∷ (codes "QUEUES", subject.Queues) ∷ (codes "QUEUE", subject.Queue) ∷ (codes "RESOURCES", subject.Resources)
+    ∷ (codes "PROGRAMS", subject.Programs) ∷ (codes "COMMAND", subject.Command) ∷ (codes "AHEAD", subject.Ahead)
+    ∷ (codes "SYMBOL", subject.Symbol) ∷ (codes "SYMBOLS", subject.Symbols) ∷ (codes "XREF", subject.Xref)
+    ∷ (codes "TERMINALS", subject.Terminals) ∷ (codes "FIELD", subject.Field) ∷ (codes "FIELDS", subject.Fields)
+    ∷ (codes "RUN", subject.Run) ∷ (codes "WATCH", subject.Watch) ∷ (codes "COVER", subject.Cover)
+    ∷ (codes "COVERED", subject.Covered) ∷ (codes "FAULTS", subject.Faults) ∷ (codes "ORDERS", subject.Orders)
+    ∷ (codes "CHOICES", subject.Choices) ∷ (codes "HELP", subject.Help) ∷ []
 
 unfoldable pub subject_of : List ℕ → Option Subject
-subject_of text = find (λ s. bytes_eq (subject_name s) text) subjects
+subject_of text = lookup (λ word. bytes_eq word text) subjects
 
 -- a number in decimal digits from 1 to a most
 abbrev pub at_most : ℕ → ℕ → Option ℕ
@@ -72,28 +48,20 @@ abbrev pub level_asked_for : Option (List ℕ) → Option (Option ℕ)
 level_asked_for None = Some None
 level_asked_for (Some text) = option_map (λ k. Some k) (count_up_to 16 text)
 
--- a field of a level of a terminal's task, and all of them
+-- a field of a level of a terminal's task
 abbrev pub field_look : List ℕ → List ℕ → Option Look
 field_look term text =
     option_and_then (λ name. option_map (look.Field term name) (level_asked_for (after_first_blank text)))
     (padded_name 8 (word text))
 
-abbrev pub fields_look : List ℕ → Option (List ℕ) → Option Look
-fields_look term text = option_map (look.Fields term) (level_asked_for text)
-
 -- the next turn of a terminal: where it comes to a line of a program's source, or with the last so many of its
 -- instructions, 1 to 256; 16 without a number
-abbrev pub line_look : List ℕ → List ℕ → Option Look
-line_look term text = two_words (look.AheadAt term) (padded_name 8) (count_up_to 99999) text
-
-abbrev pub ahead_with : List ℕ → List ℕ → Option Look
-ahead_with term text =
-    if bytes_eq (word text) (codes "AT") then option_and_then (line_look term) (after_first_blank text)
-    else option_map (look.Ahead term) (count_up_to 256 text)
-
 abbrev pub ahead_look : List ℕ → Option (List ℕ) → Option Look
 ahead_look term None = Some (look.Ahead term 16)
-ahead_look term (Some text) = ahead_with term text
+ahead_look term (Some text) =
+    if bytes_eq (word text) (codes "AT")
+    then option_and_then (two_words (look.AheadAt term) (padded_name 8) (count_up_to 99999)) (after_first_blank text)
+    else option_map (look.Ahead term) (count_up_to 256 text)
 
 -- the last abend of a terminal, its storage, or its fields
 abbrev pub abend_look : List ℕ → Option (List ℕ) → Option Look
@@ -107,6 +75,10 @@ abbrev pub covered_look : List ℕ → Option (List ℕ) → Option Look
 covered_look program None = Some (look.Covered program)
 covered_look program (Some text) = if bytes_eq text (codes "LINES") then Some (look.CoveredLines program) else None
 
+-- what is asked of a name, the first word of a text, by the words after it
+abbrev pub named_look : (List ℕ → Option (List ℕ)) → (List ℕ → Option (List ℕ) → Option Look) → List ℕ → Option Look
+named_look name_of look text = option_and_then (λ name. look name (after_first_blank text)) (name_of (word text))
+
 -- a look by its first word, and by the words after it where there are some
 unfoldable pub look_by_word : Subject → Option (List ℕ) → Option Look
 look_by_word subject.Storage (Some text) = two_words look.Storage (hex_number 3) (count_up_to 4096) text
@@ -115,16 +87,13 @@ look_by_word subject.Areas None = Some look.Areas
 look_by_word subject.Areas (Some text) = option_map (λ name. look.AreasOf name) (padded_name 4 text)
 look_by_word subject.Task (Some text) = option_map (λ name. look.Task name) (padded_name 4 text)
 look_by_word subject.Tasks None = Some look.Tasks
-look_by_word subject.Abend (Some text) =
-    option_and_then (λ name. abend_look name (after_first_blank text)) (padded_name 4 (word text))
+look_by_word subject.Abend (Some text) = named_look (padded_name 4) abend_look text
 look_by_word subject.Queues None = Some look.Queues
-look_by_word subject.Queue (Some text) =
-    option_and_then (λ name. queue_look name (after_first_blank text)) (queue_name_of (word text))
+look_by_word subject.Queue (Some text) = named_look queue_name_of queue_look text
 look_by_word subject.Resources None = Some look.Resources
 look_by_word subject.Programs None = Some look.Programs
 look_by_word subject.Command (Some text) = option_map (λ name. look.Command name) (padded_name 4 text)
-look_by_word subject.Ahead (Some text) =
-    option_and_then (λ term. ahead_look term (after_first_blank text)) (padded_name 4 (word text))
+look_by_word subject.Ahead (Some text) = named_look (padded_name 4) ahead_look text
 look_by_word subject.Symbol (Some text) = two_words look.Symbol (padded_name 8) (padded_name 8) text
 look_by_word subject.Symbols (Some text) = option_map (λ name. look.Symbols name) (padded_name 8 text)
 look_by_word subject.Xref (Some text) = option_map (λ name. look.Xref name) (padded_name 8 text)
@@ -132,10 +101,9 @@ look_by_word subject.Terminals None = Some look.Terminals
 look_by_word subject.Field (Some text) =
     option_and_then (λ term. option_and_then (field_look term) (after_first_blank text)) (padded_name 4 (word text))
 look_by_word subject.Fields (Some text) =
-    option_and_then (λ term. fields_look term (after_first_blank text)) (padded_name 4 (word text))
+    named_look (padded_name 4) (λ term rest. option_map (look.Fields term) (level_asked_for rest)) text
 look_by_word subject.Covered None = Some look.CoveredAll
-look_by_word subject.Covered (Some text) =
-    option_and_then (λ program. covered_look program (after_first_blank text)) (padded_name 8 (word text))
+look_by_word subject.Covered (Some text) = named_look (padded_name 8) covered_look text
 look_by_word subject.Help None = Some (look.Help None)
 look_by_word subject.Help (Some text) = option_map (λ s. look.Help (Some s)) (subject_of text)
 look_by_word _ _ = None

@@ -26,10 +26,6 @@ use Rattle.cx_look.specs.declared.orders.Sight.{Sight}
 use Rattle.cx_look.specs.declared.orders.Sight.TheVariants as sight
 
 -- ---- what follows the word
--- a number of states: 1 to 1,000,000
-abbrev pub states_of : List ℕ → Option ℕ
-states_of text = option_and_then (at_most 1000000) (number_with_digits 1 7 text)
-
 -- whether these words are said, where something is
 abbrev pub are_said : List ℕ → Option (List ℕ) → Option Bool
 are_said words None = Some false
@@ -38,11 +34,12 @@ are_said words (Some text) = if bytes_eq text words then Some true else None
 abbrev pub with_states : ℕ → List ℕ → Option (List ℕ) → Option (ℕ × Bool)
 with_states n words rest = option_map (λ said. (n, said)) (are_said words rest)
 
--- the most states, 10,000 where no number says so, and whether these words follow
+-- the most states, 1 to 1,000,000, 10,000 where no number says so, and whether these words follow
 abbrev pub states_and : List ℕ → Option (List ℕ) → Option (ℕ × Bool)
 states_and words None = with_states 10000 words None
 states_and words (Some text) =
-    option_map_or (λ n. with_states n words (after_first_blank text)) (states_of (word text))
+    option_map_or (λ n. with_states n words (after_first_blank text))
+    (option_and_then (at_most 1000000) (number_with_digits 1 7 (word text)))
     (with_states 10000 words (Some text))
 
 abbrev pub orders_asked : Option (List ℕ) → Option OrdersAsked

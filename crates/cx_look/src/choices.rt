@@ -1,5 +1,5 @@
 //! CHOICES: which lines its block may have, and what they ask.
-ghost use Rattle.std.specs.Prelude.{◌≡◌, ◌≤◌, ◌<◌, ◌∷◌, ◌++◌, [], IfOk, IfSome, OnErr, OnOk, codes, false, is_some, length, nat_le, slice_index_or, true};
+ghost use Rattle.std.specs.Prelude.{◌≡◌, ◌≤◌, ◌<◌, ◌∷◌, ◌++◌, [], IfOk, IfSome, OnErr, OnOk, codes, false, is_some, length, nat_le, slice_index_or, true, if◌then◌else◌, option_and_then};
 ghost use Rattle.std.specs.List.{AllByRecursion, find, flat_map, list_all};
 ghost use Rattle.std.specs.Option.{option_copied};
 ghost use Rattle.std.specs.Str.{bytes_eq};
@@ -7,7 +7,11 @@ ghost use Rattle.cx_ebcdic.specs.Aids.{key_of};
 ghost use Rattle.cx_ebcdic.specs.Characters.{code_of};
 ghost use Rattle.cx_script_actions.specs.Actions.{aid_of, is_blank_or_comment, line_asked_for};
 ghost use Rattle.cx_script_actions.specs.Words.{codes_of_key};
-ghost use Rattle.cx_look.specs.Choices.{asks_keys, choice_of, choices_asked, choices_block, choices_have_room, choices_in, choices_with, choices_with_keys, is_choices_line, keys_asked, lines_meant};
+ghost use Rattle.cx_look.specs.Choices.{asks_keys, choice_of, choices_asked, choices_block, choices_have_room, choices_with, choices_with_keys, lines_meant};
+ghost use Rattle.cx_look.specs.Parts.{choices_in};
+ghost use Rattle.cx_look.specs.Looks.{at_most};
+ghost use Rattle.cx_look.specs.Orders.{is_key, sight_of};
+ghost use Rattle.cx_script_actions.specs.Words.{number_with_digits};
 ghost use Rattle.cx_look.specs.Orders.{is_key, key_line_of};
 ghost use Rattle.cx_look.specs.Parts.{IsPut, few};
 ghost use Rattle.cx_orders.specs.Moves.{IsFew};
@@ -45,7 +49,7 @@ pub struct ChoicesBlock {
 /// The most keys of a list that a word says: 1 to 64.
 #[tactic(auto, using(std::proofs::lemmas::Bool::Decides::nat_tests))]
 fn keys_asked(word: &[u8]) -> Option<u32>
-    ensures { result ≡ keys_asked word.now }
+    ensures { result ≡ option_and_then (at_most 64) (number_with_digits 1 2 word.now) }
 {
     let n = number(word, 1, 2)?;
     if n < 1 || n > MOST_IN_LIST {
@@ -198,7 +202,7 @@ fn asks_keys(text: &[u8]) -> bool
 
 /// Whether a line, which is neither empty nor a comment, may stand in the block where this has room.
 fn is_choices_line(text: &[u8]) -> bool
-    ensures { result ≡ is_choices_line text.now }
+    ensures { result ≡ (if is_key text.now then asks_keys text.now else is_some (sight_of text.now)) }
 {
     if is_key(text) {
         asks_keys(text)

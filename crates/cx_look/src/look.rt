@@ -4,7 +4,11 @@ ghost use Rattle.std.specs.List.{find};
 ghost use Rattle.std.specs.Option.{option_copied};
 ghost use Rattle.std.specs.Str.{bytes_eq};
 ghost use Rattle.cx_script_actions.specs.Words.{hex_bytes};
-ghost use Rattle.cx_look.specs.Looks.{abend_look, ahead_look, ahead_with, count_up_to, covered_look, field_look, level_asked_for, line_look, look_of, look_by_word, queue_look, queue_name_of, subject_name, subject_of};
+ghost use Rattle.cx_look.specs.Looks.{abend_look, ahead_look, count_up_to, covered_look, field_look, level_asked_for, look_of, look_by_word, queue_look, queue_name_of, subject_of};
+ghost use Rattle.cx_look.specs.Parts.{subject_name};
+ghost use Rattle.cx_look.specs.declared.look.Look.TheVariants as look;
+ghost use Rattle.cx_ebcdic.specs.Names.{padded_name};
+ghost use Rattle.cx_script_actions.specs.Words.{two_words};
 ghost use Rattle.cx_look.specs.declared.look.Subject.TheVariants as subject;
 
 use cx_base::List;
@@ -410,7 +414,7 @@ fn abend(text: &[u8]) -> Option<Look>
 
 /// A line of a source to which the next turn of a terminal comes, by its program and its number.
 fn line_look(term: Name4, text: &[u8]) -> Option<Look>
-    ensures { result ≡ line_look term text.now }
+    ensures { result ≡ two_words (look.AheadAt term) (padded_name 8) (count_up_to 99999) text.now }
 {
     let (word, rest) = split_word(text);
     let program = name8(word)?;
@@ -420,7 +424,7 @@ fn line_look(term: Name4, text: &[u8]) -> Option<Look>
 
 /// The next turn of a terminal, by the words after the terminal.
 fn ahead_with(term: Name4, text: &[u8]) -> Option<Look>
-    ensures { result ≡ ahead_with term text.now }
+    ensures { result ≡ ahead_look term (Some text.now) }
 {
     let (first, rest) = split_word(text);
     if first == b"AT".as_slice() {

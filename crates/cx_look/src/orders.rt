@@ -1,12 +1,14 @@
 //! ORDERS: which lines its block may have, and what they ask.
-ghost use Rattle.std.specs.Prelude.{◌≡◌, ◌≤◌, IfOk, IfSome, OnErr, count_by, false, is_some, length, map, not, true};
+ghost use Rattle.std.specs.Prelude.{◌≡◌, ◌≤◌, IfOk, IfSome, OnErr, count_by, false, is_some, length, map, not, true, option_and_then};
 ghost use Rattle.std.specs.Char.{to_ascii_uppercase};
 ghost use Rattle.std.specs.List.{AllByRecursion, flat_map};
 ghost use Rattle.std.specs.Option.{option_copied};
 ghost use Rattle.cx_edf.specs.Runs.{IsAllowedEdf};
 ghost use Rattle.cx_script_actions.specs.Actions.{is_blank_or_comment};
 ghost use Rattle.cx_script_actions.specs.Allowed.{IsAllowedAction, IsAllowedLine};
-ghost use Rattle.cx_look.specs.Orders.{are_said, event_in, block_has_room, is_key, is_sight, key_in, key_line_of, keys_in, sight_asked_for, look_seen, orders_asked, orders_block, orders_line_of, orders_with, screen_of, sight_of, sights_in, states_and, states_of, with_states};
+ghost use Rattle.cx_look.specs.Orders.{are_said, event_in, block_has_room, is_key, is_sight, key_in, key_line_of, keys_in, sight_asked_for, look_seen, orders_asked, orders_block, orders_line_of, orders_with, screen_of, sight_of, sights_in, states_and, with_states};
+ghost use Rattle.cx_look.specs.Looks.{at_most};
+ghost use Rattle.cx_script_actions.specs.Words.{number_with_digits};
 ghost use Rattle.cx_look.specs.declared.orders.OrdersLine.TheVariants as says;
 ghost use Rattle.cx_orders.specs.Moves.{IsFew};
 
@@ -70,7 +72,7 @@ pub struct OrdersBlock {
 /// How many states a word says: 1 to 1,000,000.
 #[tactic(auto, using(std::proofs::lemmas::Bool::Decides::nat_tests))]
 fn states_of(word: &[u8]) -> Option<u32>
-    ensures { result ≡ states_of word.now }
+    ensures { result ≡ option_and_then (at_most 1000000) (number_with_digits 1 7 word.now) }
 {
     let n = number(word, 1, 7)?;
     if n < 1 || n > MOST_STATES {

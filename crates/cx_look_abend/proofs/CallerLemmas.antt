@@ -4,7 +4,7 @@ use Rattle.std.proofs.lemmas.List.{length-reverse}
 use Rattle.std.proofs.Math.Seq.{take-append_seam}
 use Rattle.cx_program.specs.Levels.{Levels, all_levels}
 use Rattle.cx_program.specs.declared.level.Level.{Level}
-use Rattle.cx_look_abend.specs.Abends.{caller_of, callers_of}
+use Rattle.cx_look_abend.specs.Abends.{caller_of}
 use Rattle.cx_look_abend.specs.Parts.Callers.{caller_at}
 use Rattle.cx_look_abend.specs.declared.abends.Caller.{Caller}
 
@@ -23,7 +23,7 @@ callers_go_on levels n before after added so_far =
 
 -- all but the last are those that have called it
 pub callers_done : (levels : Levels) (callers : List Caller) (n : ℕ) → n ≤ length levels.callers → length levels.callers ≤ n
-    → callers ≡ map caller_of (take n (all_levels levels)) → callers ≡ callers_of levels
+    → callers ≡ map caller_of (take n (all_levels levels)) → callers ≡ map caller_of (reverse levels.callers)
 callers_done levels callers n low high so_far =
     let end : n ≡ length (reverse levels.callers) = omega (arith, low, high, length-reverse levels.callers) in
     let same : take n (all_levels levels) ≡ reverse levels.callers =

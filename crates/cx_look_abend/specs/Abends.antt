@@ -1,14 +1,13 @@
 -- What is kept of a terminal's last abend (own).
-use Rattle.std.specs.Prelude.{ℕ, List, [], Option, Some, None, Result, Ok, Err, if◌then◌else◌, map, reverse, slice_index}
+use Rattle.std.specs.Prelude.{ℕ, Bool, true, false, List, [], Option, Some, None, if◌then◌else◌, map, reverse, slice_index}
 use Rattle.std.specs.Option.{option_and_then, option_map, option_map_or}
+use Rattle.std.specs.Result.{result_ok}
 use Rattle.cx_base.specs.Abends.{abend_code}
 use Rattle.cx_base.specs.declared.abends.Abend.TheVariants.{Xedf}
-use Rattle.cx_program.specs.Levels.{Levels}
 use Rattle.cx_program.specs.declared.level.Level.{Level}
 use Rattle.cx_storage.specs.Address.{address_in}
 use Rattle.cx_storage.specs.Storage.{Storage}
-use Rattle.cx_region_state.specs.Call.{Call, call_of}
-use Rattle.cx_region_state.specs.declared.call.CallFault.{CallFault}
+use Rattle.cx_region_state.specs.Call.{call_of}
 use Rattle.cx_region_state.specs.State.{TaskState}
 use Rattle.cx_region_state.specs.declared.replies.TurnReply.{TurnReply}
 use Rattle.cx_region_state.specs.declared.replies.TurnReply.TheVariants as turn
@@ -36,22 +35,20 @@ abend_code_in (turn.TookExit code) = Some code
 abend_code_in (turn.Abended code) = Some code
 abend_code_in _ = None
 
--- where the program was: at the next address, or after a command, where bits 8 to 31 of R14 lead
-abbrev pub place_by : Cause → AbendRecord → ℕ
-place_by (cause.Interrupted interruption) abend_record = abend_record.next
-place_by cause.Limit abend_record = abend_record.next
-place_by _ abend_record = address_in (slice_index abend_record.regs 14)
+-- whether an instruction led to it, and no command
+abbrev pub is_of_instruction : Cause → Bool
+is_of_instruction (cause.Interrupted interruption) = true
+is_of_instruction cause.Limit = true
+is_of_instruction _ = false
 
+-- where the program was: at the next address, or after a command, where bits 8 to 31 of R14 lead
 abbrev pub abend_place : AbendRecord → ℕ
-abend_place abend_record = place_by abend_record.cause abend_record
+abend_place it = if is_of_instruction it.cause then it.next else address_in (slice_index it.regs 14)
 
 -- where the program goes on, where an exit took the abend
-abbrev pub next_address_of : RegionState → List ℕ → Option ℕ
-next_address_of region name = option_map (λ task. task.next) (task_of region name)
-
 abbrev pub exit_place : RegionState → List ℕ → TurnReply → Option Place
 exit_place region name (turn.TookExit code) =
-    option_map (place_at_address region.shared.programs) (next_address_of region name)
+    option_map (λ task. place_at_address region.shared.programs task.next) (task_of region name)
 exit_place region name _ = None
 
 -- why a turn led to an abend, where its program was, the arguments of its command, and its DFHEISTG; the byte before a
@@ -70,24 +67,18 @@ explanation_of region before dump abend_record =
 abbrev pub caller_of : Level → Caller
 caller_of level = record { program = level.program; next = address_in (slice_index level.regs 14) }
 
--- all that have called another, the highest first
-abbrev pub callers_of : Levels → List Caller
-callers_of levels = map caller_of (reverse levels.callers)
-
--- what is kept of a terminal's task: its transaction, its number, and those levels
+-- what is kept of a terminal's task: its transaction, its number, and those levels, the highest first
 abbrev pub kept_task : RegionState → List ℕ → Option KeptTask
 kept_task region name =
-    option_map (λ task. record { tran = task.tran; number = task.number; callers = callers_of task.levels })
+    option_map
+    (λ it. record { tran = it.tran; number = it.number; callers = map caller_of (reverse it.levels.callers) })
     (task_of region name)
 
 -- the arguments of a task's command that is due, as COMMAND shows them; none where none is due, or its list can't be
 -- read
-abbrev pub call_lines : Storage → Result Call CallFault → Lines
-call_lines s (Ok call) = call_text s call
-call_lines s (Err fault) = []
-
 unfoldable pub due_arguments : Storage → TaskState → Lines
-due_arguments s task = if task.due then call_lines s (call_of s (argument_list task)) else []
+due_arguments s task =
+    if task.due then option_map_or (call_text s) (result_ok (call_of s (argument_list task))) [] else []
 
 -- what is kept of a terminal's task before a turn
 abbrev pub before_turn : RegionState → List ℕ → TaskBefore
@@ -97,24 +88,17 @@ before_turn region name =
       arguments = option_map_or (due_arguments region.shared.storage) (task_of region name) [];
     }
 
--- and before what an operator does
-abbrev pub before_operator : RegionState → List ℕ → TaskBefore
-before_operator region name = record { task = kept_task region name; arguments = [] }
-
 -- the abend of a turn of this terminal's task with that reply and record, and that DFHEISTG, in the region after it
-abbrev pub last_with : RegionState → List ℕ → TurnReply → TaskBefore → Option Dump → AbendRecord → List ℕ → LastAbend
-last_with region name reply before dump abend_record code =
-    record {
-      code = code;
-      task = before.task;
-      explanation = Some (explanation_of region before dump abend_record);
-      exit = exit_place region name reply;
-    }
-
 abbrev pub last_of_turn :
     RegionState → List ℕ → TurnReply → TaskBefore → Option Dump → Option AbendRecord → Option LastAbend
 last_of_turn region name reply before dump abend_record =
-    option_and_then (λ it. option_map (last_with region name reply before dump it) (abend_code_in reply)) abend_record
+    option_and_then
+    (λ it.
+    let explanation = explanation_of region before dump it in
+    let exit = exit_place region name reply in
+    option_map (λ code. record { code = code; task = before.task; explanation = Some explanation; exit = exit })
+    (abend_code_in reply))
+    abend_record
 
 -- an abend of a task that an operator asked for
 abbrev pub by_operator : TaskBefore → LastAbend

@@ -1,7 +1,8 @@
 -- The DFHEISTG of a level as it is at an abend (own).
-use Rattle.std.specs.Prelude.{◌≡◌, ℕ, zero, suc, ◌+◌, ◌*◌, ◌/◌, min, MatchBool, MatchOption, Option, None, List, [], ◌∷◌, ◌++◌, codes, drop, length, take}
-use Rattle.std.specs.Option.{option_map, option_map_or}
-use Rattle.cx_base.specs.Digits.{digits, hex_digits}
+use Rattle.std.specs.Prelude.{◌≡◌, ℕ, ◌+◌, ◌*◌, ◌/◌, min, MatchBool, MatchOption, Option, None, List, [], ◌∷◌, ◌++◌, codes, drop, length, take}
+use Rattle.std.specs.Option.{option_map}
+use Rattle.std.specs.List.{flat_map, range_with_len}
+use Rattle.cx_base.specs.Digits.{digits}
 use Rattle.cx_base.specs.Texts.{in_columns, join, shown_name, shown_text}
 use Rattle.cx_exec.specs.Machine.{Machine}
 use Rattle.cx_program.specs.declared.level.Level.{Level}
@@ -13,7 +14,7 @@ use Rattle.cx_region_state.specs.State.{TaskState}
 use Rattle.cx_region_task.specs.Turn.{most_steps}
 use Rattle.cx_look_turn.specs.NextTurn.{task_machine}
 use Rattle.cx_look_turn.specs.Traces.{Leaves}
-use Rattle.cx_look_tables.specs.Words.{look_line, or_none, Lines}
+use Rattle.cx_look_tables.specs.Words.{hex_groups, look_line, or_none, Lines}
 use Rattle.cx_look_symbols.specs.Sources.{Sources, source_lines}
 use Rattle.cx_look_levels.specs.KeptFields.{kept_fields}
 
@@ -49,38 +50,22 @@ TurnHasDump region name dump =
     MatchOption (task_of region name) (dump ≡ None) (λ task. HasDump region.shared.storage task dump)
 
 -- ---- as it is written: rows of sixteen bytes, as STORAGE has them
--- four bytes of a row in hexadecimal digits
-abbrev pub dump_group : List ℕ → ℕ → List ℕ
-dump_group row k = in_columns 8 (join (hex_digits (take 4 (drop k row)) ∷ []))
-
 unfoldable pub dump_row_line : ℕ → List ℕ → Lines
 dump_row_line at row =
-    look_line (digits 16 6 at ∷ [] ∷ dump_group row 0 ∷ dump_group row 4 ∷ dump_group row 8 ∷ dump_group row 12 ∷ []
-    ∷ in_columns 16 (join (shown_text row ∷ [])) ∷ [])
+    look_line (digits 16 6 at ∷ [] ∷ hex_groups row ++ [] ∷ in_columns 16 (join (shown_text row ∷ [])) ∷ [])
 
+-- that of a number, counted from 0
 abbrev pub dump_row : ℕ → List ℕ → ℕ → Lines
 dump_row at bytes k = dump_row_line (address_after at (16 * k)) (take 16 (drop (16 * k) bytes))
-
-abbrev pub first_dump_rows : ℕ → List ℕ → ℕ → Lines
-first_dump_rows at bytes zero = []
-first_dump_rows at bytes (suc k) = first_dump_rows at bytes k ++ dump_row at bytes k
 
 -- its address and its length, and its rows
 unfoldable pub dump_lines : Dump → Lines
 dump_lines dump =
     look_line (codes "DFHEISTG" ∷ digits 16 6 dump.at ∷ codes "LENGTH" ∷ digits 16 6 (length dump.bytes) ∷ [])
-    ++ first_dump_rows dump.at dump.bytes ((length dump.bytes + 15) / 16)
-
--- hyphens where it wasn't kept, as of an operator's abend
-abbrev pub if_dumped : Option Dump → Lines
-if_dumped dump = option_map_or dump_lines dump (look_line (codes "DFHEISTG" ∷ codes "--" ∷ []))
+    ++ flat_map (dump_row dump.at dump.bytes) (range_with_len 0 ((length dump.bytes + 15) / 16))
 
 -- ---- its fields, by the source of the level's program, as FIELDS has them
 abbrev pub field_lines : Sources → List ℕ → Dump → Lines
 field_lines sources term dump =
     or_none (codes "FIELDS " ++ shown_name term)
     (kept_fields term (source_lines sources dump.program) dump.at dump.bytes)
-
-abbrev pub if_fields : Sources → List ℕ → Option Dump → Lines
-if_fields sources term dump =
-    option_map_or (field_lines sources term) dump (look_line (codes "DFHEISTG" ∷ codes "--" ∷ []))

@@ -8,7 +8,6 @@ use Rattle.cx_ebcdic.specs.Names.{is_name}
 use Rattle.cx_region.specs.State.{RegionState}
 use Rattle.cx_region.specs.Tables.{task_of}
 use Rattle.cx_region.specs.declared.changes.AlterReply.TheVariants as alter
-use Rattle.cx_region.specs.declared.changes.Change.{Change}
 use Rattle.cx_region.specs.declared.changes.Change.TheVariants as change
 use Rattle.cx_region.specs.declared.replies.Event.TheVariants as event
 use Rattle.cx_region.specs.declared.replies.Reply.TheVariants as reply
@@ -19,7 +18,7 @@ use Rattle.cx_edf.specs.declared.answers.Answer.{Answer}
 use Rattle.cx_edf.specs.declared.answers.Answer.TheVariants as answer
 use Rattle.cx_edf.specs.declared.answers.EdfEvent.{EdfEvent}
 use Rattle.cx_edf.specs.declared.answers.EdfEvent.TheVariants as edf_event
-use Rattle.cx_look_abend.specs.Abends.{before_operator, before_turn, by_operator, last_of_turn}
+use Rattle.cx_look_abend.specs.Abends.{before_turn, by_operator, kept_task, last_of_turn}
 use Rattle.cx_look_abend.specs.Dumps.{Dump, TurnHasDump}
 use Rattle.cx_look_abend.specs.declared.abends.LastAbend.{LastAbend}
 use Rattle.cx_look_abend.specs.declared.abends.TaskBefore.{TaskBefore}
@@ -32,35 +31,12 @@ KeptAbends = List (List ℕ × Option LastAbend)
 abbrev pub with_last : KeptAbends → List ℕ → LastAbend → KeptAbends
 with_last abends name last = set_value (is_name name) abends (Some last)
 
--- a terminal that is defined has had no abend
-abbrev pub is_defined : Answer → Bool
-is_defined (answer.Region (reply.Terminal (Ok done))) = true
-is_defined _ = false
-
-abbrev pub kept_terminal : KeptAbends → List ℕ → Answer → KeptAbends
-kept_terminal abends name given = if is_defined given then insert_entry is_name abends name None else abends
-
--- an abend to which a turn led, in the region after it
-abbrev pub kept_turn :
-    KeptAbends → List ℕ → TaskBefore → Answer → Option Dump → Option AbendRecord → RegionState → KeptAbends
-kept_turn abends name task (answer.Region (reply.Turn given)) dump abend_record region =
-    option_map_or (with_last abends name) (last_of_turn region name given task dump abend_record) abends
-kept_turn abends name task _ dump abend_record region = abends
-
--- an abend that an operator asked for, by ALTER, or by PF12 that ends a task
-abbrev pub kept_alter : KeptAbends → List ℕ → TaskBefore → Change → Answer → KeptAbends
-kept_alter abends name task change.Abend (answer.Region (reply.Alter alter.Altered)) =
-    with_last abends name (by_operator task)
-kept_alter abends name task _ _ = abends
-
-abbrev pub kept_key : KeptAbends → List ℕ → TaskBefore → Bool → KeptAbends
-kept_key abends name task ends = if ends then with_last abends name (by_operator task) else abends
-
 -- what is kept, before an event, of the task of the terminal that it names
 unfoldable pub task_before : RegionState → EdfEvent → TaskBefore
 task_before region (edf_event.Plain (event.Turn name)) = before_turn region name
-task_before region (edf_event.Plain (event.Alter name c)) = before_operator region name
-task_before region (edf_event.Plain (event.Key name aid bytes)) = before_operator region name
+task_before region (edf_event.Plain (event.Alter name c)) = record { task = kept_task region name; arguments = [] }
+task_before region (edf_event.Plain (event.Key name aid bytes)) =
+    record { task = kept_task region name; arguments = [] }
 task_before region _ = record { task = None; arguments = [] }
 
 -- the DFHEISTG at an abend to which an event leads
@@ -69,18 +45,19 @@ EventHasDump region (edf_event.Plain (event.Turn name)) dump = TurnHasDump regio
 EventHasDump region _ dump = dump ≡ None
 
 -- What is kept after an event with that task that was answered so, with that DFHEISTG and that record of an abend, in
--- the region after it; the flag says that it was PF12 that ends a task.
+-- the region after it: a terminal that was defined has had no abend; a turn may have led to one; and an operator asks
+-- for one by ALTER, or by PF12 that ends a task, as the flag says.
 abbrev pub kept_after : KeptAbends → Bool → TaskBefore → EdfEvent → Answer → Option Dump → Option AbendRecord
     → RegionState → KeptAbends
-kept_after abends ends task (edf_event.Plain (event.Terminal name)) given dump abend_record region =
-    kept_terminal abends name given
-kept_after abends ends task (edf_event.Plain (event.Turn name)) given dump abend_record region =
-    kept_turn abends name task given dump abend_record region
-kept_after abends ends task (edf_event.Plain (event.Alter name c)) given dump abend_record region =
-    kept_alter abends name task c given
-kept_after abends ends task (edf_event.Plain (event.Key name aid bytes)) given dump abend_record region =
-    kept_key abends name task ends
-kept_after abends ends task _ given dump abend_record region = abends
+kept_after abends ends task (edf_event.Plain (event.Terminal name)) (answer.Region (reply.Terminal (Ok done))) dump it
+    region = insert_entry is_name abends name None
+kept_after abends ends task (edf_event.Plain (event.Turn name)) (answer.Region (reply.Turn given)) dump it region =
+    option_map_or (with_last abends name) (last_of_turn region name given task dump it) abends
+kept_after abends ends task (edf_event.Plain (event.Alter name change.Abend))
+    (answer.Region (reply.Alter alter.Altered)) dump it region = with_last abends name (by_operator task)
+kept_after abends ends task (edf_event.Plain (event.Key name aid bytes)) given dump it region =
+    if ends then with_last abends name (by_operator task) else abends
+kept_after abends ends task _ given dump it region = abends
 
 abbrev pub is_ending_key : EdfState → EdfEvent → Bool
 is_ending_key old (edf_event.Plain (event.Key name aid bytes)) = ends_by_key old name aid

@@ -1,11 +1,13 @@
 //! What is kept of a terminal's last abend.
-ghost use Rattle.std.specs.Prelude.{◌≡◌, ◌+◌, ◌<◌, ◌≤◌, ◌++◌, [], None, Some, length, slice_get};
-ghost use Rattle.std.specs.Option.{option_copied};
+ghost use Rattle.std.specs.Prelude.{◌≡◌, ◌+◌, ◌<◌, ◌≤◌, ◌++◌, [], None, Some, length, map, reverse, slice_get};
+ghost use Rattle.std.specs.Option.{option_copied, option_map};
+ghost use Rattle.cx_look_symbols.specs.Places.{place_at_address};
+ghost use Rattle.cx_region.specs.Tables.{task_of};
 ghost use Rattle.indexmap.specs.IndexMap.{insert_entry, spare};
 ghost use Rattle.cx_ebcdic.specs.Names.{is_name};
 ghost use Rattle.cx_program.specs.Levels.{all_levels};
 ghost use Rattle.cx_look_abend.specs.Parts.Callers.{caller_at};
-ghost use Rattle.cx_look_abend.specs.Abends.{abend_code_in, abend_place, by_operator, caller_of, callers_of, exit_place, explanation_of, kept_task, last_of_turn, next_address_of};
+ghost use Rattle.cx_look_abend.specs.Abends.{abend_code_in, abend_place, by_operator, caller_of, exit_place, explanation_of, kept_task, last_of_turn};
 
 use crate::dumps::StorageDump;
 use arrayvec::ArrayVec;
@@ -199,7 +201,7 @@ fn push_caller(callers: &mut Callers, levels: &LevelStack, index: usize)
 /// The levels that have called the current one.
 #[tactic(auto, using(crate::proofs::CallerLemmas::callers_done))]
 fn callers_of(levels: &LevelStack) -> Callers
-    ensures { result ≡ callers_of levels.now }
+    ensures { result ≡ map caller_of (reverse levels.now.callers) }
 {
     let mut callers = Callers::none();
     for index in 0..levels.len() - 1 {
@@ -241,13 +243,14 @@ fn abend_place(abend_record: &AbendRecord) -> u32
     }
 }
 
-/// The next address of a terminal's task, where there is one.
-fn next_address_of<S: Store + Drop>(region: &Region<S>, name: Name4) -> Option<u32>
-    ensures { result ≡ next_address_of region.now name }
+/// Where a terminal's task goes on, where there is one.
+fn goes_on_at<S: Store + Drop>(region: &Region<S>, name: Name4) -> Option<Place>
+    ensures { let programs = region.now.shared.programs in
+        result ≡ option_map (λ task. place_at_address programs task.next) (task_of region.now name) }
 {
     let terminal = region.terminals().get(&name)?;
     let task = terminal.task()?;
-    Some(task.cpu.next)
+    Some(place_at_address(&region.shared().programs, task.cpu.next))
 }
 
 /// Where the program goes on, where an exit took the abend.
@@ -255,10 +258,7 @@ fn exit_place<S: Store + Drop>(region: &Region<S>, name: Name4, reply: &TurnRepl
     ensures { result ≡ exit_place region.now name reply.now }
 {
     match reply {
-        TurnReply::TookExit(_code) => {
-            let next = next_address_of(region, name)?;
-            Some(place_at_address(&region.shared().programs, next))
-        }
+        TurnReply::TookExit(_code) => goes_on_at(region, name),
         _ => None,
     }
 }

@@ -2,7 +2,7 @@
 ghost use Rattle.std.specs.Prelude.{◌≡◌, [], IfOk, MatchOption, OnErr, None, is_some, true};
 ghost use Rattle.std.specs.Option.{option_copied};
 ghost use Rattle.cx_region.specs.Tables.{task_of};
-ghost use Rattle.cx_look_abend.specs.Abends.{before_operator, before_turn, call_lines, due_arguments};
+ghost use Rattle.cx_look_abend.specs.Abends.{before_turn, due_arguments, kept_task};
 ghost use Rattle.cx_look_abend.specs.Noting.{takes_room, task_before};
 ghost use Rattle.cx_look_abend.specs.Parts.Sources.{IsSourceAt, IsSourceOf, no_source};
 
@@ -58,7 +58,7 @@ fn before_turn<S: Store + Drop>(region: &Region<S>, name: Name4) -> Result<TaskB
 
 /// What is kept of a terminal's task before what an operator does.
 fn before_operator<S: Store + Drop>(region: &Region<S>, name: Name4) -> TaskBefore
-    ensures { result ≡ before_operator region.now name }
+    ensures { result ≡ record { task = kept_task region.now name; arguments = [] } }
 {
     TaskBefore {
         task: kept_task(region, name),

@@ -1,6 +1,8 @@
 //! The DFHEISTG of a level as it is at an abend.
 ghost use Rattle.std.specs.Prelude.{◌≡◌, ◌≤◌, ◌+◌, ◌*◌, ◌/◌, ◌<◌, ◌^◌, ◌++◌, IfOk, OnOk, drop, length, take};
-ghost use Rattle.cx_look_abend.specs.Dumps.{dump_at, dump_in, dump_lines, field_lines, first_dump_rows, dump_group, if_dumped, if_fields, dump_row_line, dump_row};
+ghost use Rattle.cx_look_abend.specs.Dumps.{dump_at, dump_in, dump_lines, dump_row, dump_row_line, field_lines};
+ghost use Rattle.cx_look_abend.specs.Parts.Texts.{if_dumped};
+ghost use Rattle.std.specs.List.{flat_map, range_with_len};
 ghost use Rattle.cx_look_abend.specs.Parts.Sources.{GivesDump, IsSourceOf, RunGives, no_source, room_of};
 ghost use Rattle.cx_look_turn.specs.NextTurn.{task_machine};
 
@@ -8,7 +10,7 @@ use cx_base::{hexadecimal, in_columns, shown};
 use cx_ebcdic::{Name4, Name8};
 use cx_look_levels::{fields_word, kept_fields};
 use cx_look_symbols::Sources;
-use cx_look_tables::{Report, spelled};
+use cx_look_tables::{Report, hex_group};
 use cx_look_turn::TurnMachine;
 use cx_program::Level;
 use cx_region_state::Task;
@@ -21,9 +23,6 @@ const MOST_BYTES: u32 = 65_520;
 
 /// The bytes of a row.
 const ROW: u32 = 16;
-
-/// The bytes of a group.
-const GROUP: usize = 4;
 
 /// A level's DFHEISTG: the level's program, the address of the first byte, and the bytes, at most 65,520.
 #[derive(Drop)]
@@ -226,14 +225,6 @@ fn first_bytes(bytes: &[u8], count: usize) -> &[u8]
     bytes.split_at(count.min(bytes.len())).0
 }
 
-/// The group of four bytes at a place of a row, as far as it has them, in hexadecimal digits.
-fn dump_group(alloc: Global, row: &[u8], k: usize) -> Result<[u8; 8], AllocError>
-    ensures { IfOk result (λ text. text ≡ dump_group row.now k) }
-{
-    let digits = spelled(alloc, first_bytes(after(row, k), GROUP))?;
-    Ok(in_columns::<8>(&[&digits]))
-}
-
 /// Adds the line of a row at an address.
 #[tactic(auto, unfolding(crate::specs::Dumps::dump_row_line))]
 fn dump_row_line(report: &mut Report, at: u32, row: &[u8]) -> Result<(), AllocError>
@@ -241,10 +232,10 @@ fn dump_row_line(report: &mut Report, at: u32, row: &[u8]) -> Result<(), AllocEr
 {
     let alloc = report.alloc();
     let place = hexadecimal::<6>(at);
-    let a = dump_group(alloc, row, 0)?;
-    let b = dump_group(alloc, row, 4)?;
-    let c = dump_group(alloc, row, 8)?;
-    let d = dump_group(alloc, row, 12)?;
+    let a = hex_group(alloc, row, 0)?;
+    let b = hex_group(alloc, row, 4)?;
+    let c = hex_group(alloc, row, 8)?;
+    let d = hex_group(alloc, row, 12)?;
     let characters = shown(alloc, row)?;
     let characters = in_columns::<16>(&[&characters]);
     report.line(&[&place, b"", &a, &b, &c, &d, b"", &characters])
@@ -263,8 +254,8 @@ fn dump_row(report: &mut Report, at: u32, bytes: &[u8], k: u32) -> Result<(), Al
 /// Adds the rows of bytes from an address on.
 fn all_rows(report: &mut Report, at: u32, bytes: &[u8]) -> Result<(), AllocError>
     requires { length bytes.now ≤ 65520 }
-    ensures { let more = first_dump_rows at bytes.now ((length bytes.now + 15) / 16) in
-        OnOk result (report.new ≡ report.old ++ more) }
+    ensures { let rows = range_with_len 0 ((length bytes.now + 15) / 16) in
+        OnOk result (report.new ≡ report.old ++ flat_map (dump_row at bytes.now) rows) }
 {
     let rows = (bytes.len() as u32 + 15) / ROW;
     for k in 0..rows {
@@ -312,7 +303,7 @@ pub(crate) fn if_fields(
     term: Name4,
     dump: &Option<StorageDump>,
 ) -> Result<Report, AllocError>
-    ensures { IfOk result (λ report. report ≡ if_fields sources.now term dump.now) }
+    ensures { IfOk result (λ report. report ≡ if_dumped (field_lines sources.now term) dump.now) }
 {
     if let Some(dump) = dump {
         return dump.field_lines(alloc, sources, term);
@@ -324,7 +315,7 @@ pub(crate) fn if_fields(
 
 /// Adds the lines of a DFHEISTG, where it was kept.
 pub(crate) fn if_dumped(report: &mut Report, dump: &Option<StorageDump>) -> Result<(), AllocError>
-    ensures { OnOk result (report.new ≡ report.old ++ if_dumped dump.now) }
+    ensures { OnOk result (report.new ≡ report.old ++ if_dumped dump_lines dump.now) }
 {
     match dump {
         Some(dump) => dump.lines(report),

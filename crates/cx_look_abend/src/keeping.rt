@@ -1,11 +1,17 @@
 //! Events, with the last abend of each terminal kept.
-ghost use Rattle.std.specs.Prelude.{◌≡◌, ◌≤◌, true, IfOk, MatchOption, None, OnErr, OnOk};
+ghost use Rattle.std.specs.Prelude.{◌≡◌, ◌≤◌, Bool, Option, true, if◌then◌else◌, IfOk, MatchOption, None, OnErr, OnOk};
 ghost use Rattle.std.specs.Option.{option_map_or};
 ghost use Rattle.indexmap.specs.IndexMap.{spare};
+ghost use Rattle.cx_region.specs.State.{RegionState};
+ghost use Rattle.cx_region.specs.declared.replies.Event.TheVariants as events;
+ghost use Rattle.cx_edf.specs.declared.answers.EdfEvent.TheVariants as edf_event;
+ghost use Rattle.cx_look_abend.specs.Dumps.{Dump};
+ghost use Rattle.cx_look_abend.specs.declared.abends.TaskBefore.{TaskBefore as KeptBefore};
+ghost use Rattle.cx_region_task.specs.declared.cause.AbendRecord.{AbendRecord as TheRecord};
 ghost use Rattle.cx_edf.specs.Runs.{IsAllowedEdf};
 ghost use Rattle.cx_edf.specs.State.{ends_by_key};
-ghost use Rattle.cx_look_abend.specs.Abends.{last_of_turn};
-ghost use Rattle.cx_look_abend.specs.Noting.{AppliesWithAbends, MayTakeNoted, is_ending_key, is_defined, kept_after, kept_alter, kept_key, kept_terminal, kept_turn, with_last};
+ghost use Rattle.cx_look_abend.specs.Abends.{by_operator, last_of_turn};
+ghost use Rattle.cx_look_abend.specs.Noting.{AppliesWithAbends, MayTakeNoted, is_ending_key, kept_after, with_last};
 ghost use Rattle.cx_look_abend.specs.Parts.Sources.{GivesDump};
 ghost use Rattle.cx_look_abend.specs.Parts.Terminals.{defines_terminal};
 
@@ -29,21 +35,16 @@ fn put(abends: &mut LastAbends, name: Name4, last: LastAbend)
     kept.keep(last);
 }
 
-/// Whether an answer says that a terminal was defined.
-fn is_defined(answer: &Answer) -> bool
-    ensures { result ≡ is_defined answer.now }
-{
-    matches!(answer, Answer::Region(Reply::Terminal(Ok(_))))
-}
-
 /// Keeps that a terminal, for which there is room, has had no abend, where it was defined.
 fn keep_terminal(abends: &mut LastAbends, name: Name4, answer: &Answer)
     requires { 1 ≤ spare abends.old }
-    ensures { abends.new.entries ≡ kept_terminal abends.old.entries name answer.now }
+    ensures { (ends : Bool) (task : KeptBefore) (dump : Option Dump) (it : Option TheRecord) (region : RegionState)
+        → abends.new.entries ≡ kept_after abends.old.entries ends task
+        (edf_event.Plain (events.Terminal name)) answer.now dump it region }
 {
-    if !is_defined(answer) {
+    let Answer::Region(Reply::Terminal(Ok(_))) = answer else {
         return;
-    }
+    };
     put_none(abends, name);
 }
 
@@ -67,8 +68,9 @@ fn keep_turn<S: Store + Drop>(
     outcome: EventOutcome<'_>,
 )
     ensures { let answer = outcome.entry.answer.now in let abend_record = outcome.entry.abend_record.now in
-        abends.new.entries
-        ≡ kept_turn abends.old.entries name outcome.entry.task answer outcome.entry.dump abend_record region.now }
+        let after = kept_after abends.old.entries outcome.entry.ends outcome.entry.task in
+        let e = edf_event.Plain (events.Turn name) in
+        abends.new.entries ≡ after e answer outcome.entry.dump abend_record region.now }
 {
     let Answer::Region(Reply::Turn(reply)) = outcome.answer else {
         return;
@@ -93,7 +95,9 @@ fn keep_alter(
     change: &Change,
     answer: &Answer,
 )
-    ensures { abends.new.entries ≡ kept_alter abends.old.entries name task change.now answer.now }
+    ensures { (ends : Bool) (dump : Option Dump) (it : Option TheRecord) (region : RegionState)
+        → abends.new.entries ≡ kept_after abends.old.entries ends task
+        (edf_event.Plain (events.Alter name change.now)) answer.now dump it region }
 {
     if let (Change::Abend, Answer::Region(Reply::Alter(AlterReply::Altered))) = (change, answer) {
         put(abends, name, by_operator(task));
@@ -102,7 +106,8 @@ fn keep_alter(
 
 /// Keeps an abend that an operator asked for by a key.
 fn keep_key(abends: &mut LastAbends, name: Name4, task: TaskBefore, ends: bool)
-    ensures { abends.new.entries ≡ kept_key abends.old.entries name task ends }
+    ensures { let ended = with_last abends.old.entries name (by_operator task) in
+        abends.new.entries ≡ (if ends then ended else abends.old.entries) }
 {
     if ends {
         put(abends, name, by_operator(task));

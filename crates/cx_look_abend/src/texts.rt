@@ -1,8 +1,18 @@
 //! The lines of a last abend.
-ghost use Rattle.std.specs.Prelude.{◌≡◌, ◌++◌, [], IfOk, OnOk, is_some, take};
+ghost use Rattle.std.specs.Prelude.{◌≡◌, ◌++◌, ◌∷◌, [], IfOk, OnOk, codes, if◌then◌else◌, is_some, take, slice_index};
 ghost use Rattle.std.specs.Option.{option_copied, option_map_or};
 ghost use Rattle.std.specs.List.{flat_map, list_all};
-ghost use Rattle.cx_look_abend.specs.Texts.{abend_fields_text, abend_storage_text, abend_text, argument_lines, byte_digits, present_bytes_word, caller_line, caller_lines, cause_word, code_line, abend_command_lines, abend_command_word, dumped, abend_exit_line, explanation_lines, fields_dumped, goes_on_word, head_line, instruction_word, interruption_word, last_abend_of, last_text, argument_list_word, next_line, no_abend_line, task_word, where_lines, why_word};
+ghost use Rattle.cx_base.specs.Commands.{row_of};
+ghost use Rattle.cx_base.specs.Digits.{digits};
+ghost use Rattle.cx_look_tables.specs.Words.{look_line};
+ghost use Rattle.cx_look_symbols.specs.Places.{address_word, place_at_address, place_word, spot_before};
+ghost use Rattle.cx_look_symbols.specs.Sources.{led_by, statement_at};
+ghost use Rattle.cx_region_task.specs.declared.cause.Cause.TheVariants as causes;
+ghost use Rattle.cx_storage.specs.Address.{address_in};
+ghost use Rattle.cx_look_abend.specs.Abends.{is_of_instruction};
+ghost use Rattle.cx_look_abend.specs.Dumps.{dump_lines, field_lines};
+ghost use Rattle.cx_look_abend.specs.Parts.Texts.{if_abend_dumped, last_abend_of, no_abend_line};
+ghost use Rattle.cx_look_abend.specs.Texts.{abend_command_lines, abend_fields_text, abend_storage_text, abend_text, argument_lines, byte_digits, caller_line, cause_word, explanation_lines, head_line, instruction_word, last_text, next_line, task_word};
 
 use crate::abends::{Caller, Explanation, KeptTask, LastAbend, LastAbends};
 use crate::dumps::{if_dumped, if_fields};
@@ -23,7 +33,7 @@ use std::alloc::{AllocError, Global};
 
 /// An interruption's code and its name.
 fn interruption_word(it: Interruption) -> &'static [u8]
-    ensures { result.now ≡ interruption_word it }
+    ensures { result.now ≡ cause_word (causes.Interrupted it) }
 {
     match it {
         Interruption::Operation => b"INTERRUPTION 1 OPERATION",
@@ -54,7 +64,8 @@ fn cause_word(alloc: Global, cause: Cause) -> Result<Vec<u8>, AllocError>
 
 /// Why an abend came.
 fn why_word(alloc: Global, explanation: &Option<Explanation>) -> Result<Vec<u8>, AllocError>
-    ensures { IfOk result (λ text. text.items ≡ why_word explanation.now) }
+    ensures { let why = option_map_or (λ it. cause_word it.abend_record.cause) explanation.now in
+        IfOk result (λ text. text.items ≡ why (codes "ASKED BY OPERATOR")) }
 {
     match explanation {
         Some(explanation) => cause_word(alloc, explanation.abend_record.cause),
@@ -88,7 +99,8 @@ fn push_bytes(text: &mut Vec<u8>, bytes: &[Option<u8>]) -> Result<(), AllocError
 
 /// Bytes, where all of them are there.
 fn present_bytes_word(alloc: Global, bytes: &[Option<u8>]) -> Result<Vec<u8>, AllocError>
-    ensures { IfOk result (λ text. text.items ≡ present_bytes_word bytes.now) }
+    ensures { let there = list_all is_some bytes.now in
+        IfOk result (λ text. text.items ≡ (if there then flat_map byte_digits bytes.now else codes "--")) }
 {
     if !are_there(bytes) {
         return b"--".to_vec(alloc);
@@ -127,7 +139,7 @@ fn next_line(report: &mut Report, sources: &Sources, it: &Explanation) -> Result
 
 /// The name of a command.
 fn abend_command_word(command: &Option<Command>) -> &'static [u8]
-    ensures { result.now ≡ abend_command_word command.now }
+    ensures { result.now ≡ option_map_or (λ command. (row_of command).name) command.now (codes "?") }
 {
     match command {
         Some(command) => command.name().as_bytes(),
@@ -141,7 +153,9 @@ fn argument_list_word(
     sources: &Sources,
     it: &Explanation,
 ) -> Result<Vec<u8>, AllocError>
-    ensures { IfOk result (λ text. text.items ≡ argument_list_word sources.now it.now) }
+    ensures { let list = digits 16 6 (address_in (slice_index it.now.abend_record.regs 1)) in
+        let line = led_by (codes " LINE ") (statement_at sources.now it.now.before) in
+        IfOk result (λ text. text.items ≡ list ++ line) }
 {
     let mut text = hexadecimal::<6>(address_in(it.abend_record.regs[1])).to_vec(alloc)?;
     push_led_by(
@@ -181,7 +195,8 @@ fn abend_command_lines(
 
 /// Adds the lines that say where the program was.
 fn where_lines(report: &mut Report, sources: &Sources, it: &Explanation) -> Result<(), AllocError>
-    ensures { let more = where_lines sources.now it.now.abend_record.cause it.now in
+    ensures { let more = if is_of_instruction it.now.abend_record.cause then next_line sources.now it.now
+        else abend_command_lines sources.now it.now in
         OnOk result (report.new ≡ report.old ++ more) }
 {
     match it.abend_record.cause {
@@ -192,7 +207,7 @@ fn where_lines(report: &mut Report, sources: &Sources, it: &Explanation) -> Resu
 
 /// Adds the line of the condition code.
 fn code_line(report: &mut Report, code: u8) -> Result<(), AllocError>
-    ensures { OnOk result (report.new ≡ report.old ++ code_line code) }
+    ensures { OnOk result (report.new ≡ report.old ++ look_line (codes "CC" ∷ digits 10 1 code ∷ [])) }
 {
     report.line(&[b"CC", &decimal::<1>(u32::from(code))])
 }
@@ -217,7 +232,9 @@ fn abend_exit_line(
     sources: &Sources,
     exit: &Option<Place>,
 ) -> Result<(), AllocError>
-    ensures { OnOk result (report.new ≡ report.old ++ abend_exit_line sources.now exit.now) }
+    ensures { let line = option_map_or
+        (λ place. look_line (codes "EXIT" ∷ place_word sources.now.places place ∷ [])) exit.now [] in
+        OnOk result (report.new ≡ report.old ++ line) }
 {
     let Some(place) = exit else {
         return Ok(());
@@ -234,7 +251,9 @@ fn goes_on_word(
     programs: &IndexMap<Name8, Loaded>,
     next: u32,
 ) -> Result<Vec<u8>, AllocError>
-    ensures { IfOk result (λ word. word.items ≡ goes_on_word sources.now programs.now.entries next) }
+    ensures { let command = statement_at sources.now (spot_before programs.now.entries next) in
+        let place = address_word (place_at_address programs.now.entries next) in
+        IfOk result (λ word. word.items ≡ place ++ led_by (codes " COMMAND LINE ") command) }
 {
     let mut word = address_word(alloc, &place_at_address(programs, next))?;
     let command = statement_at(alloc, sources, &spot_before(programs, next))?;
@@ -280,7 +299,8 @@ fn caller_lines(
     programs: &IndexMap<Name8, Loaded>,
     task: &Option<KeptTask>,
 ) -> Result<(), AllocError>
-    ensures { let more = caller_lines sources.now programs.now.entries task.now in
+    ensures { let line = caller_line sources.now programs.now.entries in
+        let more = option_map_or (λ it. flat_map line it.callers) task.now [] in
         OnOk result (report.new ≡ report.old ++ more) }
 {
     match task {
@@ -365,7 +385,7 @@ fn last_abend_of(abends: &LastAbends, name: Name4) -> Option<&LastAbend>
 
 /// The DFHEISTG of an abend, where it was kept.
 fn dumped(report: &mut Report, last: &LastAbend) -> Result<(), AllocError>
-    ensures { OnOk result (report.new ≡ report.old ++ dumped last.now) }
+    ensures { OnOk result (report.new ≡ report.old ++ if_abend_dumped dump_lines last.now) }
 {
     match &last.explanation {
         Some(explanation) => if_dumped(report, &explanation.dump),
@@ -403,7 +423,7 @@ fn fields_dumped(
     name: Name4,
     last: &LastAbend,
 ) -> Result<Report, AllocError>
-    ensures { IfOk result (λ report. report ≡ fields_dumped sources.now name last.now) }
+    ensures { IfOk result (λ report. report ≡ if_abend_dumped (field_lines sources.now name) last.now) }
 {
     match &last.explanation {
         Some(explanation) => if_fields(alloc, sources, name, &explanation.dump),

@@ -15,8 +15,9 @@ use Rattle.cx_look_turn.specs.Laws.{TracesDecide}
 use Rattle.cx_look_turn.specs.Traces.{IsTrace}
 use Rattle.cx_look_turn.specs.declared.traces.Trace.{Trace}
 use Rattle.cx_look_turn.specs.declared.traces.Visit.{Visit}
-use Rattle.cx_look_ahead.specs.Ahead.{TurnText, turn_end_line, names_ahead, changed_row_line}
+use Rattle.cx_look_ahead.specs.Ahead.{TurnText, names_ahead, changed_row_line}
 use Rattle.cx_look_ahead.specs.Instructions.{count_line, trace_lines, visit_line}
+use Rattle.cx_look_ahead.specs.Parts.Words.{turn_end_line}
 use Rattle.cx_look_turn.specs.NextTurn.{IsAhead, machine_ahead}
 use Rattle.cx_look_ahead.specs.Laws.{AheadDecides, NextTurnIsShown, RowsAreTheDifference, RowsDecide}
 use Rattle.cx_look_ahead.proofs.RowLemmas.{differs_in_row, in_row_differs, rows_decide}

@@ -23,11 +23,6 @@ use Rattle.cx_look_turn.specs.NextTurn.{IsAhead}
 use Rattle.cx_look_ahead.specs.Rows.{AreRows}
 use Rattle.cx_look_ahead.specs.declared.rows.Row.{Row}
 
--- how the turn ends, in the words that are written for the turn
-abbrev pub turn_end_line : List ℕ → TurnReply → Lines
-turn_end_line name reply =
-    look_line (codes "AHEAD" ∷ shown_name name ∷ turn_reply_name reply ∷ option_to_list (turn_reply_detail reply))
-
 -- the first k bytes from an address on; hyphens for one that isn't there
 abbrev pub bytes_word : Storage → ℕ → ℕ → List ℕ
 bytes_word s at zero = []
@@ -39,20 +34,18 @@ names_ahead sources region name =
     option_and_then (λ standing. names_at (source_lines sources standing.program) standing)
     (standing_at region name None)
 
--- the field that has the byte at an address
-abbrev pub field_word : Option LevelNames → ℕ → Option (List ℕ)
-field_word names address = option_map near_word (option_and_then (nearest_by address) names)
-
 -- a row of bytes that the turn changes, of which the first 64 are shown, before the turn and after it, and the field
 -- that has its first byte
 unfoldable pub changed_row_line : Option LevelNames → Storage → Storage → Row → Lines
 changed_row_line names before after row =
     let shown = min row.length 64 in
-    let changed = bytes_word after row.at shown ++ led_by (codes " FIELD ") (field_word names row.at) in
+    let field = option_map near_word (option_and_then (nearest_by row.at) names) in
+    let changed = bytes_word after row.at shown ++ led_by (codes " FIELD ") field in
     look_line (codes "CHANGES" ∷ digits 16 6 row.at ∷ decimal row.length ∷ codes "FROM" ∷ bytes_word before row.at shown
     ∷ codes "TO" ∷ changed ∷ [])
 
--- what is written for a turn of a region of that reply to that storage, with its last n instructions
+-- What is written for a turn of a region of that reply to that storage, with its last n instructions: how it ends, in
+-- the words that are written for the turn, the instructions, and what it changes.
 pub record TurnText (sources : Sources) (region : RegionState) (name : List ℕ) (n : ℕ) (reply : TurnReply)
     (after : Storage) (lines : Lines) : Type 0 where
   pub trace : Option Trace
@@ -60,7 +53,8 @@ pub record TurnText (sources : Sources) (region : RegionState) (name : List ℕ)
   pub rows : List Row
   pub differ : AreRows region.shared.storage after 0 rows
   pub are : lines
-      ≡ turn_end_line name reply ++ trace_lines sources region.shared.programs trace
+      ≡ look_line (codes "AHEAD" ∷ shown_name name ∷ turn_reply_name reply ∷ option_to_list (turn_reply_detail reply))
+      ++ trace_lines sources region.shared.programs trace
       ++ flat_map (changed_row_line (names_ahead sources region name) region.shared.storage after) rows
 
 -- what is written for the turn that the region would do next

@@ -62,12 +62,10 @@ at_line name line word =
 abbrev pub names_on : ℕ → Source → List (List ℕ)
 names_on line source = map (λ r. r.name) (filter (λ r. r.line == line) (references_of source))
 
-abbrev pub fields_on : Machine → List ℕ → ℕ → ℕ → Source → Lines
-fields_on m name line offset source = chosen_fields (names_on line source) m.storage name m.regs offset source
-
 abbrev pub fields_at_line : Sources → Machine → List ℕ → SourceLine → Spot → Lines
 fields_at_line sources m name line spot =
-    option_map_or (fields_on m name line.line spot.offset) (translated_in (source_lines sources line.program)) []
+    option_map_or (λ source. chosen_fields (names_on line.line source) m.storage name m.regs spot.offset source)
+    (translated_in (source_lines sources line.program)) []
 
 unfoldable pub there_lines : Sources → List (List ℕ × Loaded) → List ℕ → SourceLine → Machine → Lines
 there_lines sources programs name line m =

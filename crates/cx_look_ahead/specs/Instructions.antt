@@ -8,20 +8,17 @@ use Rattle.cx_load.specs.declared.program.Loaded.{Loaded}
 use Rattle.cx_look_tables.specs.Words.{Lines, look_line}
 use Rattle.cx_look_symbols.specs.Places.{address_word, place_at_address}
 use Rattle.cx_look_symbols.specs.Sources.{Sources, led_by, statement_at}
-use Rattle.cx_look_symbols.specs.declared.places.Place.{Place}
 use Rattle.cx_look_turn.specs.declared.traces.Trace.{Trace}
 use Rattle.cx_look_turn.specs.declared.traces.Visit.{Visit}
 
 -- ---- their number, and a line for each
 -- its address and where it is, its bytes, and the statement
-unfoldable pub visit_word : Sources → Place → Option (List ℕ) → List ℕ
-visit_word sources place code =
-    address_word place ++ codes " " ++ option_map_or hex_digits code (codes "--")
-    ++ led_by (codes " LINE ") (statement_at sources place.spot)
-
 unfoldable pub visit_line : Sources → List (List ℕ × Loaded) → Visit → Lines
 visit_line sources programs it =
-    look_line (codes "INSTRUCTION" ∷ visit_word sources (place_at_address programs it.at) it.code ∷ [])
+    let place = place_at_address programs it.at in
+    look_line
+    (codes "INSTRUCTION" ∷ (address_word place ++ codes " " ++ option_map_or hex_digits it.code (codes "--")
+    ++ led_by (codes " LINE ") (statement_at sources place.spot)) ∷ [])
 
 unfoldable pub count_line : ℕ → Lines
 count_line n = look_line (codes "INSTRUCTIONS" ∷ decimal n ∷ [])

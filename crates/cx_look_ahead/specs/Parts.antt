@@ -1,3 +1,4 @@
 -- Words of private functions.
 pub mod Next
 pub mod Seen
+pub mod Words

@@ -11,14 +11,11 @@ row_end row = row.at + row.length
 abbrev pub has_byte : ℕ → Row → Bool
 has_byte a row = nat_le row.at a && nat_lt a (row_end row)
 
--- from one address up to another each byte is the same in both storages, or in neither
-abbrev pub AreSame : Storage → Storage → ℕ → ℕ → Type 0
-AreSame before after from to = (a : ℕ) → from ≤ a → a < to → byte_at before a ≡ byte_at after a
-
--- the first row of bytes that differ from an address on, as long as it can be; a byte that only one of them has differs
+-- the first row of bytes that differ from an address on, as long as it can be: up to it each byte is the same in both
+-- storages, or in neither; a byte that only one of them has differs
 pub record IsNextRow (before after : Storage) (from : ℕ) (row : Row) : Type 0 where
   pub low : from ≤ row.at
-  pub same_up_to : AreSame before after from row.at
+  pub same_up_to : (a : ℕ) → from ≤ a → a < row.at → byte_at before a ≡ byte_at after a
   pub some : 0 < row.length
   pub differ : (a : ℕ) → row.at ≤ a → a < row_end row → byte_at before a ≢ byte_at after a
   pub ends : byte_at before (row_end row) ≡ byte_at after (row_end row)

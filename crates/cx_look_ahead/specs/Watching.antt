@@ -125,14 +125,6 @@ abbrev pub AreChanges : List Row → Storage → ActionEffect → Lines → Type
 AreChanges ranges before effect lines = AreOfRanges effect (map (kept_in before) ranges) lines
 
 -- ---- one range more
-abbrev pub begun_line : Storage → Row → Lines
-begun_line storage range =
-    look_line (codes "WATCH" ∷ digits 16 6 range.at ∷ decimal range.length ∷ codes "IS" ∷ shown_in storage range ∷ [])
-
-abbrev pub refused_line : Row → Lines
-refused_line range =
-    look_line (codes "WATCH" ∷ digits 16 6 range.at ∷ decimal range.length ∷ codes "REFUSED" ∷ codes "Full" ∷ [])
-
 -- at most sixteen are watched
 abbrev pub is_full : List Row → Bool
 is_full ranges = nat_le 16 (length ranges)
@@ -141,4 +133,7 @@ abbrev pub with_range : List Row → Row → List Row
 with_range ranges range = if is_full ranges then ranges else ranges ++ range ∷ []
 
 abbrev pub begun_watch : List Row → Storage → Row → Lines
-begun_watch ranges storage range = if is_full ranges then refused_line range else begun_line storage range
+begun_watch ranges storage range =
+    look_line
+    (codes "WATCH" ∷ digits 16 6 range.at ∷ decimal range.length
+    ∷ (if is_full ranges then codes "REFUSED" ∷ codes "Full" ∷ [] else codes "IS" ∷ shown_in storage range ∷ []))

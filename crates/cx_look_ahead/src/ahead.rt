@@ -2,7 +2,8 @@
 ghost use Rattle.std.specs.Prelude.{◌≡◌, [], ◌∷◌, ◌++◌, codes, IfOk, OnOk};
 ghost use Rattle.std.specs.List.{flat_map};
 ghost use Rattle.cx_look_tables.specs.Words.{look_line};
-ghost use Rattle.cx_look_ahead.specs.Ahead.{AheadText, TurnText, turn_end_line, names_ahead, changed_row_line};
+ghost use Rattle.cx_look_ahead.specs.Ahead.{AheadText, TurnText, names_ahead, changed_row_line};
+ghost use Rattle.cx_look_ahead.specs.Parts.Words.{turn_end_line};
 
 use crate::bytes::changed_row_line;
 use crate::instructions::trace_lines;

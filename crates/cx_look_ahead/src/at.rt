@@ -2,7 +2,8 @@
 ghost use Rattle.std.specs.Prelude.{◌≡◌, ◌<◌, ◌++◌, [], IfOk, IfSome, OnOk, codes, length};
 ghost use Rattle.std.specs.Option.{option_map_or};
 ghost use Rattle.cx_exec.specs.Machine.{machine};
-ghost use Rattle.cx_look_ahead.specs.At.{ArrivesAt, AtText, at_line, fields_at_line, fields_on, first_among, names_on, there_lines};
+ghost use Rattle.cx_look_ahead.specs.At.{ArrivesAt, AtText, at_line, fields_at_line, first_among, names_on, there_lines};
+ghost use Rattle.cx_look_levels.specs.Chosen.{chosen_fields};
 
 use crate::arrivals::{SourceLine, is_among_statements, statements_on};
 use crate::instructions::visit_line;
@@ -105,7 +106,8 @@ impl<'a, S: Store> TaskThere<'a, S> {
     /// Adds the lines of the fields that the line of a source names.
     fn fields_on(&self, report: &mut Report, offset: u32, source: &Source) -> Result<(), AllocError>
         ensures { let m = machine self.now.cpu.now (S.storage self.now.store.now) in
-            let lines = fields_on m self.now.name self.now.line.now.line offset source.now in
+            let names = names_on self.now.line.now.line source.now in
+            let lines = chosen_fields names m.storage self.now.name m.regs offset source.now in
             OnOk result (report.new ≡ report.old ++ lines) }
     {
         let wanted = names_on(report.alloc(), self.line.line as usize, source)?;

@@ -4,7 +4,8 @@ ghost use Rattle.cx_look_symbols.specs.Sources.{led_by};
 ghost use Rattle.std.specs.Option.{option_map_or};
 ghost use Rattle.cx_base.specs.Digits.{digits};
 ghost use Rattle.cx_storage.specs.Storage.{byte_at};
-ghost use Rattle.cx_look_ahead.specs.Ahead.{bytes_word, field_word, changed_row_line};
+ghost use Rattle.cx_look_ahead.specs.Ahead.{bytes_word, changed_row_line};
+ghost use Rattle.cx_look_ahead.specs.Parts.Words.{field_word};
 
 use crate::rows::Row;
 use cx_base::{List, hexadecimal};

@@ -3,7 +3,8 @@ ghost use Rattle.std.specs.Prelude.{◌≡◌, ◌++◌, codes, IfOk, OnOk};
 ghost use Rattle.std.specs.List.{flat_map};
 ghost use Rattle.std.specs.Option.{option_map_or};
 ghost use Rattle.cx_base.specs.Digits.{hex_digits};
-ghost use Rattle.cx_look_ahead.specs.Instructions.{count_line, trace_lines, visit_line, visit_word};
+ghost use Rattle.cx_look_ahead.specs.Instructions.{count_line, trace_lines, visit_line};
+ghost use Rattle.cx_look_ahead.specs.Parts.Words.{visit_word};
 
 use cx_ebcdic::Name8;
 use cx_load::Loaded;
@@ -24,7 +25,6 @@ fn code_word(alloc: Global, code: &Option<Code>) -> Result<Vec<u8>, AllocError>
 }
 
 /// An instruction: its address and where it is, its bytes, and the statement that has it.
-#[tactic(auto, unfolding(crate::specs::Instructions::visit_word))]
 fn visit_word(
     alloc: Global,
     sources: &Sources,

@@ -2,8 +2,8 @@
 ghost use Rattle.std.specs.Prelude.{◌≡◌, ◌≢◌, ◌↔◌, ◌+◌, ◌^◌, ◌<◌, ◌≤◌, ℕ, IsTrue, IfOk, IfSome, None};
 ghost use Rattle.std.specs.List.{AllByRecursion};
 ghost use Rattle.cx_storage.specs.Storage.{byte_at};
-ghost use Rattle.cx_look_ahead.specs.Rows.{AreRows, AreSame, row_end};
-ghost use Rattle.cx_look_ahead.specs.Parts.Next.{MatchNext};
+ghost use Rattle.cx_look_ahead.specs.Rows.{AreRows, row_end};
+ghost use Rattle.cx_look_ahead.specs.Parts.Next.{AreSame, MatchNext};
 
 use cx_storage::Store;
 use cx_storage::laws::{present_in_areas, store_is_sound};

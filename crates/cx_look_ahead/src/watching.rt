@@ -3,7 +3,8 @@ ghost use Rattle.std.specs.Prelude.{◌≡◌, ◌↔◌, [], ◌++◌, IfOk, Is
 ghost use Rattle.std.specs.List.{flat_map};
 ghost use Rattle.std.specs.Option.{option_map_or};
 ghost use Rattle.std.specs.Str.{bytes_eq};
-ghost use Rattle.cx_look_ahead.specs.Watching.{AreOfRanges, begun_watch, begun_line, cause_word, change_line, command_word, instruction_word, is_full, kept_in, line_or, refused_line, with_range};
+ghost use Rattle.cx_look_ahead.specs.Watching.{AreOfRanges, begun_watch, cause_word, change_line, command_word, instruction_word, is_full, kept_in, line_or, with_range};
+ghost use Rattle.cx_look_ahead.specs.Parts.Words.{begun_line, refused_line};
 ghost use Rattle.cx_look_ahead.specs.Parts.Seen.{IsOfChanged, if_changed, run_word, seen_line, statement_lines};
 ghost use Rattle.cx_look_ahead.specs.declared.writing.Work.TheVariants as work;
 

@@ -1,7 +1,7 @@
 -- The nearest is the first of the least distance.
 use Rattle.std.proofs.Common.{◌≡◌, ℕ, ◌+◌, ◌-◌, ◌<◌, ◌≤◌, drop, get_or, length, Bool, true, false, Option, Some, None, is_none, List, [], ◌∷◌, option_and_then, refl, sym, subst, ap, ◌∙◌, arith}
 use Rattle.std.specs.Prelude.{nat_lt, if◌then◌else◌}
-use Rattle.std.specs.Option.{option_map_or}
+use Rattle.std.specs.Option.{option_map, option_map_or}
 use Rattle.std.proofs.lemmas.Bool.{lt-ltb, ltb-true, ltb-false}
 use Rattle.std.proofs.lemmas.List.{drop_more}
 use Rattle.std.proofs.lemmas.Option.{same_Some}
@@ -168,19 +168,19 @@ nearest_more nears left one result found some within is so_far here =
     ap (λ (r : Near). Some r) (here ∙ ap (λ (f : Option Near). option_map_or (nearer_symbol one) f one) so_far) ∙ sym first
 
 -- ---- labels
-label_named : (test : Bool) (name : List ℕ) (distance : ℕ) (it : Near) → (if test then Some (near name distance) else None) ≡ Some it → it ≡ near name it.distance
-label_named true name distance it e =
-    let same : near name distance ≡ it = same_Some _ _ e in
+label_named : (o : Option ℕ) (offset : ℕ) (name : List ℕ) (it : Near) → option_map (λ at. near name (offset - at)) o ≡ Some it → it ≡ near name it.distance
+label_named (Some at) offset name it e =
+    let same : near name (offset - at) ≡ it = same_Some _ _ e in
     sym same ∙ ap (λ d. near name d) (ap (λ (one : Near). one.distance) same)
-label_named false name distance it e = absurd (cc)
+label_named None offset name it e = absurd (cc)
 
 labels_agree : (offset : ℕ) (control : Option (List ℕ)) (rows : Rows) → AllByRecursion (Agrees (IsLabel offset control) (near_label offset control)) rows
 labels_agree offset control [] = tt
 labels_agree offset control ((name, symbol) ∷ rows) = (
   record {
     finds = λ n has. has;
-    named = λ it e. label_named _ name _ it e;
-    has = λ it e. e ∙ ap (λ (one : Near). Some one) (label_named _ name _ it e);
+    named = λ it e. label_named _ offset name it e;
+    has = λ it e. e ∙ ap (λ (one : Near). Some one) (label_named _ offset name it e);
   },
   labels_agree offset control rows,
 )

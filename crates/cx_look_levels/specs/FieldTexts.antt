@@ -42,9 +42,6 @@ field_line storage term name it =
     field_words term name it.field
     (field_bytes_word it.reading (span storage it.field.address (min 32 it.field.length)))
 
-abbrev pub no_field : List ℕ → List ℕ → Lines
-no_field term name = look_line (codes "FIELD" ∷ shown_name term ∷ written_name name ∷ codes "NONE" ∷ [])
-
 -- ---- one field
 -- where the level is at a statement of its source
 abbrev pub typed_in : Source → List ℕ → ℕ → List ℕ → Option TypedField
@@ -66,7 +63,8 @@ level_program region term k = option_map (λ standing. standing.program) (standi
 unfoldable pub field_text : RegionState → List (List ℕ) → List ℕ → List ℕ → Option ℕ → Lines
 field_text region lines term name k =
     option_map_or (field_line region.shared.storage term name)
-    (option_and_then (field_there lines name) (standing_at region term k)) (no_field term name)
+    (option_and_then (field_there lines name) (standing_at region term k))
+    (look_line (codes "FIELD" ∷ shown_name term ∷ written_name name ∷ codes "NONE" ∷ []))
 
 -- ---- all fields of dummy sections that a base reaches, in the source's order
 abbrev pub symbol_field_line : Storage → List ℕ → List NamedReading → List ℕ → Bases → Option (List ℕ) → List ℕ × Symbol
@@ -76,14 +74,15 @@ symbol_field_line storage term readings regs bases control (name, symbol) =
     then option_map_or (λ field. field_line storage term name (typed readings name field))
     (field_by regs bases symbol.value) [] else []
 
-abbrev pub rows_lines : Storage → List ℕ → List NamedReading → List ℕ → Option Bases → Option SourceSymbols → Lines
-rows_lines storage term readings regs (Some bases) (Some named) =
-    flat_map (symbol_field_line storage term readings regs bases named.control) named.rows
-rows_lines storage term readings regs _ _ = []
+-- where a level is at the statement that has the byte at an offset of its source, what is written of each symbol
+abbrev pub rows_lines : (Bases → Option (List ℕ) → List ℕ × Symbol → Lines) → Option Bases → Option SourceSymbols → Lines
+rows_lines line (Some bases) (Some named) = flat_map (line bases named.control) named.rows
+rows_lines line _ _ = []
 
 abbrev pub source_field_lines : Storage → List ℕ → List ℕ → ℕ → Source → Lines
 source_field_lines storage term regs offset source =
-    rows_lines storage term (readings_of source) regs (bases_at_offset source offset) (named_of source)
+    rows_lines (symbol_field_line storage term (readings_of source) regs) (bases_at_offset source offset)
+    (named_of source)
 
 abbrev pub fields_there : Storage → List (List ℕ) → List ℕ → Standing → Lines
 fields_there storage lines term standing =

@@ -22,7 +22,6 @@ use Rattle.cx_asm_pass2.specs.Whole.{Whole, whole_of}
 use Rattle.cx_look_symbols.specs.Lines.{has_offset}
 use Rattle.cx_look_symbols.specs.Places.{spot_before, spot_of}
 use Rattle.cx_look_symbols.specs.Statements.{statement_place_of}
-use Rattle.cx_look_symbols.specs.declared.places.Spot.{Spot}
 use Rattle.cx_look_levels.specs.Levels.{resume_address}
 use Rattle.cx_look_levels.specs.declared.fields.Field.{Field}
 use Rattle.cx_look_levels.specs.declared.standing.Standing.{Standing}
@@ -34,23 +33,18 @@ calling programs level =
     record { program = level.program; regs = level.regs; spot = spot_before programs (resume_address level) }
 
 -- the current one is at the command that is due, or else at its next instruction
-abbrev pub spot_now : List (List ℕ × Loaded) → TaskState → Option Spot
-spot_now programs task =
-    if task.due then spot_before programs (address_in (slice_index task.regs 14)) else spot_of programs task.next
-
 abbrev pub current : List (List ℕ × Loaded) → TaskState → Standing
 current programs task =
-    record { program = task.levels.current.program; regs = task.regs; spot = spot_now programs task }
+    let back = spot_before programs (address_in (slice_index task.regs 14)) in
+    let spot = if task.due then back else spot_of programs task.next in
+    record { program = task.levels.current.program; regs = task.regs; spot = spot }
 
 -- the level of a number, 1 being the highest; without one the current level
-abbrev pub level_numbered : List (List ℕ × Loaded) → TaskState → ℕ → Option Standing
-level_numbered programs task k =
-    if k == length (all_levels task.levels) then Some (current programs task)
-    else option_map (calling programs) (slice_get (all_levels task.levels) (k - 1))
-
 unfoldable pub standing_in : List (List ℕ × Loaded) → TaskState → Option ℕ → Option Standing
 standing_in programs task None = Some (current programs task)
-standing_in programs task (Some k) = level_numbered programs task k
+standing_in programs task (Some k) =
+    if k == length (all_levels task.levels) then Some (current programs task)
+    else option_map (calling programs) (slice_get (all_levels task.levels) (k - 1))
 
 -- the offset in the level's own program
 abbrev pub own_offset : Standing → Option ℕ

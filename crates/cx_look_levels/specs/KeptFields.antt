@@ -1,25 +1,18 @@
 -- The fields of a working storage that was kept, as FIELDS writes them (own).
-use Rattle.std.specs.Prelude.{ℕ, min, nat_le, pos, int_le, unsigned_abs, ◌&&◌, if◌then◌else◌, Option, Some, None, List, [], codes, drop, length, take}
+use Rattle.std.specs.Prelude.{ℕ, min, nat_le, if◌then◌else◌, Option, Some, None, List, [], codes, drop, length, take}
 use Rattle.std.specs.List.{flat_map}
 use Rattle.std.specs.Option.{option_map_or}
 use Rattle.cx_storage.specs.Address.{address_after}
 use Rattle.cx_asm_expressions.specs.Names.{symbol_name}
 use Rattle.cx_asm_expressions.specs.declared.values.Value.{Value}
-use Rattle.cx_asm_pass1.specs.PassState.{is_control}
 use Rattle.cx_look_lines.specs.Words.{Lines}
 use Rattle.cx_look_symbols.specs.Symbols.{named_of, translated_in}
+use Rattle.cx_look_symbols.specs.Texts.{offset_up_to}
 use Rattle.cx_look_symbols.specs.declared.rows.Symbol.{Symbol}
 use Rattle.cx_look_levels.specs.Readings.{reading_named, readings_of}
 use Rattle.cx_look_levels.specs.declared.readings.NamedReading.{NamedReading}
 use Rattle.cx_look_levels.specs.FieldTexts.{field_bytes_word, field_words}
 use Rattle.cx_look_levels.specs.declared.fields.Field.{Field}
-
--- the offset of a symbol in the dummy section DFHEISTG, where that is in the first `count` bytes or right after them
-abbrev pub offset_in : ℕ → Value → Option ℕ
-offset_in count value =
-    if is_control value.section (symbol_name (codes "DFHEISTG")) && int_le (pos 0) value.number
-    && int_le value.number (pos count)
-    then Some (unsigned_abs value.number) else None
 
 -- the first bytes, where all of them are there
 abbrev pub first_bytes : ℕ → List ℕ → Option (List ℕ)
@@ -34,9 +27,11 @@ kept_line term readings at bytes name value offset =
     field_words term name (kept_field at offset value)
     (field_bytes_word (reading_named readings name) (first_bytes (min 32 value.length) (drop offset bytes)))
 
+-- of a symbol in the dummy section DFHEISTG, where its offset is in the bytes or right after them
 abbrev pub kept_row : List ℕ → List NamedReading → ℕ → List ℕ → List ℕ × Symbol → Lines
 kept_row term readings at bytes (name, symbol) =
-    option_map_or (kept_line term readings at bytes name symbol.value) (offset_in (length bytes) symbol.value) []
+    option_map_or (kept_line term readings at bytes name symbol.value)
+    (offset_up_to (length bytes) (symbol_name (codes "DFHEISTG")) symbol.value) []
 
 -- those of a source, in its order
 unfoldable pub kept_fields : List ℕ → List (List ℕ) → ℕ → List ℕ → Lines

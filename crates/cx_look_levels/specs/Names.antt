@@ -1,11 +1,11 @@
 -- The names of a source that have a byte: fields by the bases of a level, and labels of its program (own).
-use Rattle.std.specs.Prelude.{ℕ, ◌-◌, ◌&&◌, nat_lt, pos, int_le, unsigned_abs, if◌then◌else◌, Option, Some, None, option_and_then, List}
+use Rattle.std.specs.Prelude.{ℕ, ◌-◌, nat_lt, if◌then◌else◌, Option, Some, None, option_and_then, option_map, List}
 use Rattle.std.specs.List.{filter_map}
 use Rattle.cx_storage.specs.Address.{distance}
 use Rattle.cx_source.specs.declared.source.Source.{Source}
 use Rattle.cx_asm_operands.specs.Bases.{Bases}
-use Rattle.cx_asm_pass1.specs.PassState.{is_control}
 use Rattle.cx_look_symbols.specs.Symbols.{SourceSymbols, named_in, named_of, translated_in}
+use Rattle.cx_look_symbols.specs.Texts.{offset_up_to}
 use Rattle.cx_look_symbols.specs.declared.rows.Symbol.{Symbol}
 use Rattle.cx_look_levels.specs.Fields.{bases_at_offset, field_by, is_field, own_offset}
 use Rattle.cx_look_levels.specs.declared.fields.Field.{Field}
@@ -54,16 +54,9 @@ nearest_field address lines standing = option_and_then (nearest_by address) (nam
 -- ---- labels
 abbrev pub near_label : ℕ → Option (List ℕ) → List ℕ × Symbol → Option Near
 near_label offset control (name, symbol) =
-    if is_control symbol.value.section control && int_le (pos 0) symbol.value.number
-    && int_le symbol.value.number (pos offset)
-    then Some (near name (offset - unsigned_abs symbol.value.number)) else None
-
-abbrev pub labels_among : ℕ → SourceSymbols → List Near
-labels_among offset named = filter_map (near_label offset named.control) named.rows
+    option_map (λ at. near name (offset - at)) (offset_up_to offset control symbol.value)
 
 -- the last at an offset or before it, and of equal ones the first
-abbrev pub nearest_of : ℕ → Option SourceSymbols → Option Near
-nearest_of offset named = option_and_then (λ it. nearest (labels_among offset it)) named
-
 abbrev pub nearest_label : ℕ → List (List ℕ) → Option Near
-nearest_label offset lines = nearest_of offset (named_in lines)
+nearest_label offset lines =
+    option_and_then (λ it. nearest (filter_map (near_label offset it.control) it.rows)) (named_in lines)

@@ -30,20 +30,14 @@ decimal_with_sign digits sign =
     if list_all (λ digit. nat_lt digit 10) digits && nat_le 10 sign then Some (signed sign (number_of_digits digits))
     else None
 
--- packed: the half bytes are the digits, and the last is the sign
-abbrev pub packed_number : List ℕ → Option ℤ
-packed_number bytes = decimal_with_sign (front (halves bytes)) (last (halves bytes))
-
--- zoned: the right half bytes are the digits; left of the last is the sign, and left of each other the zone F
-abbrev pub zoned_number : List ℕ → Option ℤ
-zoned_number bytes =
-    if list_all (λ byte. byte / 16 == 0xF) (front bytes)
-    then decimal_with_sign (map (λ byte. byte % 16) bytes) (last bytes / 16) else None
-
+-- packed: the half bytes are the digits, and the last is the sign; zoned: the right half bytes are the digits; left of
+-- the last is the sign, and left of each other the zone F
 abbrev pub number_by : Reading → List ℕ → Option ℤ
 number_by Binary bytes = Some (twos_complement (length bytes) (big_number (length bytes) bytes))
-number_by Packed bytes = packed_number bytes
-number_by Zoned bytes = zoned_number bytes
+number_by Packed bytes = decimal_with_sign (front (halves bytes)) (last (halves bytes))
+number_by Zoned bytes =
+    if list_all (λ byte. byte / 16 == 0xF) (front bytes)
+    then decimal_with_sign (map (λ byte. byte % 16) bytes) (last bytes / 16) else None
 
 -- An operand of a decimal instruction has at most 16 bytes.
 unfoldable pub number_as_read : Reading → List ℕ → Option ℤ

@@ -1,2 +1,3 @@
 -- The vocabulary of private functions.
 pub mod Levels
+pub mod Tasks

@@ -14,7 +14,6 @@ use Rattle.cx_base.specs.Digits.{digits}
 use Rattle.cx_base.specs.Texts.{shown_name}
 use Rattle.cx_look_lines.specs.Registers.{register_lines}
 use Rattle.cx_look_lines.specs.Words.{look_line, Lines}
-use Rattle.cx_look_symbols.specs.Lines.{SourcePlaces}
 use Rattle.cx_look_symbols.specs.Places.{place_at_address, place_word}
 use Rattle.cx_look_symbols.specs.Sources.{Sources}
 use Rattle.cx_look_levels.specs.Levels.{levels_text}
@@ -28,31 +27,22 @@ called_name (Err fault) = codes "?"
 unfoldable pub due_word : Storage → TaskState → List ℕ
 due_word s task = if task.due then codes "DUE " ++ called_name (call_of s (argument_list task)) else codes "RUNNING"
 
-unfoldable pub task_words : List ℕ → TaskState → List ℕ → Lines
-task_words name task due =
+abbrev pub task_line : SharedState → List ℕ → TaskState → Lines
+task_line shared name task =
     look_line
     (codes "TASK" ∷ shown_name name ∷ codes "TRAN" ∷ shown_name task.tran ∷ codes "NUMBER" ∷ digits 10 7 task.number
-    ∷ due ∷ [])
+    ∷ due_word shared.storage task ∷ [])
 
-abbrev pub task_line : SharedState → List ℕ → TaskState → Lines
-task_line shared name task = task_words name task (due_word shared.storage task)
-
--- ---- its condition code, and where it goes on
-unfoldable pub cc_next_line : SourcePlaces → SharedState → TaskState → Lines
-cc_next_line sources shared task =
-    look_line
-    (codes "CC" ∷ digits 10 1 task.cc ∷ codes "NEXT" ∷ place_word sources (place_at_address shared.programs task.next)
-    ∷ [])
-
--- ---- all, with its registers, and its levels from the highest, which is number 1
+-- ---- all, with its registers, its condition code and where it goes on, and its levels from the highest, which is
+-- number 1
 abbrev pub task_lines_of : Sources → SharedState → List ℕ → TaskState → Lines
 task_lines_of sources shared name task =
-    task_line shared name task ++ register_lines task.regs ++ cc_next_line sources.places shared task
+    let next = place_word sources.places (place_at_address shared.programs task.next) in
+    task_line shared name task ++ register_lines task.regs
+    ++ look_line (codes "CC" ∷ digits 10 1 task.cc ∷ codes "NEXT" ∷ next ∷ [])
     ++ levels_text sources shared 1 (all_levels task.levels)
-
-abbrev pub no_task_line : List ℕ → Lines
-no_task_line name = look_line (codes "TASK" ∷ shown_name name ∷ codes "NONE" ∷ [])
 
 unfoldable pub task_text : Sources → RegionState → List ℕ → Lines
 task_text sources region name =
-    option_map_or (task_lines_of sources region.shared name) (task_of region name) (no_task_line name)
+    option_map_or (task_lines_of sources region.shared name) (task_of region name)
+    (look_line (codes "TASK" ∷ shown_name name ∷ codes "NONE" ∷ []))

@@ -4,13 +4,12 @@ use Rattle.std.specs.Fmt.{signed_decimal}
 use Rattle.std.specs.Option.{option_map_or}
 use Rattle.cx_look_levels.specs.Numbers.{number_as_read}
 use Rattle.cx_look_levels.specs.declared.readings.Reading.{Reading}
-use Rattle.cx_look_levels.specs.declared.readings.Reading.TheVariants.{Binary, Packed, Zoned}
+use Rattle.cx_look_levels.specs.declared.readings.Reading.TheVariants.{Zoned}
 
 -- the words before it: the value of F, H and P, and what characters are as a zoned number
 abbrev pub reading_word : Reading → List ℕ
-reading_word Binary = codes " VALUE "
-reading_word Packed = codes " VALUE "
 reading_word Zoned = codes " ZONED "
+reading_word _ = codes " VALUE "
 
 -- nothing where the bytes are no number
 abbrev pub number_text : List ℕ → Reading → List ℕ

@@ -1,6 +1,6 @@
 -- WHERE: what is at an address (own).
-use Rattle.std.specs.Prelude.{ℕ, zero, suc, ◌+◌, Some, List, [], ◌∷◌, ◌++◌, codes, length}
-use Rattle.std.specs.List.{filter, flat_map}
+use Rattle.std.specs.Prelude.{ℕ, Some, List, [], ◌∷◌, ◌++◌, codes, length}
+use Rattle.std.specs.List.{filter, flat_map, range_with_len}
 use Rattle.std.specs.Option.{option_map_or}
 use Rattle.cx_storage.specs.Storage.{areas_of}
 use Rattle.cx_load.specs.declared.program.Loaded.{Loaded}
@@ -25,19 +25,15 @@ abbrev pub near_word : Near → List ℕ
 near_word near = written_name near.name ++ codes "+" ++ digits 16 6 near.distance
 
 -- ---- an address and where it is, with the statement that has its byte, and the nearest label in a program
-abbrev pub where_word : Sources → Place → List ℕ
-where_word sources place = address_word place ++ led_by (codes " LINE ") (statement_at sources place.spot)
-
-abbrev pub nearest_label_line : Near → Lines
-nearest_label_line near = look_line (codes "LABEL" ∷ near_word near ∷ [])
-
 abbrev pub spot_line : Sources → Spot → Lines
 spot_line sources spot =
-    option_map_or nearest_label_line (nearest_label spot.offset (source_lines sources spot.program)) []
+    option_map_or (λ near. look_line (codes "LABEL" ∷ near_word near ∷ []))
+    (nearest_label spot.offset (source_lines sources spot.program)) []
 
 abbrev pub place_lines : Sources → Place → Lines
 place_lines sources place =
-    look_line (codes "WHERE" ∷ where_word sources place ∷ []) ++ option_map_or (spot_line sources) place.spot []
+    look_line (codes "WHERE" ∷ (address_word place ++ led_by (codes " LINE ") (statement_at sources place.spot)) ∷ [])
+    ++ option_map_or (spot_line sources) place.spot []
 
 -- ---- of the levels of tasks: the field that has the byte
 abbrev pub level_field_line : List ℕ → ℕ → Near → Lines
@@ -52,19 +48,14 @@ abbrev pub level_lines_at : List (List ℕ × Loaded) → Sources → ℕ → Li
 level_lines_at programs sources address term task k =
     option_map_or (standing_line sources address term k) (standing_in programs task (Some k)) []
 
--- the first n levels of a task, number 1 being the highest
-abbrev pub first_levels : List (List ℕ × Loaded) → Sources → ℕ → List ℕ → TaskState → ℕ → Lines
-first_levels programs sources address term task zero = []
-first_levels programs sources address term task (suc k) =
-    first_levels programs sources address term task k ++ level_lines_at programs sources address term task (k + 1)
-
-abbrev pub task_field_lines : List (List ℕ × Loaded) → Sources → ℕ → List ℕ → TaskState → Lines
-task_field_lines programs sources address term task =
-    first_levels programs sources address term task (length (all_levels task.levels))
-
+-- those of a terminal's task, number 1 being the highest
 abbrev pub terminal_field_lines : List (List ℕ × Loaded) → Sources → ℕ → List ℕ × TerminalState → Lines
 terminal_field_lines programs sources address (term, terminal) =
-    option_map_or (task_field_lines programs sources address term) terminal.task []
+    option_map_or
+    (λ task.
+    let numbers = range_with_len 1 (length (all_levels task.levels)) in
+    flat_map (level_lines_at programs sources address term task) numbers)
+    terminal.task []
 
 -- ---- all: the place, the area that has the byte, and the fields that have it
 unfoldable pub where_text : Sources → RegionState → ℕ → Lines

@@ -1,10 +1,11 @@
 //! FIELD and FIELDS.
-ghost use Rattle.std.specs.Prelude.{◌≡◌, ◌<◌, ◌^◌, ◌++◌, [], IfOk, IfSome, OnOk, None, Some, min, option_and_then, codes};
+ghost use Rattle.std.specs.Prelude.{◌≡◌, ◌<◌, ◌^◌, ◌++◌, ◌∷◌, [], IfOk, IfSome, OnOk, None, Some, min, option_and_then, codes};
 ghost use Rattle.std.specs.List.{flat_map};
 ghost use Rattle.cx_asm_pass1.specs.Locations.{IsPlaced, final_state};
 ghost use Rattle.cx_storage.specs.Storage.{span};
 ghost use Rattle.cx_base.specs.Texts.{shown_name};
-ghost use Rattle.cx_look_levels.specs.FieldTexts.{field_bytes_word, field_line, field_text, field_there, field_words, fields_text, fields_there, no_field, level_program, symbol_field_line, source_field_lines, standing_at, typed_in};
+ghost use Rattle.cx_look_lines.specs.Words.{look_line, written_name};
+ghost use Rattle.cx_look_levels.specs.FieldTexts.{field_bytes_word, field_line, field_text, field_there, field_words, fields_text, fields_there, level_program, symbol_field_line, source_field_lines, standing_at, typed_in};
 
 use crate::fields::{
     Field, SourcePoint, TypedField, bases_at_offset, field_by, field_in, is_field,
@@ -117,7 +118,8 @@ fn field_line<S: Store>(
 
 /// The report of a name that is no field there.
 fn no_field(alloc: Global, term: Name4, name: Name8) -> Result<Report, AllocError>
-    ensures { IfOk result (λ report. report ≡ no_field term name) }
+    ensures { let words = shown_name term ∷ written_name name ∷ codes "NONE" ∷ [] in
+        IfOk result (λ report. report ≡ look_line (codes "FIELD" ∷ words)) }
 {
     let mut report = Report::new(alloc);
     let term = shown_name(alloc, term)?;

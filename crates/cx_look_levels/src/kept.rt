@@ -4,7 +4,7 @@ ghost use Rattle.std.specs.List.{flat_map};
 ghost use Rattle.std.specs.Option.{option_map_or};
 ghost use Rattle.cx_look_symbols.specs.Symbols.{named_of};
 ghost use Rattle.cx_look_levels.specs.FieldTexts.{field_bytes_word};
-ghost use Rattle.cx_look_levels.specs.KeptFields.{first_bytes, kept_fields, kept_line, kept_row, offset_in};
+ghost use Rattle.cx_look_levels.specs.KeptFields.{first_bytes, kept_fields, kept_line, kept_row};
 
 use crate::field_texts::{count_of, field_words, word_of};
 use crate::fields::Field;
@@ -13,21 +13,10 @@ use cx_asm_expressions::{Value, symbol_name};
 use cx_asm_pass1::place_all;
 use cx_ebcdic::{Name4, Name8};
 use cx_look_lines::Report;
-use cx_look_symbols::{Names, Symbol, is_control, names_of_places, translated_in};
+use cx_look_symbols::{Names, Symbol, names_of_places, offset_up_to, translated_in};
 use cx_source::{Source, Text};
 use cx_storage::address_after;
 use std::alloc::{AllocError, Global};
-
-/// The offset of a symbol in the dummy section DFHEISTG, where that is in the first `count` bytes or right after them.
-fn offset_in(count: u32, value: &Value) -> Option<u32>
-    ensures { result ≡ offset_in count value.now }
-{
-    let storage = symbol_name(b"DFHEISTG");
-    if !is_control(value.section, storage) || value.number < 0 || value.number > i128::from(count) {
-        return None;
-    }
-    Some(value.number as u32)
-}
 
 /// The bytes from a place on; none where there are none.
 fn after(bytes: &[u8], place: usize) -> &[u8]
@@ -93,7 +82,8 @@ impl<'a> KeptStorage<'a> {
         ensures { let line = kept_row self.now.term self.now.readings.now self.now.at self.now.bytes.now in
             OnOk result (report.new ≡ report.old ++ line (name, symbol.now)) }
     {
-        let Some(offset) = offset_in(self.bytes.len() as u32, &symbol.value) else {
+        let storage = symbol_name(b"DFHEISTG");
+        let Some(offset) = offset_up_to(self.bytes.len() as u32, storage, &symbol.value) else {
             return Ok(());
         };
         self.field_line(report, name, &symbol.value, offset)

@@ -1,8 +1,15 @@
 //! The levels of a task.
 ghost use Rattle.std.specs.Prelude.{◌≡◌, ◌++◌, ◌+◌, ◌∷◌, ◌≤◌, [], IfOk, OnOk, map, codes, length, reverse, slice_get};
 ghost use Rattle.cx_program.specs.Levels.{all_levels};
-ghost use Rattle.cx_look_levels.specs.Parts.Levels.{level_at, handles_number};
-ghost use Rattle.cx_look_levels.specs.Levels.{cap_word, command_lines, exit_line, exit_words, handle_line, handle_lines, handling_lines, ignore_line, label_line, last_command_line, level_line, level_number, level_text, level_words, levels_text, pushed_lines};
+ghost use Rattle.cx_look_levels.specs.Parts.Levels.{command_lines, handle_lines, handles_number, label_line, level_at};
+ghost use Rattle.std.specs.Option.{option_map_or};
+ghost use Rattle.cx_base.specs.Conditions.{entry_of};
+ghost use Rattle.cx_base.specs.Digits.{digits};
+ghost use Rattle.cx_base.specs.Eistg.{eistg_field};
+ghost use Rattle.cx_base.specs.declared.eistg.EistgField.TheVariants.{Eicap};
+ghost use Rattle.cx_storage.specs.Address.{address_after};
+ghost use Rattle.cx_storage.specs.Word.{word_at};
+ghost use Rattle.cx_look_levels.specs.Levels.{exit_line, exit_words, handle_line, handling_lines, last_command_line, level_line, level_text, level_words, levels_text, pushed_lines};
 ghost use Rattle.cx_look_levels.specs.declared.levels.Handles.TheVariants as handles;
 
 use cx_base::{Condition, EistgField, List, decimal, hexadecimal, shown_name};
@@ -20,7 +27,8 @@ use std::alloc::{AllocError, Global};
 
 /// The word at DFHEICAP.
 fn cap_word<S: Store>(alloc: Global, store: &S, level: &Level) -> Result<Vec<u8>, AllocError>
-    ensures { IfOk result (λ word. word.items ≡ cap_word (S.storage store.now) level.now) }
+    ensures { let at = word_at (S.storage store.now) (address_after level.now.stg (eistg_field Eicap).offset) in
+        IfOk result (λ word. word.items ≡ option_map_or (digits 16 8) at (codes "--")) }
 {
     match word_at(store, address_after(level.stg, EistgField::Eicap.offset())) {
         Some(word) => hexadecimal::<8>(word).to_vec(alloc),
@@ -71,7 +79,7 @@ fn level_line<S: Store + Drop>(
 /// Adds the line of a command, by its statement.
 fn command_line(report: &mut Report, k: u32, command: &[u8]) -> Result<(), AllocError>
     ensures { let words = codes "COMMAND" ∷ codes "LINE" ∷ command.now ∷ [] in
-        OnOk result (report.new ≡ report.old ++ level_words (level_number k) words) }
+        OnOk result (report.new ≡ report.old ++ level_words (digits 10 2 k) words) }
 {
     report.line(&[b"LEVEL", &decimal::<2>(k), b"COMMAND", b"LINE", command])
 }
@@ -128,7 +136,8 @@ fn handles_number(alloc: Global, of: Handles) -> Result<Vec<u8>, AllocError>
 
 /// Adds the line of a condition that is ignored.
 fn ignore_line(report: &mut Report, of: Handles, condition: Condition) -> Result<(), AllocError>
-    ensures { OnOk result (report.new ≡ report.old ++ ignore_line (handles_number of) condition) }
+    ensures { let words = codes "IGNORE" ∷ (entry_of condition).name ∷ [] in
+        OnOk result (report.new ≡ report.old ++ level_words (handles_number of) words) }
 {
     let number = handles_number(report.alloc(), of)?;
     let name = condition.name().as_bytes();
@@ -268,7 +277,7 @@ fn asked_text(
     level: &Level,
 ) -> Result<(), AllocError>
     ensures { let handles = level.now.handles in
-        let asked = handling_lines places.now.entries programs.now.entries (level_number k) handles.active in
+        let asked = handling_lines places.now.entries programs.now.entries (digits 10 2 k) handles.active in
         let pushed = pushed_lines places.now.entries programs.now.entries k 1 (reverse handles.kept) in
         OnOk result (report.new ≡ report.old ++ (asked ++ pushed)) }
 {

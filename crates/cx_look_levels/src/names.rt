@@ -1,18 +1,19 @@
 //! The names of a source that have a byte.
-ghost use Rattle.std.specs.Prelude.{◌≡◌, ◌<◌, ◌^◌, ◌++◌, [], IfOk, OnOk, None};
+ghost use Rattle.std.specs.Prelude.{◌≡◌, ◌<◌, ◌^◌, ◌++◌, [], IfOk, OnOk, None, option_and_then};
 ghost use Rattle.std.specs.List.{cons_option, filter_map};
 ghost use Rattle.cx_asm_pass1.specs.Locations.{IsPlaced, final_state};
 ghost use Rattle.cx_storage.specs.Address.{distance};
 ghost use Rattle.cx_look_symbols.specs.Names.{symbols_named};
 ghost use Rattle.cx_look_symbols.specs.Symbols.{named_of};
-ghost use Rattle.cx_look_levels.specs.Names.{labels_among, names_at, names_in, near_field, near_in, near_label, nearest_by, nearest_field, nearest_label, nearest_of};
+ghost use Rattle.cx_look_levels.specs.Names.{names_at, names_in, near_field, near_in, near_label, nearest_by, nearest_field, nearest_label};
+ghost use Rattle.cx_look_levels.specs.Nearest.{nearest};
 
 use crate::nearest::{Near, nearest};
 use crate::{Field, SourcePoint, Standing, bases_at_offset, field_by, is_field};
 use cx_asm_operands::Bases;
 use cx_asm_pass1::{Places, place_all};
 use cx_ebcdic::Name8;
-use cx_look_symbols::{Names, Symbol, is_control, names_of_places, translated_in};
+use cx_look_symbols::{Names, Symbol, names_of_places, offset_up_to, translated_in};
 use cx_source::{Source, Text};
 use std::alloc::{AllocError, Global};
 use std::marker::Model;
@@ -185,21 +186,16 @@ pub(crate) fn nearest_field(
 fn near_label(offset: u32, control: Option<Name8>, name: Name8, symbol: &Symbol) -> Option<Near>
     ensures { result ≡ near_label offset control (name, symbol.now) }
 {
-    let value = symbol.value;
-    if !is_control(value.section, control)
-        || value.number < 0
-        || value.number > i128::from(offset)
-    {
-        return None;
-    }
-    let distance = offset - value.number as u32;
+    let at = offset_up_to(offset, control, &symbol.value)?;
+    let distance = offset - at;
     Some(Near { name, distance })
 }
 
 /// The labels at an offset or before it.
 #[tactic(auto, using(crate::proofs::AddLemmas::added_before))]
 fn labels_among(alloc: Global, offset: u32, names: &Names) -> Result<Vec<Near>, AllocError>
-    ensures { IfOk result (λ nears. nears.items ≡ labels_among offset (symbols_named names.now)) }
+    ensures { let near = near_label offset names.now.control in
+        IfOk result (λ nears. nears.items ≡ filter_map near names.now.symbols.entries) }
 {
     let mut nears = Vec::new(alloc);
     for (name, symbol) in names.symbols.iter() {
@@ -211,7 +207,8 @@ fn labels_among(alloc: Global, offset: u32, names: &Names) -> Result<Vec<Near>, 
 
 /// The nearest label of a source at an offset or before it.
 fn nearest_of(alloc: Global, offset: u32, source: &Source) -> Result<Option<Near>, AllocError>
-    ensures { IfOk result (λ near. near ≡ nearest_of offset (named_of source.now)) }
+    ensures { IfOk result (λ near. near ≡ option_and_then
+        (λ it. nearest (filter_map (near_label offset it.control) it.rows)) (named_of source.now)) }
 {
     match place_all(alloc, source)? {
         Ok(places) => {

@@ -1,7 +1,8 @@
 //! The number that bytes are.
 ghost use Rattle.std.specs.Prelude.{◌≡◌, ◌==◌, ◌≤◌, ◌<◌, ◌*◌, ◌/◌, ◌%◌, ◌^◌, IfOk, length, map, nat_lt};
 ghost use Rattle.std.specs.List.{list_all};
-ghost use Rattle.cx_look_levels.specs.Numbers.{decimal_with_sign, halves, number_by, number_as_read, packed_number, signed, number_of_digits, zoned_number};
+ghost use Rattle.cx_look_levels.specs.Numbers.{decimal_with_sign, halves, number_by, number_as_read, signed, number_of_digits};
+ghost use Rattle.cx_look_levels.specs.declared.readings.Reading.TheVariants.{Packed, Zoned};
 
 use crate::readings::Reading;
 use byteorder::{BigEndian, ByteOrder};
@@ -81,7 +82,7 @@ fn decimal_with_sign(digits: &[u8], sign: u8) -> Option<i128>
 fn packed_number(alloc: Global, bytes: &[u8]) -> Result<Option<i128>, AllocError>
     requires nonempty { 1 ≤ length bytes.now }
     requires at_most_16 { length bytes.now ≤ 16 }
-    ensures { IfOk result (λ number. number ≡ packed_number bytes.now) }
+    ensures { IfOk result (λ number. number ≡ number_by Packed bytes.now) }
 {
     let halves = halves(alloc, bytes)?;
     let (digits, sign) = halves.as_slice().split_at(halves.len() - 1);
@@ -92,7 +93,7 @@ fn packed_number(alloc: Global, bytes: &[u8]) -> Result<Option<i128>, AllocError
 fn zoned_number(alloc: Global, bytes: &[u8]) -> Result<Option<i128>, AllocError>
     requires nonempty { 1 ≤ length bytes.now }
     requires at_most_16 { length bytes.now ≤ 16 }
-    ensures { IfOk result (λ number. number ≡ zoned_number bytes.now) }
+    ensures { IfOk result (λ number. number ≡ number_by Zoned bytes.now) }
 {
     let (front, last) = bytes.split_at(bytes.len() - 1);
     if !are_zoned(front) {

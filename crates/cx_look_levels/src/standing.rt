@@ -1,7 +1,9 @@
 //! Where a level stands.
-ghost use Rattle.std.specs.Prelude.{◌≡◌, ◌-◌, ◌≤◌, slice_get, option_map};
+ghost use Rattle.std.specs.Prelude.{◌≡◌, ◌-◌, ◌≤◌, Some, if◌then◌else◌, slice_get, slice_index, option_map};
 ghost use Rattle.cx_program.specs.Levels.{all_levels};
-ghost use Rattle.cx_look_levels.specs.Fields.{calling, current, level_numbered, own_offset, spot_now, standing_in};
+ghost use Rattle.cx_look_levels.specs.Fields.{calling, current, own_offset, standing_in};
+ghost use Rattle.cx_look_symbols.specs.Places.{spot_before, spot_of};
+ghost use Rattle.cx_storage.specs.Address.{address_in};
 
 use cx_ebcdic::Name8;
 use cx_load::Loaded;
@@ -47,7 +49,8 @@ fn calling(programs: &IndexMap<Name8, Loaded>, level: &Level) -> Standing
 
 /// A byte of the statement that the current level is at.
 fn spot_now(programs: &IndexMap<Name8, Loaded>, task: &Task) -> Option<Spot>
-    ensures { result ≡ spot_now programs.now.entries task.now }
+    ensures { let back = spot_before programs.now.entries (address_in (slice_index task.now.regs 14)) in
+        result ≡ (if task.now.due then back else spot_of programs.now.entries task.now.next) }
 {
     if task.due {
         spot_before(programs, address_in(task.cpu.regs[14]))
@@ -80,8 +83,9 @@ fn calling_at(
 }
 
 /// Where the level of a number stands, 1 being the highest.
+#[tactic(auto, unfolding(crate::specs::Fields::standing_in))]
 fn level_numbered(programs: &IndexMap<Name8, Loaded>, task: &Task, k: u8) -> Option<Standing>
-    ensures { result ≡ level_numbered programs.now.entries task.now k }
+    ensures { result ≡ standing_in programs.now.entries task.now (Some k) }
 {
     let k = usize::from(k);
     if k == task.levels.len() {

@@ -2,7 +2,8 @@
 ghost use Rattle.std.specs.Prelude.{◌≡◌, ◌++◌, IfOk, OnOk};
 ghost use Rattle.std.specs.Option.{option_copied};
 ghost use Rattle.cx_region.specs.Tables.{task_of};
-ghost use Rattle.cx_look_levels.specs.Tasks.{due_word, no_task_line, cc_next_line, task_line, task_text, task_words, task_lines_of};
+ghost use Rattle.cx_look_levels.specs.Tasks.{due_word, task_line, task_text, task_lines_of};
+ghost use Rattle.cx_look_levels.specs.Parts.Tasks.{cc_next_line, no_task_line, task_words};
 
 use crate::levels::levels_text;
 use cx_base::{decimal, shown_name};
@@ -31,7 +32,6 @@ fn due_word<S: Store>(alloc: Global, store: &S, task: &Task) -> Result<Vec<u8>, 
 }
 
 /// Adds the task's line, with the word that says what it is doing.
-#[tactic(auto, unfolding(crate::specs::Tasks::task_words))]
 fn task_words(report: &mut Report, name: Name4, task: &Task, due: &[u8]) -> Result<(), AllocError>
     ensures { OnOk result (report.new ≡ report.old ++ task_words name task.now due.now) }
 {
@@ -55,7 +55,6 @@ fn task_line<S: Store + Drop>(
 }
 
 /// Adds the line of a task's condition code and next address.
-#[tactic(auto, unfolding(crate::specs::Tasks::cc_next_line))]
 fn cc_next_line<S: Store + Drop>(
     report: &mut Report,
     sources: &SourcePlaces,

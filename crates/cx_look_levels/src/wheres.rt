@@ -1,8 +1,12 @@
 //! WHERE.
-ghost use Rattle.std.specs.Prelude.{◌≡◌, ◌++◌, [], IfOk, OnOk};
+ghost use Rattle.std.specs.Prelude.{◌≡◌, ◌++◌, ◌∷◌, [], IfOk, OnOk, codes};
 ghost use Rattle.std.specs.List.{flat_map};
 ghost use Rattle.std.specs.Option.{option_map_or};
-ghost use Rattle.cx_look_levels.specs.Wheres.{level_field_line, nearest_label_line, level_lines_at, near_word, place_lines, spot_line, standing_line, task_field_lines, terminal_field_lines, where_text, where_word};
+ghost use Rattle.cx_look_levels.specs.Wheres.{level_field_line, level_lines_at, near_word, place_lines, spot_line, standing_line, terminal_field_lines, where_text};
+ghost use Rattle.cx_look_levels.specs.Parts.Tasks.{task_field_lines};
+ghost use Rattle.cx_look_lines.specs.Words.{look_line};
+ghost use Rattle.cx_look_symbols.specs.Places.{address_word};
+ghost use Rattle.cx_look_symbols.specs.Sources.{led_by, statement_at};
 
 use crate::names::{nearest_field, nearest_label};
 use crate::nearest::Near;
@@ -34,7 +38,8 @@ pub fn near_word(alloc: Global, near: Near) -> Result<Vec<u8>, AllocError>
 
 /// Adds the line of the nearest label, if there is one.
 fn nearest_label_line(report: &mut Report, near: Option<Near>) -> Result<(), AllocError>
-    ensures { OnOk result (report.new ≡ report.old ++ option_map_or nearest_label_line near []) }
+    ensures { let line = option_map_or (λ it. look_line (codes "LABEL" ∷ near_word it ∷ [])) near [] in
+        OnOk result (report.new ≡ report.old ++ line) }
 {
     let Some(near) = near else {
         return Ok(());
@@ -167,7 +172,8 @@ impl SoughtAddress<'_> {
 
 /// An address and where it is, with the statement that has its byte.
 fn where_word(alloc: Global, sources: &Sources, place: &Place) -> Result<Vec<u8>, AllocError>
-    ensures { IfOk result (λ word. word.items ≡ where_word sources.now place.now) }
+    ensures { let statement = statement_at sources.now place.now.spot in
+        IfOk result (λ word. word.items ≡ address_word place.now ++ led_by (codes " LINE ") statement) }
 {
     let mut word = address_word(alloc, place)?;
     push_led_by(

@@ -1,3 +1,4 @@
 -- Lemmas that other crates cite.
+pub mod Ranges
 pub mod Spaced
 pub mod Marked

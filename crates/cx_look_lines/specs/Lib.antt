@@ -3,3 +3,4 @@ pub mod Words
 pub mod Registers
 pub mod Marked
 pub mod Facts
+pub mod Parts

@@ -3,12 +3,8 @@ use Rattle.std.specs.Prelude.{◌≡◌, ℕ, true, List, ◌++◌, codes}
 use Rattle.std.specs.List.{AllByRecursion, flat_map, list_all}
 use Rattle.cx_look_lines.specs.Words.{is_in_line}
 
--- a line has no LF
-abbrev pub IsLine : List ℕ → Type 0
-IsLine line = list_all is_in_line line ≡ true
-
 -- lines of looks: each begins with `> `, and its one LF is at its end
 pub record IsOfLooks (text : List ℕ) : Type 0 where
   pub lines : List (List ℕ)
-  pub are : AllByRecursion IsLine lines
+  pub are : AllByRecursion (λ line. list_all is_in_line line ≡ true) lines
   pub whole : text ≡ flat_map (λ line. codes "> " ++ line ++ codes "\n") lines

@@ -1,11 +1,11 @@
 -- What the lines of looks are made of (own).
-use Rattle.std.specs.Prelude.{ℕ, Bool, false, ◌&&◌, ◌==◌, not, List, [], ◌∷◌, ◌++◌, length, codes, if◌then◌else◌}
+use Rattle.std.specs.Prelude.{ℕ, Bool, false, ◌&&◌, ◌==◌, not, List, [], ◌∷◌, ◌++◌, drop, length, map, take, codes, if◌then◌else◌}
 use Rattle.std.specs.List.{filter, flat_map, list_all}
 use Rattle.std.specs.Option.{option_map_or}
 use Rattle.std.specs.Str.{byte}
 use Rattle.cx_ebcdic.specs.Characters.{code_of, shown_as}
 use Rattle.cx_base.specs.Digits.{hex_digits}
-use Rattle.cx_base.specs.Texts.{shown_text, trim}
+use Rattle.cx_base.specs.Texts.{in_columns, join, shown_text, trim}
 
 -- ---- lines
 -- what a look has to say, a line after the other
@@ -36,20 +36,14 @@ or_none word lines = if length lines == 0 then none_line word else lines
 abbrev pub is_in_line : ℕ → Bool
 is_in_line c = not (c == byte "\n")
 
-abbrev pub marked_line : List ℕ → List ℕ
-marked_line line = codes "> " ++ filter is_in_line line ++ codes "\n"
-
 unfoldable pub marked : Lines → List ℕ
-marked lines = flat_map marked_line lines
+marked lines = flat_map (λ line. codes "> " ++ filter is_in_line line ++ codes "\n") lines
 
 -- ---- bytes and names
--- a byte that is the code of a character: one that isn't is shown by the code of one that is
-abbrev pub has_character : ℕ → Bool
-has_character b = option_map_or (λ code. code == b) (code_of (shown_as b)) false
-
--- a byte that is written between apostrophes as itself
+-- a byte that is written between apostrophes as itself: it is the code of a character, since one that isn't is shown by
+-- the code of one that is; and it is no apostrophe
 abbrev pub is_plain : ℕ → Bool
-is_plain b = has_character b && not (shown_as b == byte "'")
+is_plain b = option_map_or (λ code. code == b) (code_of (shown_as b)) false && not (shown_as b == byte "'")
 
 abbrev pub in_apostrophes : List ℕ → List ℕ
 in_apostrophes text = codes "'" ++ text ++ codes "'"
@@ -61,6 +55,10 @@ in_hexadecimal bytes = codes "X" ++ in_apostrophes (hex_digits bytes)
 -- bytes as characters between apostrophes; in hexadecimal where one of them has no character, or is an apostrophe
 unfoldable pub written_bytes : List ℕ → List ℕ
 written_bytes bytes = if list_all is_plain bytes then in_apostrophes (shown_text bytes) else in_hexadecimal bytes
+
+-- up to sixteen bytes in hexadecimal digits, in four groups, which blanks fill
+abbrev pub hex_groups : List ℕ → List (List ℕ)
+hex_groups row = map (λ k. in_columns 8 (join (hex_digits (take 4 (drop k row)) ∷ []))) (0 ∷ 4 ∷ 8 ∷ 12 ∷ [])
 
 -- a name: as bytes, without the blanks that fill it
 unfoldable pub written_name : List ℕ → List ℕ

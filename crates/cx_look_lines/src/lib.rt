@@ -9,4 +9,4 @@ mod values;
 pub use lines::{decimal, push_word, push_words};
 pub use registers::register_lines;
 pub use reports::Report;
-pub use values::{in_apostrophes, spelled, written_bytes, written_name};
+pub use values::{hex_group, in_apostrophes, spelled, written_bytes, written_name};

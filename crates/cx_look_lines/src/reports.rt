@@ -1,7 +1,8 @@
 //! Reports: what a look has to say, a line after the other.
 ghost use Rattle.std.specs.Prelude.{◌≡◌, ◌∷◌, ◌++◌, [], IfOk, OnOk, map};
 ghost use Rattle.std.specs.List.{filter};
-ghost use Rattle.cx_look_lines.specs.Words.{is_in_line, joined_line, look_line, marked, marked_line, or_none};
+ghost use Rattle.cx_look_lines.specs.Words.{is_in_line, joined_line, look_line, marked, or_none};
+ghost use Rattle.cx_look_lines.specs.Parts.Words.{marked_line};
 
 use crate::lines::push_words;
 use cx_base::List;

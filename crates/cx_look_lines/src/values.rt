@@ -1,16 +1,19 @@
 //! Bytes and names as a source writes them.
-ghost use Rattle.std.specs.Prelude.{◌≡◌, ◌++◌, IfOk, OnOk};
+ghost use Rattle.std.specs.Prelude.{◌≡◌, ◌==◌, ◌∷◌, ◌++◌, [], IfOk, OnOk, drop, false, take};
+ghost use Rattle.std.specs.Option.{option_map_or};
+ghost use Rattle.cx_ebcdic.specs.Characters.{code_of, shown_as};
 ghost use Rattle.std.specs.List.{list_all};
 ghost use Rattle.cx_base.specs.Digits.{hex_digits};
-ghost use Rattle.cx_look_lines.specs.Words.{has_character, in_apostrophes, in_hexadecimal, is_plain, written_bytes, written_name};
+ghost use Rattle.cx_base.specs.Texts.{in_columns, join};
+ghost use Rattle.cx_look_lines.specs.Words.{in_apostrophes, in_hexadecimal, is_plain, written_bytes, written_name};
 
-use cx_base::{hexadecimal, shown, trim};
+use cx_base::{hexadecimal, in_columns, shown, trim};
 use cx_ebcdic::{shown_as, to_ebcdic};
 use std::alloc::{AllocError, Global};
 
 /// Whether a byte is the code of a character.
 fn has_character(byte: u8) -> bool
-    ensures { result ≡ has_character byte }
+    ensures { result ≡ option_map_or (λ code. code == byte) (code_of (shown_as byte)) false }
 {
     match to_ebcdic(shown_as(byte)) {
         Some(code) => code == byte,
@@ -55,6 +58,31 @@ pub fn spelled(alloc: Global, bytes: &[u8]) -> Result<Vec<u8>, AllocError>
         text.extend_from_slice(&hexadecimal::<2>(u32::from(*byte)))?;
     }
     Ok(text)
+}
+
+/// The bytes from a place on; none where there are none.
+fn after(bytes: &[u8], place: usize) -> &[u8]
+    ensures { result.now ≡ drop place bytes.now }
+{
+    bytes.split_at(place.min(bytes.len())).1
+}
+
+/// The first `count` bytes, or all where there are fewer.
+fn first_bytes(bytes: &[u8], count: usize) -> &[u8]
+    ensures { result.now ≡ take count bytes.now }
+{
+    bytes.split_at(count.min(bytes.len())).0
+}
+
+/// Four bytes of a row from a place on, as far as it has them, in hexadecimal digits, which blanks fill.
+///
+/// An error comes only where memory for them was refused.
+pub fn hex_group(alloc: Global, row: &[u8], place: usize) -> Result<[u8; 8], AllocError>
+    ensures { let digits = hex_digits (take 4 (drop place row.now)) in
+        IfOk result (λ text. text ≡ in_columns 8 (join (digits ∷ []))) }
+{
+    let digits = spelled(alloc, first_bytes(after(row, place), 4))?;
+    Ok(in_columns::<8>(&[&digits]))
 }
 
 /// Bytes in hexadecimal.

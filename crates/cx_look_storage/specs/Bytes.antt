@@ -1,6 +1,6 @@
 -- STORAGE: bytes of storage, and the areas that they are in (own).
-use Rattle.std.specs.Prelude.{ℕ, zero, suc, ◌+◌, ◌-◌, ◌*◌, ◌/◌, [], ◌∷◌, ◌++◌, map}
-use Rattle.std.specs.List.{filter, flat_map}
+use Rattle.std.specs.Prelude.{ℕ, ◌+◌, ◌-◌, ◌*◌, ◌/◌, [], ◌∷◌, ◌++◌, map}
+use Rattle.std.specs.List.{filter, flat_map, range_with_len}
 use Rattle.cx_storage.specs.Address.{address_after}
 use Rattle.cx_storage.specs.Storage.{Storage, areas_of}
 use Rattle.cx_base.specs.Digits.{digits}
@@ -15,22 +15,15 @@ use Rattle.cx_look_storage.specs.Uses.{is_met, met_line}
 -- storage page
 unfoldable pub storage_row_line : Storage → ℕ → ℕ → Lines
 storage_row_line s at count =
-    look_line
-    (digits 16 6 at ∷ [] ∷ hex_group s at count 0 ∷ hex_group s at count 4 ∷ hex_group s at count 8
-    ∷ hex_group s at count 12
-    ∷ [] ∷ in_columns 16 (join (map (character_group s at count) quarters)) ∷ [])
+    let characters = in_columns 16 (join (map (character_group s at count) quarters)) in
+    look_line (digits 16 6 at ∷ [] ∷ map (hex_group s at count) quarters ++ [] ∷ characters ∷ [])
 
--- the first rows of n bytes from an address on
-abbrev pub first_storage_rows : Storage → ℕ → ℕ → ℕ → Lines
-first_storage_rows s address n zero = []
-first_storage_rows s address n (suc k) =
-    first_storage_rows s address n k ++ storage_row_line s (address_after address (16 * k)) (n - 16 * k)
-
-abbrev pub storage_rows_text : Storage → ℕ → ℕ → Lines
-storage_rows_text s address n = first_storage_rows s address n ((n + 15) / 16)
+-- that of the row, counted from 0, of n bytes from an address on
+abbrev pub storage_row : Storage → ℕ → ℕ → ℕ → Lines
+storage_row s address n k = storage_row_line s (address_after address (16 * k)) (n - 16 * k)
 
 -- the bytes, and a line for each area that has one of them
 unfoldable pub storage_text : RegionState → ℕ → ℕ → Lines
 storage_text region address n =
-    storage_rows_text region.shared.storage address n
+    flat_map (storage_row region.shared.storage address n) (range_with_len 0 ((n + 15) / 16))
     ++ flat_map (met_line region address) (filter (is_met address n) (areas_of region.shared.storage))

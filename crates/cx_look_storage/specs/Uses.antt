@@ -2,7 +2,7 @@
 use Rattle.std.specs.Prelude.{ℕ, ◌+◌, ◌-◌, Bool, ◌||◌, nat_lt, ◌==◌, if◌then◌else◌, Option, Some, None, List, [], ◌∷◌, ◌++◌, codes}
 use Rattle.std.specs.Fmt.{decimal}
 use Rattle.std.specs.List.{find}
-use Rattle.std.specs.Option.{option_and_then}
+use Rattle.std.specs.Option.{option_and_then, option_map_or}
 use Rattle.cx_base.specs.Digits.{digits}
 use Rattle.cx_base.specs.Texts.{shown_name}
 use Rattle.cx_storage.specs.Address.{distance}
@@ -12,47 +12,30 @@ use Rattle.cx_storage.specs.declared.areas.Kind.{Kind}
 use Rattle.cx_storage.specs.declared.areas.Kind.TheVariants as kind
 use Rattle.cx_load.specs.declared.program.Loaded.{Loaded}
 use Rattle.cx_program.specs.declared.level.Level.{Level}
-use Rattle.cx_program.specs.Levels.{Levels, all_levels}
+use Rattle.cx_program.specs.Levels.{all_levels}
 use Rattle.cx_region_state.specs.State.{TaskState}
 use Rattle.cx_region.specs.State.{RegionState, TerminalState}
 use Rattle.cx_region.specs.Looking.{terminal_at}
 use Rattle.cx_look_lines.specs.Words.{look_line, Lines}
 
--- ---- whose
--- the region's, or that of a terminal's task
-abbrev pub owner_name : Option (List ℕ × TerminalState) → List ℕ
-owner_name None = codes "REGION"
-owner_name (Some terminal) = shown_name terminal.0
-
 -- ---- what
--- a fixed area: a program that starts there, or the common work area
-abbrev pub program_at : List (List ℕ × Loaded) → ℕ → Option (List ℕ × Loaded)
-program_at programs start = find (λ program. program.1.at == start) programs
-
-abbrev pub fixed_use : Option (List ℕ × Loaded) → List ℕ
-fixed_use None = codes "CWA"
-fixed_use (Some program) = codes "PROGRAM " ++ shown_name program.0
-
 -- the number of the level whose DFHEISTG starts there, of levels from this number on; the highest level is number 1
 abbrev pub stg_from : ℕ → List Level → ℕ → Option ℕ
 stg_from n [] start = None
 stg_from n (level ∷ levels) start = if level.stg == start then Some n else stg_from (n + 1) levels start
 
-abbrev pub stg_at : Levels → ℕ → Option ℕ
-stg_at levels start = stg_from 1 (all_levels levels) start
-
--- DFHEISTG of a level; any other area is the copy of a COMMAREA
-abbrev pub stg_use : Option ℕ → List ℕ
-stg_use None = codes "OTHER"
-stg_use (Some n) = codes "DFHEISTG " ++ decimal n
-
--- an area that a task was given unasked: its EIB, a level's DFHEISTG, or any other
+-- an area that a task was given unasked: its EIB, a level's DFHEISTG, or any other, the copy of a COMMAREA
 abbrev pub task_use : ℕ → Option TaskState → List ℕ
 task_use start None = codes "OTHER"
-task_use start (Some task) = if task.eib == start then codes "EIB" else stg_use (stg_at task.levels start)
+task_use start (Some task) =
+    if task.eib == start then codes "EIB"
+    else option_map_or (λ n. codes "DFHEISTG " ++ decimal n) (stg_from 1 (all_levels task.levels) start) (codes "OTHER")
 
+-- a fixed area is a program that starts there, or the common work area
 unfoldable pub use_of : Kind → List (List ℕ × Loaded) → Option TaskState → ℕ → List ℕ
-use_of kind.Fixed programs task start = fixed_use (program_at programs start)
+use_of kind.Fixed programs task start =
+    option_map_or (λ program. codes "PROGRAM " ++ shown_name program.0)
+    (find (λ program. program.1.at == start) programs) (codes "CWA")
 use_of kind.Got programs task start = codes "GETMAIN"
 use_of kind.System programs task start = task_use start task
 
@@ -62,7 +45,7 @@ abbrev pub owner_of : RegionState → Area → Option (List ℕ × TerminalState
 owner_of region area = terminal_at region.terminals area.owner.slot
 
 unfoldable pub area_owner : RegionState → Area → List ℕ
-area_owner region area = owner_name (owner_of region area)
+area_owner region area = option_map_or (λ terminal. shown_name terminal.0) (owner_of region area) (codes "REGION")
 
 unfoldable pub area_use : RegionState → Area → List ℕ
 area_use region area =

@@ -1,9 +1,10 @@
 //! AREAS.
-ghost use Rattle.std.specs.Prelude.{◌≡◌, ◌++◌, ◌∷◌, [], codes, map, IfOk, OnOk};
+ghost use Rattle.std.specs.Prelude.{◌≡◌, ◌++◌, IfOk, OnOk};
 ghost use Rattle.std.specs.List.{filter, flat_map};
 ghost use Rattle.cx_storage.specs.Storage.{areas_of};
 ghost use Rattle.cx_region.specs.Tables.{terminal_of};
-ghost use Rattle.cx_look_storage.specs.Areas.{areas_text, is_of, lines_or, owned_by, task_areas_text};
+ghost use Rattle.cx_look_storage.specs.Areas.{areas_text, owned_by, task_areas_text};
+ghost use Rattle.cx_look_storage.specs.Parts.Walk.{is_of};
 ghost use Rattle.cx_look_storage.specs.Uses.{area_line};
 
 use crate::uses::area_line;
@@ -70,24 +71,6 @@ fn area_lines<S: Store + Drop>(
     Ok(())
 }
 
-/// A line for each of some areas, or the words that there is none.
-fn lines_or<S: Store + Drop>(
-    alloc: Global,
-    none: &[&[u8]],
-    region: &Region<S>,
-    areas: &[Area],
-) -> Result<Report, AllocError>
-    ensures { IfOk result (λ report. report ≡ lines_or (map (λ word. word.now) none.now) region.now areas.now) }
-{
-    let mut report = Report::new(alloc);
-    if areas.is_empty() {
-        report.line(none)?;
-        return Ok(report);
-    }
-    area_lines(&mut report, region, areas)?;
-    Ok(report)
-}
-
 /// Looks at all areas: a line each, the one at the lowest address first; NONE where there is none.
 ///
 /// An error comes only where memory for the report was refused.
@@ -96,7 +79,9 @@ pub fn areas_text<S: Store + Drop>(alloc: Global, region: &Region<S>) -> Result<
     ensures { IfOk result (λ report. report ≡ areas_text region.now) }
 {
     let areas = all_areas(alloc, &region.shared().store)?;
-    lines_or(alloc, &[b"AREAS", b"NONE"], region, &areas)
+    let mut report = Report::new(alloc);
+    area_lines(&mut report, region, &areas)?;
+    report.or_none(b"AREAS")
 }
 
 /// Looks at the areas that the task of a terminal owns: a line each, the one at the lowest address first; NONE where
@@ -112,6 +97,10 @@ pub fn task_areas_text<S: Store + Drop>(
     ensures { IfOk result (λ report. report ≡ task_areas_text region.now name) }
 {
     let areas = task_areas(alloc, region, name)?;
+    let mut report = Report::new(alloc);
+    area_lines(&mut report, region, &areas)?;
     let name = shown_name(alloc, name)?;
-    lines_or(alloc, &[b"AREAS", &name, b"NONE"], region, &areas)
+    let mut word = b"AREAS ".to_vec(alloc)?;
+    word.extend_from_slice(&name)?;
+    report.or_none(&word)
 }

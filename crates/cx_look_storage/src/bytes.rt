@@ -1,9 +1,9 @@
 //! STORAGE.
-ghost use Rattle.std.specs.Prelude.{◌≡◌, ◌-◌, ◌*◌, ◌<◌, ◌^◌, ◌++◌, IfOk, OnOk};
-ghost use Rattle.std.specs.List.{filter, flat_map};
+ghost use Rattle.std.specs.Prelude.{◌≡◌, ◌+◌, ◌-◌, ◌*◌, ◌/◌, ◌<◌, ◌^◌, ◌++◌, IfOk, OnOk};
+ghost use Rattle.std.specs.List.{filter, flat_map, range_with_len};
 ghost use Rattle.cx_storage.specs.Address.{address_after};
 ghost use Rattle.cx_storage.specs.Storage.{areas_of};
-ghost use Rattle.cx_look_storage.specs.Bytes.{storage_row_line, storage_rows_text, storage_text};
+ghost use Rattle.cx_look_storage.specs.Bytes.{storage_row, storage_row_line, storage_text};
 ghost use Rattle.cx_look_storage.specs.Uses.{is_met, met_line};
 
 use crate::areas::all_areas;
@@ -48,7 +48,8 @@ fn storage_rows_text<S: Store + Drop>(
     address: u32,
     n: u32,
 ) -> Result<(), AllocError>
-    ensures { OnOk result (report.new ≡ report.old ++ storage_rows_text region.now.shared.storage address n) }
+    ensures { let row = storage_row region.now.shared.storage address n in
+        OnOk result (report.new ≡ report.old ++ flat_map row (range_with_len 0 ((n + 15) / 16))) }
 {
     let rows = ((u64::from(n) + 15) / 16) as u32;
     for k in 0..rows {

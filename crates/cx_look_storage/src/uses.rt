@@ -2,7 +2,8 @@
 ghost use Rattle.std.specs.Prelude.{◌≡◌, ◌++◌, IfOk, OnOk};
 ghost use Rattle.std.specs.Option.{option_copied, option_map};
 ghost use Rattle.cx_storage.specs.Storage.{covers};
-ghost use Rattle.cx_look_storage.specs.Uses.{area_line, area_owner, area_use, fixed_use, is_met, met_line, offset_of, program_at, stg_at, stg_use, task_use, use_of};
+ghost use Rattle.cx_look_storage.specs.Uses.{area_line, area_owner, area_use, is_met, met_line, offset_of, task_use, use_of};
+ghost use Rattle.cx_look_storage.specs.Parts.Walk.{fixed_use, program_at, stg_at, stg_use};
 
 use cx_base::{hexadecimal, shown_name};
 use cx_ebcdic::{Name4, Name8};

@@ -9,7 +9,8 @@ use Rattle.cx_ebcdic.specs.Facts.Lookup.{find_passes}
 use Rattle.cx_load.specs.declared.program.Loaded.{Loaded}
 use Rattle.cx_look_symbols.specs.Laws.{IsBeforeInSource, LinesAreInSources}
 use Rattle.cx_look_symbols.specs.Lines.{SourcePlaces, has_offset, line_at, line_in}
-use Rattle.cx_look_symbols.specs.Places.{is_in, spot_before, spot_in}
+use Rattle.cx_look_symbols.specs.Places.{spot_before}
+use Rattle.cx_look_symbols.specs.Parts.Places.{is_in, spot_in}
 use Rattle.cx_look_symbols.specs.declared.statements.StatementPlace.{StatementPlace}
 
 -- what is found is in the list

@@ -1,2 +1,3 @@
 -- The vocabulary of private functions.
 pub mod Rows
+pub mod Places

@@ -1,8 +1,9 @@
 //! All symbols of a source, in the order of their names.
-ghost use Rattle.std.specs.Prelude.{◌≡◌, ◌++◌, IfOk, OnOk};
+ghost use Rattle.std.specs.Prelude.{◌≡◌, ◌++◌, [], IfOk, OnOk};
 ghost use Rattle.std.specs.List.{flat_map};
 ghost use Rattle.cx_look_symbols.specs.Symbols.{named_in};
-ghost use Rattle.cx_look_symbols.specs.Texts.{in_order, symbol_line, symbols_among};
+ghost use Rattle.cx_look_symbols.specs.Texts.{in_order, symbol_line};
+ghost use Rattle.std.specs.Option.{option_map_or};
 
 use crate::rows::Symbol;
 use crate::symbols::names_in;
@@ -53,7 +54,8 @@ pub(crate) fn symbols_among(
     program: Option<Loaded>,
     lines: &[Text],
 ) -> Result<Report, AllocError>
-    ensures { IfOk result (λ report. report ≡ symbols_among program (named_in lines.now)) }
+    ensures { IfOk result (λ report. report ≡ option_map_or
+        (λ it. flat_map (symbol_line it.control program) (in_order it.rows)) (named_in lines.now) []) }
 {
     let mut report = Report::new(alloc);
     let Some(names) = names_in(alloc, lines)? else {

@@ -24,4 +24,4 @@ pub use shown::{push_led_by, statement_at};
 pub use sources::Sources;
 pub use statements::{StatementPlace, statement_place, statement_places};
 pub use symbols::{Names, names_of_places};
-pub use texts::{is_control, length_word};
+pub use texts::{is_control, length_word, offset_up_to};

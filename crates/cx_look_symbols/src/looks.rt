@@ -1,7 +1,9 @@
 //! Looks at the names of a program's source.
 ghost use Rattle.std.specs.Prelude.{◌≡◌, ◌++◌, IfOk, OnOk, None, Some, codes};
 ghost use Rattle.cx_region.specs.Tables.{program_of};
-ghost use Rattle.cx_look_symbols.specs.Texts.{symbol_among, symbol_found, symbol_text, symbols_text};
+ghost use Rattle.cx_look_symbols.specs.Texts.{symbol_found, symbol_text, symbols_text};
+ghost use Rattle.std.specs.Map.{lookup};
+ghost use Rattle.cx_asm_expressions.specs.Names.{is_same};
 ghost use Rattle.cx_look_lines.specs.Words.{written_name};
 ghost use Rattle.cx_look_symbols.specs.Names.{symbols_named};
 
@@ -38,8 +40,8 @@ fn symbol_among(
     name: Name8,
     names: &Names,
 ) -> Result<(), AllocError>
-    ensures { let line = symbol_among program name (Some (symbols_named names.now)) in
-        OnOk result (report.new ≡ report.old ++ line) }
+    ensures { let found = lookup (is_same name) names.now.symbols.entries in
+        OnOk result (report.new ≡ report.old ++ symbol_found names.now.control program name found) }
 {
     let Some(symbol) = names.symbols.get(&name) else {
         return absent_symbol(report, name);

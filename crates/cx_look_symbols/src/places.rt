@@ -1,8 +1,12 @@
 //! An address as a program and an offset in it, and its line in the program's source.
-ghost use Rattle.std.specs.Prelude.{◌≡◌, IfOk, option_and_then, option_map};
+ghost use Rattle.std.specs.Prelude.{◌≡◌, ◌++◌, IfOk, codes, option_and_then, option_map};
 ghost use Rattle.std.specs.List.{find};
 ghost use Rattle.cx_look_symbols.specs.Lines.{line_in};
-ghost use Rattle.cx_look_symbols.specs.Places.{address_word, is_in, line_word, place_at_address, place_word, spot_before, spot_of, spot_word};
+ghost use Rattle.cx_look_symbols.specs.Places.{address_word, line_word, place_at_address, place_word, spot_before, spot_of};
+ghost use Rattle.cx_look_symbols.specs.Parts.Places.{is_in};
+ghost use Rattle.std.specs.Option.{option_map_or};
+ghost use Rattle.cx_base.specs.Digits.{digits};
+ghost use Rattle.cx_base.specs.Texts.{shown_name};
 
 use crate::lines::{SourcePlaces, five_digits, line_in};
 use cx_base::{hexadecimal, shown_name};
@@ -73,7 +77,8 @@ pub fn spot_before(programs: &IndexMap<Name8, Loaded>, address: u32) -> Option<S
 
 /// A program's name and an offset in it, `NAME+oooooo`; hyphens where there is none.
 fn spot_word(alloc: Global, spot: &Option<Spot>) -> Result<Vec<u8>, AllocError>
-    ensures { IfOk result (λ word. word.items ≡ spot_word spot.now) }
+    ensures { IfOk result (λ word. word.items ≡ option_map_or
+        (λ it. shown_name it.program ++ codes "+" ++ digits 16 6 it.offset) spot.now (codes "--")) }
 {
     let Some(spot) = spot else {
         return b"--".to_vec(alloc);

@@ -1,8 +1,10 @@
 //! What is written of symbols.
-ghost use Rattle.std.specs.Prelude.{◌≡◌, ◌++◌, IfOk, OnOk, option_and_then};
+ghost use Rattle.std.specs.Prelude.{◌≡◌, ◌≤◌, ◌++◌, IfOk, IfSome, OnOk, codes, option_and_then};
 ghost use Rattle.std.specs.Fmt.{decimal};
 ghost use Rattle.cx_asm_pass1.specs.PassState.{is_control};
-ghost use Rattle.cx_look_symbols.specs.Texts.{address_of_value, section_word, symbol_line, value_word};
+ghost use Rattle.cx_look_symbols.specs.Texts.{address_of_value, offset_up_to, symbol_line, value_word};
+ghost use Rattle.std.specs.Option.{option_map_or};
+ghost use Rattle.cx_look_lines.specs.Words.{written_name};
 
 use crate::rows::Symbol;
 use cx_asm_expressions::Value;
@@ -27,7 +29,8 @@ fn value_word(alloc: Global, number: i128) -> Result<Vec<u8>, AllocError>
 
 /// The section of a value.
 fn section_word(alloc: Global, section: Option<Name8>) -> Result<Vec<u8>, AllocError>
-    ensures { IfOk result (λ text. text.items ≡ section_word section) }
+    ensures { IfOk result (λ text. text.items ≡ option_map_or
+        (λ it. codes "SECTION " ++ written_name it) section (codes "ABSOLUTE")) }
 {
     let Some(name) = section else {
         return b"ABSOLUTE".to_vec(alloc);
@@ -57,17 +60,26 @@ pub fn is_control(section: Option<Name8>, control: Option<Name8>) -> bool
     }
 }
 
+/// The offset of a value in a section, where it is one up to a most. It takes no memory.
+pub fn offset_up_to(most: u32, section: Option<Name8>, value: &Value) -> Option<u32>
+    ensures value { result ≡ offset_up_to most section value.now }
+    ensures bound { IfSome result (λ offset. offset ≤ most) }
+{
+    if !is_control(value.section, section) {
+        return None;
+    }
+    if value.number < 0 || value.number > i128::from(most) {
+        return None;
+    }
+    Some(value.number as u32)
+}
+
 /// Where a value is in a loaded program.
 fn address_of_value(control: Option<Name8>, value: &Value, loaded: &Loaded) -> Option<u32>
     ensures { result ≡ address_of_value control value.now loaded.now }
 {
-    if !is_control(value.section, control) {
-        return None;
-    }
-    if value.number < 0 || value.number > i128::from(loaded.len) {
-        return None;
-    }
-    Some(((u64::from(loaded.at) + value.number as u64) % 0x100_0000) as u32)
+    let offset = offset_up_to(loaded.len, control, value)?;
+    Some(((u64::from(loaded.at) + u64::from(offset)) % 0x100_0000) as u32)
 }
 
 /// Where a value is in a program, if that is loaded.

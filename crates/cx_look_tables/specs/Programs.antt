@@ -6,15 +6,11 @@ use Rattle.cx_ebcdic.specs.Names.{is_name}
 use Rattle.cx_base.specs.Digits.{digits}
 use Rattle.cx_base.specs.Texts.{shown_name}
 use Rattle.cx_load.specs.declared.program.Loaded.{Loaded}
-use Rattle.cx_look_lines.specs.Words.{look_line, none_line, Lines}
+use Rattle.cx_look_lines.specs.Words.{look_line, or_none, Lines}
 
 -- a transaction after a blank, where it begins with the program
 abbrev pub transaction_word : List ℕ → List ℕ × List ℕ → List ℕ
 transaction_word program (tran, of) = if is_name of program then byte " " ∷ shown_name tran else []
-
--- the transactions of a program
-abbrev pub transactions_of : List (List ℕ × List ℕ) → List ℕ → List ℕ
-transactions_of transactions program = codes "TRANSACTIONS" ++ flat_map (transaction_word program) transactions
 
 -- a program: its place, its length, its entry's address, the length of its working storage, its transactions
 abbrev pub program_line : List (List ℕ × List ℕ) → List ℕ × Loaded → Lines
@@ -23,8 +19,7 @@ program_line transactions (name, loaded) =
     (codes "PROGRAM" ∷ shown_name name ∷ codes "AT" ∷ digits 16 6 loaded.at ∷ codes "LENGTH"
     ∷ digits 16 6 loaded.len
     ∷ codes "ENTRY" ∷ digits 16 6 loaded.entry ∷ codes "STORAGE" ∷ digits 16 6 loaded.stg_len
-    ∷ transactions_of transactions name ∷ [])
+    ∷ (codes "TRANSACTIONS" ++ flat_map (transaction_word name) transactions) ∷ [])
 
 unfoldable pub programs_text : List (List ℕ × Loaded) → List (List ℕ × List ℕ) → Lines
-programs_text [] transactions = none_line (codes "PROGRAMS")
-programs_text (program ∷ programs) transactions = flat_map (program_line transactions) (program ∷ programs)
+programs_text programs transactions = or_none (codes "PROGRAMS") (flat_map (program_line transactions) programs)

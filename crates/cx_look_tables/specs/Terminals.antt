@@ -16,23 +16,18 @@ use Rattle.cx_edf.specs.Stops.{names}
 use Rattle.cx_edf.specs.declared.modes.Mode.{Mode}
 use Rattle.cx_edf.specs.declared.modes.Mode.TheVariants as mode
 use Rattle.cx_edf.specs.declared.stop_words.Stops.{Stops}
-use Rattle.cx_look_lines.specs.Words.{look_line, none_line, written_bytes, written_name, Lines}
-
--- the time and the date that tasks attached later find
-unfoldable pub clock_line : ℕ → ℕ → Lines
-clock_line time date = look_line (codes "CLOCK" ∷ digits 10 6 time ∷ digits 10 5 date ∷ [])
+use Rattle.cx_look_lines.specs.Words.{look_line, or_none, written_bytes, written_name, Lines}
 
 -- how many bytes there are, and the first 64 of them
 unfoldable pub length_and_bytes : List ℕ → List ℕ
 length_and_bytes bytes = decimal (length bytes) ++ codes " " ++ written_bytes (take 64 bytes)
 
 -- ---- what the next key attaches: a transaction, and the COMMAREA that is kept for it
-abbrev pub commarea_word : List ℕ → List ℕ
-commarea_word commarea = if length commarea == 0 then [] else codes " COMMAREA " ++ length_and_bytes commarea
-
 unfoldable pub next_word : Option NextTransaction → List ℕ
 next_word None = codes "--"
-next_word (Some next) = written_name next.tran ++ commarea_word next.commarea
+next_word (Some next) =
+    written_name next.tran
+    ++ (if length next.commarea == 0 then [] else codes " COMMAREA " ++ length_and_bytes next.commarea)
 
 -- ---- the input that is held, with its key
 unfoldable pub held_word : Option Input → List ℕ
@@ -65,10 +60,8 @@ terminal_line sessions (name, terminal) =
     ∷ held_word terminal.entry.input
     ∷ codes "EDF" ∷ edf_word (session_in sessions name) ∷ [])
 
-abbrev pub terminal_lines : Sessions → List (List ℕ × TerminalState) → Lines
-terminal_lines sessions [] = none_line (codes "TERMINALS")
-terminal_lines sessions (terminal ∷ terminals) = flat_map (terminal_line sessions) (terminal ∷ terminals)
-
+-- after the time and the date that tasks attached later find
 unfoldable pub terminals_text : EdfState → Lines
 terminals_text state =
-    clock_line state.region.time state.region.date ++ terminal_lines state.sessions state.region.terminals
+    look_line (codes "CLOCK" ∷ digits 10 6 state.region.time ∷ digits 10 5 state.region.date ∷ [])
+    ++ or_none (codes "TERMINALS") (flat_map (terminal_line state.sessions) state.region.terminals)

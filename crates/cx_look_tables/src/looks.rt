@@ -13,12 +13,13 @@ use std::alloc::{AllocError, Global};
 /// Looks at all queues: a line each, the first made first; NONE where there is none.
 ///
 /// An error comes only where memory for the report was refused.
+#[tactic(auto, unfolding(crate::specs::Queues::queues_text))]
 pub fn queues_text<S: Store + Drop>(alloc: Global, region: &Region<S>) -> Result<Report, AllocError>
     ensures { IfOk result (λ report. report ≡ queues_text region.now.shared.queues) }
 {
     let mut report = Report::new(alloc);
-    queues::queues_text(&mut report, &region.shared().queues)?;
-    Ok(report)
+    queues::queue_lines(&mut report, region.shared().queues.all())?;
+    report.or_none(b"QUEUES")
 }
 
 /// Looks at a queue: its line, and a line for each of its items; NONE where there is no such queue.
@@ -56,6 +57,7 @@ pub fn item_text<S: Store + Drop>(
 /// Looks at all programs: a line each, the first defined first; NONE where there is none.
 ///
 /// An error comes only where memory for the report was refused.
+#[tactic(auto, unfolding(crate::specs::Programs::programs_text))]
 pub fn programs_text<S: Store + Drop>(
     alloc: Global,
     region: &Region<S>,
@@ -63,10 +65,10 @@ pub fn programs_text<S: Store + Drop>(
     ensures { IfOk result (λ report. report ≡ programs_text region.now.shared.programs region.now.transactions) }
 {
     let mut report = Report::new(alloc);
-    programs::programs_text(
+    programs::program_lines(
         &mut report,
         &region.shared().programs,
         region.transactions(),
     )?;
-    Ok(report)
+    report.or_none(b"PROGRAMS")
 }

@@ -1,7 +1,7 @@
 //! Programs.
-ghost use Rattle.std.specs.Prelude.{◌≡◌, ◌++◌, IfOk, OnOk};
+ghost use Rattle.std.specs.Prelude.{◌≡◌, ◌++◌, IfOk, OnOk, codes};
 ghost use Rattle.std.specs.List.{flat_map};
-ghost use Rattle.cx_look_tables.specs.Programs.{transaction_word, program_line, programs_text, transactions_of};
+ghost use Rattle.cx_look_tables.specs.Programs.{transaction_word, program_line};
 
 use cx_base::{hexadecimal, shown_name};
 use cx_ebcdic::{Name4, Name8};
@@ -34,7 +34,8 @@ fn transactions_of(
     transactions: &IndexMap<Name4, Name8>,
     program: Name8,
 ) -> Result<Vec<u8>, AllocError>
-    ensures { IfOk result (λ text. text.items ≡ transactions_of transactions.now.entries program) }
+    ensures { let words = flat_map (transaction_word program) transactions.now.entries in
+        IfOk result (λ text. text.items ≡ codes "TRANSACTIONS" ++ words) }
 {
     let mut text = b"TRANSACTIONS".to_vec(alloc)?;
     for (tran, of) in transactions.iter() {
@@ -75,7 +76,7 @@ fn program_line(
 }
 
 /// Adds the lines of programs.
-fn program_lines(
+pub(crate) fn program_lines(
     report: &mut Report,
     programs: &IndexMap<Name8, Loaded>,
     transactions: &IndexMap<Name4, Name8>,
@@ -87,20 +88,4 @@ fn program_lines(
         program_line(report, transactions, *name, loaded)?;
     }
     Ok(())
-}
-
-/// Adds the line of each program; NONE where there is none.
-#[tactic(auto, unfolding(crate::specs::Programs::programs_text))]
-pub(crate) fn programs_text(
-    report: &mut Report,
-    programs: &IndexMap<Name8, Loaded>,
-    transactions: &IndexMap<Name4, Name8>,
-) -> Result<(), AllocError>
-    ensures { let more = programs_text programs.now.entries transactions.now.entries in
-        OnOk result (report.new ≡ report.old ++ more) }
-{
-    if programs.is_empty() {
-        return report.line(&[b"PROGRAMS", b"NONE"]);
-    }
-    program_lines(report, programs, transactions)
 }

@@ -1,10 +1,10 @@
 //! Queues.
-ghost use Rattle.std.specs.Prelude.{◌≡◌, ◌+◌, ◌<◌, ◌≤◌, ◌^◌, ◌++◌, IfSome, OnOk, [], ◌∷◌, codes, length, unwrap_or};
+ghost use Rattle.std.specs.Prelude.{◌≡◌, ◌+◌, ◌/◌, ◌<◌, ◌≤◌, ◌^◌, ◌++◌, IfSome, OnOk, [], ◌∷◌, codes, length, unwrap_or};
 ghost use Rattle.std.specs.Fmt.{decimal};
-ghost use Rattle.std.specs.List.{flat_map};
+ghost use Rattle.std.specs.List.{flat_map, range_with_len};
 ghost use Rattle.std.specs.Option.{option_copied, option_map};
 ghost use Rattle.cx_service.specs.Queues.{AreSoundQueues, item_of, item_numbered, size_of};
-ghost use Rattle.cx_look_tables.specs.Queues.{item_found, item_line, items_text, item_text, queue_found, queue_line, queue_text, queues_text, rows_text};
+ghost use Rattle.cx_look_tables.specs.Queues.{item_found, item_line, items_text, item_text, queue_line, queue_text, row_line_at};
 ghost use Rattle.cx_look_lines.specs.Words.{look_line};
 
 use crate::rows::{first_bytes, rows_text};
@@ -66,7 +66,10 @@ fn items_text(report: &mut Report, queue: &Queue) -> Result<(), AllocError>
 }
 
 /// Adds the lines of some queues.
-fn queue_lines(report: &mut Report, queues: &IndexMap<Name8, Queue>) -> Result<(), AllocError>
+pub(crate) fn queue_lines(
+    report: &mut Report,
+    queues: &IndexMap<Name8, Queue>,
+) -> Result<(), AllocError>
     requires { AreSoundQueues queues.now.entries }
     ensures { OnOk result (report.new ≡ report.old ++ flat_map queue_line queues.now.entries) }
 {
@@ -74,18 +77,6 @@ fn queue_lines(report: &mut Report, queues: &IndexMap<Name8, Queue>) -> Result<(
         queue_line(report, *name, queue)?;
     }
     Ok(())
-}
-
-/// Adds the line of each queue; NONE where there is none.
-#[tactic(auto, unfolding(crate::specs::Queues::queues_text))]
-pub(crate) fn queues_text(report: &mut Report, queues: &Queues) -> Result<(), AllocError>
-    ensures { OnOk result (report.new ≡ report.old ++ queues_text queues.now) }
-{
-    let all = queues.all();
-    if all.is_empty() {
-        return report.line(&[b"QUEUES", b"NONE"]);
-    }
-    queue_lines(report, all)
 }
 
 /// Adds the lines of a queue and its items; NONE where there is no such queue.
@@ -109,7 +100,8 @@ pub(crate) fn queue_text(
 fn whole_item(report: &mut Report, name: &[u8], n: &[u8], item: &[u8]) -> Result<(), AllocError>
     requires { length item.now ≤ 32767 }
     ensures { let words = codes "ITEM" ∷ n.now ∷ codes "LENGTH" ∷ decimal (length item.now) ∷ [] in
-        OnOk result (report.new ≡ report.old ++ look_line (codes "QUEUE" ∷ name.now ∷ words) ++ rows_text item.now) }
+        let rows = flat_map (row_line_at item.now) (range_with_len 0 ((length item.now + 15) / 16)) in
+        OnOk result (report.new ≡ report.old ++ look_line (codes "QUEUE" ∷ name.now ∷ words) ++ rows) }
 {
     let length = decimal(report.alloc(), item.len())?;
     report.line(&[b"QUEUE", name, b"ITEM", n, b"LENGTH", &length])?;

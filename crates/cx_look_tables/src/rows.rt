@@ -1,17 +1,14 @@
 //! Bytes in rows of sixteen.
-ghost use Rattle.std.specs.Prelude.{◌≡◌, ◌*◌, ◌<◌, ◌≤◌, ◌^◌, ◌++◌, IfOk, OnOk, drop, length, take};
-ghost use Rattle.cx_base.specs.Digits.{hex_digits};
-ghost use Rattle.cx_look_tables.specs.Queues.{hex_column, row_line, row_line_at, rows_text};
+ghost use Rattle.std.specs.Prelude.{◌≡◌, ◌*◌, ◌+◌, ◌/◌, ◌<◌, ◌≤◌, ◌^◌, ◌++◌, OnOk, drop, length, take};
+ghost use Rattle.std.specs.List.{flat_map, range_with_len};
+ghost use Rattle.cx_look_tables.specs.Queues.{row_line, row_line_at};
 
-use cx_base::{hexadecimal, in_columns, shown};
-use cx_look_lines::{Report, in_apostrophes, spelled};
-use std::alloc::{AllocError, Global};
+use cx_base::{hexadecimal, shown};
+use cx_look_lines::{Report, hex_group, in_apostrophes};
+use std::alloc::AllocError;
 
 /// The bytes of a row.
 const ROW: u32 = 16;
-
-/// The bytes of a group.
-const GROUP: usize = 4;
 
 /// The bytes from a place on; none where there are none.
 fn after(bytes: &[u8], place: usize) -> &[u8]
@@ -27,40 +24,24 @@ pub(crate) fn first_bytes(bytes: &[u8], count: usize) -> &[u8]
     bytes.split_at(count.min(bytes.len())).0
 }
 
-/// The group of four bytes at a place of a row, as far as it has them, in hexadecimal digits.
-fn group(alloc: Global, row: &[u8], place: usize) -> Result<Vec<u8>, AllocError>
-    ensures { IfOk result (λ text. text.items ≡ hex_digits (take 4 (drop place row.now))) }
-{
-    spelled(alloc, first_bytes(after(row, place), GROUP))
-}
-
-/// A row's bytes in hexadecimal digits, in groups of four.
-#[tactic(auto, unfolding(crate::specs::Queues::hex_column))]
-fn hex_column(alloc: Global, row: &[u8]) -> Result<[u8; 35], AllocError>
-    ensures { IfOk result (λ column. column ≡ hex_column row.now) }
-{
-    let a = group(alloc, row, 0)?;
-    let b = group(alloc, row, 4)?;
-    let c = group(alloc, row, 8)?;
-    let d = group(alloc, row, 12)?;
-    Ok(in_columns(&[&a, b" ", &b, b" ", &c, b" ", &d]))
-}
-
 /// Adds the line of a row at an offset.
 fn row_line(report: &mut Report, offset: u32, row: &[u8]) -> Result<(), AllocError>
     ensures { OnOk result (report.new ≡ report.old ++ row_line offset row.now) }
 {
     let place = hexadecimal::<4>(offset);
-    let digits = hex_column(report.alloc(), row)?;
+    let a = hex_group(report.alloc(), row, 0)?;
+    let b = hex_group(report.alloc(), row, 4)?;
+    let c = hex_group(report.alloc(), row, 8)?;
+    let d = hex_group(report.alloc(), row, 12)?;
     let characters = shown(report.alloc(), row)?;
     let characters = in_apostrophes(report.alloc(), &characters)?;
-    report.line(&[&place, &digits, &characters])
+    report.line(&[&place, &a, &b, &c, &d, &characters])
 }
 
 /// Adds the line of a row, counted from 0.
 fn row_line_at(report: &mut Report, k: u32, bytes: &[u8]) -> Result<(), AllocError>
     requires { 16 * k < 2 ^ 32 }
-    ensures { OnOk result (report.new ≡ report.old ++ row_line_at k bytes.now) }
+    ensures { OnOk result (report.new ≡ report.old ++ row_line_at bytes.now k) }
 {
     let offset = ROW * k;
     let row = first_bytes(after(bytes, offset as usize), ROW as usize);
@@ -70,7 +51,8 @@ fn row_line_at(report: &mut Report, k: u32, bytes: &[u8]) -> Result<(), AllocErr
 /// Adds the rows of bytes.
 pub(crate) fn rows_text(report: &mut Report, bytes: &[u8]) -> Result<(), AllocError>
     requires { length bytes.now ≤ 32767 }
-    ensures { OnOk result (report.new ≡ report.old ++ rows_text bytes.now) }
+    ensures { let rows = range_with_len 0 ((length bytes.now + 15) / 16) in
+        OnOk result (report.new ≡ report.old ++ flat_map (row_line_at bytes.now) rows) }
 {
     let rows = (bytes.len() as u32 + 15) / ROW;
     for k in 0..rows {

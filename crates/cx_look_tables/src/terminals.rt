@@ -1,9 +1,11 @@
 //! Terminals.
-ghost use Rattle.std.specs.Prelude.{◌≡◌, ◌++◌, [], if◌then◌else◌, IfOk, OnOk};
+ghost use Rattle.std.specs.Prelude.{◌≡◌, ◌==◌, ◌++◌, ◌∷◌, [], codes, if◌then◌else◌, length, IfOk, OnOk};
 ghost use Rattle.std.specs.List.{flat_map};
 ghost use Rattle.std.specs.Option.{option_copied};
 ghost use Rattle.cx_edf.specs.State.{EdfState};
-ghost use Rattle.cx_look_tables.specs.Terminals.{length_and_bytes, clock_line, commarea_word, stop_condition_word, edf_word, held_word, mode_name, next_word, stops_word, terminal_line, terminal_lines, terminals_text};
+ghost use Rattle.cx_look_tables.specs.Terminals.{length_and_bytes, stop_condition_word, edf_word, held_word, mode_name, next_word, stops_word, terminal_line, terminals_text};
+ghost use Rattle.cx_base.specs.Digits.{digits};
+ghost use Rattle.cx_look_lines.specs.Words.{look_line};
 
 use crate::rows::first_bytes;
 use cx_base::{Condition, shown_name};
@@ -31,7 +33,8 @@ fn length_and_bytes(alloc: Global, bytes: &[u8]) -> Result<Vec<u8>, AllocError>
 
 /// Adds the COMMAREA that is kept for a transaction, where there is one.
 fn push_commarea(word: &mut Vec<u8>, alloc: Global, commarea: &[u8]) -> Result<(), AllocError>
-    ensures { OnOk result (word.new.items ≡ word.old.items ++ commarea_word commarea.now) }
+    ensures { let kept = codes " COMMAREA " ++ length_and_bytes commarea.now in
+        OnOk result (word.new.items ≡ word.old.items ++ (if length commarea.now == 0 then [] else kept)) }
 {
     if commarea.is_empty() {
         return Ok(());
@@ -167,29 +170,25 @@ fn terminal_line<S: Store + Drop>(
     ])
 }
 
-/// Adds the line of each terminal; NONE where there is none.
+/// Adds the line of each terminal.
 fn terminal_lines<S: Store + Drop>(
     report: &mut Report,
     region: &Region<S>,
     state: &Debugged<S>,
 ) -> Result<(), AllocError>
-    ensures { let more = terminal_lines state.now.sessions region.now.terminals in
+    ensures { let more = flat_map (terminal_line state.now.sessions) region.now.terminals in
         OnOk result (report.new ≡ report.old ++ more) }
 {
-    let terminals = region.terminals();
-    if terminals.is_empty() {
-        return report.line(&[b"TERMINALS", b"NONE"]);
-    }
-    for (name, terminal) in terminals.iter() {
+    for (name, terminal) in region.terminals().iter() {
         terminal_line(report, state, *name, terminal)?;
     }
     Ok(())
 }
 
 /// Adds the line of the clock.
-#[tactic(auto, unfolding(crate::specs::Terminals::clock_line))]
 fn clock_line<S: Store + Drop>(report: &mut Report, region: &Region<S>) -> Result<(), AllocError>
-    ensures { OnOk result (report.new ≡ report.old ++ clock_line region.now.time region.now.date) }
+    ensures { let words = digits 10 6 region.now.time ∷ digits 10 5 region.now.date ∷ [] in
+        OnOk result (report.new ≡ report.old ++ look_line (codes "CLOCK" ∷ words)) }
 {
     let time = cx_base::decimal::<6>(region.time());
     let date = cx_base::decimal::<5>(region.date());
@@ -212,6 +211,8 @@ pub fn terminals_text<S: Store + Drop>(
 {
     let mut report = Report::new(alloc);
     clock_line(&mut report, region)?;
-    terminal_lines(&mut report, region, state)?;
+    let mut terminals = Report::new(alloc);
+    terminal_lines(&mut terminals, region, state)?;
+    report.append(&terminals.or_none(b"TERMINALS")?)?;
     Ok(report)
 }

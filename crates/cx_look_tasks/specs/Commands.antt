@@ -1,5 +1,5 @@
 -- The command that is due as a source writes it, and what it reads (own).
-use Rattle.std.specs.Prelude.{ℕ, Bool, true, false, ◌&&◌, not, min, nat_lt, List, [], ◌∷◌, ◌++◌, map, codes, Option, Some, None, if◌then◌else◌}
+use Rattle.std.specs.Prelude.{ℕ, Bool, true, false, ◌&&◌, not, min, nat_lt, List, [], ◌∷◌, ◌++◌, map, codes, if◌then◌else◌}
 use Rattle.std.specs.List.{filter, flat_map}
 use Rattle.std.specs.Option.{option_map_or}
 use Rattle.cx_storage.specs.Storage.{Storage}
@@ -20,22 +20,9 @@ use Rattle.cx_region_state.specs.declared.listed.Listed.{Listed}
 use Rattle.cx_base.specs.Digits.{digits}
 use Rattle.cx_look_lines.specs.Words.{look_line, written_bytes, written_name, Lines}
 
--- ---- values, with hyphens where the bytes aren't in storage
-abbrev pub name_value : Option (List ℕ) → List ℕ
-name_value name = option_map_or written_name name (codes "--")
-
-abbrev pub halfword_value : Option ℕ → List ℕ
-halfword_value halfword = option_map_or (digits 16 4) halfword (codes "--")
-
-abbrev pub bytes_value : Option (List ℕ) → List ℕ
-bytes_value bytes = option_map_or written_bytes bytes (codes "--")
-
-abbrev pub address_value : Option ℕ → List ℕ
-address_value place = option_map_or (digits 16 6) place (codes "--")
-
 -- ---- the options
 -- how a value is written in the command: a name and a halfword that the command reads as they are, all else by its
--- address
+-- address; hyphens where the bytes aren't in storage
 abbrev pub reads_halfword : ArgumentKind → (OptionName → Bool) → Bool
 reads_halfword kind.Halfword has = true
 reads_halfword kind.HalfwordBothWays has = true
@@ -44,10 +31,11 @@ reads_halfword kind.HalfwordOutWithoutRewrite has = has Rewrite
 reads_halfword _ has = false
 
 abbrev pub value_by : ArgumentKind → Bool → Storage → Call → OptionName → List ℕ
-value_by kind.Name4 is_read s call name = name_value (bytes_of s call name 4)
-value_by kind.Name8 is_read s call name = name_value (bytes_of s call name 8)
+value_by kind.Name4 is_read s call name = option_map_or written_name (bytes_of s call name 4) (codes "--")
+value_by kind.Name8 is_read s call name = option_map_or written_name (bytes_of s call name 8) (codes "--")
 value_by _ is_read s call name =
-    if is_read then halfword_value (halfword_of s call name) else address_value (place_of call name)
+    if is_read then option_map_or (digits 16 4) (halfword_of s call name) (codes "--")
+    else option_map_or (digits 16 6) (place_of call name) (codes "--")
 
 unfoldable pub option_value : Storage → Call → CommandOption → List ℕ
 option_value s call option =
@@ -67,27 +55,19 @@ unfoldable pub option_words : Storage → Call → List CommandOption → List (
 option_words s call options = map (option_word s call) (filter (λ option. has_bit call.first option.bit) options)
 
 -- a condition that is listed, with its label where it has one
-abbrev pub labelled_word : List ℕ → Option ℕ → List ℕ
-labelled_word name None = name
-labelled_word name (Some label) = with_value name (digits 16 6 label)
-
 abbrev pub condition_word : Listed → List ℕ
-condition_word listed = labelled_word (entry_of listed.condition).name listed.label
+condition_word listed =
+    let name = (entry_of listed.condition).name in
+    option_map_or (λ label. with_value name (digits 16 6 label)) listed.label name
 
--- NOHANDLE, and RESP with the address of its word
-abbrev pub nohandle_words : Call → List (List ℕ)
-nohandle_words call = if has_nohandle call.second then codes "NOHANDLE" ∷ [] else []
-
-abbrev pub resp_words : Call → List (List ℕ)
-resp_words call = option_map_or (λ place. with_value (codes "RESP") (digits 16 6 place) ∷ []) (resp_place call) []
-
--- the command's line
+-- the command's line, with NOHANDLE, and RESP with the address of its word, where they are there
 unfoldable pub command_line : Storage → Call → Lines
 command_line s call =
     look_line
     ((row_of call.command).name
     ∷ option_words s call (row_of call.command).options ++ map condition_word (listed_of call)
-    ++ nohandle_words call ++ resp_words call)
+    ++ (if has_nohandle call.second then codes "NOHANDLE" ∷ [] else [])
+    ++ option_map_or (λ place. with_value (codes "RESP") (digits 16 6 place) ∷ []) (resp_place call) [])
 
 -- ---- what it reads beside names and halfwords: its first 64 bytes
 abbrev pub is_data : ArgumentKind → Bool
@@ -108,8 +88,8 @@ count_read s call option =
 
 unfoldable pub input_line : Storage → Call → CommandOption → Lines
 input_line s call option =
-    look_line
-    (option_name option.name ∷ bytes_value (bytes_of s call option.name (min 64 (count_read s call option))) ∷ [])
+    let bytes = bytes_of s call option.name (min 64 (count_read s call option)) in
+    look_line (option_name option.name ∷ option_map_or written_bytes bytes (codes "--") ∷ [])
 
 -- the data options that are there, of which some byte is read
 unfoldable pub is_input : Storage → Call → CommandOption → Bool

@@ -1,9 +1,9 @@
 -- COMMAND: the command that is due at a terminal (own).
-use Rattle.std.specs.Prelude.{ℕ, List, [], ◌∷◌, codes, Option, None, Some, Result, Ok, Err, if◌then◌else◌}
+use Rattle.std.specs.Prelude.{ℕ, List, [], ◌∷◌, codes, None, Some, if◌then◌else◌}
 use Rattle.std.specs.Option.{option_and_then, option_map_or}
+use Rattle.std.specs.Result.{result_ok}
 use Rattle.cx_storage.specs.Storage.{Storage}
-use Rattle.cx_region_state.specs.Call.{Call, call_of}
-use Rattle.cx_region_state.specs.declared.call.CallFault.{CallFault}
+use Rattle.cx_region_state.specs.Call.{call_of}
 use Rattle.cx_region_state.specs.State.{TaskState}
 use Rattle.cx_region_task.specs.Performing.{argument_list}
 use Rattle.cx_region.specs.State.{RegionState}
@@ -17,20 +17,13 @@ abbrev pub command_look_line : List ℕ → List ℕ → Lines
 command_look_line name word = look_line (codes "COMMAND" ∷ shown_name name ∷ word ∷ [])
 
 -- the command that the task's argument list gives, where it can be read
-abbrev pub due_call_text : Storage → List ℕ → Result Call CallFault → Lines
-due_call_text s name (Ok call) = call_text s call
-due_call_text s name (Err fault) = command_look_line name (codes "?")
-
 unfoldable pub due_text : Storage → List ℕ → TaskState → Lines
-due_text s name task = due_call_text s name (call_of s (argument_list task))
+due_text s name task =
+    option_map_or (call_text s) (result_ok (call_of s (argument_list task))) (command_look_line name (codes "?"))
 
--- the terminal's task, where a command of it is due
-abbrev pub if_due : TaskState → Option TaskState
-if_due task = if task.due then Some task else None
-
-abbrev pub task_due : RegionState → List ℕ → Option TaskState
-task_due region name = option_and_then if_due (task_of region name)
-
+-- that of the terminal's task, where a command of it is due
 unfoldable pub command_text : RegionState → List ℕ → Lines
 command_text region name =
-    option_map_or (due_text region.shared.storage name) (task_due region name) (command_look_line name (codes "NONE"))
+    option_map_or (due_text region.shared.storage name)
+    (option_and_then (λ task. if task.due then Some task else None) (task_of region name))
+    (command_look_line name (codes "NONE"))

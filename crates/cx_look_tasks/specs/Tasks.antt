@@ -2,7 +2,6 @@
 use Rattle.std.specs.Prelude.{◌≡◌, ℕ, Bool, false, ◌+◌, List, [], ◌∷◌, ◌++◌, length, codes, Option, Some, None, if◌then◌else◌}
 use Rattle.std.specs.List.{flat_map}
 use Rattle.std.specs.Option.{option_and_then, option_map_or}
-use Rattle.cx_base.specs.declared.commands.Command.{Command}
 use Rattle.cx_base.specs.Commands.{row_of}
 use Rattle.cx_service.specs.Resources.{hold_of, is_resource}
 use Rattle.cx_service.specs.declared.resources.Hold.{Hold}
@@ -31,33 +30,20 @@ abbrev pub resource_value : ResourceName → List ℕ
 resource_value (resource.Bytes bytes) = written_bytes bytes
 resource_value (resource.Address place) = digits 16 6 place
 
-abbrev pub resource_word : Option ResourceName → List ℕ
-resource_word name = option_map_or resource_value name (codes "--")
-
-abbrev pub owner_of : RegionState → Option ResourceName → Option Hold
-owner_of region name = option_and_then (hold_of region.shared.resources) name
-
-abbrev pub owner_word : RegionState → Option ResourceName → List ℕ
-owner_word region name = option_map_or (λ hold. owner_name region hold.owner) (owner_of region name) (codes "--")
-
-abbrev pub queue_word : Option (List ℕ) → List ℕ
-queue_word name = option_map_or written_name name (codes "--")
-
-abbrev pub command_word : Option Command → List ℕ
-command_word command = option_map_or (λ command. (row_of command).name) command (codes "?")
-
 -- ---- TASKS
 abbrev pub wait_words : RegionState → Wait → List (List ℕ)
 wait_words region wait.Input = codes "INPUT" ∷ []
 wait_words region (wait.Resource name) =
-    codes "RESOURCE" ∷ resource_word name ∷ codes "OWNER" ∷ owner_word region name ∷ []
-wait_words region (wait.Room name) = codes "ROOM IN QUEUE" ∷ queue_word name ∷ []
+    let hold = option_and_then (hold_of region.shared.resources) name in
+    codes "RESOURCE" ∷ option_map_or resource_value name (codes "--") ∷ codes "OWNER"
+    ∷ option_map_or (λ it. owner_name region it.owner) hold (codes "--") ∷ []
+wait_words region (wait.Room name) = codes "ROOM IN QUEUE" ∷ option_map_or written_name name (codes "--") ∷ []
 wait_words region wait.Storage = codes "STORAGE" ∷ []
 
 abbrev pub activity_words : RegionState → Activity → List (List ℕ)
 activity_words region NoTask = codes "NO TASK" ∷ []
 activity_words region Running = codes "RUNNING" ∷ []
-activity_words region (Due command) = codes "DUE" ∷ command_word command ∷ []
+activity_words region (Due command) = codes "DUE" ∷ option_map_or (λ it. (row_of it).name) command (codes "?") ∷ []
 activity_words region (Waiting wait) = codes "WAITING FOR" ∷ wait_words region wait
 
 -- the transaction, the task's number, and the number of its levels
@@ -105,24 +91,19 @@ abbrev pub waits_for : ResourceName → Activity → Bool
 waits_for name (Waiting (wait.Resource (Some waited))) = is_resource waited name
 waits_for name _ = false
 
-abbrev pub hold_line : RegionState → ResourceName → Hold → Lines
-hold_line region name hold =
-    look_line
-    (codes "RESOURCE" ∷ resource_value name ∷ codes "OWNER" ∷ owner_name region hold.owner ∷ codes "COUNT"
-    ∷ digits 10 5 hold.count ∷ [])
-
-abbrev pub waiter_line : ResourceName → List ℕ → Lines
-waiter_line name terminal =
-    look_line (codes "RESOURCE" ∷ resource_value name ∷ codes "WAITER" ∷ shown_name terminal ∷ [])
-
 -- the line of a terminal whose task waits for the resource
 unfoldable pub waiter_text : ResourceName → List ℕ × TerminalState → Activity → Lines
-waiter_text name entry activity = if waits_for name activity then waiter_line name entry.0 else []
+waiter_text name entry activity =
+    if waits_for name activity
+    then look_line (codes "RESOURCE" ∷ resource_value name ∷ codes "WAITER" ∷ shown_name entry.0 ∷ []) else []
 
 -- a resource, and who waits for it
 unfoldable pub resource_lines : RegionState → List Activity → ResourceName × Hold → Lines
 resource_lines region activities entry =
-    hold_line region entry.0 entry.1 ++ of_each (waiter_text entry.0) region.terminals activities
+    look_line
+    (codes "RESOURCE" ∷ resource_value entry.0 ∷ codes "OWNER" ∷ owner_name region entry.1.owner ∷ codes "COUNT"
+    ∷ digits 10 5 entry.1.count ∷ [])
+    ++ of_each (waiter_text entry.0) region.terminals activities
 
 pub record ResourcesText (region : RegionState) (lines : Lines) : Type 0 where
   pub activities : List Activity

@@ -2,7 +2,8 @@
 
 ghost use Rattle.std.specs.Prelude.{◌≡◌, [], ◌∷◌, codes, IfOk};
 ghost use Rattle.std.specs.Option.{option_copied};
-ghost use Rattle.cx_look_tasks.specs.Looks.{command_text, due_text, command_look_line, task_due};
+ghost use Rattle.cx_look_tasks.specs.Looks.{command_text, due_text, command_look_line};
+ghost use Rattle.cx_look_tasks.specs.Parts.Words.{task_due};
 
 use crate::words::call_text;
 use cx_base::shown_name;

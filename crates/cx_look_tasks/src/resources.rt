@@ -3,8 +3,8 @@
 ghost use Rattle.std.specs.Prelude.{◌≡◌, ◌++◌, [], if◌then◌else◌, slice_get, IfOk, OnOk};
 ghost use Rattle.std.specs.List.{flat_map};
 ghost use Rattle.cx_region.specs.Sound.{IsSound};
-ghost use Rattle.cx_look_tasks.specs.Parts.Words.{of_one};
-ghost use Rattle.cx_look_tasks.specs.Tasks.{ResourcesText, hold_line, of_each, resource_lines, waiter_line, waiter_text, waits_for};
+ghost use Rattle.cx_look_tasks.specs.Parts.Words.{hold_line, of_one, waiter_line};
+ghost use Rattle.cx_look_tasks.specs.Tasks.{ResourcesText, of_each, resource_lines, waiter_text, waits_for};
 
 use crate::activities::{Activity, Wait};
 use crate::tasks::{activities_in, owner_name, resource_value};

@@ -1,13 +1,13 @@
 //! TASKS.
 
-ghost use Rattle.std.specs.Prelude.{◌≡◌, ◌∷◌, ◌++◌, ℕ, List, [], map, slice_get, IfOk, OnOk, Some};
-ghost use Rattle.std.specs.Option.{option_copied};
+ghost use Rattle.std.specs.Prelude.{◌≡◌, ◌∷◌, ◌++◌, ℕ, List, [], codes, map, slice_get, IfOk, OnOk, Some};
+ghost use Rattle.std.specs.Option.{option_copied, option_map_or};
 ghost use Rattle.cx_region.specs.Sound.{IsSound};
 ghost use Rattle.cx_region.specs.State.{TerminalState};
 ghost use Rattle.cx_look_tasks.specs.Activities.{AreActivities, IsActivity};
-ghost use Rattle.cx_look_tasks.specs.Tasks.{TasksText, activity_words, command_word, of_each, owner_name, owner_of, owner_word, queue_word, resource_value, resource_word, task_line, task_words, wait_words};
-ghost use Rattle.cx_look_tasks.specs.Parts.Words.{of_one};
-ghost use Rattle.cx_look_lines.specs.Words.{with_blanks};
+ghost use Rattle.cx_look_tasks.specs.Tasks.{TasksText, activity_words, of_each, owner_name, resource_value, task_line, task_words, wait_words};
+ghost use Rattle.cx_look_tasks.specs.Parts.Words.{command_word, of_one, owner_of, owner_word};
+ghost use Rattle.cx_look_lines.specs.Words.{with_blanks, written_name};
 
 use crate::activities::{Activity, Wait};
 use crate::judging::activity;
@@ -49,7 +49,7 @@ pub(crate) fn resource_value(alloc: Global, name: &ResourceName) -> Result<Vec<u
 
 /// The resource that a task waits for.
 fn resource_word(alloc: Global, name: &Option<ResourceName>) -> Result<Vec<u8>, AllocError>
-    ensures { IfOk result (λ word. word.items ≡ resource_word name.now) }
+    ensures { IfOk result (λ word. word.items ≡ option_map_or resource_value name.now (codes "--")) }
 {
     match name {
         Some(name) => resource_value(alloc, name),
@@ -81,7 +81,7 @@ fn owner_word<S: Store + Drop>(
 
 /// The queue in which there is no room.
 fn queue_word(alloc: Global, name: Option<Name8>) -> Result<Vec<u8>, AllocError>
-    ensures { IfOk result (λ word. word.items ≡ queue_word name) }
+    ensures { IfOk result (λ word. word.items ≡ option_map_or written_name name (codes "--")) }
 {
     match name {
         Some(name) => written_name(alloc, &name.bytes()),

@@ -5,8 +5,11 @@ ghost use Rattle.std.specs.List.{flat_map};
 ghost use Rattle.cx_base.specs.Arguments.{has_option};
 ghost use Rattle.cx_region_state.specs.Call.{place_of};
 ghost use Rattle.cx_region_state.specs.Inputs.{bytes_of, halfword_of};
-ghost use Rattle.cx_look_tasks.specs.Commands.{address_value, bytes_value, call_text, command_line, condition_word, count_read, halfword_value, input_line, input_lines, is_data, is_input, kind_read, labelled_word, name_value, nohandle_words, option_value, option_word, option_words, reads_halfword, resp_words, value_by, with_value};
-ghost use Rattle.cx_look_lines.specs.Words.{with_blanks};
+ghost use Rattle.cx_look_tasks.specs.Commands.{call_text, command_line, condition_word, count_read, input_line, input_lines, is_data, is_input, kind_read, option_value, option_word, option_words, reads_halfword, value_by, with_value};
+ghost use Rattle.cx_look_tasks.specs.Parts.Words.{nohandle_words, resp_words};
+ghost use Rattle.cx_base.specs.Digits.{digits};
+ghost use Rattle.std.specs.Option.{option_map_or};
+ghost use Rattle.cx_look_lines.specs.Words.{with_blanks, written_bytes, written_name};
 
 use cx_base::{ArgumentKind, Command, CommandOption, OptionName, has_bit, hexadecimal};
 use cx_look_lines::{Report, push_word, written_bytes, written_name};
@@ -37,7 +40,8 @@ fn name_value<S: Store, const WIDTH: usize>(
     name: OptionName,
 ) -> Result<Vec<u8>, AllocError>
     requires { WIDTH ≤ 8 }
-    ensures { IfOk result (λ value. value.items ≡ name_value (bytes_of (S.storage store.now) call.now name WIDTH)) }
+    ensures { let bytes = bytes_of (S.storage store.now) call.now name WIDTH in
+        IfOk result (λ value. value.items ≡ option_map_or written_name bytes (codes "--")) }
 {
     let mut bytes = [0; WIDTH];
     if !read_argument(store, call, name, &mut bytes) {
@@ -48,7 +52,7 @@ fn name_value<S: Store, const WIDTH: usize>(
 
 /// The value of a halfword.
 fn halfword_value(alloc: Global, halfword: Option<u16>) -> Result<Vec<u8>, AllocError>
-    ensures { IfOk result (λ value. value.items ≡ halfword_value halfword) }
+    ensures { IfOk result (λ value. value.items ≡ option_map_or (digits 16 4) halfword (codes "--")) }
 {
     match halfword {
         Some(halfword) => hexadecimal::<4>(u32::from(halfword)).to_vec(alloc),
@@ -58,7 +62,7 @@ fn halfword_value(alloc: Global, halfword: Option<u16>) -> Result<Vec<u8>, Alloc
 
 /// The value that is an address.
 fn address_value(alloc: Global, place: Option<u32>) -> Result<Vec<u8>, AllocError>
-    ensures { IfOk result (λ value. value.items ≡ address_value place) }
+    ensures { IfOk result (λ value. value.items ≡ option_map_or (digits 16 6) place (codes "--")) }
 {
     match place {
         Some(place) => hexadecimal::<6>(place).to_vec(alloc),
@@ -258,7 +262,8 @@ fn input_value<S: Store>(
     option: &CommandOption,
 ) -> Result<Vec<u8>, AllocError>
     ensures { let storage = S.storage store.now in let count = min 64 (count_read storage call.now option.now) in
-        IfOk result (λ value. value.items ≡ bytes_value (bytes_of storage call.now option.now.name count)) }
+        let bytes = bytes_of storage call.now option.now.name count in
+        IfOk result (λ value. value.items ≡ option_map_or written_bytes bytes (codes "--")) }
 {
     let mut buffer = [0; MOST_BYTES];
     let count = count_read(store, call, option).min(MOST_BYTES);

@@ -90,21 +90,18 @@ names_stored operation parts =
 abbrev pub reference : ℕ → List ℕ → Reference
 reference line name = record { name = name; line = line }
 
-abbrev pub references_on : ℕ → Option Stmt → List Reference
-references_on line None = []
-references_on line (Some stmt) = map (reference line) (names_used (operation_named stmt.operation) (parts_in stmt))
+-- `names` are those of an operation with its operands.
+abbrev pub references_on : (Option Operation → List (List ℕ) → List (List ℕ)) → ℕ → Option Stmt → List Reference
+references_on names line None = []
+references_on names line (Some stmt) = map (reference line) (names (operation_named stmt.operation) (parts_in stmt))
 
 -- The names that are used, each with the line of its statement: of a statement made of an EXEC with that one's line.
 abbrev pub references_of : Source → List Reference
-references_of source = flat_map (λ item. references_on item.line item.stmt) source.items
+references_of source = flat_map (λ item. references_on names_used item.line item.stmt) source.items
 
 -- and those into which an instruction stores
-abbrev pub stores_on : ℕ → Option Stmt → List Reference
-stores_on line None = []
-stores_on line (Some stmt) = map (reference line) (names_stored (operation_named stmt.operation) (parts_in stmt))
-
 abbrev pub stores_of : Source → List Reference
-stores_of source = flat_map (λ item. stores_on item.line item.stmt) source.items
+stores_of source = flat_map (λ item. references_on names_stored item.line item.stmt) source.items
 
 -- the numbers of lines, ascending, each once
 abbrev pub each_once : List ℕ → List ℕ

@@ -1,7 +1,8 @@
 -- What a look writes of the cross-reference of a source (own).
-use Rattle.std.specs.Prelude.{ℕ, ◌+◌, ◌%◌, ◌^◌, ◌==◌, ◌&&◌, if◌then◌else◌, Option, Some, None, List, [], ◌∷◌, ◌++◌, codes, length, map, slice_get, unwrap_or}
+use Rattle.std.specs.Prelude.{ℕ, ◌+◌, ◌%◌, ◌^◌, ◌==◌, ◌&&◌, if◌then◌else◌, List, [], ◌∷◌, ◌++◌, codes, length, map, slice_get, unwrap_or}
 use Rattle.std.specs.Fmt.{decimal}
 use Rattle.std.specs.List.{flat_map, list_any}
+use Rattle.std.specs.Option.{option_map_or}
 use Rattle.std.specs.Result.{result_ok}
 use Rattle.cx_base.specs.Digits.{digits, hex_digits}
 use Rattle.cx_source.specs.declared.source.Source.{Source}
@@ -24,11 +25,9 @@ use Rattle.cx_look_xref.specs.Usings.{base_registers, use_end}
 abbrev pub use_line_word : List ℕ → ℕ → List ℕ
 use_line_word storing line = decimal line ++ (if list_any (λ other. other == line) storing then codes "*" else [])
 
-abbrev pub line_words : List ℕ → List ℕ → List (List ℕ)
-line_words storing lines = if length lines == 0 then codes "NONE" ∷ [] else map (use_line_word storing) lines
-
 abbrev pub used_word : List ℕ → List ℕ → List ℕ
-used_word storing lines = codes "USED" ++ with_blanks (line_words storing lines)
+used_word storing lines =
+    codes "USED" ++ with_blanks (if length lines == 0 then codes "NONE" ∷ [] else map (use_line_word storing) lines)
 
 -- ---- symbols
 -- a symbol: the line that defines it, and those that use it; none for one that is given and unused
@@ -80,17 +79,11 @@ xref_made source section named =
     ++ literals_from section (lines_with (statements_of source)) 0 (whole_of source).pools
     ++ usings_from (whole_of source) (last_line source) (statements_of source)
 
-abbrev pub xref_named : Source → List ℕ → Option SourceSymbols → Lines
-xref_named source section None = []
-xref_named source section (Some named) = xref_made source section named
-
-abbrev pub xref_assembled : Source → Option AssemblyParts → Lines
-xref_assembled source None = []
-xref_assembled source (Some made) = xref_named source made.section.image.text (named_of source)
-
-abbrev pub xref_among : Option Source → Lines
-xref_among None = []
-xref_among (Some source) = xref_assembled source (result_ok (assembly_of source))
+abbrev pub xref_assembled : Source → AssemblyParts → Lines
+xref_assembled source made = option_map_or (xref_made source made.section.image.text) (named_of source) []
 
 unfoldable pub xref_text : List ℕ → List (List ℕ) → Lines
-xref_text program lines = or_none (codes "XREF " ++ written_name program) (xref_among (translated_in lines))
+xref_text program lines =
+    or_none (codes "XREF " ++ written_name program)
+    (option_map_or (λ source. option_map_or (xref_assembled source) (result_ok (assembly_of source)) [])
+    (translated_in lines) [])

@@ -1,10 +1,11 @@
 //! The cross-reference of a source.
-ghost use Rattle.std.specs.Prelude.{◌≡◌, IfOk, None};
+ghost use Rattle.std.specs.Prelude.{◌≡◌, [], IfOk, None};
 ghost use Rattle.cx_asm_pass1.specs.Locations.{IsPlaced, final_state};
 ghost use Rattle.cx_look_symbols.specs.Symbols.{named_of, translated_in};
 ghost use Rattle.std.specs.Result.{result_ok};
 ghost use Rattle.cx_asm.specs.Assembly.{assembly_of, last_line};
-ghost use Rattle.cx_look_xref.specs.Texts.{xref_among, xref_assembled, xref_named};
+ghost use Rattle.cx_look_xref.specs.Texts.{xref_assembled, xref_made};
+ghost use Rattle.std.specs.Option.{option_map_or};
 
 use crate::given::lines_given;
 use crate::literals::literal_lines;
@@ -39,7 +40,8 @@ fn xref_placed(
 ) -> Result<Report, AllocError>
     requires fault { (final_state source.now).fault ≡ None }
     requires placed { IsPlaced (final_state source.now) places.now }
-    ensures { IfOk result (λ report. report ≡ xref_named source.now section.now (named_of source.now)) }
+    ensures { let lines = option_map_or (xref_made source.now section.now) (named_of source.now) [] in
+        IfOk result (λ report. report ≡ lines) }
 {
     let names = names_of_places(alloc, source, places)?;
     let symbols = in_order(alloc, &names.symbols)?;
@@ -69,7 +71,8 @@ fn xref_placed(
 
 /// The lines of a source, whose control section has this text.
 fn xref_with(alloc: Global, source: &Source, section: &[u8]) -> Result<Report, AllocError>
-    ensures { IfOk result (λ report. report ≡ xref_named source.now section.now (named_of source.now)) }
+    ensures { let lines = option_map_or (xref_made source.now section.now) (named_of source.now) [] in
+        IfOk result (λ report. report ≡ lines) }
 {
     match place_all(alloc, source)? {
         Ok(places) => xref_placed(alloc, source, section, &places),
@@ -79,7 +82,8 @@ fn xref_with(alloc: Global, source: &Source, section: &[u8]) -> Result<Report, A
 
 /// The lines of a source.
 fn xref_of(alloc: Global, source: &Source) -> Result<Report, AllocError>
-    ensures { IfOk result (λ report. report ≡ xref_assembled source.now (result_ok (assembly_of source.now))) }
+    ensures { let made = result_ok (assembly_of source.now) in
+        IfOk result (λ report. report ≡ option_map_or (xref_assembled source.now) made []) }
 {
     match assemble(alloc, source) {
         Ok(assembly) => xref_with(alloc, source, assembly.image().text.as_slice()),
@@ -90,7 +94,9 @@ fn xref_of(alloc: Global, source: &Source) -> Result<Report, AllocError>
 
 /// The lines of the source that lines make.
 pub(crate) fn xref_among(alloc: Global, lines: &[Text]) -> Result<Report, AllocError>
-    ensures { IfOk result (λ report. report ≡ xref_among (translated_in lines.now)) }
+    ensures { IfOk result (λ report. report ≡ option_map_or
+        (λ source. option_map_or (xref_assembled source) (result_ok (assembly_of source)) [])
+        (translated_in lines.now) []) }
 {
     let Some(source) = translated_in(alloc, lines)? else {
         return Ok(Report::new(alloc));

@@ -2,13 +2,12 @@
 ghost use Rattle.std.specs.Prelude.{◌≡◌, ◌++◌, IfOk, OnOk, false};
 ghost use Rattle.std.specs.Option.{option_map_or};
 ghost use Rattle.cx_asm_pass1.specs.PassState.{role_in};
-ghost use Rattle.cx_look_xref.specs.Given.{gives_symbols, is_symbol_given, is_of_eib, line_given, lines_given};
+ghost use Rattle.cx_look_xref.specs.Given.{gives_symbols, is_symbol_given, line_given, lines_given};
 
 use crate::lines::is_among;
 use cx_asm_expressions::symbol_name;
 use cx_asm_pass1::Role;
-use cx_ebcdic::Name8;
-use cx_look_symbols::Symbol;
+use cx_look_symbols::{Symbol, is_control};
 use cx_source::{Item, Source, Stmt};
 use std::alloc::{AllocError, Global};
 
@@ -46,22 +45,9 @@ pub(crate) fn lines_given(alloc: Global, source: &Source) -> Result<Vec<usize>, 
     Ok(lines)
 }
 
-/// Whether a section is the EXEC interface block.
-fn is_of_eib(section: Option<Name8>) -> bool
-    ensures { result ≡ is_of_eib section }
-{
-    let Some(name) = symbol_name(b"DFHEIBLK") else {
-        return false;
-    };
-    match section {
-        Some(section) => name == section,
-        None => false,
-    }
-}
-
 /// Whether a symbol is one of DFHREGS, of COPY, whose lines these are, or of the EXEC interface block.
 pub(crate) fn is_symbol_given(lines: &[usize], symbol: &Symbol) -> bool
     ensures { result ≡ is_symbol_given lines.now symbol.now }
 {
-    is_among(lines, symbol.line) || is_of_eib(symbol.value.section)
+    is_among(lines, symbol.line) || is_control(symbol.value.section, symbol_name(b"DFHEIBLK"))
 }

@@ -1,7 +1,7 @@
 //! The names that a source uses, with their lines.
 ghost use Rattle.std.specs.Prelude.{◌≡◌, ◌++◌, IfOk, List, OnOk, map, ℕ};
 ghost use Rattle.cx_asm_expressions.specs.Names.{is_same};
-ghost use Rattle.cx_look_xref.specs.References.{lines_using, reference, references_of, references_on, stores_of, stores_on};
+ghost use Rattle.cx_look_xref.specs.References.{lines_using, names_stored, names_used, reference, references_of, references_on, stores_of};
 ghost use Rattle.cx_look_xref.specs.Parts.Uses.{lines_of_name, with_line};
 
 use crate::names::{names_stored, names_used};
@@ -37,7 +37,8 @@ fn push_names(
 
 /// Adds the names that a line's statement uses.
 fn push_line(alloc: Global, references: &mut Vec<Reference>, item: &Item) -> Result<(), AllocError>
-    ensures { OnOk result (references.new.items ≡ references.old.items ++ references_on item.now.line item.now.stmt) }
+    ensures { let more = references_on names_used item.now.line item.now.stmt in
+        OnOk result (references.new.items ≡ references.old.items ++ more) }
 {
     let Some(stmt) = &item.stmt else {
         return Ok(());
@@ -66,7 +67,8 @@ fn push_stores(
     references: &mut Vec<Reference>,
     item: &Item,
 ) -> Result<(), AllocError>
-    ensures { OnOk result (references.new.items ≡ references.old.items ++ stores_on item.now.line item.now.stmt) }
+    ensures { let more = references_on names_stored item.now.line item.now.stmt in
+        OnOk result (references.new.items ≡ references.old.items ++ more) }
 {
     let Some(stmt) = &item.stmt else {
         return Ok(());

@@ -1,9 +1,13 @@
 -- What is written of lines is a text of lines of looks.
 use Rattle.std.specs.Prelude.{◌≡◌, ℕ, Bool, true, false, List, [], ◌∷◌, ◌++◌, codes, cond, map}
-use Rattle.std.specs.List.{AllByRecursion, filter, flat_map}
+use Rattle.std.specs.List.{AllByRecursion, filter, flat_map, list_all}
 use Rattle.std.proofs.Common.{refl, ap}
-use Rattle.cx_look_lines.specs.Marked.{IsLine, IsOfLooks}
+use Rattle.cx_look_lines.specs.Marked.{IsOfLooks}
 use Rattle.cx_look_lines.specs.Words.{Lines, is_in_line, marked}
+
+-- a line has no LF
+abbrev IsLine : List ℕ → Type 0
+IsLine line = list_all is_in_line line ≡ true
 
 kept_is_line : (line : List ℕ) → IsLine (filter is_in_line line)
 kept_is_line [] = refl

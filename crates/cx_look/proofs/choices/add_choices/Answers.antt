@@ -1,5 +1,6 @@
 use Rattle.std.proofs.Common.{◌++◌, arith}
-use Rattle.cx_look.specs.Choices.{choices_in, lines_meant}
+use Rattle.cx_look.specs.Choices.{lines_meant}
+use Rattle.cx_look.specs.Parts.{choices_in}
 use Rattle.cx_look.proofs.ChoiceLemmas.{added_all}
 use Rattle.cx_look.proofs.choices.add_choices.Goals as goal
 

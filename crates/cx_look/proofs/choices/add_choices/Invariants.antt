@@ -1,7 +1,8 @@
 use Rattle.std.proofs.Common.{◌≡◌, ◌++◌, drop}
 use Rattle.std.specs.List.{AllByRecursion, filter_map}
 use Rattle.cx_orders.specs.Moves.{IsFew}
-use Rattle.cx_look.specs.Choices.{choice_of, choices_in, lines_meant}
+use Rattle.cx_look.specs.Choices.{choice_of, lines_meant}
+use Rattle.cx_look.specs.Parts.{choices_in}
 use Rattle.cx_look.proofs.choices.add_choices.Given as goal
 
 abbrev pub invariant-loop-number : goal.invariant-loop-number

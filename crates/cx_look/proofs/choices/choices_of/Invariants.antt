@@ -1,7 +1,7 @@
 use Rattle.std.proofs.Common.{◌≡◌, ◌++◌, drop}
 use Rattle.std.specs.List.{AllByRecursion, flat_map}
 use Rattle.cx_orders.specs.Moves.{IsFew}
-use Rattle.cx_look.specs.Choices.{choices_in}
+use Rattle.cx_look.specs.Parts.{choices_in}
 use Rattle.cx_look.proofs.choices.choices_of.Given as goal
 
 abbrev pub invariant-loop-line : goal.invariant-loop-line

@@ -1,5 +1,5 @@
 use Rattle.std.proofs.Common.{◌-◌, ◌≤◌, ◌^◌}
-use Rattle.cx_look_ahead.specs.Rows.{AreSame}
+use Rattle.cx_look_ahead.specs.Parts.Next.{AreSame}
 use Rattle.cx_look_ahead.proofs.rows.next_change.Given as goal
 
 -- so far nothing differs

@@ -1,6 +1,6 @@
 use Rattle.std.proofs.Common.{◌≡◌, ◌++◌, take}
 use Rattle.std.specs.List.{flat_map}
-use Rattle.cx_look_lines.specs.Words.{marked_line}
+use Rattle.cx_look_lines.specs.Parts.Words.{marked_line}
 use Rattle.cx_look_lines.proofs.reports.push_all_marked.Given as goal
 
 abbrev pub invariant-loop-line : goal.invariant-loop-line

@@ -2,7 +2,7 @@ use Rattle.std.proofs.Common.{rules, ap, ◌∙◌}
 use Rattle.std.specs.List.{filter}
 use Rattle.std.proofs.lemmas.Fn.{filter_same}
 use Rattle.cx_storage.specs.declared.areas.Area.{Area}
-use Rattle.cx_look_storage.specs.Areas.{is_of}
+use Rattle.cx_look_storage.specs.Parts.Walk.{is_of}
 use Rattle.cx_look_storage.proofs.areas.areas_at.Goals as goal
 
 pub returns : goal.returns

@@ -1,5 +1,5 @@
 use Rattle.std.proofs.Common.{◌≡◌}
-use Rattle.cx_look_storage.specs.Uses.{program_at}
+use Rattle.cx_look_storage.specs.Parts.Walk.{program_at}
 use Rattle.cx_look_storage.proofs.uses.program_at.Given as goal
 
 abbrev pub invariant-loop-name : goal.invariant-loop-name

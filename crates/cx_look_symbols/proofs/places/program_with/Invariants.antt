@@ -1,6 +1,6 @@
 use Rattle.std.proofs.Common.{◌≡◌}
 use Rattle.std.specs.List.{find}
-use Rattle.cx_look_symbols.specs.Places.{is_in}
+use Rattle.cx_look_symbols.specs.Parts.Places.{is_in}
 use Rattle.cx_look_symbols.proofs.places.program_with.Given as goal
 
 abbrev pub invariant-loop-name : goal.invariant-loop-name

@@ -1,6 +1,7 @@
 use Rattle.std.proofs.Common.{◌≡◌, ◌++◌}
-use Rattle.cx_look_tables.specs.Queues.{first_rows}
+use Rattle.std.specs.List.{flat_map, range_with_len}
+use Rattle.cx_look_tables.specs.Queues.{row_line_at}
 use Rattle.cx_look_tables.proofs.rows.rows_text.Given as goal
 
 abbrev pub invariant-loop-k : goal.invariant-loop-k
-invariant-loop-k l = l.report ≡ l.initial.report ++ first_rows l.k l.bytes
+invariant-loop-k l = l.report ≡ l.initial.report ++ flat_map (row_line_at l.bytes) (range_with_len 0 l.k)

@@ -1,6 +1,5 @@
 use Rattle.std.proofs.Common.{◌≡◌, ◌++◌, take}
-use Rattle.cx_look_levels.specs.Levels.{handle_lines}
-use Rattle.cx_look_levels.specs.Parts.Levels.{handles_number}
+use Rattle.cx_look_levels.specs.Parts.Levels.{handle_lines, handles_number}
 use Rattle.cx_look_levels.proofs.levels.LevelHandles.handle_lines.Given as goal
 
 abbrev pub invariant-loop-condition : goal.invariant-loop-condition

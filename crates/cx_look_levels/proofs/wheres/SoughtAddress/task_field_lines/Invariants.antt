@@ -1,7 +1,9 @@
 use Rattle.std.proofs.Common.{◌≡◌, ◌++◌}
-use Rattle.cx_look_levels.specs.Wheres.{first_levels}
+use Rattle.std.specs.List.{flat_map, range_with_len}
+use Rattle.cx_look_levels.specs.Wheres.{level_lines_at}
 use Rattle.cx_look_levels.proofs.wheres.SoughtAddress.task_field_lines.Given as goal
 
 abbrev pub invariant-loop-k : goal.invariant-loop-k
 invariant-loop-k l =
-    l.report ≡ l.initial.report ++ first_levels l.self.programs.now.entries l.self.sources.now l.self.address l.term l.task l.k
+    let lines = level_lines_at l.self.programs.now.entries l.self.sources.now l.self.address l.term l.task in
+    l.report ≡ l.initial.report ++ flat_map lines (range_with_len 1 l.k)

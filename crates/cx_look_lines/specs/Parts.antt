@@ -1,0 +1,2 @@
+-- The vocabulary of private functions.
+pub mod Words
