@@ -136,8 +136,8 @@ without_adrift items met unknown (fault ∷ more) =
     ++ without_adrift items true (unknown_after unknown fault) more
 
 -- ---- the stages
--- By the faults of a source's lines, of its EXEC statements, and of what they are made into. By those of the first three
--- stages bases are lost for the fourth.
+-- By the faults of a source's lines, of its EXEC statements, and of what they are made into. By those of the first
+-- three stages bases are lost for the fourth.
 abbrev pub stage_lines : List SourceFault → List TransFault → Source → List FaultyLine
 stage_lines unread untranslated made =
     let has = list_any begins_section made.items in let lines = base_lines made.items in

@@ -75,7 +75,8 @@ symbol_field_line storage term readings regs bases control (name, symbol) =
     (field_by regs bases symbol.value) [] else []
 
 -- where a level is at the statement that has the byte at an offset of its source, what is written of each symbol
-abbrev pub rows_lines : (Bases → Option (List ℕ) → List ℕ × Symbol → Lines) → Option Bases → Option SourceSymbols → Lines
+abbrev pub rows_lines : (Bases → Option (List ℕ) → List ℕ × Symbol → Lines) → Option Bases → Option SourceSymbols
+    → Lines
 rows_lines line (Some bases) (Some named) = flat_map (line bases named.control) named.rows
 rows_lines line _ _ = []
 

@@ -40,7 +40,8 @@ level_line shared k level =
     (codes "PROGRAM" ∷ shown_name level.program ∷ codes "R14"
     ∷ address_word (place_at_address shared.programs (resume_address level))
     ∷ codes "DFHEISTG" ∷ digits 16 6 level.stg ∷ codes "LENGTH" ∷ digits 16 6 level.stg_len ∷ codes "DFHEICAP"
-    ∷ option_map_or (digits 16 8) (word_at shared.storage (address_after level.stg (eistg_field Eicap).offset)) (codes "--")
+    ∷ option_map_or (digits 16 8) (word_at shared.storage (address_after level.stg (eistg_field Eicap).offset))
+    (codes "--")
     ∷ codes "EIBCALEN" ∷ digits 16 4 level.calen ∷ codes "PUSHED" ∷ digits 10 2 (length level.handles.kept) ∷ [])
 
 -- its last command, by the statement of the byte before the place where it goes on: that is the last byte of the
