@@ -27,7 +27,7 @@ from repository import Repository, logic, text_of, write
 
 RECORD = ".ci/wrong.record"
 DRAWN = 3
-BUDGET = 2_000  # processor seconds
+BUDGET = 1_000  # processor seconds
 RECENT = 4 * 60 * 60  # seconds: what changed in them is tried always
 REFUSED = re.compile(r"^rt: must-fail (\w+)/([\w.-]+)\.edit: refused, as it must be", re.M)
 TOOK = re.compile(r"^edit (\w+/[\w.-]+) took (\d+) s$", re.M)

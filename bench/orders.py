@@ -23,6 +23,11 @@ def apart(tasks: int, half_turns: int) -> bytes:
     return text_of([*lines, "ORDERS 1000000", "STORAGE 001000 4", "/*"])
 
 
+def moves_of(tasks: int, half_turns: int) -> int:
+    """The moves of such a script's ORDERS."""
+    return int(tasks * half_turns * (half_turns + 1) ** (tasks - 1))
+
+
 def compared(before: str, program: str, script: bytes) -> str:
     """The medians of pairs of runs by two programs."""
     pairs = [(taken([before], script).user, taken([program], script).user) for _ in range(PAIRS)]
@@ -47,8 +52,7 @@ def main(words: list[str]) -> int:
     before = check.text("before")
     program, before = check.program(), program_at(before) if before else None
     for tasks, half_turns in APART:
-        states, moves = (half_turns + 1) ** tasks, tasks * half_turns * (half_turns + 1) ** (tasks - 1)
-        row(program, before, f"{tasks} of {half_turns} half-turns", apart(tasks, half_turns), moves, states)
+        row(program, before, f"{tasks} of {half_turns} half-turns", apart(tasks, half_turns), moves_of(tasks, half_turns), (half_turns + 1) ** tasks)
     for name in looks():
         if name.startswith("orders/"):
             row(program, before, name, script_of(name))

@@ -7,9 +7,11 @@ import os
 import resource
 import shlex
 import signal
+import time
 from collections import Counter
 from collections.abc import Callable, Iterable, Iterator, Mapping, Sequence
-from concurrent.futures import ThreadPoolExecutor
+from concurrent.futures import Future, ThreadPoolExecutor
+from contextlib import suppress
 from dataclasses import dataclass, field
 from typing import NoReturn
 
@@ -64,23 +66,29 @@ def outcomes_of(cases: list[Case], at_once: int) -> list[Outcome]:
     """What comes of cases, in their order, so many at once; none is begun after one that is overdue. A signal leaves no program running."""
     outcomes: list[Outcome] = []
     with ThreadPoolExecutor(at_once) as pool:
+        tried = [pool.submit(outcome_of, case) for case in cases]
         try:
-            for future in [pool.submit(outcome_of, case) for case in cases]:
+            for future in tried:
                 outcomes.append(future.result())
                 if outcomes[-1].is_overdue:
                     break
         except BaseException:
-            end_children()
+            pool.shutdown(wait=False, cancel_futures=True)
+            end_children(tried)
             raise
         finally:
             pool.shutdown(wait=False, cancel_futures=True)
     return outcomes
 
 
-def end_children() -> None:
-    for path in glob.glob("/proc/self/task/*/children"):
-        for child in read(path).split():
-            os.kill(int(child), signal.SIGKILL)
+def end_children(tried: list[Future[Outcome]]) -> None:
+    """Ends the programs that cases run, and those that they still start, until no case is tried any more."""
+    while not all(it.done() for it in tried):
+        for path in glob.glob("/proc/self/task/*/children"):
+            with suppress(OSError):  # a thread or a program that has ended meanwhile
+                for child in read(path).split():
+                    os.kill(int(child), signal.SIGKILL)
+        time.sleep(0.05)
 
 
 def program_at(path: str) -> str:

@@ -731,7 +731,9 @@ def many_states() -> Iterator[Script]:
     session.show("ORDERS", ["> ORDERS MORE THAN 10000 STATES, ALL OF 40 MOVES"])  # 41 moves lead to 10,337
     session.script += ["/*", f"ORDERS {25 ** 3}", "TASKS"]
     session.show("/*", ["> ORDERS STATES 15625 OUTCOMES 1", "> OUTCOME 1", *(f"> {name} NO TASK" for name in names)])
-    session.transcript += [f"> RUN {name} 24" for name in names]
+    told = [*(f"SUSPEND NORMAL {line}" for line in range(2, 13)), "RETURN Ended 13"]
+    comments = [f"> * {', '.join(part)}" for part in (told[:5], told[5:10], told[10:])]  # as many as fit in 100 characters
+    session.transcript += [line for name in names for line in (f"> RUN {name} 24", *comments)]
     yield session.case("ORDERS with 15,625 states")
 
 

@@ -218,7 +218,8 @@ class Rewriting:
         if name.endswith("CONDITION"):
             self.left(f"{unit.word}: no condition that can come here{advice(PAGE, 'conditions other than')}")
         else:
-            self.left(f"{unit.word}: no option of {name}{advice(PAGE, unit.word)}")
+            write = advice(PAGE, unit.word) if len(unit.word) > 1 else "; write: a mark of continuation in column 72"
+            self.left(f"{unit.word}: no option of {name}{write}")
         return False
 
     def work_out(self, unit: Unit) -> None:

@@ -1,7 +1,8 @@
 """What ORDERS of `cicslook` writes of a script's last ORDERS, before which sources were replaced, and how two of these differ.
 
 ORDERS says how many states and outcomes there are, or that there are more states than it may keep. Of each outcome it writes what is seen,
-and then a list of moves, as lines of a script. A list follows too where some order never comes to rest, or can't any more.
+and then a list of moves, as lines of a script, with comments behind a RUN that say what its turns perform. A list follows too where some
+order never comes to rest, or can't any more.
 """
 import re
 from collections.abc import Iterator
@@ -20,6 +21,7 @@ CUT = re.compile(f"ORDERS MORE THAN ([0-9]+) STATES, ALL OF [0-9]+ MOVES{KEYS}")
 OUTCOME = re.compile(r"OUTCOME [0-9]+")
 NEVER, CANNOT = "ORDERS SOME NEVER REST", "ORDERS SOME CANNOT REST"
 MOVE = re.compile(r"EDF \S+ OFF|KEY .*|RUN \S+ [0-9]+")
+COMMENT = "* "  # behind the RUN of a list
 BAD = re.compile(r"line ([0-9]+): (.*)")
 
 
@@ -57,7 +59,8 @@ def read_orders(lines: list[str]) -> Orders:
             current = Outcome()
             orders.restless[line] = current.moves
         else:
-            (current.moves if MOVE.fullmatch(line) else current.text).append(line)
+            is_move = MOVE.fullmatch(line) or (current.moves and line.startswith(COMMENT))
+            (current.moves if is_move else current.text).append(line)
     return orders
 
 

@@ -140,7 +140,7 @@ Q        CSECT                                               | CSECT Q: a second
          EXEC  CICS HANDLE ABEND PROGRAM('X')                | PROGRAM: no option of HANDLE ABEND
          EXEC  CICS PUSH                                     | EXEC CICS PUSH: no command that can be read here
          EXEC  CICS POP HANDLE X                             | X: no option of POP HANDLE
-         EXEC  CICS SUSPEND X                                | X: no option of SUSPEND
+         EXEC  CICS SUSPEND X                                | X: no option of SUSPEND; write: a mark of continuation in column 72
          EXEC  CICS WRITEQ TS QNAME(F) FROM(F)               | QNAME: no option of WRITEQ TS
          EXEC  CICS WRITEQ TS QUEUE(F) FROM(F) SYSID('A')    | SYSID: no option of WRITEQ TS
          EXEC  CICS READQ TS QUEUE(F) INTO(F) LENGTH(5)      | LENGTH(5): READQ TS writes to it

@@ -25,7 +25,7 @@ BLOCK = "ORDERS 100\nKEY T001 ENTER ADD\nKEY T002 ENTER ADD\nSTORAGE 001000 4\n/
 HEAD = f"SOURCE ADDER\n{ADDER}/*\nTRANSACTION ADD ADDER\nTERMINAL T001\nTERMINAL T002\n"
 SCRIPT = f"{HEAD}KEY T001 ENTER ADD\nRUN T001\norders\nKEY T002 ENTER ADD\n/*\n{BLOCK}KEY T001 ENTER ADD\n"
 BOTH = ["> OUTCOME 1", "> 001000  00000001                             ....", "> AREA 001000 LENGTH 000200 CWA OWNER REGION"]
-MOVES = ["> KEY T001 ENTER ADD", "> RUN T001 3", "> RUN T002 2"]
+MOVES = ["> KEY T001 ENTER ADD", "> RUN T001 3", "> * ADDRESS NORMAL 4", "> RUN T002 2"]
 ONE = ["> ORDERS STATES 9 OUTCOMES 1 KEYS WHEN ASKED", *BOTH, *MOVES]
 OTHER = [BOTH[0].replace("1", "2"), BOTH[1].replace("00000001", "00000002"), BOTH[2], "> EDF T001 OFF", *MOVES]
 TWO = ["> ORDERS STATES 12 OUTCOMES 2 KEYS TYPED AHEAD", *BOTH, *MOVES, *OTHER]
@@ -42,7 +42,7 @@ CALLS = [  # with the answers of `stand-in` to the two
                     ["line 21, ORDERS: a.asm has 2 outcomes of 12 states, w.asm 1 outcome of 9 states; only a.asm has this one:", *OTHER[1:3], "comes by *",
                      "EDF T001 OFF", *(move[2:] for move in MOVES)], FILES)),
     (ONE, TWO, Call("an outcome of the new one", "cics-same", ["s.script", "ADDER", "a.asm", "w.asm", "--orders"], 1,
-                    ["line 21, ORDERS: * only w.asm has this one:", *["*"] * 7], FILES)),
+                    ["line 21, ORDERS: * only w.asm has this one:", *["*"] * 8], FILES)),
     (ONE, NEVER, Call("one that never rests", "cics-same", ["--orders", "s.script", "ADDER", "a.asm", "w.asm"], 1,
                       ["line 21, ORDERS: the same outcomes; only w.asm has SOME NEVER REST:", *(move[2:] for move in MOVES)], FILES)),
     (CUT, CUT, Call("too many states", "cics-same", ["--orders", "s.script", "ADDER", "a.asm", "a.asm"], 2,
@@ -52,7 +52,7 @@ CALLS = [  # with the answers of `stand-in` to the two
     (ONE, ONE, Call("a script without ORDERS", "cics-same", ["--orders", "n.script", "ADDER", "a.asm", "w.asm"], 2, [], FILES, "has no ORDERS")),
     (ONE, ONE, Call("a source that isn't there", "cics-same", ["--orders", "s.script", "X", "a.asm", "w.asm"], 2, [], FILES, "no SOURCE X")),
     (ONE, TWO, Call("no rest in front", "cics-same", ["--orders", "s.script", "ADDER", "a.asm", "spin.asm"], 1,
-                    ["line 21, ORDERS: * only spin.asm has this one:", *["*"] * 7], FILES)),
+                    ["line 21, ORDERS: * only spin.asm has this one:", *["*"] * 8], FILES)),
     (STILL, ONE, Call("nothing to order with the old", "cics-same", ["--orders", "s.script", "ADDER", "a.asm", "w.asm"], 2,
                       ["line 21, ORDERS: a.asm has nothing to order: no task goes on, and no key is still to come"], FILES)),
     (ONE, STILL, Call("nothing to order with the new", "cics-same", ["--orders", "s.script", "ADDER", "a.asm", "w.asm"], 2,
@@ -67,12 +67,12 @@ LESSONS = f"{TOP}/examples/lessons"
 ENOUGH = {**FILES, "s.script": SCRIPT.replace("ORDERS 100\n", "ORDERS 1000\n")}
 REAL = [
     Call("orders of two", "cics-same", ["--orders", "s.script", "ADDER", "a.asm", "w.asm"], 1,
-         ["line 21, ORDERS: a.asm has 2 outcomes of *, w.asm 1 outcome of *; only a.asm has this one:", "> 001000  00000002*", "*", "comes by *", *["*"] * 6],
+         ["line 21, ORDERS: a.asm has 2 outcomes of *, w.asm 1 outcome of *; only a.asm has this one:", "> 001000  00000002*", "*", "comes by *", *["*"] * 10],
          ENOUGH),
     Call("keys in front, as lesson 15 has it", "cics-same",
          ["--orders", f"{LESSONS}/15-every-order/tickets.script", "PGM7", f"{LESSONS}/changing/pgm7.asm", f"{LESSONS}/changing/pgm7-enq.asm"], 1,
          ["line 42, ORDERS: * has 3 outcomes of 191 states, * 2 outcomes of 214 states; only *pgm7.asm has this one:",
-          "> SCREEN T001", "> 01|TICKET 00002", "> SCREEN T002", "> 01|TICKET 00002", "comes by *", *["RUN *"] * 4]),
+          "> SCREEN T001", "> 01|TICKET 00002", "> SCREEN T002", "> 01|TICKET 00002", "comes by *", *["RUN *", "*"] * 4]),
     Call("keys in front, and none that moves", "cics-same", ["--orders", "r.script", "r.script"], 2, ["line *, ORDERS: r.script has nothing to order: *"],
          {"r.script": f"{HEAD}KEY T001 ENTER ADD\nRUN T001\nORDERS\n/*\n"}),
     Call("orders of one", "cics-same", ["--orders", "s.script", "ADDER", "a.asm", "a.asm"], 0, ["line 21, ORDERS: every order *", UNCOUNTED], ENOUGH),

@@ -17,6 +17,7 @@ from tests.calling import called, folder_of, program
 from tests.case import CICSEDF, CICSLOOK, PROGRAMS, TestCase
 
 PROMPT = b"cics> |IMAGE P 80> "
+INTERRUPT = b"\x03"  # Ctrl-C
 LOOK = os.path.join(TOP, "companions/cics-look")
 LESSON = os.path.join(TOP, "examples/lessons/08-overwrite/mended.script")
 CREDIT = """SOURCE CREDIT
@@ -202,7 +203,7 @@ class CompletionTest(TestCase):
     def test_at_a_terminal(self) -> None:
         """A prompt, a word that the Tab key completes, a slip, the history, and the end of the input."""
         with tempfile.TemporaryDirectory() as folder:
-            shown = self.typed(folder, [b"TERMINAL T001\n", b"taks\n", b"RESO\t\n", b"\x1b[A\n", b"TURN \t\n", b"\x03", b"\x04"])
+            shown = self.typed(folder, [b"TERMINAL T001\n", b"taks\n", b"RESO\t\n", b"\x1b[A\n", b"TURN \t\n", INTERRUPT, b"\x04"])
             self.assertEqual(shown.count("> RESOURCES NONE"), 2, shown)
             for part in ("cics> ", "TERMINAL T001 DEFINED", "? BadLine: no such look: taks; TASKS?", "TURN T001 Idle"):
                 self.assertIn(part, shown)
@@ -210,22 +211,29 @@ class CompletionTest(TestCase):
 
     def test_a_block_that_is_dropped(self) -> None:
         with tempfile.TemporaryDirectory() as folder:
-            shown = self.typed(folder, [b"IMAGE P 80\n", b"41\n", b"\x03", b"TASKS\n", b"\x04"])
+            shown = self.typed(folder, [b"IMAGE P 80\n", b"41\n", INTERRUPT, b"TASKS\n", b"\x04"])
             for part in ("IMAGE P 80> ", "? IMAGE P 80: the block is dropped", "> TASKS NONE"):
                 self.assertIn(part, shown)
 
     def typed(self, folder: str, pieces: list[bytes]) -> str:
-        """What is shown at a terminal where these are typed, each after a prompt."""
+        """What is shown at a terminal where these are typed, each after a prompt.
+
+        Python sees a Ctrl-C that comes between a prompt and the wait for a key only with the next key, so one of which nothing comes is
+        typed again, as a user does.
+        """
         child, terminal = pty.fork()
         if child == 0:
             os.environ.update(XDG_STATE_HOME=folder, TERM="xterm", INPUTRC="/dev/null")
             os.execv(LOOK, [LOOK, *PROGRAMS])
-        shown, until, prompts = b"", time.monotonic() + 300, 0
+        shown, until, prompts, sent, at = b"", time.monotonic() + 300, 0, b"", 0.0
         try:
             while time.monotonic() < until:
                 if pieces and len(re.findall(PROMPT, shown)) > prompts:
-                    prompts = len(re.findall(PROMPT, shown))
-                    os.write(terminal, pieces.pop(0))
+                    prompts, sent, at = len(re.findall(PROMPT, shown)), pieces.pop(0), time.monotonic()
+                    os.write(terminal, sent)
+                elif sent == INTERRUPT and time.monotonic() - at > 20:
+                    at = time.monotonic()
+                    os.write(terminal, sent)
                 if select.select([terminal], [], [], 0.2)[0]:
                     shown += os.read(terminal, 4096)
         except OSError:  # it has ended

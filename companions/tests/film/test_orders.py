@@ -13,9 +13,9 @@ SCRIPT = f"{HEAD}* every order\n{BLOCK.replace('ORDERS', 'orders')}KEY T001 ENTE
 AREA = "> AREA 001000 LENGTH 000200 CWA OWNER REGION"
 KEYS = ["> KEY T001 ENTER ADD", "> KEY T002 ENTER ADD"]
 ONE_AFTER_THE_OTHER = [KEYS[0], "> RUN T001 6", KEYS[1], "> RUN T002 6"]
-LOST = [*KEYS, "> RUN T001 3", "> RUN T002 6", "> RUN T001 3"]
+LOST = [*KEYS, "> RUN T001 3", "> * ADDRESS NORMAL 4", "> RUN T002 6", "> RUN T001 3"]
 FOUND = ["> ORDERS STATES 153 OUTCOMES 2 KEYS WHEN ASKED", "> OUTCOME 1", "> 001000  00000002                             ....", AREA, *ONE_AFTER_THE_OTHER,
-         "> OUTCOME 2", "> 001000  00000001                             ....", AREA, *LOST, "> ORDERS SOME NEVER REST", *LOST[:3]]
+         "> OUTCOME 2", "> 001000  00000001                             ....", AREA, *LOST, "> ORDERS SOME NEVER REST", *LOST[:4]]
 
 
 def page_of_orders(found: list[str]) -> str:

@@ -22,7 +22,7 @@ use Rattle.cx_code.specs.declared.table.Op.TheVariants as op
 use Rattle.cx_code.specs.declared.instruction.Fields.TheVariants.{Rx}
 
 -- the first byte of a span
-first_byte : (s : Storage) (a n : ℕ) (bytes : List ℕ) → span s a n ≡ Some bytes → 0 < n → byte_at s a ≡ Some (slice_index bytes 0)
+pub first_byte : (s : Storage) (a n : ℕ) (bytes : List ℕ) → span s a n ≡ Some bytes → 0 < n → byte_at s a ≡ Some (slice_index bytes 0)
 unfolding span
 first_byte s a zero bytes e h = absurd (omega arith)
 first_byte s a (suc n) bytes e h = go (byte_at s a) (span s (address_after a 1) n) e
@@ -42,7 +42,7 @@ code_there s a bytes even some long there =
     rw (odd, whole) refl
 
 -- the first bytes of a span
-span_front : (s : Storage) (a n m : ℕ) (bytes : List ℕ) → a < 2 ^ 24 → span s a n ≡ Some bytes → m ≤ n → span s a m ≡ Some (take m bytes)
+pub span_front : (s : Storage) (a n m : ℕ) (bytes : List ℕ) → a < 2 ^ 24 → span s a n ≡ Some bytes → m ≤ n → span s a m ≡ Some (take m bytes)
 span_front s a n m bytes low e h =
     let long = span_length s a n bytes e in
     span_from s a m (take m bytes) low (length-take-le m bytes (omega (arith, long, h)))

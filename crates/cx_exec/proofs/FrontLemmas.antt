@@ -81,7 +81,7 @@ at_front : (op : Op) (n : ℕ) (b : List ℕ) → length_of op ≤ n → fields_
 unfolding fields_at
 at_front op n b h = ap (λ (f : Fields). if is_shift op then without_r3 f else f) (fields_front (format_of op) n b h)
 
-some_few : (f : Format) → (0 < length_of_format f) × (length_of_format f ≤ 6)
+pub some_few : (f : Format) → (0 < length_of_format f) × (length_of_format f ≤ 6)
 some_few form.Rr = (omega arith, omega arith)
 some_few form.Rx = (omega arith, omega arith)
 some_few form.Rs = (omega arith, omega arith)
@@ -107,7 +107,7 @@ row_is_read op b known h first =
     known (take (length_of op) b) op code (omega (arith, size)) ∙ ap (λ (f : Fields). Some (instruction op f)) same
 
 -- the eight bytes that a front is of
-spanned : (o : Option (List ℕ)) (prefix : List ℕ) → option_map (take 6) o ≡ Some prefix → (b : List ℕ) × (o ≡ Some b) × (prefix ≡ take 6 b)
+pub spanned : (o : Option (List ℕ)) (prefix : List ℕ) → option_map (take 6) o ≡ Some prefix → (b : List ℕ) × (o ≡ Some b) × (prefix ≡ take 6 b)
 spanned None prefix e = cc
 spanned (Some b) prefix e = let same : take 6 b ≡ prefix = cc in (b, refl, sym same)
 

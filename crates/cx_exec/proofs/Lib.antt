@@ -12,3 +12,5 @@ pub mod BlockLemmas
 pub mod RepeatLemmas
 pub mod ZonedLemmas
 pub mod FillLemmas
+pub mod TallyLemmas
+pub mod WatchLemmas

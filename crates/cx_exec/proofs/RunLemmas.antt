@@ -117,7 +117,7 @@ apart_more steps left m now fetched after within some so_far same run =
     round_passes steps left 1 m now after within (omega (arith, some)) so_far (subst (λ (s : Machine). Passes 1 s after) same run)
 
 -- an instruction except EX runs by the effect of its row
-row_runs : (now : Machine) (op : Op) (prefix : List ℕ) (outcome : Outcome) (after : Machine)
+pub row_runs : (now : Machine) (op : Op) (prefix : List ℕ) (outcome : Outcome) (after : Machine)
     → IsPerformed now op prefix → is_execute op ≡ false
     → Effect (instruction op (fields_at op prefix)) (updated_by now.next (length_of op)) now outcome after → Runs now outcome after
 unfolding Runs

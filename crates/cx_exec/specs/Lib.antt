@@ -23,5 +23,8 @@ pub mod Rows
 pub mod Fetch
 pub mod Step
 pub mod Advance
+pub mod Passages
+pub mod Tallies
+pub mod Watches
 pub mod Laws
 pub mod Parts

@@ -1,7 +1,8 @@
 -- Vocabulary of private functions: what is performed, an operand that is there or not, and rows whose code is kept
 -- together.
-use Rattle.std.specs.Prelude.{◌≡◌, unwrap_or, ℕ, List, Option, Some, None, Result, MatchResult, Bool, true, false, if◌then◌else◌}
-use Rattle.cx_storage.specs.Storage.{Storage}
+use Rattle.std.specs.Prelude.{◌≡◌, ◌+◌, unwrap_or, ℕ, List, [], ◌∷◌, ◌++◌, Option, Some, None, Result, MatchResult, Bool, true, false, fold, if◌then◌else◌}
+use Rattle.std.specs.List.{AllByRecursion, cons_option}
+use Rattle.cx_storage.specs.Storage.{Storage, IsSoundStorage}
 use Rattle.cx_storage.specs.Word.{word_at}
 use Rattle.cx_code.specs.declared.table.Op.{Op}
 use Rattle.cx_code.specs.declared.table.Op.TheVariants as op
@@ -11,6 +12,14 @@ use Rattle.cx_code.specs.Reading.{fields_at}
 use Rattle.cx_exec.specs.Machine.{Machine}
 use Rattle.cx_exec.specs.Operands.{extended_at}
 use Rattle.cx_exec.specs.Step.{updated_by, performed_of, instruction_to_perform}
+use Rattle.cx_exec.specs.Advance.{Passes, Advances}
+use Rattle.cx_exec.specs.Passages.{Passage, Passages}
+use Rattle.cx_exec.specs.Tallies.{IsTallied, with_passage, with_run}
+use Rattle.cx_exec.specs.Watches.{IsWatched, LeavesSound, after_passage}
+use Rattle.cx_exec.specs.declared.machine.Halt.{Halt}
+use Rattle.cx_exec.specs.declared.machine.Step.{Step}
+use Rattle.cx_exec.specs.declared.machine.Step.TheVariants.{AtEntry}
+use Rattle.cx_exec.specs.declared.tallied.Tally.{Tally}
 use Rattle.cx_exec.specs.declared.machine.Updated.{Updated}
 use Rattle.cx_exec.specs.declared.places.Place.{Place}
 use Rattle.cx_exec.specs.declared.machine.Interruption.{Interruption}
@@ -78,3 +87,70 @@ has_address op.Cvd = true
 has_address op.Ic = true
 has_address op.Cvb = true
 has_address _ = false
+
+-- the rows that store; EX does as its target does
+abbrev pub stores : Op → Bool
+stores op.Sth = true
+stores op.Stc = true
+stores op.St = true
+stores op.Cvd = true
+stores op.Stm = true
+stores op.Stcm = true
+stores op.Mvi = true
+stores op.Ni = true
+stores op.Oi = true
+stores op.Mvc = true
+stores op.Xc = true
+stores op.Tr = true
+stores op.Pack = true
+stores op.Unpk = true
+stores op.Ex = true
+stores _ = false
+
+-- the tallies after an instruction that is done, with its target, if it has one
+abbrev pub with_done : Bool → ℕ → Option ℕ → List Tally → List Tally
+with_done goes_away at target tallies = fold (with_run goes_away) tallies (at ∷ cons_option target [])
+
+-- the tallies after a step; those before where the next address is the entry
+abbrev pub with_step : List Tally → Passage → Step → List Tally
+with_step tallies p AtEntry = tallies
+with_step tallies p _ = with_passage tallies p
+
+-- n steps that are done, each of them counted, and the run goes on by its other passages
+pub record CountsOn (n : ℕ) (m after : Machine) (old new : List Tally) : Type 0 where
+  pub passes : Passes n m after
+  pub passages : List Passage
+  pub goes_on : (k : ℕ) (more : List Passage) → Passages k after more → Passages (n + k) m (passages ++ more)
+  pub is : new ≡ fold with_passage old passages
+
+-- a run that ends, with all of its instructions counted
+pub record CountsAll (limit : ℕ) (m : Machine) (end : Halt) (after : Machine) (old new : List Tally) : Type 0 where
+  pub run : Advances limit m end after
+  pub tallied : IsTallied limit m old new
+
+-- an instruction at an address that leaves a sound storage is noted, and what is held is then of that storage
+pub record IsNoted {V : Type 0} (noted : Storage → ℕ → V → V) (is_of : Storage → V → Type 0) (s : Storage) (at : ℕ)
+    (old new : V) : Type 0 where
+  pub sound : IsSoundStorage s
+  pub is : new ≡ noted s at old
+  pub of : is_of s new
+
+-- a step from an address is noted, unless that is the entry
+abbrev pub NotesStep : {V : Type 0} → (Storage → ℕ → V → V) → (Storage → V → Type 0) → Storage → ℕ → Step → V → V
+    → Type 0
+NotesStep noted is_of s at AtEntry old new = new ≡ old
+NotesStep noted is_of s at _ old new = IsNoted noted is_of s at old new
+
+-- n steps that are done, each of them noted, and the run goes on by its other passages
+pub record NotesOn {V : Type 0} (noted : Storage → ℕ → V → V) (n : ℕ) (m after : Machine) (old new : V) : Type 0 where
+  pub passes : Passes n m after
+  pub passages : List Passage
+  pub goes_on : (k : ℕ) (more : List Passage) → Passages k after more → Passages (n + k) m (passages ++ more)
+  pub sound : AllByRecursion LeavesSound passages
+  pub is : new ≡ fold (after_passage noted) old passages
+
+-- a run that ends, with all of its instructions noted
+pub record NotesAll {V : Type 0} (noted : Storage → ℕ → V → V) (limit : ℕ) (m : Machine) (end : Halt) (after : Machine)
+    (old new : V) : Type 0 where
+  pub run : Advances limit m end after
+  pub watched : IsWatched noted limit m old new

@@ -1,4 +1,4 @@
-//! Executing instructions: one step, and runs of steps.
+//! Executing instructions: one step, runs of steps, and runs whose instructions are counted or noted.
 #![tactic(auto)]
 
 mod addresses;
@@ -28,10 +28,14 @@ mod sequence;
 mod shifts;
 mod stepping;
 mod strings;
+mod tallied;
 mod translation;
+mod watched;
 mod words;
 mod zoned;
 
 pub use machine::{Cpu, ENTRY, Halt, Interruption, Step, Updated};
 pub use runs::advance;
 pub use stepping::step;
+pub use tallied::{Tally, advance_tallied};
+pub use watched::{Watcher, advance_watched};

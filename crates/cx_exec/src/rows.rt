@@ -1,6 +1,6 @@
 //! The effect of each instruction.
 
-ghost use Rattle.std.specs.Prelude.{◌≡◌, ◌<◌, ◌≤◌, ◌^◌, ◌+◌, ◌/◌, ◌%◌, true, slice_index, unwrap_or, IfSome};
+ghost use Rattle.std.specs.Prelude.{◌≡◌, ◌<◌, ◌≤◌, ◌^◌, ◌+◌, ◌/◌, ◌%◌, true, false, slice_index, unwrap_or, IfSome};
 ghost use Rattle.byteorder.specs.Endian.{big_from};
 ghost use Rattle.cx_code.specs.declared.table.Format.TheVariants as format;
 ghost use Rattle.cx_code.specs.Table.{format_of, length_of};
@@ -10,7 +10,7 @@ ghost use Rattle.cx_exec.specs.Machine.{machine};
 ghost use Rattle.cx_exec.specs.Machine.{address_part, effective};
 ghost use Rattle.cx_exec.specs.Step.{is_execute};
 ghost use Rattle.cx_exec.specs.Rows.{Effect};
-ghost use Rattle.cx_exec.specs.Parts.{updated_at, has_word, has_word_result, has_half, has_address};
+ghost use Rattle.cx_exec.specs.Parts.{updated_at, has_word, has_word_result, has_half, has_address, stores};
 
 use crate::addresses::Addresses;
 use crate::arithmetic::{complement, difference, put_sum, sum};
@@ -215,9 +215,10 @@ pub(crate) fn register_rows<S: Store>(
     place: Place,
 ) -> Performed
     requires rows { format_of op ≡ format.Rr }
-    ensures { Effect (instruction op (fields_at op prefix.now))
+    ensures effect { Effect (instruction op (fields_at op prefix.now))
         (updated_at place (length_of op))
         (machine cpu.old (S.storage store.old)) result (machine cpu.new (S.storage store.new)) }
+    ensures same { S.storage store.new ≡ S.storage store.old }
 {
     rows!(op, it = registers_of(cpu, prefix, place);
         Balr => {
@@ -256,9 +257,10 @@ pub(crate) fn register_storage_rows<S: Store>(
     place: Place,
 ) -> Performed
     requires rows { format_of op ≡ format.Rs }
-    ensures { Effect (instruction op (fields_at op prefix.now))
+    ensures effect { Effect (instruction op (fields_at op prefix.now))
         (updated_at place (length_of op))
         (machine cpu.old (S.storage store.old)) result (machine cpu.new (S.storage store.new)) }
+    ensures same { stores op ≡ false → S.storage store.new ≡ S.storage store.old }
 {
     rows!(op, it = operands_of(cpu, prefix, 0, place);
         Srl => load(cpu, it.r1, shifted_right(it.first, (it.a % 64) as u8), it.updated),
@@ -284,9 +286,10 @@ pub(crate) fn word_rows<S: Store>(
     place: Place,
 ) -> Performed
     requires rows { has_word op ≡ true }
-    ensures { Effect (instruction op (fields_at op prefix.now))
+    ensures effect { Effect (instruction op (fields_at op prefix.now))
         (updated_at place (length_of op))
         (machine cpu.old (S.storage store.old)) result (machine cpu.new (S.storage store.new)) }
+    ensures same { S.storage store.new ≡ S.storage store.old }
 {
     rows!(op, it = indexed_of(cpu, prefix, place);
         L => second_row(cpu, store, Row { op: Op::L, r1: it.r1 }, it.a, it.updated),
@@ -306,9 +309,10 @@ pub(crate) fn word_result_rows<S: Store>(
     place: Place,
 ) -> Performed
     requires rows { has_word_result op ≡ true }
-    ensures { Effect (instruction op (fields_at op prefix.now))
+    ensures effect { Effect (instruction op (fields_at op prefix.now))
         (updated_at place (length_of op))
         (machine cpu.old (S.storage store.old)) result (machine cpu.new (S.storage store.new)) }
+    ensures same { S.storage store.new ≡ S.storage store.old }
 {
     rows!(op, it = indexed_of(cpu, prefix, place);
         A => second_row(cpu, store, Row { op: Op::A, r1: it.r1 }, it.a, it.updated),
@@ -329,9 +333,10 @@ pub(crate) fn half_rows<S: Store>(
     place: Place,
 ) -> Performed
     requires rows { has_half op ≡ true }
-    ensures { Effect (instruction op (fields_at op prefix.now))
+    ensures effect { Effect (instruction op (fields_at op prefix.now))
         (updated_at place (length_of op))
         (machine cpu.old (S.storage store.old)) result (machine cpu.new (S.storage store.new)) }
+    ensures same { S.storage store.new ≡ S.storage store.old }
 {
     rows!(op, it = indexed_of(cpu, prefix, place);
         Lh => second_row(cpu, store, Row { op: Op::Lh, r1: it.r1 }, it.a, it.updated),
@@ -352,9 +357,10 @@ pub(crate) fn indexed_rows<S: Store>(
     place: Place,
 ) -> Performed
     requires rows { has_address op ≡ true }
-    ensures { Effect (instruction op (fields_at op prefix.now))
+    ensures effect { Effect (instruction op (fields_at op prefix.now))
         (updated_at place (length_of op))
         (machine cpu.old (S.storage store.old)) result (machine cpu.new (S.storage store.new)) }
+    ensures same { stores op ≡ false → S.storage store.new ≡ S.storage store.old }
 {
     rows!(op, it = indexed_of(cpu, prefix, place);
         Sth => put_few(cpu, store, it.a, ((it.first % 0x1_0000) as u16).to_be_bytes(), it.updated),
@@ -387,9 +393,10 @@ pub(crate) fn immediate_rows<S: Store>(
     place: Place,
 ) -> Performed
     requires rows { format_of op ≡ format.Si }
-    ensures { Effect (instruction op (fields_at op prefix.now))
+    ensures effect { Effect (instruction op (fields_at op prefix.now))
         (updated_at place (length_of op))
         (machine cpu.old (S.storage store.old)) result (machine cpu.new (S.storage store.new)) }
+    ensures same { stores op ≡ false → S.storage store.new ≡ S.storage store.old }
 {
     rows!(op, it = operands_of(cpu, prefix, 0, place);
         Tm => set_code(cpu, test_code(it.i2, byte_at(store, it.a)?), it.updated),
@@ -417,9 +424,10 @@ pub(crate) fn strings_effect<S: Store>(
     place: Place,
 ) -> Performed
     requires rows { length_of op ≡ 6 }
-    ensures { Effect (instruction op (fields_at op prefix.now))
+    ensures effect { Effect (instruction op (fields_at op prefix.now))
         (updated_at place (length_of op))
         (machine cpu.old (S.storage store.old)) result (machine cpu.new (S.storage store.new)) }
+    ensures same { stores op ≡ false → S.storage store.new ≡ S.storage store.old }
 {
     rows!(op, it = strings_of(cpu, prefix, place);
         Mvc => mvc(cpu, store, it.at, it.updated, it.l),

@@ -1,6 +1,6 @@
 //! One step.
 
-ghost use Rattle.std.specs.Prelude.{◌≡◌, ◌≢◌, ◌+◌, ◌<◌, ◌≤◌, ◌^◌, Ok, IfOk, IfSome, OnSome, MatchResult};
+ghost use Rattle.std.specs.Prelude.{◌≡◌, ◌≢◌, ◌+◌, ◌<◌, ◌≤◌, ◌^◌, if◌then◌else◌, None, Some, Ok, IfOk, IfSome, OnSome, MatchResult};
 ghost use Rattle.cx_storage.specs.Address.{address_after};
 ghost use Rattle.cx_storage.specs.Storage.{Storage};
 ghost use Rattle.cx_code.specs.declared.table.Op.TheVariants as op;
@@ -11,7 +11,8 @@ ghost use Rattle.cx_exec.specs.Machine.{machine};
 ghost use Rattle.cx_exec.specs.Outcome.{IsSuppressed};
 ghost use Rattle.cx_exec.specs.Rows.{Effect};
 ghost use Rattle.cx_exec.specs.Parts.{IsPerformed};
-ghost use Rattle.cx_exec.specs.Step.{entry, changed_copy, target_at, updated_by, instruction_to_perform, Runs, Steps};
+ghost use Rattle.cx_exec.specs.Passages.{following, operand_in, target_of};
+ghost use Rattle.cx_exec.specs.Step.{entry, changed_copy, is_execute, target_at, updated_by, instruction_to_perform, Runs, Steps};
 
 use crate::fetch::code_at;
 use crate::machine::{Cpu, ENTRY, Interruption, Performed, Step, Updated};
@@ -87,6 +88,11 @@ fn fetch_slow<S: Store>(cpu: &Cpu, store: &S) -> Result<PendingInstruction, Inte
 pub(crate) fn fetch_fast<S: Store>(cpu: &Cpu, store: &mut S) -> Option<Found>
     ensures performed { let m = machine cpu.now (S.storage store.new) in
         IfSome result (λ found. IsPerformed m found.op found.prefix) }
+    ensures following { let m = machine cpu.now (S.storage store.new) in
+        IfSome result (λ found. following m ≡ Some (m.next + length_of found.op)) }
+    ensures target { let m = machine cpu.now (S.storage store.new) in
+        IfSome result (λ found.
+        target_of m ≡ (if is_execute found.op then Some (operand_in m.regs found.prefix) else None)) }
     ensures apart { OnSome result (cpu.now.next ≢ entry) }
     ensures room { OnSome result (cpu.now.next + 8 ≤ 2 ^ 24) }
     ensures same { S.storage store.new ≡ S.storage store.old }

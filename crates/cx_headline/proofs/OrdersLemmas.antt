@@ -16,6 +16,7 @@ use Rattle.cx_look_tables.specs.Words.{Lines}
 use Rattle.cx_look_orders.specs.Facts.Outcomes.{texts_stand_once}
 use Rattle.cx_look_orders.specs.Laws.{LoopsAreEndless, ScriptsAskForSteps, StepsAreRuns}
 use Rattle.cx_look_orders.specs.Outcomes.{AllCanRest, AreOutcomes, IsOutcome, IsStuck, MayLoop}
+use Rattle.cx_look_orders.specs.Steps.{Telling}
 use Rattle.cx_look_orders.specs.declared.outcomes.Outcome.{Outcome}
 use Rattle.cx_look_orders.specs.declared.steps.Step.{Step}
 use Rattle.cx_headline.specs.Laws.Orders.{AreAll, AreTrue, IsReal, LinesLeadThere}
@@ -40,14 +41,14 @@ all_plain (e ∷ events) all = (plain e all.0, all_plain events all.1)
 
 -- ---- what is written
 module _ (off : TheRegionIsOff) (runs : StepsAreRuns) (scripts : ScriptsAskForSteps) (sooner : SoonerOrders)
-    (endless : (keys : Keys) → LoopsAreEndless keys)
-    (Shows : RegionState → Lines → Type 0) (keys : Keys) (region : RegionState) where
+    (endless : (tells : Telling) (keys : Keys) → LoopsAreEndless tells keys)
+    (Shows : RegionState → Lines → Type 0) (tells : Telling) (keys : Keys) (region : RegionState) where
   abbrev start : OrdersState
   start = begun region
 
-  real : (one : Outcome) (cut : Option ℕ) → IsOutcome Shows keys start cut one → IsReal Shows keys region one
+  real : (one : Outcome) (cut : Option ℕ) → IsOutcome Shows tells keys start cut one → IsReal Shows tells keys region one
   real one cut is =
-      let run = runs keys start is.to one.steps is.steps in record {
+      let run = runs tells keys start is.to one.steps is.steps in record {
         to = is.to;
         steps = is.steps;
         rest = is.rest;
@@ -59,24 +60,24 @@ module _ (off : TheRegionIsOff) (runs : StepsAreRuns) (scripts : ScriptsAskForSt
         soonest = is.soonest;
       }
 
-  all_of : (cut : Option ℕ) (outcomes : List Outcome) → AreOutcomes Shows keys start cut outcomes → AreAll Shows keys region cut outcomes
+  all_of : (cut : Option ℕ) (outcomes : List Outcome) → AreOutcomes Shows tells keys start cut outcomes → AreAll Shows tells keys region cut outcomes
   all_of cut outcomes are = record {
     none_missed = are.all;
     written = are.written;
     real = λ place one at. real one cut (are.each place one at);
-    once = texts_stand_once sooner Shows keys start cut outcomes are;
+    once = texts_stand_once sooner Shows tells keys start cut outcomes are;
   }
 
-  never_rest : (loop : Option (List Step)) → MayLoop keys start loop
+  never_rest : (loop : Option (List Step)) → MayLoop tells keys start loop
       → IsSome loop ↔ ((least : ℕ) → IsLong (Moves keys) start least)
-  never_rest (Some steps) first = (λ is. (endless keys).endless start steps first, λ long. refl)
-  never_rest None bounded = (λ is. absurd (true≢false (sym is)), λ long. absurd ((endless keys).bounded start bounded long))
+  never_rest (Some steps) first = (λ is. (endless tells keys).endless start steps first, λ long. refl)
+  never_rest None bounded = (λ is. absurd (true≢false (sym is)), λ long. absurd ((endless tells keys).bounded start bounded long))
 
   cannot_rest : (is_stuck : Bool) → MatchBool is_stuck (IsStuck keys start) (AllCanRest keys start) → IsTrue is_stuck ↔ IsStuck keys start
   cannot_rest true stuck = (λ is. stuck, λ s. refl)
   cannot_rest false all = (λ is. absurd (true≢false (sym is)), λ s. absurd (s.never (all s.moves s.there s.leads)))
 
-  pub are_true : (edf : List (List ℕ)) (most : ℕ) (lines : Lines) → AreTrue Shows keys region edf most lines
+  pub are_true : (edf : List (List ℕ)) (most : ℕ) (lines : Lines) → AreTrue Shows tells keys region edf most lines
   are_true edf most lines = record {
     whole = λ it. record {
       all = all_of None it.outcomes it.are;

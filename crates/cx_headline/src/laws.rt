@@ -97,11 +97,12 @@ pub fn looking_changes_nothing()
 }
 
 /// No order is missed. Where ORDERS finds all states, each list of turns and keys that ends at rest, of whatever
-/// length, ends with one of the outcomes that are written; else each list of so many moves as were tried. Each outcome
-/// is real: its steps end at rest, what is seen there is its text, their turns and keys lead there in `cicsedf` with
-/// EDF Off too, and no other list is sooner. No text stands twice. SOME NEVER REST and SOME CANNOT REST stand exactly
-/// where that is so. All of this holds whatever is to be seen of a region, and whether keys come where an operator
-/// could press them or are typed ahead; and so of a block of ORDERS.
+/// length, ends with one of the outcomes that are written; else each list of so many moves as were tried. Each
+/// outcome is real: its steps end at rest, what is seen there is its text, their turns and keys lead there in
+/// `cicsedf` with EDF Off too, no other list is sooner, and what is written of each turn is told of it. No text
+/// stands twice. SOME NEVER REST and SOME CANNOT REST stand exactly where that is so. All of this holds whatever is
+/// to be seen of a region and told of a turn, and whether keys come where an operator could press them or are typed
+/// ahead; and so of a block of ORDERS.
 ///
 /// The lines that are written of steps are read as lines of a script, and ask for EDF OFF where EDF is on, and then for
 /// the steps' turns, by RUN with their number, and keys, in their order. Done one after another, wherever a script may
@@ -109,7 +110,7 @@ pub fn looking_changes_nothing()
 /// outcome; but TERMINALS, which shows EDF. And of a region in which no two terminals share a name, as in each state of
 /// a script, what is written for a block is one text.
 pub fn no_order_is_missed<S: Store + Drop, V: Seen<S>>()
-    ensures missed { (seen : V) → OrdersAreTrue (V.shows seen) }
+    ensures missed { (seen : V) → OrdersAreTrue (V.shows seen) (V.tells seen) }
     ensures blocks { BlocksAreTrue }
     ensures led { LinesLeadThere }
     ensures reported { OrdersAreReportedOnce }

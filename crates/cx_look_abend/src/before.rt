@@ -93,7 +93,7 @@ pub(crate) fn task_before<S: Store + Drop>(
 fn dump_before_turn<S: Store + Drop>(
     region: &Region<S>,
     name: Name4,
-) -> Result<DumpBefore<S>, AllocError>
+) -> Result<DumpBefore, AllocError>
     ensures value { IfOk result (λ source. MatchOption (task_of region.now name) (source ≡ no_source)
         (λ task. IsSourceOf region.now.shared.storage task source)) }
     ensures memory { OnErr result (is_some (task_of region.now name) ≡ true) }
@@ -112,7 +112,7 @@ fn dump_before_turn<S: Store + Drop>(
 pub(crate) fn dump_before<S: Store + Drop>(
     region: &Region<S>,
     event: &EdfEvent,
-) -> Result<DumpBefore<S>, AllocError>
+) -> Result<DumpBefore, AllocError>
     ensures value { IfOk result (λ source. IsSourceAt region.now event.now source) }
     ensures memory { OnErr result (takes_room region.now event.now ≡ true) }
 {

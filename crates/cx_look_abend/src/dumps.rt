@@ -11,10 +11,11 @@ use cx_ebcdic::{Name4, Name8};
 use cx_look_levels::{fields_word, kept_fields};
 use cx_look_symbols::Sources;
 use cx_look_tables::{Report, hex_group};
-use cx_look_turn::TurnMachine;
+use cx_look_turn::{KeptMachine, TurnMachine};
 use cx_program::Level;
 use cx_region_state::Task;
 use cx_storage::{Store, address_after, address_in};
+use cx_storage_pages::PagedStore;
 use std::alloc::{AllocError, Global};
 use std::marker::Model;
 
@@ -109,14 +110,15 @@ fn dump_in<S: Store>(
     Ok(room.filled(store))
 }
 
-/// The machine whose run leaves a level's DFHEISTG as it is at an abend, and room for the bytes.
+/// The machine whose run leaves a level's DFHEISTG as it is at an abend, and room for the bytes. Its store keeps no bytes
+/// that were fetched, so that it is small: one is made before each turn, and hardly any is run.
 #[derive(Drop)]
-struct LevelRun<S: Store + Drop> {
-    machine: TurnMachine<S>,
+struct LevelRun {
+    machine: TurnMachine<PagedStore>,
     room: DumpRoom,
 }
 
-impl<S: Store + Drop> Model for LevelRun<S> {
+impl Model for LevelRun {
     ghost use Rattle.cx_look_abend.specs.Parts.Sources.{LevelMachine};
 
     ghost Value = { LevelMachine };
@@ -124,16 +126,17 @@ impl<S: Store + Drop> Model for LevelRun<S> {
     ghost view = { λ it. record { machine = it.machine; room = it.room } };
 }
 
-impl<S: Store + Drop> LevelRun<S> {
+impl LevelRun {
     /// That of a task's current level.
-    fn of_task(alloc: Global, store: &S, task: &Task) -> Result<LevelRun<S>, AllocError>
+    fn of_task<S: Store>(alloc: Global, store: &S, task: &Task) -> Result<LevelRun, AllocError>
         ensures { IfOk result (λ it. it ≡ record {
           machine = task_machine (S.storage store.now) task.now;
           room = room_of task.now.levels.current;
         }) }
     {
+        let kept = KeptMachine::take(alloc, &task.cpu, store)?;
         Ok(LevelRun {
-            machine: TurnMachine::apart(alloc, &task.cpu, store)?,
+            machine: kept.over(&PagedStore::new(alloc))?,
             room: DumpRoom::of_level(alloc, task.levels.current())?,
         })
     }
@@ -152,12 +155,12 @@ impl<S: Store + Drop> LevelRun<S> {
 /// What is kept before an event for the DFHEISTG at an abend to which it leads: the one that the command finds that is
 /// due, or what finds it where instructions run.
 #[derive(Drop)]
-pub(crate) struct DumpBefore<S: Store + Drop> {
+pub(crate) struct DumpBefore {
     found: Option<StorageDump>,
-    run: Option<LevelRun<S>>,
+    run: Option<LevelRun>,
 }
 
-impl<S: Store + Drop> Model for DumpBefore<S> {
+impl Model for DumpBefore {
     ghost use Rattle.cx_look_abend.specs.Parts.Sources.{DumpSource};
 
     ghost Value = { DumpSource };
@@ -165,9 +168,9 @@ impl<S: Store + Drop> Model for DumpBefore<S> {
     ghost view = { λ it. record { found = it.found; run = it.run } };
 }
 
-impl<S: Store + Drop> DumpBefore<S> {
+impl DumpBefore {
     /// Nothing is kept.
-    pub(crate) fn none() -> DumpBefore<S>
+    pub(crate) fn none() -> DumpBefore
         ensures { result ≡ no_source }
     {
         DumpBefore {
@@ -178,13 +181,13 @@ impl<S: Store + Drop> DumpBefore<S> {
 
     /// What is kept of a task's current level.
     ///
-    /// An error comes only where memory for it, or for a store like this one, was refused.
+    /// An error comes only where memory for it, or for a store with the same storage, was refused.
     #[tactic(auto, unfolding(crate::specs::Parts::Sources::IsSourceOf))]
-    pub(crate) fn of_task(
+    pub(crate) fn of_task<S: Store>(
         alloc: Global,
         store: &S,
         task: &Task,
-    ) -> Result<DumpBefore<S>, AllocError>
+    ) -> Result<DumpBefore, AllocError>
         ensures { IfOk result (λ it. IsSourceOf (S.storage store.now) task.now it) }
     {
         if task.due {

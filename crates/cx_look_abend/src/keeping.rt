@@ -173,10 +173,7 @@ fn make_room(abends: &mut LastAbends, event: &EdfEvent) -> Result<(), AllocError
 }
 
 /// The DFHEISTG at an abend to which an event led; nothing is run where it led to none.
-fn dump_of<S: Store + Drop>(
-    source: DumpBefore<S>,
-    abend_record: &Option<AbendRecord>,
-) -> Option<StorageDump>
+fn dump_of(source: DumpBefore, abend_record: &Option<AbendRecord>) -> Option<StorageDump>
     ensures { MatchOption abend_record.now (result ≡ None) (λ it. GivesDump source result) }
 {
     if abend_record.is_none() {

@@ -1,28 +1,30 @@
 -- The last instruction that changes a byte.
 use Rattle.std.proofs.Common.{◌≡◌, ◌+◌, ◌<◌, ◌≤◌, ℕ, add-one, zero, suc, Bool, true, false, Option, Some, None, List, [], ◌∷◌, ◌++◌, length, map, take, drop, get_or, slice_set, inl, inr, refl, sym, subst, ap, ◌∙◌, arith}
 use Rattle.std.proofs.lemmas.Slice.Eq.{bytes_eq-Decides}
-use Rattle.std.specs.List.{AllByRecursion}
+use Rattle.std.specs.List.{AllByRecursion, fold}
 use Rattle.std.specs.Prelude.{◌↔◌, if◌then◌else◌}
 use Rattle.std.proofs.lemmas.Bool.{cases_lt}
 use Rattle.cx_exec.specs.Advance.{Advances, Passes}
 use Rattle.cx_exec.specs.Machine.{Machine}
+use Rattle.cx_exec.specs.Passages.{FollowsPassage, Passage, Passages, passage}
 use Rattle.cx_exec.specs.Step.{Steps}
 use Rattle.cx_exec.specs.declared.machine.Halt.TheVariants as halt
 use Rattle.cx_exec.specs.declared.machine.Interruption.{Interruption}
 use Rattle.cx_exec.specs.declared.machine.Step.{Step}
 use Rattle.cx_exec.specs.declared.machine.Step.TheVariants.{Done, AtEntry, Interrupt}
+use Rattle.cx_exec.specs.Watches.{IsWatched, LeavesSound, after_passage}
 use Rattle.cx_exec_laws.specs.Laws.Decide.{StepsDecide}
 use Rattle.cx_look_ahead.specs.declared.rows.Row.{Row}
 use Rattle.cx_look_ahead.specs.Laws.Watching.{WritersAreFound, WritersDecide}
 use Rattle.std.specs.Str.{bytes_eq}
 use Rattle.cx_storage.specs.Storage.{Storage, IsSoundStorage}
-use Rattle.cx_look_ahead.specs.Parts.Seen.{IsLastSeen, SeenRange, noted, seen_in}
+use Rattle.cx_look_ahead.specs.Facts.Seen.{all_stay}
+use Rattle.cx_look_ahead.specs.Parts.Seen.{AreSeenIn, IsLastSeen, IsSeenIn, SeenRange, all_noted, noted, seen_in}
 use Rattle.cx_look_ahead.specs.declared.watching.Kept.{Kept}
 use Rattle.cx_look_ahead.proofs.ByteLemmas.{alike, written_alike}
 use Rattle.cx_look_ahead.specs.Watching.{shown_in}
-use Rattle.cx_look_turn.specs.Facts.Left.{left_at_entry, left_interrupted, passes_suc}
+use Rattle.cx_look_turn.specs.Facts.Left.{passes_suc}
 use Rattle.cx_look_turn.specs.Facts.Visits.{passes_decide}
-use Rattle.cx_look_turn.specs.Traces.{Leaves}
 use Rattle.cx_look_ahead.specs.Writing.{IsLastWriter, IsUnchanged, LastWriter, NoneWrites, PerformsAfter}
 
 -- ---- the instructions of a run
@@ -136,12 +138,12 @@ one_noted decide n m now after end seen sound stays passes step (last, shown) = 
     by true is = (more true is, (bytes_eq-Decides seen.shown (shown_in after.storage seen.kept.range)).0 (sym is))
     by false is = (more false is, refl)
 
-all_noted : StepsDecide Steps → (n : ℕ) (m now after : Machine) (end : Step) (seen : List SeenRange) → IsSoundStorage now.storage → IsSoundStorage after.storage
+each_noted : StepsDecide Steps → (n : ℕ) (m now after : Machine) (end : Step) (seen : List SeenRange) → IsSoundStorage now.storage → IsSoundStorage after.storage
     → Passes n m now → Steps now end after → AllByRecursion (IsSeen n m now) seen
     → AllByRecursion (IsSeen (suc n) m after) (map (noted after.storage now.next) seen)
-all_noted decide n m now after end [] sound stays passes step all = tt
-all_noted decide n m now after end (it ∷ more) sound stays passes step (one, others) =
-    (one_noted decide n m now after end it sound stays passes step one, all_noted decide n m now after end more sound stays passes step others)
+each_noted decide n m now after end [] sound stays passes step all = tt
+each_noted decide n m now after end (it ∷ more) sound stays passes step (one, others) =
+    (one_noted decide n m now after end it sound stays passes step one, each_noted decide n m now after end more sound stays passes step others)
 
 each : {X : Type 0} (P Q : X → Type 0) → ((x : X) → P x → Q x) → (xs : List X) → AllByRecursion P xs → AllByRecursion Q xs
 each P Q f [] all = tt
@@ -155,7 +157,7 @@ one_done decide limit n m now after end seen newer sound stays so_far less step 
     rw (add-one, is) (
       omega (arith, less),
       passes_suc n m now after so_far.1 done,
-      all_noted decide n m now after end seen sound stays so_far.1 step so_far.2,
+      each_noted decide n m now after end seen sound stays so_far.1 step so_far.2,
     )
 
 ended_by : StepsDecide Steps → (limit n : ℕ) (m now after : Machine) (end : Step) (seen newer : List SeenRange)
@@ -165,7 +167,7 @@ ended_by decide limit n m now after end seen newer sound stays so_far less step 
     rw is (each (IsSeen (suc n) m after) (IsLastSeen limit m)
     (λ it known. ended (suc n) limit m it.kept.range it.last less
     (λ k b above p. none_after decide n k m now after end b so_far.1 step apart (omega (arith, above)) p) known.0)
-    (map (noted after.storage now.next) seen) (all_noted decide n m now after end seen sound stays so_far.1 step so_far.2))
+    (map (noted after.storage now.next) seen) (each_noted decide n m now after end seen sound stays so_far.1 step so_far.2))
 
 entry_apart : (end : Step) → end ≡ AtEntry → end ≡ Done → ⊥
 entry_apart end e done = let same : ◌≡◌ {A = Step} AtEntry Done = sym e ∙ done in cc
@@ -231,15 +233,65 @@ at_first limit m kept seen is = rw is ((omega arith, refl, all kept), same kept)
     same [] = refl
     same (it ∷ more) = ap (λ l. it ∷ l) (same more)
 
--- what the run leaves
-pub left_entry : (limit n : ℕ) (m now after : Machine) (end : Step) → n < limit → Passes n m now → Steps now end after → end ≡ AtEntry → Leaves limit m after
-left_entry limit n m now after end below so_far step e =
-    left_at_entry limit n m now after below so_far (subst (λ (s : Step). Steps now s after) e step)
+-- ---- through a run
+pub all_first : (s : Storage) (kept : List Kept) (seen : List SeenRange) → seen ≡ map (seen_in s) kept → AreSeenIn s seen
+all_first s kept seen is = rw is (all kept)
+  where
+    all : (l : List Kept) → AreSeenIn s (map (seen_in s) l)
+    all [] = tt
+    all (it ∷ more) = (refl, all more)
 
-pub left_by_cause : (limit n : ℕ) (m now after : Machine) (end : Step) (cause : Interruption) → n < limit → Passes n m now → Steps now end after
-    → end ≡ Interrupt cause → Leaves limit m after
-left_by_cause limit n m now after end cause below so_far step e =
-    left_interrupted limit n m now after cause below so_far (subst (λ (s : Step). Steps now s after) e step)
+-- from one instruction on, after n that are done
+step_seen : StepsDecide Steps → (limit k n : ℕ) (m now after : Machine) (end : Step) (passages : List Passage) (seen : List SeenRange) → n < limit
+    → IsSoundStorage now.storage → Steps now end after → FollowsPassage (passage now end after) end (Passages k after) passages
+    → AllByRecursion LeavesSound passages → IsSoFar limit m now n seen
+    → ((more : List Passage) → IsSoundStorage after.storage → Passages k after more → AllByRecursion LeavesSound more
+    → IsSoFar limit m after (n + 1) (all_noted after.storage now.next seen)
+    → AllByRecursion (IsLastSeen limit m) (fold (after_passage all_noted) (all_noted after.storage now.next seen) more))
+    → AllByRecursion (IsLastSeen limit m) (fold (after_passage all_noted) seen passages)
+unfolding Steps
+step_seen decide limit k n m now after Done passages seen less sound step (more, is, are) stay so_far go =
+    let leaves : AllByRecursion LeavesSound (passage now Done after ∷ more) = subst (AllByRecursion LeavesSound) is stay in
+    rw is (go more leaves.0 are leaves.1
+    (one_done decide limit n m now after Done seen (all_noted after.storage now.next seen) sound leaves.0 so_far less step refl refl))
+step_seen decide limit k n m now after (Interrupt cause) passages seen less sound step is stay so_far go =
+    let leaves : AllByRecursion LeavesSound (passage now (Interrupt cause) after ∷ []) = subst (AllByRecursion LeavesSound) is stay in
+    rw is (interrupted decide limit n m now after (Interrupt cause) cause seen (all_noted after.storage now.next seen) sound leaves.0 so_far less step
+    refl refl)
+step_seen decide limit k n m now after AtEntry passages seen less sound step is stay so_far go =
+    let same : now ≡ after = sym step.1 in
+    let ok : IsSoundStorage after.storage = subst (λ (s : Machine). IsSoundStorage s.storage) same sound in
+    let still : seen ≡ all_noted after.storage now.next seen =
+    subst (λ (s : Machine). seen ≡ all_noted s.storage now.next seen) same
+    (all_stay now.storage now.next seen (each (IsSeen n m now) (IsSeenIn now.storage) (λ it known. known.1) seen so_far.2)) in
+    rw is (at_entry decide limit n m now after AtEntry seen seen sound ok so_far less step refl still)
+
+passes_seen : StepsDecide Steps → (limit k n : ℕ) (m now : Machine) (passages : List Passage) (seen : List SeenRange) → n + k ≡ limit
+    → IsSoundStorage now.storage → Passages k now passages → AllByRecursion LeavesSound passages → IsSoFar limit m now n seen
+    → AllByRecursion (IsLastSeen limit m) (fold (after_passage all_noted) seen passages)
+unfolding Passages
+passes_seen decide limit zero n m now passages seen all sound are stay so_far =
+    rw are (at_limit limit n m now seen so_far (omega (arith, all)))
+passes_seen decide limit (suc k) n m now passages seen all sound (end, after, step, follows) stay so_far =
+    step_seen decide limit k n m now after end passages seen (omega (arith, all)) sound step follows stay so_far
+    (λ more ok are leaves next.
+    passes_seen decide limit k (n + 1) m after more (all_noted after.storage now.next seen) (omega (arith, all)) ok are leaves next)
+
+kept_through : (passages : List Passage) (seen : List SeenRange) (kept : List Kept) → map (λ it. it.kept) seen ≡ kept
+    → map (λ it. it.kept) (fold (after_passage all_noted) seen passages) ≡ kept
+kept_through [] seen kept is = is
+kept_through (p ∷ more) seen kept is =
+    kept_through more (all_noted p.after.storage p.before.next seen) kept
+    (kept_stay p.after.storage p.before.next seen (all_noted p.after.storage p.before.next seen) kept refl is)
+
+pub writers_seen : StepsDecide Steps → (limit : ℕ) (m : Machine) (kept : List Kept) (seen newer : List SeenRange) → IsSoundStorage m.storage
+    → seen ≡ map (seen_in m.storage) kept → IsWatched all_noted limit m seen newer → AllByRecursion (IsLastSeen limit m) newer
+writers_seen decide limit m kept seen newer sound first w =
+    rw w.is (passes_seen decide limit limit 0 m m w.passages seen (omega arith) sound w.are w.sound (at_first limit m kept seen first).0)
+
+pub kept_seen : (limit : ℕ) (m : Machine) (kept : List Kept) (seen newer : List SeenRange) → seen ≡ map (seen_in m.storage) kept
+    → IsWatched all_noted limit m seen newer → map (λ it. it.kept) newer ≡ kept
+kept_seen limit m kept seen newer first w = rw w.is (kept_through w.passages seen kept (at_first limit m kept seen first).1)
 
 -- ---- decided
 apart : (limit : ℕ) (m : Machine) (range : Row) (one other : ℕ) (p : IsLastWriter limit m range one) (q : IsLastWriter limit m range other) → p.n < q.n → ⊥

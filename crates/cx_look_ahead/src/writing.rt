@@ -2,9 +2,7 @@
 ghost use Rattle.std.specs.Prelude.{◌≡◌, IfOk, IfSome, OnOk, MatchOption, map};
 ghost use Rattle.std.specs.List.{AllByRecursion};
 ghost use Rattle.std.specs.Str.{bytes_eq};
-ghost use Rattle.cx_exec.specs.Step.{Steps};
 ghost use Rattle.cx_region_task.specs.Turn.{most_steps};
-ghost use Rattle.cx_storage.specs.Storage.{IsSoundStorage};
 ghost use Rattle.cx_look_turn.specs.Traces.{Leaves};
 ghost use Rattle.cx_look_ahead.specs.declared.watching.Cause.TheVariants as cause_kind;
 ghost use Rattle.cx_look_ahead.specs.Parts.Seen.{AreBytes, IsLastSeen, noted, seen_in};
@@ -13,9 +11,9 @@ ghost use Rattle.cx_look_ahead.specs.Watching.{work_of, next_work, shown_in};
 use crate::watching::{are_same, copy_of};
 use crate::{Cause, Kept, Row, bytes_word};
 use cx_ebcdic::Name4;
-use cx_exec::Step;
+use cx_exec::Watcher;
 use cx_exec_laws::laws::steps_decide;
-use cx_look_turn::{KeptMachine, MOST_STEPS, TurnMachine};
+use cx_look_turn::{KeptMachine, TurnMachine};
 use cx_region::Region;
 use cx_region_state::Task;
 use cx_storage::laws::store_is_sound;
@@ -78,6 +76,7 @@ pub fn work_of<S: Store + Drop>(
 }
 
 /// The bytes of a range, where the store lends them at once.
+#[inline(always)]
 fn part_of<S: Store>(store: &S, range: Row) -> Option<&[u8]>
     ensures { IfSome result (λ part. AreBytes (shown_in (S.storage store.now) range) part.now) }
 {
@@ -156,6 +155,7 @@ impl Seen {
 
     /// Whether the bytes are as they were seen last, where they are lent at once.
     #[tactic(auto, using(crate::proofs::ByteLemmas::compared_alike))]
+    #[inline(always)]
     fn is_same_lent<S: Store>(&self, store: &S) -> Option<bool>
         ensures { let now = shown_in (S.storage store.now) self.now.kept.range in
             IfSome result (λ same. same ≡ bytes_eq self.now.shown now) }
@@ -221,24 +221,54 @@ fn note_all<S: Store>(
     Ok(())
 }
 
-/// Performs an instruction, and notes it at each range of which it changes a byte.
-fn pass<S: Store + Drop>(
+/// Ranges that were changed, on the way through a run.
+#[derive(Drop)]
+struct SeenRanges {
     alloc: Global,
-    machine: &mut TurnMachine<S>,
-    seen: &mut Vec<Seen>,
-) -> Result<Step, AllocError>
-    ensures steps { IfOk result (λ end. Steps machine.old end machine.new) }
-    ensures seen { OnOk result
-        (seen.new.items ≡ map (noted machine.new.storage machine.old.next) seen.old.items) }
-    ensures sound { IsSoundStorage machine.old.storage }
-    ensures stays_sound { IsSoundStorage machine.new.storage }
-{
-    store_is_sound(machine.store());
-    let at = machine.cpu().next;
-    let end = machine.step();
-    store_is_sound(machine.store());
-    note_all(alloc, machine.store(), at, seen)?;
-    Ok(end)
+    seen: Vec<Seen>,
+}
+
+impl Model for SeenRanges {
+    ghost use Rattle.std.specs.Prelude.{List};
+    ghost use Rattle.cx_look_ahead.specs.Parts.Seen.{SeenRange};
+
+    ghost Value = { List SeenRange };
+
+    ghost view = { λ it. it.seen.items };
+}
+
+impl SeenRanges {
+    /// Those ranges. It takes no memory.
+    fn with_seen(alloc: Global, seen: Vec<Seen>) -> SeenRanges
+        ensures { result ≡ seen.items }
+    {
+        SeenRanges { alloc, seen }
+    }
+
+    /// The ranges.
+    fn into_seen(self) -> Vec<Seen>
+        ensures { result.items ≡ self }
+    {
+        self.seen
+    }
+}
+
+impl Watcher for SeenRanges {
+    ghost use Rattle.cx_look_ahead.specs.Facts.Seen.{all_follow, all_stay};
+    ghost use Rattle.cx_look_ahead.specs.Parts.Seen.{AreSeenIn, all_noted};
+
+    ghost is_of = { AreSeenIn };
+
+    ghost noted = { all_noted };
+
+    #[inline(never)]
+    fn note<S: Store>(&mut self, store: &S, at: u32) -> Result<(), AllocError> {
+        note_all(self.alloc, store, at, &mut self.seen)
+    }
+
+    ghost follows = { all_follow };
+
+    ghost stays = { all_stay };
 }
 
 /// Runs a machine as a turn does, and gives ranges, each with the address of the last instruction that changes one of
@@ -255,16 +285,10 @@ pub(crate) fn last_writers<S: Store + Drop>(
     ensures leaves { OnOk result (Leaves most_steps machine.old machine.new) }
 {
     steps_decide();
-    let mut seen = all_seen(alloc, machine.store(), kept)?;
-    let mut done = 0;
-    while done < MOST_STEPS {
-        let end = pass(alloc, machine, &mut seen)?;
-        match end {
-            Step::Done => {}
-            Step::AtEntry => return Ok(seen),
-            Step::Interrupt(_) => return Ok(seen),
-        }
-        done += 1;
-    }
-    Ok(seen)
+    let first = machine.store();
+    store_is_sound(first);
+    let seen = all_seen(alloc, first, kept)?;
+    let mut ranges = SeenRanges::with_seen(alloc, seen);
+    machine.run_watched(&mut ranges)?;
+    Ok(ranges.into_seen())
 }

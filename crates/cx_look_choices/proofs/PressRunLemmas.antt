@@ -126,7 +126,7 @@ module _ (acting : ActingTurnsMove) (turned : TurnsKeepToTheirTask) (keyed : Key
     -- the terminal of that name has that number
     key_at : (from : RegionState) (terminal : TerminalState) (key : KeyLine) (came : ℕ) → Named from → terminal_of from key.name ≡ Some terminal
         → slice_get (keys_of keys key.name) came ≡ Some key
-        → event_of_step names keys (record { number = unwrap_or (position (is_name key.name) (names_of region.terminals)) 0; key = Some came })
+        → event_of_step names keys (record { number = unwrap_or (position (is_name key.name) (names_of region.terminals)) 0; key = Some came; told = None })
         ≡ Some (event.Key key.name key.aid key.bytes)
     key_at from terminal key came also there next =
         let entry = place_from_lookup (is_name key.name) from.terminals terminal there in

@@ -54,13 +54,13 @@ key_pressed choices number = option_map_or (λ key. key ∷ []) (slice_get choic
 abbrev pub keys_pressed : List KeyLine → List Press → List KeyLine
 keys_pressed choices presses = flat_map (λ (press : Press). key_pressed choices press.choice) presses
 
--- a key is a step of its terminal, before which so many of its keys came
+-- a key is a step of its terminal, before which so many of its keys came; nothing is told of steps here
 abbrev pub key_step : RegionState → List KeyLine → KeyLine → Step
 key_step region before key =
-    record { number = terminal_number region key.name; key = Some (length (keys_of before key.name)) }
+    record { number = terminal_number region key.name; key = Some (length (keys_of before key.name)); told = None }
 
 abbrev pub turn_step : TurnMade → Step
-turn_step turn = record { number = turn.number; key = None }
+turn_step turn = record { number = turn.number; key = None; told = None }
 
 abbrev pub press_steps : RegionState → List KeyLine → List KeyLine → List TurnMade → List Step
 press_steps region before keys made = map (key_step region before) keys ++ map turn_step made

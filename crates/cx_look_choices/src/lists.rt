@@ -77,6 +77,7 @@ fn push_key_step<S: Store + Drop>(
     steps.push(Step {
         number: terminal_number(region, choice.name),
         key: Some(came),
+        told: None,
     })?;
     Ok(())
 }
@@ -89,6 +90,7 @@ fn push_turn_steps(steps: &mut Vec<Step>, made: &[TurnMade]) -> Result<(), Alloc
         steps.push(Step {
             number: turn.number,
             key: None,
+            told: None,
         })?;
     }
     Ok(())

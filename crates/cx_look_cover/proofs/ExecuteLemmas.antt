@@ -15,7 +15,7 @@ use Rattle.cx_code.specs.declared.table.Op.{Op}
 use Rattle.cx_code.specs.declared.table.Op.TheVariants.{Ex}
 use Rattle.cx_exec.specs.Machine.{Machine, effective}
 use Rattle.cx_look_cover.specs.Laws.{LeadsTo, TargetsAreOfExecutes}
-use Rattle.cx_look_cover.specs.Passages.{is_execute_next, operand_in, target_of}
+use Rattle.cx_exec.specs.Passages.{is_execute_next, operand_in, target_of}
 
 -- what is known of reading by a first byte
 abbrev pub IsKnown : Type 0

@@ -1,5 +1,4 @@
 mod PassageLemmas
-pub mod MarkLemmas
 mod TallyLemmas
 pub mod ExecuteLemmas
 mod BranchLemmas

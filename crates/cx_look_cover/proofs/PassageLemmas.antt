@@ -8,8 +8,8 @@ use Rattle.cx_exec_laws.specs.Laws.Decide.{StepsDecide}
 use Rattle.cx_look_turn.specs.Traces.{Follows, Visits, visit}
 use Rattle.cx_look_turn.specs.declared.traces.Visit.{Visit}
 use Rattle.cx_look_cover.specs.Laws.{PassagesAreVisits, PassagesDecide, TalliesDecide}
-use Rattle.cx_look_cover.specs.Passages.{FollowsPassage, Passage, Passages, passage}
-use Rattle.cx_look_cover.specs.Tallies.{with_passage}
+use Rattle.cx_exec.specs.Passages.{FollowsPassage, Passage, Passages, passage}
+use Rattle.cx_exec.specs.Tallies.{with_passage}
 use Rattle.std.specs.List.{fold}
 
 -- ---- there is one list of them

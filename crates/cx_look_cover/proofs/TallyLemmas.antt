@@ -1,52 +1,45 @@
 -- What a tally counts.
 use Rattle.std.proofs.Common.{◌≡◌, ℕ, zero, suc, ◌+◌, ◌-◌, ◌<◌, ◌≤◌, ◌^◌, Bool, true, false, List, [], ◌∷◌, ◌++◌, length, get_or, refl, sym, subst, ap, ◌∙◌, arith}
-use Rattle.std.specs.Prelude.{◌==◌, cond, replicate}
+use Rattle.std.specs.Prelude.{◌==◌, cond, replicate, slice_get, Some}
 use Rattle.std.specs.List.{filter, flat_map, fold}
-use Rattle.std.proofs.lemmas.List.{get_or-set_other, get_or-set_same, length-append, length-replicate}
+use Rattle.std.proofs.lemmas.List.{get_or-set_other, get_or-set_same, length-append, length-replicate, length-set}
 use Rattle.std.proofs.lemmas.List.Sums.{sum_by-append}
 use Rattle.std.proofs.lemmas.Option.{unwrap_or-slice_get}
 use Rattle.std.proofs.lemmas.Bool.Decides.{nat_tests}
-use Rattle.cx_look_cover.specs.Laws.{PassagesDecide, TalliesCount, times_at, times_in}
-use Rattle.cx_look_cover.specs.Passages.{Passage, places_run, went_away}
-use Rattle.cx_look_cover.specs.Tallies.{capped, no_runs, reaching, tally_after, tally_at, with_passage, with_run}
-use Rattle.cx_look_cover.specs.declared.tallies.Tally.{Tally}
+use Rattle.cx_look_cover.specs.Laws.{PassagesDecide, ProgramsAreReached, TalliesCount, times_at, times_in}
+use Rattle.cx_exec.specs.Passages.{Passage, places_run, went_away}
+use Rattle.cx_exec.specs.Tallies.{capped, no_runs, tally_after, tally_at, with_passage, with_run}
+use Rattle.cx_load.specs.declared.program.Loaded.{Loaded}
+use Rattle.cx_look_cover.specs.Tallies.{end_with, programs_end, reaching}
+use Rattle.cx_exec.specs.declared.tallied.Tally.{Tally}
 
 -- ---- one run at an address
-read_empty : (k : ℕ) (address : ℕ) → get_or (replicate k no_runs) address no_runs ≡ no_runs
-read_empty zero address = refl
-read_empty (suc k) zero = refl
-read_empty (suc k) (suc address) = read_empty k address
-
-read_longer : (tallies : List Tally) (k address : ℕ) → get_or (tallies ++ replicate k no_runs) address no_runs ≡ get_or tallies address no_runs
-read_longer [] k address = read_empty k address
-read_longer (t ∷ tallies) k zero = refl
-read_longer (t ∷ tallies) k (suc address) = read_longer tallies k address
-
-reaches : (tallies : List Tally) (n : ℕ) → n ≤ length (reaching tallies n)
-reaches tallies n =
-    let both = length-append tallies (replicate (n - length tallies) no_runs) in
-    let more = length-replicate (n - length tallies) no_runs in
-    omega (arith, both, more)
-
 abbrev counted_at : ℕ → Bool → Bool → List Tally → Tally
 counted_at address away here tallies = cond here (tally_after away (tally_at tallies address)) (tally_at tallies address)
 
-with_run_at : (away : Bool) (tallies : List Tally) (place address : ℕ) (here : Bool) → (place == address) ≡ here
+with_run_at : (away : Bool) (tallies : List Tally) (place address : ℕ) (here : Bool) → (place == address) ≡ here → address < length tallies
     → tally_at (with_run away tallies place) address ≡ counted_at address away here tallies
 unfolding with_run
-with_run_at away tallies place address true e =
+with_run_at away tallies place address true e there =
     let same : place ≡ address = grind (arith, nat_tests, e) in
-    let long = reaches tallies (place + 1) in
     unwrap_or-slice_get (with_run away tallies place) address no_runs
     ∙ ap (λ (a : ℕ). get_or (with_run away tallies place) a no_runs) (sym same)
-    ∙ get_or-set_same (reaching tallies (place + 1)) place (tally_after away (tally_at tallies place)) no_runs (omega (arith, long))
+    ∙ get_or-set_same tallies place (tally_after away (tally_at tallies place)) no_runs (omega (arith, same, there))
     ∙ ap (λ (a : ℕ). tally_after away (tally_at tallies a)) same
-with_run_at away tallies place address false e =
+with_run_at away tallies place address false e there =
     let apart : (address ≡ place → ⊥) = λ same. grind (arith, nat_tests, e, same) in
     unwrap_or-slice_get (with_run away tallies place) address no_runs
-    ∙ get_or-set_other (reaching tallies (place + 1)) place address (tally_after away (tally_at tallies place)) no_runs apart
-    ∙ read_longer tallies (place + 1 - length tallies) address
+    ∙ get_or-set_other tallies place address (tally_after away (tally_at tallies place)) no_runs apart
     ∙ sym (unwrap_or-slice_get tallies address no_runs)
+
+-- and there are as many tallies as before
+run_length : (away : Bool) (tallies : List Tally) (place : ℕ) → length (with_run away tallies place) ≡ length tallies
+unfolding with_run
+run_length away tallies place = length-set tallies place (tally_after away (tally_at tallies place))
+
+places_length : (away : Bool) (tallies : List Tally) (places : List ℕ) → length (fold (with_run away) tallies places) ≡ length tallies
+places_length away tallies [] = refl
+places_length away tallies (place ∷ places) = places_length away (with_run away tallies place) places ∙ run_length away tallies place
 
 -- ---- counts that stop
 abbrev IsSmall : ℕ → Type 0
@@ -110,17 +103,18 @@ times_more : (address place : ℕ) (places : List ℕ) → times_in address (pla
 times_more address place places =
     times_both address (place ∷ []) places ∙ ap (λ (n : ℕ). n + times_in address places) (times_one address place)
 
-places_more : (away : Bool) (tallies : List Tally) (places : List ℕ) (address : ℕ) → IsSmall (tally_at tallies address).runs
-    → IsSmall (tally_at tallies address).away
+places_more : (away : Bool) (tallies : List Tally) (places : List ℕ) (address : ℕ) → address < length tallies
+    → IsSmall (tally_at tallies address).runs → IsSmall (tally_at tallies address).away
     → IsMore away (times_in address places) (tally_at tallies address) (tally_at (fold (with_run away) tallies places) address)
-places_more away tallies [] address small gone = none_more away (tally_at tallies address) small gone
-places_more away tallies (place ∷ places) address small gone =
+places_more away tallies [] address there small gone = none_more away (tally_at tallies address) small gone
+places_more away tallies (place ∷ places) address there small gone =
+    let size = run_length away tallies place in
     let one = subst (λ (t : Tally). IsMore away (cond (place == address) 1 0) (tally_at tallies address) t)
-    (sym (with_run_at away tallies place address (place == address) refl))
+    (sym (with_run_at away tallies place address (place == address) refl there))
     (run_more away tallies place address (place == address) refl small gone) in
     let both = both_more away (cond (place == address) 1 0) (times_in address places) (tally_at tallies address)
     (tally_at (with_run away tallies place) address) (tally_at (fold (with_run away) (with_run away tallies place) places) address)
-    one (places_more away (with_run away tallies place) places address one.small_runs one.small_gone) in
+    one (places_more away (with_run away tallies place) places address (omega (arith, there, size)) one.small_runs one.small_gone) in
     subst (λ (n : ℕ). IsMore away n (tally_at tallies address) (tally_at (fold (with_run away) (with_run away tallies place) places) address))
     (sym (times_more address place places)) both
 
@@ -142,15 +136,16 @@ gone_times address p passages false e =
     ap (λ (b : Bool). times_at address (cond b (p ∷ filter went_away passages) (filter went_away passages))) e
     ∙ none_before (times_at address (filter went_away passages))
 
-passages_more : (tallies : List Tally) (passages : List Passage) (address : ℕ) → IsSmall (tally_at tallies address).runs
+passages_more : (tallies : List Tally) (passages : List Passage) (address : ℕ) → address < length tallies → IsSmall (tally_at tallies address).runs
     → IsSmall (tally_at tallies address).away
     → IsMoreOf (times_at address passages) (times_at address (filter went_away passages)) (tally_at tallies address)
     (tally_at (fold with_passage tallies passages) address)
-passages_more tallies [] address small gone =
+passages_more tallies [] address there small gone =
     record { runs = capped_same (tally_at tallies address).runs small; gone = capped_same (tally_at tallies address).away gone }
-passages_more tallies (p ∷ passages) address small gone =
-    let one = places_more (went_away p) tallies (places_run p) address small gone in
-    let rest = passages_more (with_passage tallies p) passages address one.small_runs one.small_gone in
+passages_more tallies (p ∷ passages) address there small gone =
+    let one = places_more (went_away p) tallies (places_run p) address there small gone in
+    let size = places_length (went_away p) tallies (places_run p) in
+    let rest = passages_more (with_passage tallies p) passages address (omega (arith, there, size)) one.small_runs one.small_gone in
     let here = times_in address (places_run p) in
     let old = tally_at tallies address in
     record {
@@ -165,11 +160,41 @@ passages_more tallies (p ∷ passages) address small gone =
     }
 
 pub tallies_count : PassagesDecide → TalliesCount
-tallies_count decide limit m old new passages address are tallied range =
+tallies_count decide limit m old new passages address are tallied range there =
     let same = decide limit m tallied.passages passages tallied.are are in
     let is = tallied.is ∙ ap (λ (l : List Passage). fold with_passage old l) same in
-    let more = passages_more old passages address range.runs range.away in
+    let more = passages_more old passages address there range.runs range.away in
     record {
       runs = ap (λ (l : List Tally). (tally_at l address).runs) is ∙ more.runs;
       away = ap (λ (l : List Tally). (tally_at l address).away) is ∙ more.gone;
     }
+
+-- ---- programs
+reaches : (tallies : List Tally) (n : ℕ) → n ≤ length (reaching tallies n)
+reaches tallies n =
+    let both = length-append tallies (replicate (n - length tallies) no_runs) in
+    let more = length-replicate (n - length tallies) no_runs in
+    omega (arith, both, more)
+
+ends_later : (end : ℕ) (programs : List (List ℕ × Loaded)) → end ≤ fold end_with end programs
+ends_later end [] = omega arith
+ends_later end ((name, loaded) ∷ programs) =
+    let rest = ends_later (end_with end (name, loaded)) programs in
+    grind (arith, nat_tests, rest)
+
+ends_after : (end k : ℕ) (programs : List (List ℕ × Loaded)) (name : List ℕ) (loaded : Loaded) → slice_get programs k ≡ Some (name, loaded)
+    → loaded.at + loaded.len ≤ fold end_with end programs
+ends_after end k [] name loaded e = cc
+ends_after end zero (one ∷ programs) name loaded e =
+    let same : one ≡ (name, loaded) = cc in
+    let rest = ends_later (end_with end (name, loaded)) programs in
+    let whole : fold end_with (end_with end one) programs ≡ fold end_with (end_with end (name, loaded)) programs
+    = ap (λ (p : List ℕ × Loaded). fold end_with (end_with end p) programs) same in
+    grind (arith, nat_tests, rest, whole)
+ends_after end (suc k) (one ∷ programs) name loaded e = ends_after (end_with end one) k programs name loaded e
+
+pub programs_are_reached : ProgramsAreReached
+programs_are_reached tallies programs k name loaded e =
+    let long = reaches tallies (programs_end programs) in
+    let after = ends_after 0 k programs name loaded e in
+    omega (arith, long, after)

@@ -9,9 +9,9 @@ use Rattle.cx_storage.specs.Storage.{Storage, byte_at}
 use Rattle.cx_look_symbols.specs.Sources.{Sources, source_lines}
 use Rattle.cx_look_symbols.specs.declared.statements.StatementPlace.{StatementPlace}
 use Rattle.cx_look_cover.specs.Statements.{instruction_places}
-use Rattle.cx_look_cover.specs.Tallies.{capped, tally_at}
+use Rattle.cx_exec.specs.Tallies.{capped, tally_at}
 use Rattle.cx_look_cover.specs.declared.counts.Counted.{Counted}
-use Rattle.cx_look_cover.specs.declared.tallies.Tally.{Tally}
+use Rattle.cx_exec.specs.declared.tallied.Tally.{Tally}
 
 -- ---- conditional branches (GA22-7000, "Branch on Condition", "Branch on Count")
 -- a mask that some condition codes meet, and others don't

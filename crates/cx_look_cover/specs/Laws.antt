@@ -1,6 +1,6 @@
 -- What follows from the definitions: the passages of a run are decided by it, and are those of its visits; targets are
 -- those of EX, and conditional branches those of the table; a tally counts passages; ranges name exactly their lines.
-use Rattle.std.specs.Prelude.{◌≡◌, ◌≢◌, ◌↔◌, ◌⊎◌, Bool, true, ◌&&◌, not, slice_index, ℕ, zero, suc, ◌+◌, ◌-◌, ◌<◌, ◌^◌, ◌==◌, ⊤, Some, List, [], ◌∷◌, map}
+use Rattle.std.specs.Prelude.{◌≡◌, ◌≢◌, ◌↔◌, ◌⊎◌, Bool, true, ◌&&◌, not, slice_index, ℕ, zero, suc, ◌+◌, ◌-◌, ◌<◌, ◌≤◌, ◌^◌, ◌==◌, ⊤, Some, List, [], ◌∷◌, length, map, slice_get}
 use Rattle.std.specs.List.{count_by, filter, flat_map}
 use Rattle.cx_code.specs.Reading.{reading}
 use Rattle.cx_code.specs.Spelling.{Instruction, instruction}
@@ -12,11 +12,13 @@ use Rattle.cx_exec.specs.Machine.{Machine, effective}
 use Rattle.cx_look_turn.specs.Traces.{Visits, visit}
 use Rattle.cx_look_turn.specs.declared.traces.Visit.{Visit}
 use Rattle.cx_look_cover.specs.Counts.{is_conditional, is_of_some_codes}
-use Rattle.cx_look_cover.specs.Passages.{Passage, Passages, places_run, target_of, went_away}
+use Rattle.cx_exec.specs.Passages.{Passage, Passages, places_run, target_of, went_away}
 use Rattle.cx_look_cover.specs.Ranges.{ranges_of}
-use Rattle.cx_look_cover.specs.Tallies.{IsTallied, capped, tally_at}
+use Rattle.cx_exec.specs.Tallies.{IsTallied, capped, tally_at}
+use Rattle.cx_load.specs.declared.program.Loaded.{Loaded}
+use Rattle.cx_look_cover.specs.Tallies.{programs_end, reaching}
 use Rattle.cx_look_cover.specs.declared.ranges.LineRange.{LineRange}
-use Rattle.cx_look_cover.specs.declared.tallies.Tally.{Tally}
+use Rattle.cx_exec.specs.declared.tallied.Tally.{Tally}
 
 abbrev pub PassagesDecide : Type 0
 PassagesDecide = (limit : ℕ) (m : Machine) (passages others : List Passage)
@@ -91,10 +93,18 @@ pub record IsInRange (tallies : List Tally) (address : ℕ) : Type 0 where
   pub runs : (tally_at tallies address).runs < 2 ^ 64
   pub away : (tally_at tallies address).away < 2 ^ 64
 
+-- of each address that the tallies reach
 abbrev pub TalliesCount : Type 0
 TalliesCount = (limit : ℕ) (m : Machine) (old new : List Tally) (passages : List Passage) (address : ℕ)
-    → Passages limit m passages → IsTallied limit m old new → IsInRange old address
+    → Passages limit m passages → IsTallied limit m old new → IsInRange old address → address < length old
     → CountsThem passages old new address
+
+-- and that is each of a program, where they reach the end of the programs
+abbrev pub ProgramsAreReached : Type 0
+ProgramsAreReached =
+    (tallies : List Tally) (programs : List (List ℕ × Loaded)) (k : ℕ) (name : List ℕ) (loaded : Loaded)
+    → slice_get programs k ≡ Some (name, loaded)
+    → loaded.at + loaded.len ≤ length (reaching tallies (programs_end programs))
 
 -- ---- ranges
 -- the numbers of a range

@@ -14,7 +14,7 @@ use Rattle.cx_look_cover.specs.Counts.{counted_program, counted_with, goes_both_
 use Rattle.cx_look_cover.specs.Ranges.{ranges_of}
 use Rattle.cx_look_cover.specs.declared.counts.Counted.{Counted}
 use Rattle.cx_look_cover.specs.declared.ranges.LineRange.{LineRange}
-use Rattle.cx_look_cover.specs.declared.tallies.Tally.{Tally}
+use Rattle.cx_exec.specs.declared.tallied.Tally.{Tally}
 
 -- ---- words
 -- a line's number in five digits, as in the listing

@@ -3,9 +3,10 @@ ghost use Rattle.std.specs.Prelude.{◌≡◌, ◌<◌, ◌^◌, IfOk, drop, map
 ghost use Rattle.cx_look_cover.specs.Counts.{branch_at, counted_in, counted_of, counted_program, counted_with, goes_both_ways, is_branch, is_conditional, is_conditional_at, is_of_some_codes, one_way, runs_of, statement_address, was_run};
 
 use crate::statements::instruction_places;
-use crate::tallies::{Tally, tally_at};
+use crate::tallies::tally_at;
 use cx_base::List;
 use cx_ebcdic::Name8;
+use cx_exec::Tally;
 use cx_load::Loaded;
 use cx_look_symbols::{Sources, StatementPlace};
 use cx_region::Region;

@@ -1,5 +1,5 @@
 //! What follows from the definitions of what was run.
-ghost use Rattle.cx_look_cover.specs.Laws.{BranchesAreOfTable, PassagesAreVisits, PassagesDecide, RangesName, TalliesCount, TalliesDecide, TargetsAreOfExecutes};
+ghost use Rattle.cx_look_cover.specs.Laws.{BranchesAreOfTable, PassagesAreVisits, PassagesDecide, ProgramsAreReached, RangesName, TalliesCount, TalliesDecide, TargetsAreOfExecutes};
 
 use cx_code::laws::{one_row, read_by_first_byte};
 use cx_exec_laws::laws::steps_decide;
@@ -42,13 +42,18 @@ pub fn tallies_decide()
     passages_decide();
 }
 
-/// After a run the runs of each address are those before it and one for each time that a passage runs the instruction
-/// there, up to 2^64 - 1; and likewise those after which the machine went elsewhere.
+/// After a run the runs of each address that the tallies reach are those before it and one for each time that a passage
+/// runs the instruction there, up to 2^64 - 1; and likewise those after which the machine went elsewhere.
 pub fn tallies_count()
     ensures { TalliesCount }
 {
     passages_decide();
 }
+
+/// Tallies that reach the end of the programs reach each address of each of them.
+pub fn programs_are_reached()
+    ensures { ProgramsAreReached }
+{}
 
 /// Ranges of lines name exactly the lines that they are made of, in their order, and none goes on where the one in
 /// front of it ends.

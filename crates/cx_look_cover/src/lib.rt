@@ -5,7 +5,6 @@
 mod counts;
 pub mod laws;
 mod looks;
-mod marks;
 mod ranges;
 mod statements;
 mod tallies;
@@ -15,4 +14,4 @@ pub use counts::Counted;
 pub use looks::{covered_all_text, covered_lines_text, covered_text};
 pub use ranges::LineRange;
 pub use statements::instruction_places;
-pub use tallies::{Tallies, Tally};
+pub use tallies::{Tallies, programs_end};

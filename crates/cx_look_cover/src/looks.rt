@@ -7,10 +7,11 @@ ghost use Rattle.cx_look_cover.specs.Counts.{counted_program};
 ghost use Rattle.cx_look_cover.specs.Texts.{count_line, covered_all_text, covered_lines_text, covered_text, covered_word, off_line, program_line_with};
 
 use crate::counts::{counted_program, counted_with};
-use crate::tallies::{Tallies, Tally};
+use crate::tallies::Tallies;
 use crate::texts::{count_lines, program_line, program_lines};
 use cx_base::shown_name;
 use cx_ebcdic::Name8;
+use cx_exec::Tally;
 use cx_load::Loaded;
 use cx_look_lines::Report;
 use cx_look_symbols::Sources;

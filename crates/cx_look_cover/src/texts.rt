@@ -8,9 +8,9 @@ ghost use Rattle.cx_look_cover.specs.Texts.{branch_line, count_line, count_word,
 
 use crate::counts::{Counted, goes_both_ways, is_branch, one_way, was_run};
 use crate::ranges::{LineRange, ranges_of};
-use crate::tallies::Tally;
 use cx_base::shown_name;
 use cx_ebcdic::{Name8, to_ebcdic};
+use cx_exec::Tally;
 use cx_look_lines::{Report, decimal, push_word};
 use cx_source::{Text, skip_blanks, trim_blanks};
 use std::alloc::{AllocError, Global};

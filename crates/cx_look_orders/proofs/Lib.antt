@@ -2,6 +2,7 @@ mod ListLemmas
 mod StepLemmas
 mod PlaceLemmas
 mod OutcomeLemmas
+mod CommentLemmas
 mod RunLemmas
 mod ScriptLemmas
 mod HeadLemmas

@@ -20,7 +20,7 @@ use Rattle.cx_orders.specs.declared.states.OrdersState.{OrdersState}
 use Rattle.cx_look_orders.specs.Outcomes.{AreOutcomes, EndsWith, HasText, IsWritten, NoLater}
 use Rattle.cx_look_orders.specs.Parts.Ways.{AreFirstSteps, AreOfFirst, AreSorted, IsOfFirst, IsTextAt, Reaches}
 use Rattle.cx_look_orders.specs.Rest.{RestText, incident_line, keys_text}
-use Rattle.cx_look_orders.specs.Steps.{moves_of}
+use Rattle.cx_look_orders.specs.Steps.{Telling, moves_of}
 use Rattle.cx_look_orders.specs.declared.outcomes.Outcome.{Outcome}
 use Rattle.cx_look_orders.specs.declared.steps.Step.{Step}
 use Rattle.cx_search.specs.Facts.Items.{item_appended, item_kept, item_last}
@@ -42,10 +42,10 @@ rest_texts_decide Shows shown waits keys state one other p q =
     ∙ ap (λ s. flat_map (incident_line state.region) state.incidents ++ q.waits ++ keys_text state keys keys ++ s) (shown state.region p.sight q.sight p.seen q.seen)
     ∙ sym q.is
 
-module _ (Shows : RegionState → Lines → Type 0) (keys : Keys) (start : OrdersState) (found : List (OrdersState × Origin)) (places : List ℕ)
+module _ (Shows : RegionState → Lines → Type 0) (tells : Telling) (keys : Keys) (start : OrdersState) (found : List (OrdersState × Origin)) (places : List ℕ)
     (shown : ShowsDecide Shows) (waits : WaitsTextsDecide) where
   abbrev First : ℕ → List Outcome → Type 0
-  First = AreOfFirst Shows keys start found places
+  First = AreOfFirst Shows tells keys start found places
 
   abbrev TextAt : ℕ → Lines → Type 0
   TextAt = IsTextAt Shows keys start found places
@@ -66,7 +66,7 @@ module _ (Shows : RegionState → Lines → Type 0) (keys : Keys) (start : Order
     ordered = λ j k one other l is it. absurd (none-some one is);
   }
 
-  one_more : (many : ℕ) (one : Outcome) → IsOfFirst Shows keys start found places many one → IsOfFirst Shows keys start found places (many + 1) one
+  one_more : (many : ℕ) (one : Outcome) → IsOfFirst Shows tells keys start found places many one → IsOfFirst Shows tells keys start found places (many + 1) one
   one_more many one o = record { index = o.index; below = let l = o.below in omega (arith, l); text = o.text; steps = o.steps; new = o.new }
 
   kept_text : (outcomes more : List Outcome) (text : Lines) → HasText outcomes text → HasText (outcomes ++ more) text
@@ -138,16 +138,16 @@ module _ (Shows : RegionState → Lines → Type 0) (keys : Keys) (start : Order
 
   module _ (sorted : AreSorted places) (f : Finds (Moves keys) start found) where
     -- the list of an outcome of a place before is sooner
-    sooner_first : (many : ℕ) (one : Outcome) (text : Lines) (steps : List Step) → IsOfFirst Shows keys start found places many one → (at : TextAt many text)
-        → AreFirstSteps keys start at.state steps → IsSooner (moves_of one.steps) (moves_of steps)
+    sooner_first : (many : ℕ) (one : Outcome) (text : Lines) (steps : List Step) → IsOfFirst Shows tells keys start found places many one → (at : TextAt many text)
+        → AreFirstSteps tells keys start at.state steps → IsSooner (moves_of one.steps) (moves_of steps)
     sooner_first many one text steps o at are =
         f.ordered o.text.place at.place o.text.state at.state (moves_of one.steps) (moves_of steps)
         (sorted o.index many o.text.place at.place o.below o.text.there at.there) o.text.at at.at o.steps.first are.first
 
     pub first_new : (many : ℕ) (outcomes : List Outcome) (new : Outcome) → First many outcomes → (at : TextAt many new.text) → (HasText outcomes new.text → ⊥)
-        → AreFirstSteps keys start at.state new.steps → First (many + 1) (outcomes ++ new ∷ [])
+        → AreFirstSteps tells keys start at.state new.steps → First (many + 1) (outcomes ++ new ∷ [])
     first_new many outcomes new are at never steps =
-        let of_new : IsOfFirst Shows keys start found places (many + 1) new = record {
+        let of_new : IsOfFirst Shows tells keys start found places (many + 1) new = record {
           index = many;
           below = omega arith;
           text = at;
@@ -158,7 +158,7 @@ module _ (Shows : RegionState → Lines → Type 0) (keys : Keys) (start : Order
         record {
           each = λ k one is. elim (item_appended outcomes new one k is) [
             | inl old ↦ one_more many one (are.each k one old)
-            | inr e ↦ subst (IsOfFirst Shows keys start found places (many + 1)) e.1 of_new
+            | inr e ↦ subst (IsOfFirst Shows tells keys start found places (many + 1)) e.1 of_new
           ];
           all = all_known many (outcomes ++ new ∷ []) new.text (λ index text l is. kept_text outcomes (new ∷ []) text (are.all index text l is)) at
               has_new;
@@ -243,7 +243,7 @@ module _ (Shows : RegionState → Lines → Type 0) (keys : Keys) (start : Order
         | inr longer ↦ inr (inl longer)
       ]
 
-      pub all_outcomes : AreOutcomes Shows keys start cut outcomes
+      pub all_outcomes : AreOutcomes Shows tells keys start cut outcomes
       all_outcomes = record {
         each = λ k one is.
             let o = are.each k one is in

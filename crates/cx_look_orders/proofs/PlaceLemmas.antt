@@ -15,7 +15,7 @@ use Rattle.cx_orders.specs.declared.states.Keys.{Keys}
 use Rattle.cx_orders.specs.declared.states.OrdersState.{OrdersState}
 use Rattle.cx_look_orders.specs.Outcomes.{AllCanRest, AreReached, HasReached, HasStates, IsCutAt, IsReached, IsStuck, LoopsFirst, NoLater}
 use Rattle.cx_look_orders.specs.Parts.Ways.{AreFirstSteps, Reaches}
-use Rattle.cx_look_orders.specs.Steps.{moves_of}
+use Rattle.cx_look_orders.specs.Steps.{Telling, moves_of}
 use Rattle.cx_look_orders.specs.declared.steps.Step.{Step}
 use Rattle.std.proofs.lemmas.List.{length-map}
 use Rattle.cx_search.specs.Facts.Items.{item_appended}
@@ -147,9 +147,9 @@ module _ (keys : Keys) (start : OrdersState) (found : List (OrdersState × Origi
       }
 
     -- ---- moves without an end
-    pub loops_first : FindsAll Goes start found → (p : ℕ) (is : IsFirstPlaceOf (Loops Goes) found p) (steps : List Step)
-        → AreFirstSteps keys start is.is.state steps → LoopsFirst keys start steps
-    loops_first all p is steps are = record {
+    pub loops_first : (tells : Telling) → FindsAll Goes start found → (p : ℕ) (is : IsFirstPlaceOf (Loops Goes) found p) (steps : List Step)
+        → AreFirstSteps tells keys start is.is.state steps → LoopsFirst tells keys start steps
+    loops_first tells all p is steps are = record {
       to = is.is.state;
       are = are.are;
       loops = is.is.is;

@@ -11,16 +11,16 @@ use Rattle.cx_region.specs.declared.replies.Reply.{Reply}
 use Rattle.cx_region.specs.declared.replies.Reply.TheVariants as reply
 use Rattle.cx_region_laws.specs.Laws.Regions.{KeysKeepToTheirTerminal, TurnsKeepToTheirTask}
 use Rattle.cx_orders.specs.Laws.{IsOrder}
-use Rattle.cx_orders.specs.Moves.{KeyMoves, TurnMoves, keys_of}
+use Rattle.cx_orders.specs.Moves.{KeyMoves, keys_of}
 use Rattle.cx_orders.specs.declared.states.KeyLine.{KeyLine}
 use Rattle.cx_orders.specs.declared.states.Keys.{Keys}
 use Rattle.cx_orders.specs.declared.states.OrdersState.{OrdersState}
 use Rattle.cx_look_orders.specs.Laws.{IsMoveReply, IsRunOf, StepsAreRuns, event_at, event_of_step}
-use Rattle.cx_look_orders.specs.Steps.{AreSteps}
+use Rattle.cx_look_orders.specs.Steps.{AreSteps, Telling, TurnIsTold}
 use Rattle.cx_look_orders.specs.declared.steps.Step.{Step}
 use Rattle.cx_look_orders.proofs.ListLemmas.{mapped_item}
 
-module _ (turned : TurnsKeepToTheirTask) (keyed : KeysKeepToTheirTerminal) (keys : Keys) where
+module _ (turned : TurnsKeepToTheirTask) (keyed : KeysKeepToTheirTerminal) (tells : Telling) (keys : Keys) where
   abbrev names : OrdersState → List (List ℕ)
   names state = names_of state.region.terminals
 
@@ -38,21 +38,21 @@ module _ (turned : TurnsKeepToTheirTask) (keyed : KeysKeepToTheirTerminal) (keys
       → slice_get (names from) number ≡ Some name
   name_there from number name terminal at = mapped_item (λ (entry : List ℕ × TerminalState). entry.0) from.region.terminals number (name, terminal) at
 
-  does_by : (from to : OrdersState) (number : ℕ) (name : List ℕ) (terminal : TerminalState) (came : ℕ) (key : Option ℕ)
+  does_by : (from to : OrdersState) (number : ℕ) (name : List ℕ) (terminal : TerminalState) (came : ℕ) (key : Option ℕ) (told : Option (List ℕ))
       → slice_get from.region.terminals number ≡ Some (name, terminal)
-      → MatchOption key (TurnMoves from number name to) (λ before. (before ≡ came) × KeyMoves keys from number name terminal came to)
-      → Does from (record { number = number; key = key }) to
+      → MatchOption key (TurnIsTold tells from number name told to) (λ before. (before ≡ came) × KeyMoves keys from number name terminal came to × (told ≡ None))
+      → Does from (record { number = number; key = key; told = told }) to
   unfolding Applies
-  does_by from to number name terminal came None at t = record {
+  does_by from to number name terminal came None told at t = record {
     what = event.Turn name;
-    answer = reply.Turn t.reply;
+    answer = reply.Turn t.turn.reply;
     is = ap (λ o. option_and_then (λ (n : List ℕ). event_at keys.lines n None) o) (name_there from number name terminal at);
     order = tt;
-    move = t.moves;
-    applies = t.takes;
-    same = (turned from.region name t.reply to.region t.takes).names;
+    move = t.turn.moves;
+    applies = t.turn.takes;
+    same = (turned from.region name t.turn.reply to.region t.turn.takes).names;
   }
-  does_by from to number name terminal came (Some before) at k = record {
+  does_by from to number name terminal came (Some before) told at k = record {
     what = event.Key name k.1.key.aid k.1.key.bytes;
     answer = reply.Key k.1.comes.reply;
     is = ap (λ o. option_and_then (λ (n : List ℕ). event_at keys.lines n (Some before)) o) (name_there from number name terminal at)
@@ -75,13 +75,13 @@ module _ (turned : TurnsKeepToTheirTask) (keyed : KeysKeepToTheirTerminal) (keys
     run = (between.region, one.applies, rest.run);
   }
 
-  runs : (from to : OrdersState) (steps : List Step) → AreSteps keys from steps to → IsRunOf keys.lines from steps to
+  runs : (from to : OrdersState) (steps : List Step) → AreSteps tells keys from steps to → IsRunOf keys.lines from steps to
   unfolding AreSteps Run
   runs from to [] are = record { events = []; replies = []; are = refl; orders = tt; moves = tt; run = ap (λ (s : OrdersState). s.region) are }
   runs from to (step ∷ steps) are =
       run_on from are.between to step steps
-      (does_by from are.between step.number are.is.name are.is.terminal are.is.came step.key are.is.at are.is.move)
+      (does_by from are.between step.number are.is.name are.is.terminal are.is.came step.key step.told are.is.at are.is.move)
       (runs are.between to steps are.rest)
 
 pub steps_are_runs : TurnsKeepToTheirTask → KeysKeepToTheirTerminal → StepsAreRuns
-steps_are_runs turned keyed keys from to steps are = runs turned keyed keys from to steps are
+steps_are_runs turned keyed tells keys from to steps are = runs turned keyed tells keys from to steps are

@@ -10,7 +10,7 @@ use Rattle.cx_orders.specs.declared.states.KeyLine.{KeyLine}
 use Rattle.cx_orders.specs.declared.states.Keys.{Keys}
 use Rattle.cx_orders.specs.declared.states.OrdersState.{OrdersState}
 use Rattle.cx_look_orders.specs.Rest.{RestText}
-use Rattle.cx_look_orders.specs.Steps.{AreSteps, moves_of}
+use Rattle.cx_look_orders.specs.Steps.{AreSteps, Telling, moves_of}
 use Rattle.cx_look_orders.specs.declared.steps.Step.{Step}
 use Rattle.cx_look_orders.specs.declared.outcomes.Outcome.{Outcome}
 
@@ -42,21 +42,25 @@ module _ (Shows : RegionState → Lines → Type 0) (keys : Keys) (start : Order
     pub rest : AtRest (Moves keys) to
     pub shows : RestText Shows keys.lines to text
 
+-- ---- outcomes
+module _ (Shows : RegionState → Lines → Type 0) (tells : Telling) (keys : Keys) (start : OrdersState) where
   -- an outcome: what is written of the state that its steps end with, at rest, the soonest of the lists that end with
   -- that text; it has at most so many moves, where they are limited
   pub record IsOutcome (cut : Option ℕ) (one : Outcome) : Type 0 where
     pub to : OrdersState
-    pub steps : AreSteps keys start one.steps to
+    pub steps : AreSteps tells keys start one.steps to
     pub rest : AtRest (Moves keys) to
     pub shows : RestText Shows keys.lines to one.text
     pub near : IsNear cut (length one.steps)
-    pub soonest : (moves : List ℕ) → EndsWith moves one.text → NoLater (moves_of one.steps) moves
+    pub soonest : (moves : List ℕ) → EndsWith Shows keys start moves one.text
+        → NoLater (moves_of one.steps) moves
 
   -- All outcomes of lists of at most so many moves, where they are limited: none is missed, and each state at rest has
   -- one; in the order of their lists.
   pub record AreOutcomes (cut : Option ℕ) (outcomes : List Outcome) : Type 0 where
     pub each : (place : ℕ) (one : Outcome) → slice_get outcomes place ≡ Some one → IsOutcome cut one
-    pub all : (moves : List ℕ) (text : Lines) → EndsWith moves text → IsNear cut (length moves) → HasText outcomes text
+    pub all : (moves : List ℕ) (text : Lines) → EndsWith Shows keys start moves text → IsNear cut (length moves)
+        → HasText outcomes text
     pub written : (moves : List ℕ) (to : OrdersState) → Leads (Moves keys) start moves to → AtRest (Moves keys) to
         → IsNear cut (length moves) → IsWritten Shows keys.lines outcomes to
     pub ordered : (j k : ℕ) (one other : Outcome) → j < k → slice_get outcomes j ≡ Some one
@@ -102,11 +106,12 @@ module _ (keys : Keys) (start : OrdersState) where
     pub reached : AreReached (Some (moves + 1)) more
     pub many : most < length more
 
-  -- ---- moves without an end
+-- ---- moves without an end
+module _ (tells : Telling) (keys : Keys) (start : OrdersState) where
   -- the steps lead to a state that is come to again from itself, and no list is sooner that leads to such a state
   pub record LoopsFirst (steps : List Step) : Type 0 where
     pub to : OrdersState
-    pub are : AreSteps keys start steps to
+    pub are : AreSteps tells keys start steps to
     pub loops : Loops (Moves keys) to
     pub soonest : (moves : List ℕ) (there : OrdersState) → Leads (Moves keys) start moves there
         → Loops (Moves keys) there
@@ -117,6 +122,7 @@ module _ (keys : Keys) (start : OrdersState) where
   MayLoop None = IsBounded (Moves keys) start
   MayLoop (Some steps) = LoopsFirst steps
 
+module _ (keys : Keys) (start : OrdersState) where
   -- a list of moves leads to a state from which none leads to rest
   pub record IsStuck : Type 0 where
     pub moves : List ℕ

@@ -9,6 +9,7 @@ use Rattle.cx_orders.specs.declared.states.KeyLine.{KeyLine}
 use Rattle.cx_orders.specs.declared.states.Keys.{Keys}
 use Rattle.cx_look_orders.specs.Outcomes.{AllCanRest, AreOutcomes, HasStates, IsCutAt, IsStuck, MayLoop}
 use Rattle.cx_look_orders.specs.Script.{script_lines}
+use Rattle.cx_look_orders.specs.Steps.{Telling}
 use Rattle.cx_look_orders.specs.declared.outcomes.Outcome.{Outcome}
 use Rattle.cx_look_orders.specs.declared.steps.Step.{Step}
 
@@ -52,17 +53,17 @@ module _ (region : RegionState) (keys : List KeyLine) (edf : List (List ℕ)) wh
 abbrev pub stuck_line : Bool → Lines
 stuck_line is_stuck = if is_stuck then look_line (codes "ORDERS SOME CANNOT REST" ∷ []) else []
 
-module _ (Shows : RegionState → Lines → Type 0) (keys : Keys) (region : RegionState) (edf : List (List ℕ))
-    (most : ℕ) where
+module _ (Shows : RegionState → Lines → Type 0) (tells : Telling) (keys : Keys) (region : RegionState)
+    (edf : List (List ℕ)) (most : ℕ) where
   -- at most so many states can be come to
   pub record WholeText (lines : Lines) : Type 0 where
     pub states : ℕ
     pub count : HasStates keys (begun region) states
     pub few : states ≤ most
     pub outcomes : List Outcome
-    pub are : AreOutcomes Shows keys (begun region) None outcomes
+    pub are : AreOutcomes Shows tells keys (begun region) None outcomes
     pub loop : Option (List Step)
-    pub may_loop : MayLoop keys (begun region) loop
+    pub may_loop : MayLoop tells keys (begun region) loop
     pub is_stuck : Bool
     pub may_stick : MatchBool is_stuck (IsStuck keys (begun region)) (AllCanRest keys (begun region))
     pub is : lines ≡ whole_line keys states (length outcomes)
@@ -74,7 +75,7 @@ module _ (Shows : RegionState → Lines → Type 0) (keys : Keys) (region : Regi
     pub moves : ℕ
     pub cut : IsCutAt keys (begun region) most moves
     pub outcomes : List Outcome
-    pub are : AreOutcomes Shows keys (begun region) (Some moves) outcomes
+    pub are : AreOutcomes Shows tells keys (begun region) (Some moves) outcomes
     pub is : lines ≡ cut_line keys most moves ++ outcomes_lines region keys.lines edf 1 outcomes
 
   -- What is written of every order of a region's turns and these keys, where EDF is on at these terminals.

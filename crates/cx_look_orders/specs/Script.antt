@@ -1,8 +1,8 @@
 -- Steps as the lines of a script (this product's own).
-use Rattle.std.specs.Prelude.{ℕ, ◌+◌, ◌==◌, ◌&&◌, Bool, false, nat_lt, if◌then◌else◌, List, [], ◌∷◌, ◌++◌, Option, Some, None, codes, is_none, slice_get}
+use Rattle.std.specs.Prelude.{ℕ, ◌+◌, ◌==◌, ◌&&◌, Bool, false, nat_le, nat_lt, if◌then◌else◌, List, [], ◌∷◌, ◌++◌, Option, Some, None, codes, is_none, length, slice_get, unwrap_or}
 use Rattle.std.specs.Fmt.{decimal}
 use Rattle.std.specs.List.{flat_map}
-use Rattle.std.specs.Option.{option_and_then, option_map_or}
+use Rattle.std.specs.Option.{option_and_then, option_map_or, option_to_list}
 use Rattle.cx_base.specs.Texts.{shown_name}
 use Rattle.cx_look_lines.specs.Words.{Lines, look_line}
 use Rattle.cx_region.specs.State.{RegionState}
@@ -12,27 +12,47 @@ use Rattle.cx_look_orders.specs.Rest.{terminal_name_at}
 use Rattle.cx_look_orders.specs.declared.script.Row.{Row}
 use Rattle.cx_look_orders.specs.declared.steps.Step.{Step}
 
+-- ---- what is told of turns, as comments
+abbrev pub with_text : List ℕ → List ℕ → List ℕ
+with_text line text = line ++ codes ", " ++ text
+
+-- a line, and the texts that are left: the next goes on with the line, where that has at most 100 characters then, or
+-- else begins another
+unfoldable pub comments_on : List ℕ → List (List ℕ) → Lines
+comments_on line [] = line ∷ []
+comments_on line (text ∷ texts) =
+    if nat_le (length (with_text line text)) 100 then comments_on (with_text line text) texts
+    else line ∷ comments_on (codes "* " ++ text) texts
+
+abbrev pub comment_lines : List (List ℕ) → Lines
+comment_lines [] = []
+comment_lines (text ∷ texts) = comments_on (codes "* " ++ text) texts
+
 -- ---- turns in a row
 -- the step is one more turn of the terminal whose turns stand in a row before it, of which a line can ask for 4,096
 abbrev pub row_goes_on : Option Row → Step → Bool
 row_goes_on None step = false
 row_goes_on (Some row) step = is_none step.key && (row.number == step.number) && nat_lt row.many 4096
 
--- how many turns a row has
-abbrev pub many_of : Option Row → ℕ
-many_of row = option_map_or (λ (r : Row). r.many) row 0
+abbrev pub no_turns : ℕ → Row
+no_turns number = record { number = number; many = 0; told = [] }
 
--- the row with the step, where that is a turn: one more than before it, or the first
-abbrev pub many_before : Option Row → Step → ℕ
-many_before row step = if row_goes_on row step then many_of row else 0
+-- the row that the step goes on with, or one that it begins
+abbrev pub row_before : Option Row → Step → Row
+row_before row step = if row_goes_on row step then unwrap_or row (no_turns step.number) else no_turns step.number
 
+abbrev pub with_turn : Row → Step → Row
+with_turn row step =
+    record { number = row.number; many = row.many + 1; told = row.told ++ option_to_list step.told }
+
+-- the row with the step, where that is a turn
 abbrev pub row_after : Option Row → Step → Option Row
-row_after row step =
-    if is_none step.key then Some (record { number = step.number; many = many_before row step + 1 }) else None
+row_after row step = if is_none step.key then Some (with_turn (row_before row step) step) else None
 
 abbrev pub row_lines : RegionState → Option Row → Lines
 row_lines region None = []
-row_lines region (Some row) = look_line (codes "RUN" ∷ terminal_name_at region row.number ∷ decimal row.many ∷ [])
+row_lines region (Some row) =
+    look_line (codes "RUN" ∷ terminal_name_at region row.number ∷ decimal row.many ∷ []) ++ comment_lines row.told
 
 -- ---- keys
 -- the terminal's key before which so many come

@@ -1,20 +1,22 @@
 //! What holds of the report of every order.
 
 ghost use Rattle.cx_look_orders.specs.Laws.{LoopsAreEndless, ReportsDecide, ScriptsAskForSteps, StepsAreRuns, TextsStandOnce};
+ghost use Rattle.cx_look_orders.specs.Steps.{Telling};
 ghost use Rattle.cx_orders.specs.declared.states.Keys.{Keys as TheKeys};
 
 use crate::seen::Seen;
 use cx_orders::laws::moves_decide;
-use cx_region_laws::laws::{a_key_keeps_to_its_terminal, a_turn_keeps_to_its_task};
+use cx_region_laws::laws::{a_key_keeps_to_its_terminal, a_turn_keeps_to_its_task, calls_decide};
 use cx_search::laws::one_list_is_sooner;
 use cx_storage::Store;
 
 /// ORDERS writes one text of a region, and no two of its outcomes have one text.
 pub fn reports_decide<S: Store + Drop, V: Seen<S>>()
-    ensures decide { (seen : V) (keys : TheKeys) → ReportsDecide (V.shows seen) keys }
-    ensures once { (seen : V) (keys : TheKeys) → TextsStandOnce (V.shows seen) keys }
+    ensures decide { (seen : V) (keys : TheKeys) → ReportsDecide (V.shows seen) (V.tells seen) keys }
+    ensures once { (seen : V) (keys : TheKeys) → TextsStandOnce (V.shows seen) (V.tells seen) keys }
 {
     moves_decide();
+    calls_decide();
     a_turn_keeps_to_its_task();
     a_key_keeps_to_its_terminal();
     one_list_is_sooner();
@@ -22,7 +24,7 @@ pub fn reports_decide<S: Store + Drop, V: Seen<S>>()
 
 /// ORDERS writes that some orders never rest exactly where there are lists of moves of any length.
 pub fn loops_are_endless()
-    ensures { (keys : TheKeys) → LoopsAreEndless keys }
+    ensures { (tells : Telling) (keys : TheKeys) → LoopsAreEndless tells keys }
 {}
 
 /// Steps lead a region where the run of their turns and keys leads it, without EDF.
@@ -34,7 +36,7 @@ pub fn steps_are_runs()
 }
 
 /// The lines that ORDERS writes of steps ask for these, one after another: each line for a key, or for 1 to 4,096 turns
-/// in a row.
+/// in a row, of which comment lines behind it tell.
 pub fn scripts_ask_for_steps()
     ensures { ScriptsAskForSteps }
 {}

@@ -74,11 +74,12 @@ fn add_outcome<S: Store + Drop, V: Seen<S>>(
     requires found { Finds (Moves searched.now.orders.now.keys) (begun searched.now.region.now)
         searched.now.found.now.states.entries }
     requires sorted { AreSorted places.now }
-    requires so_far { AreOfFirst (V.shows searched.now.seen.now) searched.now.orders.now.keys
-        (begun searched.now.region.now) searched.now.found.now.states.entries places.now index outcomes.old.items }
-    ensures { OnOk result (AreOfFirst (V.shows searched.now.seen.now) searched.now.orders.now.keys
-        (begun searched.now.region.now) searched.now.found.now.states.entries places.now (index + 1)
-        outcomes.new.items) }
+    requires so_far { AreOfFirst (V.shows searched.now.seen.now) (V.tells searched.now.seen.now)
+        searched.now.orders.now.keys (begun searched.now.region.now) searched.now.found.now.states.entries
+        places.now index outcomes.old.items }
+    ensures { OnOk result (AreOfFirst (V.shows searched.now.seen.now) (V.tells searched.now.seen.now)
+        searched.now.orders.now.keys (begun searched.now.region.now) searched.now.found.now.states.entries
+        places.now (index + 1) outcomes.new.items) }
 {
     let orders = searched.orders;
     searched.seen.shows_decide();
@@ -100,7 +101,14 @@ fn add_outcome<S: Store + Drop, V: Seen<S>>(
     if has_text(outcomes.as_slice(), &text) {
         return Ok(());
     }
-    let steps = steps_to(searched.region, orders, searched.found, work, place)?;
+    let steps = steps_to(
+        searched.region,
+        orders,
+        searched.found,
+        searched.seen,
+        work,
+        place,
+    )?;
     outcomes.push(Outcome { text, steps })?;
     Ok(())
 }
@@ -117,7 +125,7 @@ pub(crate) fn outcomes_of<S: Store + Drop, V: Seen<S>>(
         searched.now.found.now.states.entries }
     requires reaches { Reaches searched.now.orders.now.keys (begun searched.now.region.now)
         searched.now.found.now.states.entries cut }
-    ensures { IfOk result (λ outcomes. AreOutcomes (V.shows searched.now.seen.now)
+    ensures { IfOk result (λ outcomes. AreOutcomes (V.shows searched.now.seen.now) (V.tells searched.now.seen.now)
         searched.now.orders.now.keys (begun searched.now.region.now) cut outcomes.items) }
 {
     searched.seen.shows_decide();

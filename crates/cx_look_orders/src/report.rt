@@ -133,22 +133,23 @@ fn outcomes_lines<S: Store + Drop>(
 /// some number. After a whole search.
 ///
 /// An error comes only where memory was refused.
-fn loop_of<S: Store + Drop>(
+fn loop_of<S: Store + Drop, V: Seen<S>>(
     region: &Region<S>,
     orders: &Orders<S>,
     found: &Found<Orders<S>>,
+    seen: &V,
     work: &mut Region<S>,
 ) -> Result<Option<List<Step>>, AllocError>
     requires finds { Finds (Moves orders.now.keys) (begun region.now) found.now.states.entries }
     requires whole { IsWhole (Moves orders.now.keys) (begun region.now) found.now.states.entries
         found.now.links.items }
-    ensures { IfOk result (MayLoop orders.now.keys (begun region.now)) }
+    ensures { IfOk result (MayLoop (V.tells seen.now) orders.now.keys (begun region.now)) }
 {
     one_list_is_sooner();
     let Some(place) = found.looping()? else {
         return Ok(None);
     };
-    let steps = steps_to(region, orders, found, work, place)?;
+    let steps = steps_to(region, orders, found, seen, work, place)?;
     Ok(Some(steps))
 }
 
@@ -225,17 +226,24 @@ fn whole_of<S: Store + Drop, V: Seen<S>>(
     ensures many { IfOk result (λ whole. whole.states ≡ length searched.now.found.now.states.entries) }
     ensures count { IfOk result (λ whole.
         HasStates searched.now.orders.now.keys (begun searched.now.region.now) whole.states) }
-    ensures outcomes { IfOk result (λ whole. AreOutcomes (V.shows searched.now.seen.now)
+    ensures outcomes { IfOk result (λ whole. AreOutcomes (V.shows searched.now.seen.now) (V.tells searched.now.seen.now)
         searched.now.orders.now.keys (begun searched.now.region.now) None whole.outcomes.items) }
     ensures looping { IfOk result (λ whole.
-        MayLoop searched.now.orders.now.keys (begun searched.now.region.now) whole.looping) }
+        MayLoop (V.tells searched.now.seen.now) searched.now.orders.now.keys (begun searched.now.region.now)
+        whole.looping) }
     ensures stuck { IfOk result (λ whole. MatchBool whole.is_stuck
         (IsStuck searched.now.orders.now.keys (begun searched.now.region.now))
         (AllCanRest searched.now.orders.now.keys (begun searched.now.region.now))) }
 {
     one_list_is_sooner();
     let outcomes = outcomes_of(searched, work, None)?;
-    let looping = loop_of(searched.region, searched.orders, searched.found, work)?;
+    let looping = loop_of(
+        searched.region,
+        searched.orders,
+        searched.found,
+        searched.seen,
+        work,
+    )?;
     let is_stuck = is_stuck(searched.region, searched.orders, searched.found)?;
     Ok(Whole {
         states: searched.found.states.len(),
@@ -305,7 +313,7 @@ pub fn orders_text<S: Store + Drop, V: Seen<S>>(
     seen: &V,
 ) -> Result<Report, AllocError>
     requires { 1 ≤ most }
-    ensures { IfOk result (OrdersText (V.shows seen.now) orders.now.keys region.now edf.now most) }
+    ensures { IfOk result (OrdersText (V.shows seen.now) (V.tells seen.now) orders.now.keys region.now edf.now most) }
 {
     one_list_is_sooner();
     let start = RegionSnapshot::take(orders.alloc, region, None)?;

@@ -1,6 +1,6 @@
 -- The lines of a script of ORDERS are read, and ask for the events that its steps are.
-use Rattle.std.proofs.Common.{◌≡◌, ℕ, zero, suc, ◌≤◌, true, Option, Some, None, List, [], ◌∷◌, ◌++◌, codes, length, map, nat_le, arith, ap, refl, sym, subst, ◌∙◌, append-nil, cond, length-append}
-use Rattle.std.specs.Prelude.{⊤, drop, option_map, replicate, slice_get, unwrap_or}
+use Rattle.std.proofs.Common.{◌≡◌, ℕ, zero, suc, ◌+◌, ◌<◌, ◌≤◌, Bool, true, false, true≢false, Option, Some, None, List, [], ◌∷◌, ◌++◌, add-one, codes, length, map, nat_le, arith, ap, refl, sym, subst, ◌∙◌, append-nil, cond, length-append}
+use Rattle.std.specs.Prelude.{⊤, drop, if◌then◌else◌, not, option_map, replicate, slice_get, unwrap_or}
 use Rattle.std.specs.Char.{is_ascii_digit, to_ascii_uppercase}
 use Rattle.std.specs.Fmt.{decimal}
 use Rattle.std.specs.List.{AllByRecursion, flat_map, list_all}
@@ -9,6 +9,7 @@ use Rattle.std.specs.Option.{option_and_then, option_map_or}
 use Rattle.std.proofs.lemmas.Bool.{le-leb}
 use Rattle.std.proofs.lemmas.Grind.{flat_map-append}
 use Rattle.std.proofs.lemmas.List.{map-append}
+use Rattle.std.proofs.lemmas.List.Elements.{filter-append}
 use Rattle.std.proofs.lemmas.Option.{none-some, same_Some}
 use Rattle.cx_base.specs.Texts.{shown_name}
 use Rattle.cx_ebcdic.specs.Facts.Names.{is_name-decides}
@@ -18,8 +19,9 @@ use Rattle.cx_edf.specs.declared.answers.EdfEvent.TheVariants as edf_event
 use Rattle.cx_region.specs.State.{RegionState, TerminalState}
 use Rattle.cx_region.specs.declared.replies.Event.{Event}
 use Rattle.cx_region.specs.declared.replies.Event.TheVariants as event
-use Rattle.cx_script_actions.specs.Actions.{edf_switch, line_asked_for, line_of, switch_of}
+use Rattle.cx_script_actions.specs.Actions.{edf_switch, is_blank_or_comment, line_asked_for, line_of, switch_of}
 use Rattle.cx_script_actions.specs.Words.{after_first_blank, word}
+use Rattle.cx_script_actions.specs.declared.actions.Action.{Action}
 use Rattle.cx_script_actions.specs.declared.actions.Action.TheVariants as edf_action
 use Rattle.cx_script_actions.specs.declared.actions.Line.{Line}
 use Rattle.cx_script_actions.specs.declared.actions.Line.TheVariants as line
@@ -30,11 +32,11 @@ use Rattle.cx_look.specs.Laws.{IsAskedByItsLine}
 use Rattle.cx_look.specs.Looks.{count_up_to, subject_of}
 use Rattle.cx_look.specs.declared.look.Subject.TheVariants as subject
 use Rattle.cx_look_tables.specs.Words.{Lines, joined_line as words_line, look_line}
-use Rattle.cx_look_orders.specs.Laws.{IsStepAsked, ScriptsAskForSteps, asked_lines, asked_steps, event_at, event_of_step}
+use Rattle.cx_look_orders.specs.Laws.{IsStepAsked, IsTurnOf, ScriptsAskForSteps, asked_lines, asked_row, asked_steps, event_at, event_of_step}
 use Rattle.cx_look_orders.specs.Rest.{terminal_name_at}
-use Rattle.cx_look_orders.specs.Script.{key_at, off_line, script_lines, steps_lines}
+use Rattle.cx_look_orders.specs.Script.{comment_lines, comments_on, key_at, off_line, row_lines, script_lines, steps_lines, with_text}
 use Rattle.cx_look_orders.specs.declared.steps.Step.{Step}
-use Rattle.cx_look_script.specs.Laws.Orders.{AskForEvents, HasSpelling, ScriptsAskForEvents, asked_events}
+use Rattle.cx_look_script.specs.Laws.Orders.{AskForEvents, HasSpelling, ScriptsAskForEvents, asked_events, asking_lines}
 use Rattle.cx_look_script.specs.Reading.{line_by, line_of_subject, look_line_of, own_line, run_of, run_with, turns_of}
 use Rattle.cx_look_script.specs.Runs.{turn_of}
 use Rattle.cx_look_script.specs.declared.action.LookAction.{LookAction}
@@ -144,6 +146,21 @@ key_read : (number : ℕ) (key : KeyLine) → IsAskedByItsLine key
 unfolding look_line_of
 key_read number key is = ap (λ o. line_by o (own_line number key.line)) is
 
+-- which is no comment
+abbrev is_blank : Option (Line Action) → Bool
+is_blank (Some line.Blank) = true
+is_blank asked = false
+
+asking_by : (b : Bool) (asked : Option (Line Action)) (a : Action) → (if b then Some line.Blank else asked) ≡ Some (line.Action a) → b ≡ false
+asking_by false asked a is = refl
+asking_by true asked a is = absurd (true≢false (ap is_blank is))
+
+key_asking : (key : KeyLine) → IsAskedByItsLine key → is_blank_or_comment key.line ≡ false
+unfolding line_of
+key_asking key is =
+    asking_by (is_blank_or_comment key.line) (option_and_then (line_asked_for (word key.line)) (after_first_blank key.line))
+    (edf_action.Event (edf_event.Plain (event.Key key.name key.aid key.bytes))) is
+
 -- ---- lines one after another
 -- an action that asks for an event, or for turns of a terminal
 abbrev pub IsAsking : LookAction → Type 0
@@ -158,9 +175,20 @@ pub record Asks (lines : Lines) (events : List EdfEvent) : Type 0 where
 ask_nothing : Asks [] []
 ask_nothing = record { asked = record { actions = []; read = λ number. refl; ask = refl }; each = tt }
 
-ask_one : (l : List ℕ) (a : LookAction) → IsAsking a → ((number : ℕ) → look_line_of number l ≡ Some (line.Action a)) → Asks (l ∷ []) (asked_events a)
-ask_one l a asking read =
-    record { asked = record { actions = a ∷ []; read = λ number. ap (λ o. o ∷ []) (read number); ask = append-nil (asked_events a) }; each = (asking, tt) }
+ask_one : (l : List ℕ) (a : LookAction) → IsAsking a → is_blank_or_comment l ≡ false → ((number : ℕ) → look_line_of number l ≡ Some (line.Action a)) → Asks (l ∷ []) (asked_events a)
+ask_one l a asking plain read =
+    record {
+      asked = record {
+        actions = a ∷ [];
+        read = λ number. ap (λ b. map (look_line_of number) (cond (not b) (l ∷ []) [])) plain ∙ ap (λ o. o ∷ []) (read number);
+        ask = append-nil (asked_events a);
+      };
+      each = (asking, tt);
+    }
+
+-- a comment asks for nothing
+ask_on : (rest : List ℕ) (lines : Lines) (events : List EdfEvent) → Asks lines events → Asks ((42 ∷ rest) ∷ lines) events
+ask_on rest lines events p = record { asked = record { actions = p.asked.actions; read = p.asked.read; ask = p.asked.ask }; each = p.each }
 
 asking_both : (one other : List LookAction) → AllByRecursion IsAsking one → AllByRecursion IsAsking other → AllByRecursion IsAsking (one ++ other)
 asking_both [] other h k = k
@@ -174,7 +202,9 @@ ask_both ones others es fs p q =
       asked = record {
         actions = one ++ other;
         read = λ number.
-            map-append (look_line_of number) ones others ∙ ap (λ l. l ++ map (look_line_of number) others) (p.asked.read number)
+            ap (λ ls. map (look_line_of number) ls) (filter-append (λ l. not (is_blank_or_comment l)) ones others)
+            ∙ map-append (look_line_of number) (asking_lines ones) (asking_lines others)
+            ∙ ap (λ l. l ++ map (look_line_of number) (asking_lines others)) (p.asked.read number)
             ∙ ap (λ l. map (λ (a : LookAction). Some (line.Action a)) one ++ l) (q.asked.read number)
             ∙ sym (map-append (λ (a : LookAction). Some (line.Action a)) one other);
         ask = flat_map-append asked_events one other ∙ ap (λ l. l ++ flat_map asked_events other) p.asked.ask ∙ ap (λ l. es ++ l) q.asked.ask;
@@ -187,12 +217,28 @@ offs_ask : ShownAsItself → (edf : List (List ℕ)) → AllByRecursion HasSpell
 offs_ask itself [] all = ask_nothing
 offs_ask itself (name ∷ edf) all =
     ask_both (off_line name) (flat_map off_line edf) (edf_event.Off name ∷ []) (map edf_event.Off edf)
-    (ask_one (words_line (codes "EDF" ∷ shown_name name ∷ codes "OFF" ∷ [])) (action.Script (edf_action.Event (edf_event.Off name))) tt (λ number. off_read itself number name all.0))
+    (ask_one (words_line (codes "EDF" ∷ shown_name name ∷ codes "OFF" ∷ [])) (action.Script (edf_action.Event (edf_event.Off name))) tt refl (λ number. off_read itself number name all.0))
     (offs_ask itself edf all.1)
 
+-- comments
+comments_ask : (rest : List ℕ) (texts : List (List ℕ)) → Asks (comments_on (42 ∷ rest) texts) []
+unfolding comments_on
+comments_ask rest [] = ask_on rest [] [] ask_nothing
+comments_ask rest (text ∷ texts) =
+    by (nat_le (length (with_text (42 ∷ rest) text)) 100) (comments_ask (rest ++ codes ", " ++ text) texts) (comments_ask (32 ∷ text) texts)
+  where
+    by : (b : Bool) → Asks (comments_on (42 ∷ (rest ++ codes ", " ++ text)) texts) [] → Asks (comments_on (42 ∷ 32 ∷ text) texts) []
+        → Asks (if b then comments_on (42 ∷ (rest ++ codes ", " ++ text)) texts else (42 ∷ rest) ∷ comments_on (42 ∷ 32 ∷ text) texts) []
+    by true longer other = longer
+    by false longer other = ask_on rest (comments_on (42 ∷ 32 ∷ text) texts) [] other
+
+all_comments : (texts : List (List ℕ)) → Asks (comment_lines texts) []
+all_comments [] = ask_nothing
+all_comments (text ∷ texts) = comments_ask (32 ∷ text) texts
+
 -- ---- steps
-abbrev step_of : ℕ → Option ℕ → Step
-step_of number key = record { number = number; key = key }
+abbrev step_of : ℕ → Option ℕ → Option (List ℕ) → Step
+step_of number key told = record { number = number; key = key; told = told }
 
 -- the name of the terminal with that number, and that a text spells it
 record IsTerminal (region : RegionState) (number : ℕ) (name : List ℕ) : Type 0 where
@@ -239,19 +285,19 @@ first_event f step steps (what ∷ events) e =
       whole = refl;
     }
 
-split_off : (f : Step → Option Event) (step : Step) (many : ℕ) (rest : List Step) (events : List Event)
-    → map f (replicate (suc many) step ++ rest) ≡ map Some events → SplitsOff f step (suc many) rest events
-split_off f step zero rest events e = first_event f step rest events e
-split_off f step (suc many) rest events e =
-    let one = first_event f step (replicate (suc many) step ++ rest) events e in
-    let more = split_off f step many rest one.others one.left in
-    let same = same_Some more.what one.what (sym more.is ∙ one.is) in
+split_off : (f : Step → Option Event) (o : Option Event) (step : Step) (others rest : List Step) (events : List Event) → f step ≡ o
+    → AllByRecursion (λ s. f s ≡ o) others → map f (step ∷ (others ++ rest)) ≡ map Some events → SplitsOff f step (suc (length others)) rest events
+split_off f o step [] rest events first all e = first_event f step rest events e
+split_off f o step (other ∷ others) rest events first all e =
+    let one = first_event f step (other ∷ (others ++ rest)) events e in
+    let more = split_off f o other others rest one.others all.0 all.1 one.left in
+    let same = same_Some more.what one.what (sym more.is ∙ all.0 ∙ sym first ∙ one.is) in
     record {
       what = one.what;
       is = one.is;
       others = more.others;
       left = more.left;
-      whole = one.whole ∙ ap (λ l. one.what ∷ l) (more.whole ∙ ap (λ w. replicate (suc many) w ++ more.others) same);
+      whole = one.whole ∙ ap (λ l. one.what ∷ l) (more.whole ∙ ap (λ w. replicate (suc (length others)) w ++ more.others) same);
     }
 
 plains : (many : ℕ) (e : Event) → replicate many (edf_event.Plain e) ≡ map edf_event.Plain (replicate many e)
@@ -279,46 +325,84 @@ module _ (itself : ShownAsItself) (region : RegionState) (keys : List KeyLine) (
           let same = ap (λ n. event.Key n key.aid key.bytes) own ∙ same_Some (event.Key name key.aid key.bytes) what is in
           subst (λ e. Asks (key.line ∷ []) (edf_event.Plain e ∷ [])) same
           (ask_one key.line (action.Script (edf_action.Event (edf_event.Plain (event.Key key.name key.aid key.bytes)))) tt
+          (key_asking key (of_terminal IsAskedByItsLine name key keys came read at))
           (λ number. key_read number key (of_terminal IsAskedByItsLine name key keys came read at)))
 
-  -- the line of so many turns
-  turns_ask : (number many : ℕ) (name : List ℕ) → IsTerminal region number name → 1 ≤ many → many ≤ 4096
-      → Asks (look_line (codes "RUN" ∷ terminal_name_at region number ∷ decimal many ∷ [])) (map edf_event.Plain (replicate many (event.Turn name)))
-  turns_ask number many name it least most =
-      subst (λ es. Asks (look_line (codes "RUN" ∷ terminal_name_at region number ∷ decimal many ∷ [])) es) (plains many (event.Turn name))
+  -- the line of so many turns, and what is told of them
+  abbrev run_lines : ℕ → ℕ → Lines
+  run_lines number many = look_line (codes "RUN" ∷ terminal_name_at region number ∷ decimal many ∷ [])
+
+  turns_ask : (number many : ℕ) (told : List (List ℕ)) (name : List ℕ) → IsTerminal region number name → 1 ≤ many → many ≤ 4096
+      → Asks (run_lines number many ++ comment_lines told) (map edf_event.Plain (replicate many (event.Turn name)))
+  turns_ask number many told name it least most =
+      let one : Asks (run_lines number many) (map edf_event.Plain (replicate many (event.Turn name))) =
+      subst (λ es. Asks (run_lines number many) es) (plains many (event.Turn name))
       (subst (λ s. Asks (look_line (codes "RUN" ∷ s ∷ decimal many ∷ [])) (replicate many (turn_of name))) (sym it.shown)
-      (ask_one (words_line (codes "RUN" ∷ shown_name name ∷ decimal many ∷ [])) (action.Run name many stop.Never) least
-      (λ at. run_read itself at name many it.spelled least most)))
+      (ask_one (words_line (codes "RUN" ∷ shown_name name ∷ decimal many ∷ [])) (action.Run name many stop.Never) least refl
+      (λ at. run_read itself at name many it.spelled least most))) in
+      subst (λ es. Asks (run_lines number many ++ comment_lines told) es) (append-nil (map edf_event.Plain (replicate many (event.Turn name))))
+      (ask_both (run_lines number many) (comment_lines told) (map edf_event.Plain (replicate many (event.Turn name))) [] one (all_comments told))
 
-  -- a step so many times
-  abbrev Asked : ℕ → Option ℕ → ℕ → Event → Type 0
-  Asked number key many what = Asks (asked_lines region keys (step_of number key, suc many)) (map edf_event.Plain (replicate (suc many) what))
+  abbrev turn_at : ℕ → Option Event
+  turn_at number = option_and_then (λ n. event_at keys n None) (slice_get names number)
 
-  step_asks : (number : ℕ) (key : Option ℕ) (many : ℕ) (what : Event) (name : List ℕ) → IsStepAsked (step_of number key, suc many) → IsTerminal region number name
-      → event_at keys name key ≡ Some what → Asked number key many what
-  step_asks number None many what name few it is =
-      subst (λ e. Asked number None many e) (same_Some (event.Turn name) what is) (turns_ask number (suc many) name it few.0 few.1)
-  step_asks number (Some came) many what name few it is =
-      let once : many ≡ 0 = omega (arith, few.1) in
-      subst (λ k. Asked number (Some came) k what) (sym once) (key_asks number came name what it is)
+  turns_named : (number many : ℕ) (told : List (List ℕ)) (what : Event) (name : Option (List ℕ)) → 1 ≤ many → many ≤ 4096
+      → slice_get names number ≡ name → option_and_then (λ n. event_at keys n None) name ≡ Some what
+      → Asks (run_lines number many ++ comment_lines told) (map edf_event.Plain (replicate many what))
+  turns_named number many told what None least most at is = absurd (none-some what is)
+  turns_named number many told what (Some name) least most at is =
+      subst (λ e. Asks (run_lines number many ++ comment_lines told) (map edf_event.Plain (replicate many e))) (same_Some (event.Turn name) what is)
+      (turns_ask number many told name (terminal_of region number name all at) least most)
 
-  named_asks : (number : ℕ) (key : Option ℕ) (many : ℕ) (what : Event) (name : Option (List ℕ)) → IsStepAsked (step_of number key, suc many)
-      → slice_get names number ≡ name → option_and_then (λ n. event_at keys n key) name ≡ Some what → Asked number key many what
-  named_asks number key many what None few at is = absurd (none-some what is)
-  named_asks number key many what (Some name) few at is = step_asks number key many what name few (terminal_of region number name all at) is
+  key_named : (number came : ℕ) (what : Event) (name : Option (List ℕ)) → slice_get names number ≡ name
+      → option_and_then (λ n. event_at keys n (Some came)) name ≡ Some what
+      → Asks (option_map_or (λ (key : KeyLine). key.line ∷ []) (key_at region keys number came) []) (edf_event.Plain what ∷ [])
+  key_named number came what None at is = absurd (none-some what is)
+  key_named number came what (Some name) at is = key_asks number came name what (terminal_of region number name all at) is
 
-  all_ask : (asked : List (Step × ℕ)) (events : List Event) → AllByRecursion IsStepAsked asked
-      → map (event_of_step names keys) (flat_map asked_steps asked) ≡ map Some events
+  -- turns of one terminal are one event
+  one_event : (number : ℕ) (others : List Step) → AllByRecursion (IsTurnOf number) others
+      → AllByRecursion (λ s. event_of_step names keys s ≡ turn_at number) others
+  one_event number [] each = tt
+  one_event number (other ∷ others) each = (
+    ap (λ k. option_and_then (λ n. event_at keys n k) (slice_get names other.number)) each.0.1
+        ∙ ap (λ k. option_and_then (λ n. event_at keys n None) (slice_get names k)) each.0.0,
+    one_event number others each.1,
+  )
+
+  abbrev AllAsk : List (Step × List Step) → Type 0
+  AllAsk asked = (events : List Event) → map (event_of_step names keys) (flat_map asked_steps asked) ≡ map Some events
       → Asks (flat_map (asked_lines region keys) asked) (map edf_event.Plain events)
-  all_ask [] [] each e = ask_nothing
-  all_ask [] (what ∷ events) each e = absurd (none-some (Some what) (ap (λ l. slice_get l 0) e))
-  all_ask ((step, zero) ∷ asked) events each e = absurd (omega (arith, each.0.0))
-  all_ask ((step, suc many) ∷ asked) events each e =
-      let it = split_off (event_of_step names keys) step many (flat_map asked_steps asked) events e in
-      subst (λ es. Asks (asked_lines region keys (step, suc many) ++ flat_map (asked_lines region keys) asked) es)
-      (sym (ap (λ es. map edf_event.Plain es) it.whole ∙ map-append edf_event.Plain (replicate (suc many) it.what) it.others))
-      (ask_both (asked_lines region keys (step, suc many)) (flat_map (asked_lines region keys) asked) (map edf_event.Plain (replicate (suc many) it.what)) (map edf_event.Plain it.others)
-      (named_asks step.number step.key many it.what (slice_get names step.number) each.0 refl it.is) (all_ask asked it.others each.1 it.left))
+
+  one_asks : (number : ℕ) (key : Option ℕ) (told : Option (List ℕ)) (others : List Step) (asked : List (Step × List Step)) (events : List Event)
+      → IsStepAsked (step_of number key told, others) → AllAsk asked
+      → map (event_of_step names keys) (step_of number key told ∷ (others ++ flat_map asked_steps asked)) ≡ map Some events
+      → Asks (asked_lines region keys (step_of number key told, others) ++ flat_map (asked_lines region keys) asked) (map edf_event.Plain events)
+  one_asks number None told others asked events few more e =
+      let step = step_of number None told in
+      let texts = (asked_row (step, others)).told in
+      let it = subst (λ n. SplitsOff (event_of_step names keys) step n (flat_map asked_steps asked) events) (sym (add-one (length others)))
+      (split_off (event_of_step names keys) (turn_at number) step others (flat_map asked_steps asked) events refl (one_event number others few.0) e) in
+      let many = length others + 1 in
+      subst (λ es. Asks ((run_lines number many ++ comment_lines texts) ++ flat_map (asked_lines region keys) asked) es)
+      (sym (ap (λ es. map edf_event.Plain es) it.whole ∙ map-append edf_event.Plain (replicate many it.what) it.others))
+      (ask_both (run_lines number many ++ comment_lines texts) (flat_map (asked_lines region keys) asked) (map edf_event.Plain (replicate many it.what))
+      (map edf_event.Plain it.others)
+      (turns_named number many texts it.what (slice_get names number) (omega arith) (omega (arith, few.1)) refl it.is) (more it.others it.left))
+  one_asks number (Some came) told others asked events few more e =
+      let step = step_of number (Some came) told in
+      let lines = option_map_or (λ (key : KeyLine). key.line ∷ []) (key_at region keys number came) [] in
+      let it = first_event (event_of_step names keys) step (flat_map asked_steps asked) events
+      (subst (λ os. map (event_of_step names keys) (step ∷ (os ++ flat_map asked_steps asked)) ≡ map Some events) few e) in
+      subst (λ es. Asks (lines ++ flat_map (asked_lines region keys) asked) es) (sym (ap (λ es. map edf_event.Plain es) it.whole))
+      (ask_both lines (flat_map (asked_lines region keys) asked) (edf_event.Plain it.what ∷ []) (map edf_event.Plain it.others)
+      (key_named number came it.what (slice_get names number) refl it.is) (more it.others it.left))
+
+  all_ask : (asked : List (Step × List Step)) → AllByRecursion IsStepAsked asked → AllAsk asked
+  all_ask [] each [] e = ask_nothing
+  all_ask [] each (what ∷ events) e = absurd (none-some (Some what) (ap (λ l. slice_get l 0) e))
+  all_ask ((step, others) ∷ asked) each events e =
+      one_asks step.number step.key step.told others asked events each.0 (all_ask asked each.1) e
 
 -- the lines of a script
 pub scripts_asks : ShownAsItself → ScriptsAskForSteps → (region : RegionState) (keys : List KeyLine) (edf : List (List ℕ)) (steps : List Step) (events : List Event)
@@ -328,7 +412,7 @@ pub scripts_asks : ShownAsItself → ScriptsAskForSteps → (region : RegionStat
 unfolding script_lines
 scripts_asks itself scripts region keys edf steps events all offs read are =
     let it = scripts region keys steps in
-    let lines = all_ask itself region keys all read it.asked events it.each (ap (λ ss. map (event_of_step (names_of region.terminals) keys) ss) it.done ∙ are) in
+    let lines = all_ask itself region keys all read it.asked it.each events (ap (λ ss. map (event_of_step (names_of region.terminals) keys) ss) it.done ∙ are) in
     ask_both (flat_map off_line edf) (steps_lines region keys None steps) (map edf_event.Off edf) (map edf_event.Plain events) (offs_ask itself edf offs)
     (subst (λ ls. Asks ls (map edf_event.Plain events)) (sym it.written) lines)
 

@@ -16,11 +16,12 @@ use Rattle.cx_orders.specs.declared.states.Keys.{Keys}
 use Rattle.cx_look_script.specs.Looking.{AreLookLines, ShowsOrders, at_region}
 use Rattle.cx_look_script.specs.Orders.{AreSeen, IsSeen, keys_asked, names_with_edf, sights_of}
 use Rattle.cx_look_script.specs.State.{LookState}
+use Rattle.cx_look_script.specs.Telling.{turn_told}
 use Rattle.cx_orders.specs.Laws.{MovesDecide}
 use Rattle.cx_orders.specs.Moves.{Moves}
 use Rattle.cx_search.specs.Facts.Loops.{bounded_never_loops}
 use Rattle.cx_search.specs.Laws.{SoonerOrders}
-use Rattle.cx_region_laws.specs.Laws.Regions.{KeysKeepToTheirTerminal, TurnsKeepToTheirTask}
+use Rattle.cx_region_laws.specs.Laws.Regions.{KeysKeepToTheirTerminal, TurnsDecide, TurnsKeepToTheirTask}
 use Rattle.cx_look_orders.specs.Facts.Decides.{reports_decide}
 use Rattle.cx_look_script.specs.Laws.Orders.{OrdersAreReportedOnce}
 
@@ -75,20 +76,20 @@ module _ (state : LookState) (block : OrdersBlock) where
   Shows sights region = AreSeen (λ (l : Look). AreLookLines l (at_region state region)) region sights
 
   pub orders_shown : (sights : List Sight) (keys : Keys) (region : RegionState) (edf : List (List ℕ)) (lines : Lines) (text : List ℕ)
-      → OrdersText (λ (r : RegionState). AreSeen (λ (l : Look). AreLookLines l (at_region state r)) r sights) keys region edf block.most lines
+      → OrdersText (λ (r : RegionState). AreSeen (λ (l : Look). AreLookLines l (at_region state r)) r sights) (turn_told state.sources) keys region edf block.most lines
       → keys ≡ keys_asked block → sights ≡ sights_of block.sights region → region ≡ state.edf.region → edf ≡ names_with_edf state.edf
       → text ≡ marked lines → ShowsOrders block state text
   orders_shown sights keys region edf lines text is asked shown same with_edf written =
-      let by_keys = subst (λ (ks : Keys). OrdersText (Shows sights) ks region edf block.most lines) asked is in
-      let by_sights = subst (λ (s : List Sight). OrdersText (Shows s) (keys_asked block) region edf block.most lines) shown by_keys in
-      let by_region = subst (λ (r : RegionState). OrdersText (Shows (sights_of block.sights r)) (keys_asked block) r edf block.most lines) same by_sights in
-      let by_names = subst (λ (n : List (List ℕ)). OrdersText (Shows (sights_of block.sights state.edf.region)) (keys_asked block) state.edf.region n block.most lines) with_edf by_region in
+      let by_keys = subst (λ (ks : Keys). OrdersText (Shows sights) (turn_told state.sources) ks region edf block.most lines) asked is in
+      let by_sights = subst (λ (s : List Sight). OrdersText (Shows s) (turn_told state.sources) (keys_asked block) region edf block.most lines) shown by_keys in
+      let by_region = subst (λ (r : RegionState). OrdersText (Shows (sights_of block.sights r)) (turn_told state.sources) (keys_asked block) r edf block.most lines) same by_sights in
+      let by_names = subst (λ (n : List (List ℕ)). OrdersText (Shows (sights_of block.sights state.edf.region)) (turn_told state.sources) (keys_asked block) state.edf.region n block.most lines) with_edf by_region in
       record { lines = lines; are = by_names; is = written }
 
-pub orders_once : MovesDecide → TurnsKeepToTheirTask → KeysKeepToTheirTerminal → SoonerOrders → OrdersAreReportedOnce
-orders_once decide turned keyed sooner block state one other named p q =
+pub orders_once : MovesDecide → TurnsDecide → TurnsKeepToTheirTask → KeysKeepToTheirTerminal → SoonerOrders → OrdersAreReportedOnce
+orders_once decide turns turned keyed sooner block state one other named p q =
     p.is
     ∙ ap marked
-    (reports_decide (Shows state block (sights_of block.sights state.edf.region)) decide turned keyed sooner (keys_asked block) (bounded_never_loops (Moves (keys_asked block)))
+    (reports_decide (Shows state block (sights_of block.sights state.edf.region)) (turn_told state.sources) decide turns turned keyed sooner (keys_asked block) (bounded_never_loops (Moves (keys_asked block)))
     state.edf.region (names_with_edf state.edf) block.most p.lines q.lines named p.are q.are)
     ∙ sym q.is

@@ -8,7 +8,8 @@ use Rattle.cx_edf.specs.State.{EdfState}
 use Rattle.cx_exec.specs.Machine.{Machine}
 use Rattle.cx_region_task.specs.Turn.{most_steps}
 use Rattle.cx_look_cover.specs.Laws.{TalliesDecide}
-use Rattle.cx_look_cover.specs.declared.tallies.Tally.{Tally}
+use Rattle.cx_exec.specs.declared.tallied.Tally.{Tally}
+use Rattle.cx_look_cover.specs.Tallies.{programs_end, reaching}
 use Rattle.cx_look_script.specs.Covered.{Covers, machine_run}
 use Rattle.cx_edf.specs.declared.answers.Answer.{Answer}
 use Rattle.cx_edf.specs.declared.answers.EdfEvent.{EdfEvent}
@@ -51,11 +52,13 @@ same_state one other edf abends sources watched covered on =
     λ i. record { edf = edf i; abends = abends i; sources = sources i; watched = watched i; covered = covered i; goes_on = on i }
 
 -- what is counted is one
-covers_once : TalliesDecide → (m : Option Machine) (old new other : Option (List Tally)) → Covers m old new → Covers m old other → new ≡ other
+covers_once : TalliesDecide → (m : Option Machine) (end : ℕ) (old new other : Option (List Tally)) → Covers m end old new → Covers m end old other
+    → new ≡ other
 unfolding Covers
-covers_once law m None new other p q = p ∙ sym q
-covers_once law None (Some tallies) new other p q = p.2 ∙ ap Some (p.1 ∙ sym q.1) ∙ sym q.2
-covers_once law (Some m) (Some tallies) new other p q = p.2 ∙ ap Some (law most_steps m tallies p.0 q.0 p.1 q.1) ∙ sym q.2
+covers_once law m end None new other p q = p ∙ sym q
+covers_once law None end (Some tallies) new other p q = p.2 ∙ ap Some (p.1 ∙ sym q.1) ∙ sym q.2
+covers_once law (Some m) end (Some tallies) new other p q =
+    p.2 ∙ ap Some (law most_steps m (reaching tallies end) p.0 q.0 p.1 q.1) ∙ sym q.2
 
 -- ---- one action
 abbrev Twice : List ℕ → List ℕ → LookState → LookState → Type 0
@@ -72,7 +75,7 @@ module _ (noted : NotedDecide) (edf_actions : (old : EdfState) (a : Action) (tex
       ap (λ (s : EdfState). turn_goes_on s e given) same.1 ∙ ap (λ (g : Answer). turn_goes_on another.edf e g) same.0 in (
         same.0,
         same_state new another same.1 same.2 (p.sources ∙ sym q.sources) (p.watched ∙ sym q.watched)
-            (covers_once tallies (machine_run old.edf e) old.covered new.covered another.covered p.covered q.covered) (p.goes_on ∙ on ∙ sym q.goes_on),
+            (covers_once tallies (machine_run old.edf e) (programs_end old.edf.region.shared.programs) old.covered new.covered another.covered p.covered q.covered) (p.goes_on ∙ on ∙ sym q.goes_on),
       )
 
   -- any other action of `cicsedf`

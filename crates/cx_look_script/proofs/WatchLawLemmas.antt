@@ -11,7 +11,7 @@ use Rattle.cx_look_abend.specs.Noting.{KeptAbends}
 use Rattle.cx_look_abend.specs.Texts.{abend_fields_text, abend_storage_text, abend_text}
 use Rattle.cx_look_ahead.specs.declared.rows.Row.{Row}
 use Rattle.cx_look_cover.specs.Texts.{covered_all_text, covered_lines_text, covered_text}
-use Rattle.cx_look_cover.specs.declared.tallies.Tally.{Tally}
+use Rattle.cx_exec.specs.declared.tallied.Tally.{Tally}
 use Rattle.cx_look_tables.specs.Terminals.{terminals_text}
 use Rattle.cx_look_script.specs.Laws.Orders.{is_of_region}
 use Rattle.cx_look_script.specs.Laws.Looks.{turn_action}

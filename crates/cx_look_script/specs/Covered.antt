@@ -1,6 +1,8 @@
 -- COVER: what is counted of a turn's instructions (own).
 use Rattle.std.specs.Prelude.{◌≡◌, ℕ, Bool, true, if◌then◌else◌, Option, Some, None, List, [], ◌∷◌, codes}
 use Rattle.cx_exec.specs.Machine.{Machine}
+use Rattle.cx_exec.specs.Tallies.{IsTallied}
+use Rattle.cx_exec.specs.declared.tallied.Tally.{Tally}
 use Rattle.cx_region.specs.declared.replies.Event.TheVariants as event
 use Rattle.cx_region_task.specs.Turn.{most_steps}
 use Rattle.cx_edf.specs.State.{EdfState, holds}
@@ -8,8 +10,7 @@ use Rattle.cx_edf.specs.declared.answers.EdfEvent.{EdfEvent}
 use Rattle.cx_edf.specs.declared.answers.EdfEvent.TheVariants as edf_event
 use Rattle.cx_look_tables.specs.Words.{Lines, look_line}
 use Rattle.cx_look_turn.specs.NextTurn.{machine_ahead}
-use Rattle.cx_look_cover.specs.Tallies.{IsTallied}
-use Rattle.cx_look_cover.specs.declared.tallies.Tally.{Tally}
+use Rattle.cx_look_cover.specs.Tallies.{reaching}
 
 -- COVER ON counts from nothing on, and COVER OFF drops the counts
 abbrev pub covered_from : Bool → Option (List Tally)
@@ -24,12 +25,12 @@ machine_run state (edf_event.Plain (event.Turn name)) =
     if holds state name then None else machine_ahead state.region name
 machine_run state _ = None
 
--- what is counted after its run; where no instructions are run, what was before
-abbrev pub IsTalliedBy : Option Machine → List Tally → List Tally → Type 0
-IsTalliedBy None old new = new ≡ old
-IsTalliedBy (Some m) old new = IsTallied most_steps m old new
+-- what is counted after its run of the addresses below an end; where no instructions are run, what was before
+abbrev pub IsTalliedBy : Option Machine → ℕ → List Tally → List Tally → Type 0
+IsTalliedBy None end old new = new ≡ old
+IsTalliedBy (Some m) end old new = IsTallied most_steps m (reaching old end) new
 
 -- while COVER is on
-unfoldable pub Covers : Option Machine → Option (List Tally) → Option (List Tally) → Type 0
-Covers m None new = new ≡ None
-Covers m (Some old) new = (after : List Tally) × IsTalliedBy m old after × (new ≡ Some after)
+unfoldable pub Covers : Option Machine → ℕ → Option (List Tally) → Option (List Tally) → Type 0
+Covers m end None new = new ≡ None
+Covers m end (Some old) new = (after : List Tally) × IsTalliedBy m end old after × (new ≡ Some after)

@@ -8,6 +8,7 @@ pub mod Reading
 pub mod Allowed
 pub mod Faults
 pub mod Help
+pub mod Telling
 pub mod Orders
 pub mod Choices
 pub mod Looking

@@ -38,6 +38,7 @@ use Rattle.cx_look_script.specs.Faults.{faults_text}
 use Rattle.cx_look_script.specs.Help.{bad_look_text, help_text}
 use Rattle.cx_look_script.specs.Choices.{IsChoicesText}
 use Rattle.cx_look_script.specs.Orders.{IsOrdersText}
+use Rattle.cx_look_script.specs.Telling.{turn_told}
 use Rattle.cx_look_script.specs.declared.action.LookAction.{LookAction}
 use Rattle.cx_look_script.specs.declared.action.LookAction.TheVariants as action
 use Rattle.cx_look_script.specs.declared.action.Stop.{Stop}
@@ -94,7 +95,8 @@ pub record IsLookText (look : Look) (state : LookState) (text : List ℕ) : Type
 
 -- what is written for a block of ORDERS: looks at another region are at the sessions and the sources of this one
 abbrev pub ShowsOrders : OrdersBlock → LookState → List ℕ → Type 0
-ShowsOrders block state text = IsOrdersText (λ region l. AreLookLines l (at_region state region)) block state.edf text
+ShowsOrders block state text =
+    IsOrdersText (λ region l. AreLookLines l (at_region state region)) (turn_told state.sources) block state.edf text
 
 -- and for a block of CHOICES
 abbrev pub ShowsChoices : ChoicesBlock → LookState → List ℕ → Type 0

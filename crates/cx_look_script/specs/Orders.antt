@@ -11,6 +11,7 @@ use Rattle.cx_look.specs.declared.orders.OrdersBlock.{OrdersBlock}
 use Rattle.cx_look.specs.declared.orders.Sight.{Sight}
 use Rattle.cx_look.specs.declared.orders.Sight.TheVariants as sight
 use Rattle.cx_look_orders.specs.Report.{OrdersText}
+use Rattle.cx_look_orders.specs.Steps.{Telling}
 use Rattle.cx_orders.specs.declared.states.Keys.{Keys}
 use Rattle.cx_look_tables.specs.Words.{Lines, marked}
 
@@ -46,11 +47,12 @@ keys_asked block = record { typed_ahead = block.typed_ahead; lines = block.keys 
 abbrev pub names_with_edf : EdfState → List (List ℕ)
 names_with_edf state = filter (λ name. is_some (session_at state name)) (keys_of state.region.terminals)
 
--- What is written for a block of ORDERS, where `Says` is what looks at a region have to say.
-pub record IsOrdersText (Says : RegionState → Look → Lines → Type 0) (block : OrdersBlock) (state : EdfState)
-    (text : List ℕ) : Type 0 where
+-- What is written for a block of ORDERS, where `Says` is what looks at a region have to say, and `tells` what is told
+-- of turns.
+pub record IsOrdersText (Says : RegionState → Look → Lines → Type 0) (tells : Telling) (block : OrdersBlock)
+    (state : EdfState) (text : List ℕ) : Type 0 where
   pub lines : Lines
   pub are : let sights = sights_of block.sights state.region in
-      OrdersText (λ region. AreSeen (Says region) region sights) (keys_asked block) state.region
+      OrdersText (λ region. AreSeen (Says region) region sights) tells (keys_asked block) state.region
       (names_with_edf state) block.most lines
   pub is : text ≡ marked lines

@@ -20,6 +20,7 @@ use Rattle.cx_look_ahead.specs.Arrivals.{ComesTo, has_statement}
 use Rattle.cx_look_ahead.specs.declared.arrivals.SourceLine.{SourceLine}
 use Rattle.cx_look_abend.specs.Abends.{abend_code_in}
 use Rattle.cx_look_abend.specs.Noting.{AppliesWithAbends}
+use Rattle.cx_look_cover.specs.Tallies.{programs_end}
 use Rattle.cx_look_script.specs.Covered.{Covers, machine_run}
 use Rattle.cx_look_script.specs.State.{LookState}
 use Rattle.cx_look_script.specs.declared.action.LookAction.{LookAction}
@@ -55,7 +56,8 @@ pub record AppliesAtLooks (old : LookState) (e : EdfEvent) (given : Answer) (new
   pub noted : AppliesWithAbends old.edf old.abends e given new.edf new.abends
   pub sources : new.sources ≡ old.sources
   pub watched : new.watched ≡ old.watched
-  pub covered : Covers (machine_run old.edf e) old.covered new.covered
+  pub covered :
+      Covers (machine_run old.edf e) (programs_end old.edf.region.shared.programs) old.covered new.covered
   pub goes_on : new.goes_on ≡ turn_goes_on new.edf e given
 
 -- RUN is over: its last turn isn't to be followed by one more

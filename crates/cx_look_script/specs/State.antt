@@ -4,7 +4,7 @@ use Rattle.cx_edf.specs.State.{EdfState}
 use Rattle.cx_script_actions.specs.Effects.{fresh_state}
 use Rattle.cx_look_abend.specs.Noting.{KeptAbends}
 use Rattle.cx_look_ahead.specs.declared.rows.Row.{Row}
-use Rattle.cx_look_cover.specs.declared.tallies.Tally.{Tally}
+use Rattle.cx_exec.specs.declared.tallied.Tally.{Tally}
 use Rattle.cx_look_symbols.specs.Sources.{Sources}
 
 -- the region under EDF, each terminal's last abend, what is kept of sources, the ranges of bytes that are watched, how

@@ -1,10 +1,11 @@
 //! COVER: what is counted of a turn's instructions.
 ghost use Rattle.std.specs.Prelude.{◌≡◌, IfOk, OnOk};
+ghost use Rattle.cx_look_cover.specs.Tallies.{programs_end};
 ghost use Rattle.cx_look_script.specs.Covered.{IsTalliedBy, cover_lines, machine_run};
 
 use crate::turns::is_held;
 use cx_edf::{Debugged, EdfEvent};
-use cx_look_cover::Tallies;
+use cx_look_cover::{Tallies, programs_end};
 use cx_look_tables::Report;
 use cx_look_turn::{TurnMachine, machine_ahead};
 use cx_region::Event;
@@ -42,17 +43,18 @@ fn machine_run<S: Store + Drop>(
     machine_ahead(alloc, state.region(), *name)
 }
 
-/// Counts the instructions that an event is going to run.
+/// Counts the instructions that an event is going to run, of those that are in programs.
 pub(crate) fn tally<S: Store + Drop>(
     alloc: Global,
     state: &Debugged<S>,
     event: &EdfEvent,
     tallies: &mut Tallies,
 ) -> Result<(), AllocError>
-    ensures { OnOk result (IsTalliedBy (machine_run state.now event.now) tallies.old tallies.new) }
+    ensures { let programs = state.now.region.shared.programs in
+        OnOk result (IsTalliedBy (machine_run state.now event.now) (programs_end programs) tallies.old tallies.new) }
 {
     match machine_run(alloc, state, event)? {
-        Some(mut machine) => tallies.run(&mut machine),
+        Some(mut machine) => tallies.run(&mut machine, programs_end(state.region())),
         None => Ok(()),
     }
 }

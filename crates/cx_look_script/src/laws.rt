@@ -42,6 +42,7 @@ pub fn orders_are_reported_once()
     ensures { OrdersAreReportedOnce }
 {
     cx_orders::laws::moves_decide();
+    cx_region_laws::laws::calls_decide();
     cx_region_laws::laws::a_turn_keeps_to_its_task();
     cx_region_laws::laws::a_key_keeps_to_its_terminal();
     cx_search::laws::one_list_is_sooner();

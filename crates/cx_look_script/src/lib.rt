@@ -11,6 +11,7 @@ mod looks;
 mod orders;
 mod performer;
 mod sources;
+mod telling;
 mod turns;
 mod watched;
 

@@ -4,6 +4,7 @@ ghost use Rattle.std.specs.List.{AllByRecursion};
 ghost use Rattle.cx_look.specs.declared.orders.Sight.TheVariants as sight;
 ghost use Rattle.cx_look_script.specs.Looking.{AreLookLines, ShowsOrders, at_region};
 ghost use Rattle.cx_look_script.specs.Orders.{AreSeen, IsSeen, names_with_edf, sights_of};
+ghost use Rattle.cx_look_script.specs.Telling.{turn_told};
 ghost use Rattle.cx_orders.specs.Moves.{IsFew};
 ghost use Rattle.cx_script_actions.specs.Effects.{screen_text};
 ghost use Rattle.cx_script_io.specs.Lines.{last_met, lines_met};
@@ -11,13 +12,15 @@ ghost use Rattle.cx_script_io.specs.declared.input.Ending.TheVariants.{AtEnd};
 
 use crate::looks::look_lines;
 use crate::performer::LookedRegion;
+use crate::telling::turn_told;
+use cx_base::List;
 use cx_ebcdic::Name4;
 use cx_edf::Debugged;
 use cx_look::{OrdersBlock, Sight};
 use cx_look_orders::{Seen, orders_text};
 use cx_look_tables::Report;
 use cx_orders::{Keys, Orders};
-use cx_region::Region;
+use cx_region::{Region, TurnReply};
 use cx_script_actions::screen_text;
 use cx_script_io::{Ending, last_line, split_line, strip_carriage_return};
 use cx_storage::Store;
@@ -116,8 +119,21 @@ pub(crate) struct Sights<'a, S: Store + Drop> {
 impl<'a, S: Store + Drop> Seen<S> for Sights<'a, S> {
     ghost shows = { λ it region. AreSeen (λ l. AreLookLines l (at_region it.looking.now region)) region it.sights.now };
 
+    ghost tells = { λ it. turn_told it.looking.now.sources };
+
     fn seen(&self, alloc: Global, region: &Region<S>) -> Result<Report, AllocError> {
         sights_lines(alloc, self.looking, region, self.sights)
+    }
+
+    fn told(
+        &self,
+        alloc: Global,
+        region: &Region<S>,
+        name: Name4,
+        reply: TurnReply,
+    ) -> Result<Option<List<u8>>, AllocError> {
+        let looking = self.looking;
+        turn_told(alloc, &looking.sources, region, name, reply)
     }
 
     fn shows_decide(&self) {

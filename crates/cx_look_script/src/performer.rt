@@ -5,6 +5,7 @@ ghost use Rattle.cx_script_actions.specs.Allowed.{IsAllowedAction};
 ghost use Rattle.cx_script_actions.specs.declared.actions.Action.TheVariants as edf_action;
 ghost use Rattle.cx_look_script.specs.declared.action.WatchLine.TheVariants as watch;
 ghost use Rattle.cx_look_script.specs.Looking.{Acts, LookPerforms, NotedPerforms, RunsTurn, SourcePerforms, TakesOneMore, TakesNotedTurn};
+ghost use Rattle.cx_look_cover.specs.Tallies.{programs_end};
 ghost use Rattle.cx_look_script.specs.Covered.{Covers, cover_lines, covered_from, machine_run};
 ghost use Rattle.cx_look_script.specs.Runs.{AppliesAtLooks, run_over};
 ghost use Rattle.cx_look_script.specs.State.{fresh_look_state};
@@ -95,8 +96,9 @@ impl<S: Store + Drop> LookedRegion<S> {
     /// Counts the instructions that an event is going to run, while COVER is on.
     #[tactic(auto, unfolding(crate::specs::Covered::Covers))]
     fn cover(&mut self, event: &EdfEvent) -> Result<(), AllocError>
-        ensures { OnOk result
-            (Covers (machine_run self.old.edf event.now) self.old.covered self.new.covered
+        ensures { let end = programs_end self.old.edf.region.shared.programs in
+            OnOk result
+            (Covers (machine_run self.old.edf event.now) end self.old.covered self.new.covered
             × (self.new ≡ record self.old { covered = self.new.covered })) }
     {
         let alloc = self.state.region().shared().alloc;

@@ -3,13 +3,15 @@ ghost use Rattle.std.specs.Prelude.{◌≡◌, IfOk, OnErr, OnOk};
 ghost use Rattle.cx_exec.specs.Advance.{Advances, Passes};
 ghost use Rattle.cx_exec.specs.Machine.{machine};
 ghost use Rattle.cx_exec.specs.Step.{Steps};
+ghost use Rattle.cx_exec.specs.Tallies.{IsTallied};
+ghost use Rattle.cx_exec.specs.Watches.{IsWatched};
 ghost use Rattle.cx_region_task.specs.Turn.{most_steps};
 ghost use Rattle.cx_look_turn.specs.NextTurn.{IsAhead, machine_ahead};
 ghost use Rattle.cx_look_turn.specs.Traces.{ComesPast, IsTrace, Leaves};
 
 use crate::traces::{Trace, trace_run};
 use cx_ebcdic::Name4;
-use cx_exec::{Cpu, Halt, Step, advance, step};
+use cx_exec::{Cpu, Halt, Step, Tally, Watcher, advance, advance_tallied, advance_watched, step};
 use cx_region::Region;
 use cx_storage::Store;
 use cx_storage_snapshot::StorageSnapshot;
@@ -140,6 +142,25 @@ impl<S: Store + Drop> TurnMachine<S> {
         ensures { Advances most_steps self.old result self.new }
     {
         advance(&mut self.cpu, &mut self.store, MOST_STEPS)
+    }
+
+    /// Runs it so, and counts each instruction that it comes to at its address, where the tallies reach that far.
+    pub fn run_tallied(&mut self, tallies: &mut [Tally]) -> Halt
+        ensures run { Advances most_steps self.old result self.new }
+        ensures tallied { IsTallied most_steps self.old tallies.old tallies.new }
+    {
+        advance_tallied(&mut self.cpu, &mut self.store, tallies, MOST_STEPS)
+    }
+
+    /// Runs it so, and has each instruction that it comes to noted. What the watcher holds at first is of its storage.
+    ///
+    /// An error comes only where an allocation of the watcher failed.
+    pub fn run_watched<W: Watcher>(&mut self, watcher: &mut W) -> Result<Halt, AllocError>
+        requires of { W.is_of self.old.storage watcher.old }
+        ensures run { IfOk result (λ halt. Advances most_steps self.old halt self.new) }
+        ensures watched { OnOk result (IsWatched W.noted most_steps self.old watcher.old watcher.new) }
+    {
+        advance_watched(&mut self.cpu, &mut self.store, watcher, MOST_STEPS)
     }
 
     /// Runs it so, and gives the instructions that it comes to: how many there are, and the last of them, at most

@@ -63,6 +63,14 @@ impl HandleSnapshot {
             kept: kept_again(self.kept.as_slice()),
         }
     }
+
+    /// Puts these handles in the place of a level's.
+    fn put_over(&self, handles: &mut HandleTable)
+        ensures { handles.new ≡ self.now }
+    {
+        handles.active = self.active;
+        put_kept(&mut handles.kept, self.kept.as_slice());
+    }
 }
 
 /// What was kept, kept again.
@@ -75,6 +83,17 @@ fn kept_again(handlings: &[Handling]) -> ArrayVec<Handling, PUSHES>
         kept.push(*handling);
     }
     kept
+}
+
+/// Puts what was kept in the place of what is kept.
+fn put_kept(kept: &mut ArrayVec<Handling, PUSHES>, handlings: &[Handling])
+    requires { length handlings.now ≤ PUSHES }
+    ensures { kept.new.items ≡ handlings.now }
+{
+    kept.clear();
+    for handling in handlings {
+        kept.push(*handling);
+    }
 }
 
 impl Same for HandleSnapshot {
@@ -145,6 +164,19 @@ impl LevelSnapshot {
             handles: self.handles.handles(),
         }
     }
+
+    /// Puts this level in the place of another.
+    fn put_over(&self, level: &mut Level)
+        ensures { level.new ≡ self.now }
+    {
+        level.program = self.program;
+        level.stg = self.stg;
+        level.stg_len = self.stg_len;
+        level.calen = self.calen;
+        level.regs = self.regs;
+        level.cc = self.cc;
+        self.handles.put_over(&mut level.handles);
+    }
 }
 
 impl Same for LevelSnapshot {
@@ -201,6 +233,14 @@ impl LevelsSnapshot {
             current: self.current.level(),
         }
     }
+
+    /// Gives a stack of levels those that were copied. It takes no memory, and moves no level but callers.
+    pub fn put_over(&self, levels: &mut LevelStack)
+        ensures { levels.new ≡ self.now }
+    {
+        put_levels(&mut levels.callers, self.callers.as_slice());
+        self.current.put_over(&mut levels.current);
+    }
 }
 
 impl Same for LevelsSnapshot {
@@ -232,4 +272,15 @@ fn levels_of(snapshots: &[LevelSnapshot]) -> ArrayVec<Level, CALLERS>
         levels.push(snapshot.level());
     }
     levels
+}
+
+/// Puts the levels that were kept in the place of others.
+fn put_levels(levels: &mut ArrayVec<Level, CALLERS>, snapshots: &[LevelSnapshot])
+    requires { length snapshots.now ≤ CALLERS }
+    ensures { levels.new.items ≡ snapshots.now }
+{
+    levels.clear();
+    for snapshot in snapshots {
+        levels.push(snapshot.level());
+    }
 }

@@ -6,3 +6,4 @@ pub mod KeyLemmas
 pub mod AlterLemmas
 pub mod EventLemmas
 pub mod RunLemmas
+pub mod OverLemmas

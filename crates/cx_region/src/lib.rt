@@ -22,7 +22,7 @@ pub use cx_region_state::{Input, NextTransaction, Shared, Task, TerminalEntry};
 pub use cx_region_task::{AbendRecord, Cause};
 pub use looking::{command_name, terminal_at};
 #[doc(hidden)]
-pub use parts::{ChangedParts, ChangedTerminal, RegionParts};
+pub use parts::{ChangedParts, ChangedTerminal, KeptTerminal, RegionParts};
 pub use replies::{DefineFault, Event, KeyReply, Reply, RunStop, TaskInfo};
 pub use state::Region;
 #[doc(hidden)]

@@ -1,8 +1,10 @@
 //! All that a region keeps, read and put in its place.
-ghost use Rattle.std.specs.Prelude.{◌≡◌, fold, unwrap_or};
+ghost use Rattle.std.specs.Prelude.{◌≡◌, ◌<◌, ℕ, List, Some, fold, length, map, slice_get, unwrap_or};
 ghost use Rattle.std.specs.List.{AllByRecursion};
 ghost use Rattle.cx_storage.specs.Storage.{areas_of};
-ghost use Rattle.cx_region.specs.Changes.{IsNumberIn, with_changes, with_terminal};
+ghost use Rattle.indexmap.specs.IndexMap.{set_value_at};
+ghost use Rattle.cx_region.specs.Changes.{HasRoomFor, HaveRoomFor, IsNumberIn, with_changes, with_terminals_made, with_terminal};
+ghost use Rattle.cx_region.specs.State.{TerminalState};
 ghost use Rattle.cx_region.specs.Sound.{IsSound};
 
 use crate::state::{Region, Terminal};
@@ -47,6 +49,20 @@ impl<S: Store + Drop> Model for RegionParts<S> {
         } };
 }
 
+/// A terminal with its name, kept apart from a region, whose state one of a region can be given.
+pub trait KeptTerminal {
+    ghost use Rattle.std.specs.Prelude.{ℕ, List};
+    ghost use Rattle.cx_region.specs.State.{TerminalState};
+
+    /// Its name, and the terminal.
+    ghost kept: { Self → List ℕ × TerminalState };
+
+    /// Gives a terminal this state. It takes no memory.
+    fn put_over(&self, terminal: &mut Terminal)
+        requires { HasRoomFor terminal.old (kept self.now).1 }
+        ensures { terminal.new ≡ (kept self.now).1 };
+}
+
 /// A terminal that is put in the place of another.
 #[derive(Drop)]
 pub struct ChangedTerminal {
@@ -63,7 +79,7 @@ pub struct ChangedParts {
     pub queues: Option<Queues>,
     /// The enqueued resources, where they change.
     pub enqueues: Option<Enqueues>,
-    /// The terminals that change.
+    /// The terminals that are made anew.
     pub terminals: Vec<ChangedTerminal>,
     /// The time, hhmmss.
     pub time: u32,
@@ -89,6 +105,26 @@ fn put_terminals(terminals: &mut IndexMap<Name4, Terminal>, changes: Vec<Changed
 {
     for change in changes {
         terminals[change.number] = change.terminal;
+    }
+}
+
+/// Gives a terminal the state of one that is kept.
+fn put_one<T: KeptTerminal>(terminals: &mut IndexMap<Name4, Terminal>, i: usize, kept: &T)
+    requires within { i < length terminals.old.entries }
+    requires room { (one : List ℕ × TerminalState) → slice_get terminals.old.entries i ≡ Some one
+        → HasRoomFor one.1 (T.kept kept.now).1 }
+    ensures { terminals.new.entries ≡ set_value_at terminals.old.entries i (T.kept kept.now).1 }
+{
+    kept.put_over(&mut terminals[i]);
+}
+
+/// Gives each terminal the state of the one that is kept at its place.
+fn put_kept<T: KeptTerminal>(terminals: &mut IndexMap<Name4, Terminal>, kept: &[T])
+    requires { HaveRoomFor terminals.old.entries (map T.kept kept.now) }
+    ensures { terminals.new.entries ≡ map T.kept kept.now }
+{
+    for i in 0..kept.len() {
+        put_one(terminals, i, &kept[i]);
     }
 }
 
@@ -147,14 +183,21 @@ impl<S: Store + Drop> Region<S> {
         self.counter = counter;
     }
 
-    /// Gives the region the storage of a snapshot, which has just the areas that are there, and puts these parts in the
-    /// place of those that it keeps; what then stands must be sound (`IsSound`). It takes no memory.
+    /// Gives the region the storage of a snapshot, which has just the areas that are there, puts these parts in the place
+    /// of those that it keeps, and gives each terminal the state of the one that is kept at its place; what then stands
+    /// must be sound (`IsSound`). It takes no memory.
     #[doc(hidden)]
-    pub fn put_over(&mut self, storage: &StorageSnapshot, parts: ChangedParts)
+    pub fn put_over<T: KeptTerminal>(
+        &mut self,
+        storage: &StorageSnapshot,
+        kept: &[T],
+        parts: ChangedParts,
+    )
         requires areas { areas_of self.old.shared.storage ≡ areas_of storage.now }
         requires numbers { AllByRecursion (IsNumberIn self.old.terminals) parts.terminals.items }
-        requires sound { IsSound (with_changes self.old storage.now parts) }
-        ensures { self.new ≡ with_changes self.old storage.now parts }
+        requires room { HaveRoomFor (with_terminals_made self.old parts) (map T.kept kept.now) }
+        requires sound { IsSound (with_changes self.old storage.now (map T.kept kept.now) parts) }
+        ensures { self.new ≡ with_changes self.old storage.now (map T.kept kept.now) parts }
     {
         let ChangedParts {
             queues,
@@ -168,6 +211,7 @@ impl<S: Store + Drop> Region<S> {
         put_given(&mut self.shared.queues, queues);
         put_given(&mut self.shared.enqueues, enqueues);
         put_terminals(&mut self.terminals, terminals);
+        put_kept(&mut self.terminals, kept);
         self.time = time;
         self.date = date;
         self.counter = counter;

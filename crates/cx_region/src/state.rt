@@ -12,8 +12,10 @@ use std::marker::Model;
 /// key attaches.
 #[derive(Drop)]
 pub struct Terminal {
-    pub(crate) entry: TerminalEntry,
-    pub(crate) task: Option<Task>,
+    /// What is kept of it also while it has no task.
+    pub entry: TerminalEntry,
+    /// Its task.
+    pub task: Option<Task>,
 }
 
 impl Model for Terminal {

@@ -4,7 +4,8 @@ ghost use Rattle.std.specs.List.{IsDistinct};
 ghost use Rattle.std.specs.Map.{keys_of};
 ghost use Rattle.cx_base.specs.Hash.{hash_with};
 ghost use Rattle.cx_ebcdic.specs.Names.{is_name};
-ghost use Rattle.cx_region_snapshot.specs.Parts.Changes.{ArePut, Becomes, changed_at};
+ghost use Rattle.cx_region.specs.Changes.{HasRoomFor};
+ghost use Rattle.cx_region_snapshot.specs.Parts.Changes.{Becomes, MakeRoom, changed_at};
 ghost use Rattle.cx_region_snapshot.specs.Hash.{region_hash, hash_with_task};
 
 use crate::terminal::TerminalSnapshot;
@@ -175,16 +176,15 @@ fn changed<T: Replica>(alloc: Global, there: &T, kept: &Rc<T>) -> Result<Option<
     Ok(Some(kept.replica(alloc)?))
 }
 
-/// The terminal that is kept, made again, where it is another than the one that is there.
-fn changed_terminal(
+/// The terminal that is kept, made again, where the one that is there has no room for it.
+fn made_terminal(
     alloc: Global,
     there: &Terminal,
     kept: &TerminalSnapshot,
 ) -> Result<Option<Terminal>, AllocError>
-    ensures { IfOk result (λ given. unwrap_or given there.now ≡ kept.now.1) }
+    ensures { IfOk result (λ given. HasRoomFor (unwrap_or given there.now) kept.now.1) }
 {
-    let copy = TerminalSnapshot::take(alloc, kept.name(), there, Some(kept))?;
-    if copy.is_same(kept) {
+    if kept.fits(there) {
         return Ok(None);
     }
     Ok(Some(kept.terminal(alloc)?))
@@ -212,15 +212,15 @@ fn push_changed(
     Ok(())
 }
 
-/// The terminals that are kept, made again, where they are others than those that are there; None where those have
+/// The terminals that are kept, made again, where those that are there have no room for them; None where these have
 /// other names.
-#[tactic(auto, using(crate::proofs::ChangeLemmas::all_put))]
+#[tactic(auto, using(crate::proofs::ChangeLemmas::none_put))]
 fn changed_terminals(
     alloc: Global,
     there: &IndexMap<Name4, Terminal>,
     kept: &[TerminalSnapshot],
 ) -> Result<Option<Vec<ChangedTerminal>>, AllocError>
-    ensures { IfOk result (λ changes. IfSome changes (λ changes. ArePut there.now.entries kept.now changes.items)) }
+    ensures { IfOk result (λ changes. IfSome changes (λ changes. MakeRoom there.now.entries kept.now changes.items)) }
 {
     if there.len() != kept.len() {
         return Ok(None);
@@ -231,8 +231,8 @@ fn changed_terminals(
         let Some(terminal) = named_at(there, i, one.name()) else {
             return Ok(None);
         };
-        let changed = changed_terminal(alloc, terminal, one)?;
-        push_changed(&mut changes, i, changed)?;
+        let made = made_terminal(alloc, terminal, one)?;
+        push_changed(&mut changes, i, made)?;
     }
     Ok(Some(changes))
 }
@@ -332,19 +332,14 @@ impl RegionSnapshot {
         }))
     }
 
-    /// Gives a region this state in place of the one that it has. Where both have the same areas, programs, transactions
-    /// and terminals, only what differs is made anew. Else the old state is dropped once all of the new one is made, so
-    /// that memory holds both until then.
-    ///
-    /// An error comes only where an allocation failed; then the region is as before.
-    pub fn restore<S: Store + Drop>(&self, region: &mut Region<S>) -> Result<(), AllocError>
+    /// Gives a region this state in place of all that it has. It is a function of its own, since what it makes takes room
+    /// on the stack that each call would fill.
+    #[cold]
+    #[inline(never)]
+    fn put_anew<S: Store + Drop>(&self, region: &mut Region<S>) -> Result<(), AllocError>
         ensures ok { OnOk result (region.new ≡ self.now) }
         ensures err { OnErr result (region.new ≡ region.old) }
     {
-        if let Some(parts) = self.changes_of(region)? {
-            region.put_over(&self.storage, parts);
-            return Ok(());
-        }
         let shared = self.shared_like(region.shared())?;
         let alloc = shared.alloc;
         let transactions = replica_of_table(alloc, &self.defined.transactions)?;
@@ -358,6 +353,22 @@ impl RegionSnapshot {
             counter: self.counter,
         });
         Ok(())
+    }
+
+    /// Gives a region this state in place of the one that it has. Where both have the same areas, programs, transactions
+    /// and terminals, what differs is given its state where it is, or made anew. Else the old state is dropped once all of
+    /// the new one is made, so that memory holds both until then.
+    ///
+    /// An error comes only where an allocation failed; then the region is as before.
+    pub fn restore<S: Store + Drop>(&self, region: &mut Region<S>) -> Result<(), AllocError>
+        ensures ok { OnOk result (region.new ≡ self.now) }
+        ensures err { OnErr result (region.new ≡ region.old) }
+    {
+        if let Some(parts) = self.changes_of(region)? {
+            region.put_over(&self.storage, self.terminals.as_slice(), parts);
+            return Ok(());
+        }
+        self.put_anew(region)
     }
 
     /// A region of this state, over an empty store.

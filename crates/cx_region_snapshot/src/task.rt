@@ -84,6 +84,18 @@ impl TaskSnapshot {
         })
     }
 
+    /// Gives a task this state. It takes no memory.
+    pub(crate) fn put_over(&self, task: &mut Task)
+        ensures { task.new ≡ self.now }
+    {
+        task.tran = self.tran;
+        task.number = self.number;
+        task.eib = self.eib;
+        self.levels.put_over(&mut task.levels);
+        task.cpu = same_cpu(&self.cpu);
+        task.due = self.due;
+    }
+
     /// The hash with its registers and next address.
     pub(crate) fn hash(&self, before: u64) -> u64
         ensures { result ≡ hash_with (hash_of before self.now.regs) self.now.next }

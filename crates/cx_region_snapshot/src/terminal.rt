@@ -1,12 +1,13 @@
 //! A terminal with its task, kept apart from its region.
-ghost use Rattle.std.specs.Prelude.{◌≡◌, ◌↔◌, IsTrue, IfOk};
+ghost use Rattle.std.specs.Prelude.{◌≡◌, ◌↔◌, IsTrue, IsSome, IfOk};
+ghost use Rattle.cx_region.specs.Changes.{HasRoomFor};
 ghost use Rattle.std.specs.Option.{option_copied};
 ghost use Rattle.cx_region_snapshot.specs.Hash.{hash_with_task};
 
 use crate::task::TaskSnapshot;
 use cx_base::{Replica, Same, hash_with, share, share_replica};
 use cx_ebcdic::Name4;
-use cx_region::{Input, NextTransaction, Task, Terminal, TerminalEntry};
+use cx_region::{Input, KeptTerminal, NextTransaction, Task, Terminal, TerminalEntry};
 use cx_service::Screen;
 use std::alloc::{AllocError, Global};
 use std::marker::Model;
@@ -60,6 +61,29 @@ fn made_again(alloc: Global, task: &Option<TaskSnapshot>) -> Result<Option<Task>
     match task {
         Some(task) => Ok(Some(task.task(alloc)?)),
         None => Ok(None),
+    }
+}
+
+/// Gives a task, which is there where one is kept, the state of that; else it ends.
+fn put_task(kept: &Option<TaskSnapshot>, there: &mut Option<Task>)
+    requires { IsSome kept.now → IsSome there.old }
+    ensures { there.new ≡ kept.now }
+{
+    let Some(kept) = kept else {
+        *there = None;
+        return;
+    };
+    if let Some(task) = there {
+        kept.put_over(task);
+    }
+}
+
+/// Gives a screen the state of one that is kept.
+fn put_screen(kept: &Screen, there: &mut Screen)
+    ensures { there.new ≡ kept.now }
+{
+    if !kept.is_same(there) {
+        *there = *kept;
     }
 }
 
@@ -121,11 +145,30 @@ impl TerminalSnapshot {
         Ok(Terminal::with_task(terminal_entry, task))
     }
 
+    /// Whether a terminal can be given this state without memory.
+    pub(crate) fn fits(&self, there: &Terminal) -> bool
+        ensures { IsTrue result ↔ HasRoomFor there.now self.now.1 }
+    {
+        self.input.is_same(&there.entry.input)
+            && self.following.is_same(&there.entry.following)
+            && (self.task.is_none() || there.task.is_some())
+    }
+
     /// The hash with its task.
     pub(crate) fn hash(&self, before: u64) -> u64
         ensures { result ≡ hash_with_task before self.now.1.task }
     {
         hash_with_task(before, &self.task)
+    }
+}
+
+impl KeptTerminal for TerminalSnapshot {
+    ghost kept = { λ terminal. terminal };
+
+    fn put_over(&self, terminal: &mut Terminal) {
+        terminal.entry.slot = self.slot;
+        put_screen(&self.screen, &mut terminal.entry.screen);
+        put_task(&self.task, &mut terminal.task);
     }
 }
 

@@ -1,9 +1,9 @@
 -- Storage whose areas are those of copies, and what it is when the copies' bytes are written over its own.
-use Rattle.std.proofs.Common.{◌≡◌, ℕ, zero, suc, ◌+◌, ◌<◌, ◌≤◌, ◌^◌, sym, ap, ◌∙◌, arith, true, List, [], ◌∷◌, ◌++◌, map, length, take, drop, get_or, Option, Some, None, refl, append_assoc}
+use Rattle.std.proofs.Common.{◌≡◌, ℕ, zero, suc, ◌+◌, ◌<◌, ◌≤◌, ◌^◌, sym, ap, ◌∙◌, arith, List, [], ◌∷◌, ◌++◌, map, length, take, drop, get_or, Option, Some, None, refl, append_assoc}
 use Rattle.std.specs.Prelude.{IsTrue, is_none}
 use Rattle.std.specs.Global.{Global}
 use Rattle.std.specs.declared.rc.Rc.{Rc}
-use Rattle.std.proofs.lemmas.List.{append-nil, drop_all, drop_more, get_or-map, length-map, map-append, take_all}
+use Rattle.std.proofs.lemmas.List.{append-nil, append_cancel_left, drop_all, drop_more, get_or-map, length-map, map-append, take-append-drop, take_all}
 use Rattle.cx_storage.specs.Storage.{Held, Storage, areas_of, end_of, next_area, IsSoundStorage}
 use Rattle.cx_storage.specs.Facts.Sound.{IsSoundStorage-head, IsSoundStorage-tail, IsSoundStorage-apart, sound_nil}
 use Rattle.cx_storage.specs.declared.areas.Area.{Area}
@@ -45,6 +45,59 @@ all_areas s from i copies all none so =
     let front : take i (values copies) ≡ values copies = take_all i (values copies) (rw length-map all) in
     sym so ∙ ap (λ (areas : List Area). areas_of (take i (values copies)) ++ areas) rest ∙ append-nil (areas_of (take i (values copies))) ∙ ap areas_of front
 
+-- ---- other areas
+areas_append : (s t : Storage) → areas_of (s ++ t) ≡ areas_of s ++ areas_of t
+unfolding areas_of
+areas_append s t = map-append (λ (h : Held). h.area) s t
+
+-- where all areas are those of copies, those that are left are those of the copies that are left
+areas_left : (s : Storage) (from i : ℕ) (held : List Held) → areas_of (take i held) ++ areas_of (areas_from from s) ≡ areas_of s → areas_of s ≡ areas_of held
+    → areas_of (areas_from from s) ≡ areas_of (drop i held)
+areas_left s from i held so same =
+    append_cancel_left (areas_of (take i held)) (areas_of (areas_from from s)) (areas_of (drop i held))
+    (so ∙ same ∙ ap areas_of (sym (take-append-drop i held)) ∙ areas_append (take i held) (drop i held))
+
+first_left : (held : List Held) (i : ℕ) (d : Held) → i < length held → areas_of (drop i held) ≡ (get_or held i d).area ∷ areas_of (drop (i + 1) held)
+unfolding areas_of
+first_left held i d l = ap (λ (t : Storage). map (λ h. h.area) t) (drop_more held i d l)
+
+copy_there : (copies : List (Rc Held Global)) (i : ℕ) (x : Rc Held Global) → i < length copies → x ≡ get_or copies i x → get_or (values copies) i x.value ≡ x.value
+copy_there copies i x lx is = get_or-map (λ (c : Rc Held Global). c.value) copies i x x.value lx ∙ sym (ap (λ (c : Rc Held Global). c.value) is)
+
+-- the first of those that are left is that of the next copy
+next_left : (s : Storage) (from i : ℕ) (copies : List (Rc Held Global)) (x : Rc Held Global) → i < length copies → x ≡ get_or copies i x
+    → areas_of (take i (values copies)) ++ areas_of (areas_from from s) ≡ areas_of s → areas_of s ≡ areas_of (values copies)
+    → areas_of (areas_from from s) ≡ x.value.area ∷ areas_of (drop (i + 1) (values copies))
+next_left s from i copies x lx is so same =
+    areas_left s from i (values copies) so same ∙ first_left (values copies) i x.value (rw length-map lx)
+    ∙ ap (λ (h : Held). h.area ∷ areas_of (drop (i + 1) (values copies))) (copy_there copies i x lx is)
+
+pub area_missing : (s : Storage) (from i : ℕ) (copies : List (Rc Held Global)) (x : Rc Held Global) → i < length copies → x ≡ get_or copies i x → next_area s from ≡ None
+    → areas_of (take i (values copies)) ++ areas_of (areas_from from s) ≡ areas_of s → areas_of s ≡ areas_of (values copies) → ⊥
+area_missing s from i copies x lx is e so same =
+    let none : areas_of (areas_from from s) ≡ [] = ap areas_of (areas_from_none s from e) ∙ none_there in
+    let next = next_left s from i copies x lx is so same in
+    let empty : [] ≡ x.value.area ∷ areas_of (drop (i + 1) (values copies)) = sym none ∙ next in
+    cc
+
+pub area_same : (s : Storage) (from i : ℕ) (area : Area) (copies : List (Rc Held Global)) (x : Rc Held Global) → IsSoundStorage s → i < length copies → x ≡ get_or copies i x
+    → next_area s from ≡ Some area → areas_of (take i (values copies)) ++ areas_of (areas_from from s) ≡ areas_of s → areas_of s ≡ areas_of (values copies) → x.value.area ≡ area
+area_same s from i area copies x ok lx is e so same =
+    let both : area ∷ areas_of (areas_from (area.start + area.len) s) ≡ x.value.area ∷ areas_of (drop (i + 1) (values copies)) =
+    sym (areas_more s from area ok e) ∙ next_left s from i copies x lx is so same in
+    cc
+
+pub area_over : (s : Storage) (from i : ℕ) (copies : List (Rc Held Global)) → IsSoundStorage s → length copies ≤ i → areas_of (take i (values copies)) ++ areas_of (areas_from from s) ≡ areas_of s
+    → areas_of s ≡ areas_of (values copies) → IsTrue (is_none (next_area s from))
+area_over s from i copies ok all so same = by_next (next_area s from) refl
+  where
+    left : areas_of (areas_from from s) ≡ []
+    left = areas_left s from i (values copies) so same ∙ ap areas_of (drop_all i (values copies) (rw length-map all)) ∙ none_there
+
+    by_next : (o : Option Area) → next_area s from ≡ o → IsTrue (is_none o)
+    by_next None e = refl
+    by_next (Some area) e = let some : area ∷ areas_of (areas_from (area.start + area.len) s) ≡ [] = sym (areas_more s from area ok e) ∙ left in cc
+
 -- ---- written over
 sound_drop : (n : ℕ) (s : Storage) → IsSoundStorage s → IsSoundStorage (drop n s)
 sound_drop zero s ok = ok
@@ -58,9 +111,6 @@ as_many s t e = sym (length-map s (λ (h : Held). h.area)) ∙ ap length e ∙ l
 same_area : (s t : Storage) (i : ℕ) (d : Held) → areas_of s ≡ areas_of t → i < length s → i < length t → (get_or s i d).area ≡ (get_or t i d).area
 unfolding areas_of
 same_area s t i d e ls lt = sym (get_or-map (λ (h : Held). h.area) s i d d.area ls) ∙ ap (λ (areas : List Area). get_or areas i d.area) e ∙ get_or-map (λ (h : Held). h.area) t i d d.area lt
-
-copy_at : (copies : List (Rc Held Global)) (i : ℕ) (x : Rc Held Global) → i < length copies → x ≡ get_or copies i x → get_or (values copies) i x.value ≡ x.value
-copy_at copies i x lx is = get_or-map (λ (c : Rc Held Global). c.value) copies i x x.value lx ∙ sym (ap (λ (c : Rc Held Global). c.value) is)
 
 -- a copy is as long as its area, which ends below 2^24
 pub copy_bounds : (copies : List (Rc Held Global)) (i : ℕ) (x : Rc Held Global) → IsSoundStorage (values copies) → i < length copies → x ≡ get_or copies i x
@@ -82,7 +132,7 @@ area_written old now new copies i x area bytes sound ok same lx is e f so filled
     let lo : i < length old = rw (as_many old vs same) lv in
     let h = get_or old i x.value in
     let split : drop i old ≡ h ∷ drop (i + 1) old = drop_more old i x.value lo in
-    let there : h.area ≡ area = same_area old vs i x.value same lo lv ∙ ap (λ (g : Held). g.area) (copy_at copies i x lx is) ∙ sym e in
+    let there : h.area ≡ area = same_area old vs i x.value same lo lv ∙ ap (λ (g : Held). g.area) (copy_there copies i x lx is) ∙ sym e in
     let front = front_more copies i x lx is in
     let before : EndBefore area.start (take i vs) = rw e (ends_before (take i vs) x.value (rw front at (sound_take (i + 1) vs ok))) in
     let rest_ok : IsSoundStorage (h ∷ drop (i + 1) old) = rw split at (sound_drop i old sound) in

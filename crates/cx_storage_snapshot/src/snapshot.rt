@@ -89,7 +89,7 @@ impl StorageSnapshot {
 
     /// Whether a store has just the areas of this storage, with their owners, whatever their bytes.
     pub fn has_areas_of<S: Store>(&self, store: &S) -> bool
-        ensures { IsTrue result → areas_of (S.storage store.now) ≡ areas_of self.now }
+        ensures { IsTrue result ↔ (areas_of (S.storage store.now) ≡ areas_of self.now) }
     {
         has_areas(store, self.areas.as_slice())
     }

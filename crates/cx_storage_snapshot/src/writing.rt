@@ -81,7 +81,7 @@ fn is_of(copy: &AreaCopy, area: Area) -> bool
 
 /// Whether a store has just the areas of copies, whatever their bytes.
 pub(crate) fn has_areas<S: Store>(store: &S, copies: &[Rc<AreaCopy>]) -> bool
-    ensures { IsTrue result → areas_of (S.storage store.now) ≡ areas_of (values copies.now) }
+    ensures { IsTrue result ↔ (areas_of (S.storage store.now) ≡ areas_of (values copies.now)) }
 {
     store_is_sound(store);
     let mut from = 0;

@@ -38,6 +38,15 @@ fn give_back<S: Store + Drop>(store: &mut S, kept: &StorageSnapshot) -> Result<(
     Ok(())
 }
 
+/// Writes what a snapshot has over a store, where that has just its areas.
+fn write_back<S: Store>(store: &mut S, kept: &StorageSnapshot) -> bool {
+    if !kept.has_areas_of(store) {
+        return false;
+    }
+    kept.write_over(store);
+    true
+}
+
 fn are_same(one: &StorageSnapshot, other: &StorageSnapshot) -> bool {
     one.is_same(other)
 }
@@ -85,8 +94,23 @@ fn changes_and_comes_back<S: Store + Drop>(
         fetched == Some([9, 4, 0, 0, 0, 0, 0, 0])
             && !are_same(before, &after)
             && are_same(before, &again)
-            && have_one_hash(before, &again),
+            && have_one_hash(before, &again)
+            && is_written_over(alloc, store, before, &after)?,
     )
+}
+
+/// Whether one of two snapshots of the same areas is written over a store, and then the other.
+fn is_written_over<S: Store>(
+    alloc: Global,
+    store: &mut S,
+    before: &StorageSnapshot,
+    after: &StorageSnapshot,
+) -> Result<bool, AllocError> {
+    let there = write_back(store, after);
+    let fetched = store.fetch(0x3000);
+    let written = take(alloc, store, Some(before))?;
+    let back = write_back(store, before);
+    Ok(there && back && fetched == Some([9, 4, 0, 0, 0, 0, 0, 0]) && are_same(after, &written))
 }
 
 /// An area over several pages is kept, changed, kept again and given back; what was fetched before is not kept.
@@ -144,11 +168,13 @@ fn small_changes_are_seen<S: Store + Drop>(
     place(store, 20, OWNER)?;
     let one = take(alloc, store, None)?;
     place(store, 20, OTHER_OWNER)?;
-    let owned = differs(alloc, store, &one)?;
+    let owned = differs(alloc, store, &one)? && !write_back(store, &one);
     place(store, 21, OWNER)?;
-    let longer = differs(alloc, store, &one)?;
+    let longer = differs(alloc, store, &one)? && !write_back(store, &one);
+    store.free_area(LOW);
+    let none = !write_back(store, &one);
     place(store, 20, OWNER)?;
-    Ok(owned && longer && differs_by_a_byte(alloc, store, &one)?)
+    Ok(owned && longer && none && differs_by_a_byte(alloc, store, &one)?)
 }
 
 /// Whether so many areas of 16 bytes are made.

@@ -1,5 +1,5 @@
 -- Ranges on the way through a run that is done once more.
-use Rattle.std.specs.Prelude.{◌≡◌, ◌<◌, ℕ, Option, Some, None, if◌then◌else◌, List, [], ◌∷◌, ◌++◌, codes}
+use Rattle.std.specs.Prelude.{◌≡◌, ◌<◌, ℕ, Option, Some, None, if◌then◌else◌, List, [], ◌∷◌, ◌++◌, codes, map}
 use Rattle.std.specs.List.{AllByRecursion, flat_map}
 use Rattle.std.specs.Option.{option_map_or}
 use Rattle.std.specs.Str.{bytes_eq}
@@ -29,6 +29,17 @@ abbrev pub noted : Storage → ℕ → SeenRange → SeenRange
 noted s at seen =
     if bytes_eq seen.shown (shown_in s seen.kept.range) then seen
     else record { kept = seen.kept; shown = shown_in s seen.kept.range; last = Some at }
+
+-- each of them
+abbrev pub all_noted : Storage → ℕ → List SeenRange → List SeenRange
+all_noted s at seen = map (noted s at) seen
+
+-- the bytes are those in a storage
+abbrev pub IsSeenIn : Storage → SeenRange → Type 0
+IsSeenIn s seen = seen.shown ≡ shown_in s seen.kept.range
+
+abbrev pub AreSeenIn : Storage → List SeenRange → Type 0
+AreSeenIn s seen = AllByRecursion (IsSeenIn s) seen
 
 abbrev pub IsLastSeen : ℕ → Machine → SeenRange → Type 0
 IsLastSeen limit m seen = LastWriter limit m seen.kept.range seen.last

@@ -8,7 +8,7 @@ use Rattle.std.proofs.lemmas.Option.{none-some, same_Some}
 use Rattle.cx_ebcdic.specs.Names.{is_name}
 use Rattle.cx_search.specs.Laws.{BoundedNeverLoop, SoonerOrders}
 use Rattle.cx_search.specs.Moves.{IsSooner}
-use Rattle.cx_region_laws.specs.Laws.Regions.{KeysKeepToTheirTerminal, TurnsKeepToTheirTask}
+use Rattle.cx_region_laws.specs.Laws.Regions.{KeysKeepToTheirTerminal, TurnsDecide, TurnsKeepToTheirTask}
 use Rattle.cx_look_lines.specs.Words.{Lines}
 use Rattle.cx_region.specs.State.{RegionState}
 use Rattle.cx_orders.specs.Facts.Same.{same_equivalence, same_is, same_state}
@@ -20,12 +20,12 @@ use Rattle.cx_look_orders.specs.Laws.{ReportsDecide}
 use Rattle.cx_look_orders.specs.Outcomes.{AllCanRest, AreOutcomes, AreReached, HasReached, HasStates, IsCutAt, IsOutcome, IsReached, IsStuck, MayLoop}
 use Rattle.cx_look_orders.specs.Parts.Ways.{came_between}
 use Rattle.cx_look_orders.specs.Report.{cut_line, loop_lines, outcomes_lines, stuck_line, whole_line}
-use Rattle.cx_look_orders.specs.Steps.{AreSteps, move_number, moves_of}
+use Rattle.cx_look_orders.specs.Steps.{AreSteps, Telling, move_number, moves_of}
 use Rattle.cx_look_orders.specs.declared.outcomes.Outcome.{Outcome}
 use Rattle.cx_look_orders.specs.declared.steps.Step.{Step}
 use Rattle.cx_look_orders.specs.Facts.Items.{at_most as items_at_most}
 use Rattle.cx_look_orders.specs.Facts.Outcomes.{both_soonest, ends_with, many_moves, move_of, near_less, same_moves, steps_lead}
-use Rattle.cx_look_orders.specs.Facts.Steps.{half_of_step, key_of_step}
+use Rattle.cx_look_orders.specs.Facts.Steps.{half_of_step, key_of_step, told_of_step}
 
 -- ---- two sorted lists with the same items
 module _ {X : Type 0} (Less : X → X → Type 0) (never : (x : X) → Less x x → ⊥)
@@ -70,8 +70,8 @@ module _ {X : Type 0} (Less : X → X → Type 0) (never : (x : X) → Less x x 
       (same_lists xs ys (later_sorted x xs one) (later_sorted y ys other) (later_within x y xs ys e one there)
       (later_within y x ys xs (sym e) other back))
 
-module _ (decide : MovesDecide) (turned : TurnsKeepToTheirTask) (keyed : KeysKeepToTheirTerminal)
-    (keys : Keys) where
+module _ (decide : MovesDecide) (turns : TurnsDecide) (turned : TurnsKeepToTheirTask)
+    (keyed : KeysKeepToTheirTerminal) (tells : Telling) (keys : Keys) where
   -- ---- steps
   abbrev Named : OrdersState → Type 0
   Named state = IsDistinct is_name (names_of state.region.terminals)
@@ -83,12 +83,13 @@ module _ (decide : MovesDecide) (turned : TurnsKeepToTheirTask) (keyed : KeysKee
         (sym (keyed from.region m.name _ k.1.comes.reply to.region k.1.comes.takes).names) named
   ]
 
-  same_steps : (one other : Step) → one.number ≡ other.number → one.key ≡ other.key → one ≡ other
-  same_steps one other p q = λ i. record { number = p i; key = q i }
+  same_steps : (one other : Step) → one.number ≡ other.number → one.key ≡ other.key → one.told ≡ other.told
+      → one ≡ other
+  same_steps one other p q r = λ i. record { number = p i; key = q i; told = r i }
 
   -- the steps of one list of moves are determined
-  pub steps_decide : (from s t : OrdersState) (ones others : List Step) → Named from → AreSteps keys from ones s
-      → AreSteps keys from others t
+  pub steps_decide : (from s t : OrdersState) (ones others : List Step) → Named from → AreSteps tells keys from ones s
+      → AreSteps tells keys from others t
       → moves_of ones ≡ moves_of others → ones ≡ others
   unfolding AreSteps
   steps_decide from s t [] [] named are too e = refl
@@ -101,17 +102,18 @@ module _ (decide : MovesDecide) (turned : TurnsKeepToTheirTask) (keyed : KeysKee
       same_Some (move_number one) (move_number other) (ap (λ ms. slice_get ms 0) e) in
       let number : one.number ≡ other.number =
       sym (half_of_step one) ∙ ap (λ n. n / 2) move ∙ half_of_step other in
-      let first = move_of keys from are.between one are.is in
+      let first = move_of tells keys from are.between one are.is in
       let second = subst (λ n. Moves keys from n too.between) (sym move)
-      (move_of keys from too.between other too.is) in
+      (move_of tells keys from too.between other too.is) in
       let between = decide keys from are.between too.between (move_number one) named first second in
-      let key = key_of_step keys from are.between one are.is
+      let key = key_of_step tells keys from are.between one are.is
       ∙ ap (λ (to : OrdersState). came_between from.come to.come one.number) between
       ∙ ap (λ n. came_between from.come too.between.come n) number
-      ∙ sym (key_of_step keys from too.between other too.is) in
+      ∙ sym (key_of_step tells keys from too.between other too.is) in
       let rest = steps_decide are.between s t ones others (move_names from are.between (move_number one) first named) are.rest
-      (subst (λ x. AreSteps keys x others t) (sym between) too.rest) (ap (λ ms. drop 1 ms) e) in
-      ap (λ z. z ∷ ones) (same_steps one other number key) ∙ ap (λ zs. other ∷ zs) rest
+      (subst (λ x. AreSteps tells keys x others t) (sym between) too.rest) (ap (λ ms. drop 1 ms) e) in
+      let told = told_of_step tells keys turns from are.between too.between one other number key are.is too.is in
+      ap (λ z. z ∷ ones) (same_steps one other number key told) ∙ ap (λ zs. other ∷ zs) rest
 
   -- ---- outcomes
   module _ (sooner : SoonerOrders) (start : OrdersState) (named : Named start) where
@@ -123,25 +125,25 @@ module _ (decide : MovesDecide) (turned : TurnsKeepToTheirTask) (keyed : KeysKee
 
     module _ (Shows : RegionState → Lines → Type 0) (cut : Option ℕ) where
       -- outcomes of one text are one
-      same_by_text : (one other : Outcome) → IsOutcome Shows keys start cut one → IsOutcome Shows keys start cut other
+      same_by_text : (one other : Outcome) → IsOutcome Shows tells keys start cut one → IsOutcome Shows tells keys start cut other
           → one.text ≡ other.text → one ≡ other
       same_by_text one other is too e =
-          let moves = same_moves sooner Shows keys start cut one other is too e in
+          let moves = same_moves sooner Shows tells keys start cut one other is too e in
           same_outcomes one other e
           (steps_decide start is.to too.to one.steps other.steps named is.steps too.steps moves)
 
-      outcomes_within : (ones others : List Outcome) → AreOutcomes Shows keys start cut ones
-          → AreOutcomes Shows keys start cut others
+      outcomes_within : (ones others : List Outcome) → AreOutcomes Shows tells keys start cut ones
+          → AreOutcomes Shows tells keys start cut others
           → (k : ℕ) (one : Outcome) → slice_get ones k ≡ Some one → (j : ℕ) × (slice_get others j ≡ Some one)
       outcomes_within ones others are too k one at =
           let is = are.each k one at in
-          let h = too.all (moves_of one.steps) one.text (ends_with Shows keys start cut one one.text is refl)
+          let h = too.all (moves_of one.steps) one.text (ends_with Shows tells keys start cut one one.text is refl)
           (near_less cut (length (moves_of one.steps)) (length one.steps)
           (omega (arith, many_moves one.steps)) is.near) in
           (h.place, h.at ∙ ap Some (same_by_text h.one one (too.each h.place h.one h.at) is h.same))
 
-      pub outcomes_decide : (ones others : List Outcome) → AreOutcomes Shows keys start cut ones
-          → AreOutcomes Shows keys start cut others → ones ≡ others
+      pub outcomes_decide : (ones others : List Outcome) → AreOutcomes Shows tells keys start cut ones
+          → AreOutcomes Shows tells keys start cut others → ones ≡ others
       outcomes_decide ones others are too =
           same_lists Less (λ one l. sooner.not_self (moves_of one.steps) l)
           (λ x y z l m. sooner.onward (moves_of x.steps) (moves_of y.steps) (moves_of z.steps) l m)
@@ -149,18 +151,18 @@ module _ (decide : MovesDecide) (turned : TurnsKeepToTheirTask) (keyed : KeysKee
           (outcomes_within others ones too are)
 
     -- ---- moves without an end
-    loops_decide : BoundedNeverLoop (Moves keys) → (one other : Option (List Step)) → MayLoop keys start one
-        → MayLoop keys start other → one ≡ other
+    loops_decide : BoundedNeverLoop (Moves keys) → (one other : Option (List Step)) → MayLoop tells keys start one
+        → MayLoop tells keys start other → one ≡ other
     loops_decide never None None p q = refl
     loops_decide never None (Some steps) p q =
-        absurd (never start q.to (moves_of steps) p (steps_lead keys start q.to steps q.are) q.loops)
+        absurd (never start q.to (moves_of steps) p (steps_lead tells keys start q.to steps q.are) q.loops)
     loops_decide never (Some steps) None p q =
-        absurd (never start p.to (moves_of steps) q (steps_lead keys start p.to steps p.are) p.loops)
+        absurd (never start p.to (moves_of steps) q (steps_lead tells keys start p.to steps p.are) p.loops)
     loops_decide never (Some ones) (Some others) p q =
         ap Some (steps_decide start p.to q.to ones others named p.are q.are
         (both_soonest sooner (moves_of ones) (moves_of others)
-        (p.soonest (moves_of others) q.to (steps_lead keys start q.to others q.are) q.loops)
-        (q.soonest (moves_of ones) p.to (steps_lead keys start p.to ones p.are) p.loops)))
+        (p.soonest (moves_of others) q.to (steps_lead tells keys start q.to others q.are) q.loops)
+        (q.soonest (moves_of ones) p.to (steps_lead tells keys start p.to ones p.are) p.loops)))
 
     stuck_decides : (one other : Bool) → MatchBool one (IsStuck keys start) (AllCanRest keys start)
         → MatchBool other (IsStuck keys start) (AllCanRest keys start) → one ≡ other
@@ -214,10 +216,10 @@ module _ (keys : Keys) (start : OrdersState) where
       omega (arith, many, few, q.many, p.is)
 
 -- ---- the whole
-pub reports_decide : (Shows : RegionState → Lines → Type 0) → MovesDecide → TurnsKeepToTheirTask
-    → KeysKeepToTheirTerminal → SoonerOrders
-    → (keys : Keys) → BoundedNeverLoop (Moves keys) → ReportsDecide Shows keys
-reports_decide Shows decide turned keyed sooner keys never region edf most one other named (inl p) (inl q) =
+pub reports_decide : (Shows : RegionState → Lines → Type 0) (tells : Telling) → MovesDecide → TurnsDecide
+    → TurnsKeepToTheirTask → KeysKeepToTheirTerminal → SoonerOrders
+    → (keys : Keys) → BoundedNeverLoop (Moves keys) → ReportsDecide Shows tells keys
+reports_decide Shows tells decide turns turned keyed sooner keys never region edf most one other named (inl p) (inl q) =
     let start = begun region in
     p.is
     ∙ ap (λ n. whole_line keys n (length p.outcomes) ++ outcomes_lines region keys.lines edf 1 p.outcomes
@@ -225,24 +227,24 @@ reports_decide Shows decide turned keyed sooner keys never region edf most one o
     (states_decide keys start p.states q.states p.count q.count)
     ∙ ap (λ (os : List Outcome). whole_line keys q.states (length os) ++ outcomes_lines region keys.lines edf 1 os
     ++ loop_lines region keys.lines edf p.loop ++ stuck_line p.is_stuck)
-    (outcomes_decide decide turned keyed keys sooner start named Shows None p.outcomes q.outcomes p.are q.are)
+    (outcomes_decide decide turns turned keyed tells keys sooner start named Shows None p.outcomes q.outcomes p.are q.are)
     ∙ ap (λ (l : Option (List Step)). whole_line keys q.states (length q.outcomes)
     ++ outcomes_lines region keys.lines edf 1 q.outcomes ++ loop_lines region keys.lines edf l ++ stuck_line p.is_stuck)
-    (loops_decide decide turned keyed keys sooner start named never p.loop q.loop p.may_loop q.may_loop)
+    (loops_decide decide turns turned keyed tells keys sooner start named never p.loop q.loop p.may_loop q.may_loop)
     ∙ ap (λ b. whole_line keys q.states (length q.outcomes) ++ outcomes_lines region keys.lines edf 1 q.outcomes
     ++ loop_lines region keys.lines edf q.loop ++ stuck_line b)
-    (stuck_decides decide turned keyed keys sooner start named p.is_stuck q.is_stuck p.may_stick q.may_stick)
+    (stuck_decides decide turns turned keyed tells keys sooner start named p.is_stuck q.is_stuck p.may_stick q.may_stick)
     ∙ sym q.is
-reports_decide Shows decide turned keyed sooner keys never region edf most one other named (inr p) (inr q) =
+reports_decide Shows tells decide turns turned keyed sooner keys never region edf most one other named (inr p) (inr q) =
     let start = begun region in
     let moves = cuts_decide keys start most p.moves q.moves p.cut q.cut in
     p.is
     ∙ ap (λ (os : List Outcome). cut_line keys most p.moves ++ outcomes_lines region keys.lines edf 1 os)
-    (outcomes_decide decide turned keyed keys sooner start named Shows (Some q.moves) p.outcomes q.outcomes
-    (subst (λ m. AreOutcomes Shows keys start (Some m) p.outcomes) moves p.are) q.are)
+    (outcomes_decide decide turns turned keyed tells keys sooner start named Shows (Some q.moves) p.outcomes q.outcomes
+    (subst (λ m. AreOutcomes Shows tells keys start (Some m) p.outcomes) moves p.are) q.are)
     ∙ ap (λ m. cut_line keys most m ++ outcomes_lines region keys.lines edf 1 q.outcomes) moves
     ∙ sym q.is
-reports_decide Shows decide turned keyed sooner keys never region edf most one other named (inl p) (inr q) =
+reports_decide Shows tells decide turns turned keyed sooner keys never region edf most one other named (inl p) (inr q) =
     absurd (not_both keys (begun region) most p.states q.moves p.count p.few q.cut)
-reports_decide Shows decide turned keyed sooner keys never region edf most one other named (inr p) (inl q) =
+reports_decide Shows tells decide turns turned keyed sooner keys never region edf most one other named (inr p) (inl q) =
     absurd (not_both keys (begun region) most q.states p.moves q.count q.few p.cut)

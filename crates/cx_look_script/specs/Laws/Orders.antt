@@ -1,5 +1,5 @@
 -- What is written for a block of ORDERS is one text, and its scripts ask for the events that lead to its outcomes.
-use Rattle.std.specs.Prelude.{◌≡◌, ℕ, Bool, true, false, ⊤, Some, List, [], ◌∷◌, ◌++◌, map, replicate}
+use Rattle.std.specs.Prelude.{◌≡◌, ℕ, Bool, true, false, ⊤, Some, List, [], ◌∷◌, ◌++◌, filter, map, not, replicate}
 use Rattle.std.specs.List.{AllByRecursion, IsDistinct, flat_map}
 use Rattle.std.specs.Map.{keys_of as names_of}
 use Rattle.cx_ebcdic.specs.Names.{is_name, padded_name}
@@ -7,6 +7,7 @@ use Rattle.cx_region.specs.State.{RegionState}
 use Rattle.cx_region.specs.declared.replies.Event.{Event}
 use Rattle.cx_edf.specs.declared.answers.EdfEvent.{EdfEvent}
 use Rattle.cx_edf.specs.declared.answers.EdfEvent.TheVariants as edf_event
+use Rattle.cx_script_actions.specs.Actions.{is_blank_or_comment}
 use Rattle.cx_script_actions.specs.declared.actions.Action.TheVariants as edf_action
 use Rattle.cx_script_actions.specs.declared.actions.Line.TheVariants as line
 use Rattle.cx_orders.specs.Moves.{begun}
@@ -51,10 +52,15 @@ asked_events (action.Script (edf_action.Event e)) = e ∷ []
 asked_events (action.Run name n stop.Never) = replicate n (turn_of name)
 asked_events _ = []
 
+-- the lines of a script that ask for something: not those that are blank, and not comments
+abbrev pub asking_lines : Lines → Lines
+asking_lines lines = filter (λ l. not (is_blank_or_comment l)) lines
+
 -- lines, wherever they stand in a script, are read as actions that ask for these events, one after another
 pub record AskForEvents (lines : Lines) (events : List EdfEvent) : Type 0 where
   pub actions : List LookAction
-  pub read : (number : ℕ) → map (look_line_of number) lines ≡ map (λ a. Some (line.Action a)) actions
+  pub read : (number : ℕ) → map (look_line_of number) (asking_lines lines)
+      ≡ map (λ a. Some (line.Action a)) actions
   pub ask : flat_map asked_events actions ≡ events
 
 -- so the lines that do steps ask for EDF OFF of each of these terminals, and then for the events that the steps are

@@ -1,4 +1,4 @@
-use Rattle.std.proofs.Common.{◌∙◌, ◌++◌, [], ◌∷◌, ℕ, Some, ap, append-nil, map, sym}
+use Rattle.std.proofs.Common.{◌∙◌, ◌++◌, [], ◌∷◌, ℕ, None, Some, ap, append-nil, map, sym}
 use Rattle.std.specs.Option.{option_copied}
 use Rattle.cx_look_orders.specs.declared.steps.Step.{Step}
 use Rattle.cx_look_choices.specs.Presses.{key_step, terminal_number}
@@ -6,7 +6,7 @@ use Rattle.cx_look_choices.proofs.PressLemmas.{key_none, key_some}
 use Rattle.cx_look_choices.proofs.lists.push_key_step.Goals as goal
 
 abbrev step_with : ℕ → ℕ → Step
-step_with number came = record { number = number; key = Some came }
+step_with number came = record { number = number; key = Some came; told = None }
 
 pub returns-in_default : goal.returns-in_default
 returns-in_default g c =

@@ -10,12 +10,12 @@ use Rattle.cx_look_orders.proofs.outcomes.add_outcome.Goals as goal
 
 pub returns-in_default : goal.returns-in_default
 returns-in_default g c =
-    first_past (g.V.Seen.shows c.args.searched.now.seen.now) c.args.searched.now.orders.now.keys (begun c.args.searched.now.region.now) c.args.searched.now.found.now.states.entries c.args.places.now c.shows_decide.ensures c.texts_decide.ensures.waits c.args.index c.args.outcomes.now.items c.requires.so_far
+    first_past (g.V.Seen.shows c.args.searched.now.seen.now) (g.V.Seen.tells c.args.searched.now.seen.now) c.args.searched.now.orders.now.keys (begun c.args.searched.now.region.now) c.args.searched.now.found.now.states.entries c.args.places.now c.shows_decide.ensures c.texts_decide.ensures.waits c.args.index c.args.outcomes.now.items c.requires.so_far
     (λ place state there at. none-some place (sym c.in_default.is ∙ c.place_at.ensures ∙ there))
 
 pub returns-in_default-get_index : goal.returns-in_default-get_index
 returns-in_default-get_index g c =
-    first_past (g.V.Seen.shows c.args.searched.now.seen.now) c.args.searched.now.orders.now.keys (begun c.args.searched.now.region.now) c.args.searched.now.found.now.states.entries c.args.places.now c.shows_decide.ensures c.texts_decide.ensures.waits c.args.index c.args.outcomes.now.items c.requires.so_far
+    first_past (g.V.Seen.shows c.args.searched.now.seen.now) (g.V.Seen.tells c.args.searched.now.seen.now) c.args.searched.now.orders.now.keys (begun c.args.searched.now.region.now) c.args.searched.now.found.now.states.entries c.args.places.now c.shows_decide.ensures c.texts_decide.ensures.waits c.args.index c.args.outcomes.now.items c.requires.so_far
     (λ place state there at.
     let same = same_Some c.in-Some.place place (sym c.in-Some.is ∙ c.place_at.ensures ∙ there) in
     none-some (state, at.origin)
@@ -23,7 +23,7 @@ returns-in_default-get_index g c =
 
 pub returns-then-has_text : goal.returns-then-has_text
 returns-then-has_text g c =
-    first_known (g.V.Seen.shows c.args.searched.now.seen.now) c.args.searched.now.orders.now.keys (begun c.args.searched.now.region.now) c.args.searched.now.found.now.states.entries c.args.places.now c.shows_decide.ensures c.texts_decide.ensures.waits c.args.index c.args.outcomes.now.items c.in_ok-text.text c.requires.so_far
+    first_known (g.V.Seen.shows c.args.searched.now.seen.now) (g.V.Seen.tells c.args.searched.now.seen.now) c.args.searched.now.orders.now.keys (begun c.args.searched.now.region.now) c.args.searched.now.found.now.states.entries c.args.places.now c.shows_decide.ensures c.texts_decide.ensures.waits c.args.index c.args.outcomes.now.items c.in_ok-text.text c.requires.so_far
     (record {
       place = c.in-Some.place;
       there = sym c.place_at.ensures ∙ c.in-Some.is;
@@ -35,9 +35,9 @@ returns-then-has_text g c =
 
 pub returns : goal.returns
 returns g c =
-    subst (AreOfFirst (g.V.Seen.shows c.args.searched.now.seen.now) c.args.searched.now.orders.now.keys (begun c.args.searched.now.region.now) c.args.searched.now.found.now.states.entries c.args.places.now (c.args.index + 1))
+    subst (AreOfFirst (g.V.Seen.shows c.args.searched.now.seen.now) (g.V.Seen.tells c.args.searched.now.seen.now) c.args.searched.now.orders.now.keys (begun c.args.searched.now.region.now) c.args.searched.now.found.now.states.entries c.args.places.now (c.args.index + 1))
     (sym c.in_ok-push.ensures.items)
-    (first_new (g.V.Seen.shows c.args.searched.now.seen.now) c.args.searched.now.orders.now.keys (begun c.args.searched.now.region.now) c.args.searched.now.found.now.states.entries c.args.places.now c.shows_decide.ensures c.texts_decide.ensures.waits c.requires.sorted c.requires.found c.args.index c.args.outcomes.now.items (record { text = c.in_ok-text.text; steps = c.in_ok-steps.steps }) c.requires.so_far
+    (first_new (g.V.Seen.shows c.args.searched.now.seen.now) (g.V.Seen.tells c.args.searched.now.seen.now) c.args.searched.now.orders.now.keys (begun c.args.searched.now.region.now) c.args.searched.now.found.now.states.entries c.args.places.now c.shows_decide.ensures c.texts_decide.ensures.waits c.requires.sorted c.requires.found c.args.index c.args.outcomes.now.items (record { text = c.in_ok-text.text; steps = c.in_ok-steps.steps }) c.requires.so_far
     (record {
       place = c.in-Some.place;
       there = sym c.place_at.ensures ∙ c.in-Some.is;

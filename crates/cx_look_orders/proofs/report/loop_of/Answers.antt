@@ -16,5 +16,5 @@ returns g c =
     let is = subst (λ o. MatchOption o (IsBounded (Moves c.args.orders.now.keys) (begun c.args.region.now))
     (IsFirstPlaceOf (Loops (Moves c.args.orders.now.keys)) c.args.found.now.states.entries)) c.in-Some.is
     (c.in_ok-place.ensures c.args.orders.now (begun c.args.region.now) c.requires.finds c.requires.whole) in
-    loops_first c.args.orders.now.keys (begun c.args.region.now) c.args.found.now.states.entries c.one_list_is_sooner.ensures c.requires.finds c.requires.whole.all c.in-Some.place is c.in_ok-steps.steps
+    loops_first c.args.orders.now.keys (begun c.args.region.now) c.args.found.now.states.entries c.one_list_is_sooner.ensures c.requires.finds (g.V.Seen.tells c.args.seen.now) c.requires.whole.all c.in-Some.place is c.in_ok-steps.steps
     (c.in_ok-steps.ensures is.is.state c.requires.finds is.is.at)

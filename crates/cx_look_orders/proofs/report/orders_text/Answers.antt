@@ -55,7 +55,7 @@ returns-in_default g c =
     (λ report. report ≡ whole_line keys whole.states (length whole.outcomes.items)
     ++ outcomes_lines region keys.lines edf 1 whole.outcomes.items ++ loop_lines region keys.lines edf whole.looping
     ++ stuck_line whole.is_stuck)
-    (OrdersText (g.V.Seen.shows c.args.seen.now) keys region edf c.args.most) c.whole_report.result
+    (OrdersText (g.V.Seen.shows c.args.seen.now) (g.V.Seen.tells c.args.seen.now) keys region edf c.args.most) c.whole_report.result
     (λ report is. inl (record {
       states = whole.states;
       count = c.in_ok-whole.ensures.count;
@@ -100,7 +100,7 @@ returns g c =
     let nearest = nearest_of keys c.in_ok-start.start region c.in_ok-start.ensures found.states.entries found.links.items most
     c.in_ok-end.end.cut moves c.in-Some.is c.in_ok-end.ensures.reaches in
     ok_on (λ report. report ≡ cut_line keys most moves ++ outcomes_lines region keys.lines edf 1 c.as_slice.result.now)
-    (OrdersText (g.V.Seen.shows c.args.seen.now) keys region edf most) c.cut_report.result
+    (OrdersText (g.V.Seen.shows c.args.seen.now) (g.V.Seen.tells c.args.seen.now) keys region edf most) c.cut_report.result
     (λ report is. inr (record {
       moves = moves;
       cut = cut_at keys (begun region) found.states.entries c.one_list_is_sooner.ensures finds most moves nearest
