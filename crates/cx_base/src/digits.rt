@@ -1,7 +1,7 @@
 //! Digits of numbers and bytes.
 
-ghost use Rattle.std.specs.Prelude.{◌≡◌, ◌≤◌, ◌<◌, ◌*◌, length};
-ghost use Rattle.cx_base.specs.Digits.{digits, last_digit, hex_digits};
+ghost use Rattle.std.specs.Prelude.{◌≡◌, ◌≤◌, ◌<◌, length};
+ghost use Rattle.cx_base.specs.Digits.{digits, last_digit};
 
 /// The digits.
 const DIGITS: [u8; 16] = *b"0123456789ABCDEF";
@@ -47,14 +47,4 @@ pub fn decimal<const PLACES: usize>(n: u32) -> [u8; PLACES]
     let mut text = [b'0'; PLACES];
     fill(&mut text, n, 10);
     text
-}
-
-/// Puts the hexadecimal digits of bytes, two each, in upper case, into a text of twice as many bytes.
-pub fn spell(bytes: &[u8], text: &mut [u8])
-    requires { length text.old ≡ 2 * length bytes.now }
-    ensures { text.new ≡ hex_digits bytes.now }
-{
-    for (i, byte) in bytes.iter().enumerate() {
-        text[2 * i..2 * i + 2].copy_from_slice(&hexadecimal::<2>(u32::from(*byte)));
-    }
 }

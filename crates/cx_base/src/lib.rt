@@ -26,7 +26,7 @@ mod texts;
 pub use abends::Abend;
 pub use commands::Command;
 pub use conditions::{CONDITIONS, Condition};
-pub use digits::{decimal, hexadecimal, spell};
+pub use digits::{decimal, hexadecimal};
 pub use eib::{EibField, EibPiece, eib_pieces};
 pub use eistg::EistgField;
 pub use hash::{hash_of_bytes, hash_of_words, hash_with};

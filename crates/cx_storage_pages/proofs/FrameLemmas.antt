@@ -1,8 +1,8 @@
 -- What a frame has.
-use Rattle.std.proofs.Common.{[], ◌∷◌, Option, Some, None, List, max, ◌≢◌, ◌≡◌, ℕ, zero, suc, ◌+◌, ◌-◌, ◌*◌, ◌/◌, ◌%◌, ◌<◌, ◌≤◌, min, true, false, refl, arith, inl, inr, replicate, length, slice_index, slice_get, is_some, nat_le, nat_lt, lt-ltb, le-ltb, ◌⊎◌}
-use Rattle.std.proofs.lemmas.Bool.{cases_Bool, cases_lt, le-leb, lt-leb, leb-true, ltb-true, and_parts}
+use Rattle.std.proofs.Common.{[], ◌∷◌, Option, Some, None, List, max, ◌≢◌, ◌≡◌, ℕ, zero, suc, ◌+◌, ◌-◌, ◌*◌, ◌/◌, ◌%◌, ◌<◌, ◌≤◌, min, true, false, refl, arith, inl, inr, replicate, length, slice_index, slice_get, is_some, lt-ltb, le-ltb, ◌⊎◌}
+use Rattle.std.proofs.lemmas.Bool.{cases_lt, le-leb, lt-leb}
 use Rattle.std.proofs.lemmas.Option.{slice_get-get_or}
-use Rattle.cx_storage_pages.specs.Parts.Change.{is_within, Writes}
+use Rattle.cx_storage_pages.specs.Parts.Change.{is_within}
 use Rattle.cx_storage_pages.specs.Parts.Frame.{HasAll, Skips}
 use Rattle.cx_storage_pages.specs.Pages.{frame_byte}
 use Rattle.cx_storage_pages.specs.Parts.Runs.{AllFree, IsRunsTo, IsRuns}
@@ -44,18 +44,6 @@ pub seen_byte : (frame : Frame) (k : ℕ) → is_some (frame_byte frame k) ≡ t
 unfolding frame_byte
 seen_byte frame k h = let lt = seen_counted frame k h in rw (lt-ltb _ _ lt) refl
 
--- bytes that are all present are written
-pub seen_written : (frame after : Frame) (a : ℕ) (bytes : List ℕ) → after.counts ≡ frame.counts → HasAll (frame_byte frame) a (a + length bytes)
-    → Writes a bytes (slice_get frame.bytes) (slice_get after.bytes) → Writes a bytes (frame_byte frame) (frame_byte after)
-unfolding frame_byte
-seen_written frame after a bytes same all each = λ k. rw (same, each k) (elim (cases_Bool (is_within a (a + length bytes) k)) [
-  | inl inside ↦
-      let both = and_parts (nat_le a k) (nat_lt k (a + length bytes)) inside in
-      let counted = seen_counted frame k (all k (leb-true _ _ both.0) (ltb-true _ _ both.1)) in
-      rw (lt-ltb _ _ counted, inside) refl
-  | inr outside ↦ rw outside refl
-])
-
 -- a granule has a byte exactly where its first one is counted
 pub granule_taken : (frame : Frame) (g : ℕ) → length frame.bytes ≡ 4096 → length frame.counts ≡ 256 → 0 < slice_index frame.counts g → is_some (frame_byte frame (g * 16)) ≡ true
 granule_taken frame g whole all some = elim (cases_lt g 256) [
@@ -96,16 +84,6 @@ pub has_last : (frame : Frame) (from to : ℕ) → from < to → HasAll (frame_b
 has_last frame from to some all = seen_counted frame (to - 1) (all (to - 1) (omega (arith, some)) (omega (arith, some)))
 
 -- the runs of free granules, one granule more
-pub runs_none : (counts : List ℕ) → IsRunsTo counts 0 0 0
-runs_none counts = record {
-  bound = λ k n within all. omega arith;
-  order = omega arith;
-  within = omega arith;
-  short = omega arith;
-  free = λ j low high. absurd (omega arith);
-  most = λ k within all. omega arith;
-}
-
 pub runs_free : (counts : List ℕ) (m longest tail more : ℕ) → IsRunsTo counts m longest tail → slice_index counts m ≡ 0 → more ≡ max longest (tail + 1) → IsRunsTo counts (m + 1) more (tail + 1)
 runs_free counts m longest tail more runs none is = record {
   bound = λ k n within all. elim (cases_lt m (k + n)) [

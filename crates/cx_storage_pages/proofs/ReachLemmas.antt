@@ -1,11 +1,10 @@
 -- The granules that a count goes past.
-use Rattle.std.proofs.Common.{true, false, is_some, Some, None, List, ◌≡◌, ℕ, ◌+◌, ◌-◌, ◌*◌, ◌/◌, ◌%◌, ◌<◌, ◌≤◌, ◌∙◌, refl, arith, inl, inr, length, slice_index, slice_get, nat_lt, nat_le, max, min, if◌then◌else◌, lt-ltb, le-ltb}
+use Rattle.std.proofs.Common.{true, false, is_some, Some, None, List, ◌≡◌, ℕ, ◌+◌, ◌-◌, ◌*◌, ◌/◌, ◌%◌, ◌<◌, ◌≤◌, ◌∙◌, refl, arith, inl, inr, length, slice_index, slice_get, nat_lt, max, min, if◌then◌else◌, lt-ltb, le-ltb}
 use Rattle.std.proofs.lemmas.Bool.{cases_lt, cases_eq, le-leb, lt-leb, ltb-true, false≢true}
 use Rattle.cx_storage_pages.specs.declared.frame.Frame.{Frame}
 use Rattle.cx_storage_pages.specs.Parts.Change.{is_within, Changes, Recounts, Fills, zero_to}
 use Rattle.cx_storage_pages.specs.Parts.Frame.{HasAll}
 use Rattle.cx_storage_pages.specs.Pages.{frame_byte}
-use Rattle.cx_storage_pages.specs.Parts.Runs.{AllFree}
 use Rattle.cx_storage_pages.proofs.FrameLemmas.{has_all, has_short, has_last, granule_taken, index_past}
 use Rattle.cx_storage_pages.specs.Parts.Reach.{Reaches, is_row}
 
@@ -102,62 +101,6 @@ counts_marked old cut new first end to first_cut then_counted = record {
   inside = λ h low high. then_counted h ∙ rw (le-leb first h low, lt-ltb h end high) refl;
   after = λ h low past. then_counted h ∙ rw (le-leb first h low, le-ltb h end past) (first_cut h ∙ rw (le-ltb h first low) refl);
 }
-
--- what they go past is full then
-pub marked_reaches : (old new : List ℕ) (first end to : ℕ) → to ≤ 16 * end → MarkedTo old new first end to → Reaches old → Reaches new
-marked_reaches old new first end to few marked holds = (
-  λ g j more. elim (cases_lt g first) [
-    | inl before ↦
-        let here = marked.before g before in
-        let there = marked.before (g + j) (omega (arith, before, here, more)) in
-        let full = holds.0 g j (omega (arith, here, more)) in
-        omega (arith, there, full, here, more, before)
-    | inr from ↦ elim (cases_lt g end) [
-      | inl inside ↦
-          let here = marked.inside g from inside in
-          let there = marked.inside (g + j) (omega (arith, from)) (omega (arith, here, more, few)) in
-          omega (arith, here, there, more)
-      | inr past ↦
-          let here = marked.after g from past in
-          let there = marked.after (g + j) (omega (arith, from)) (omega (arith, past)) in
-          let full = holds.0 g j (rw here at more) in
-          omega (arith, there, full)
-    ]
-  ],
-  λ g. elim (cases_lt g first) [
-    | inl before ↦ let here = marked.before g before in let most = holds.1 g in omega (arith, here, most)
-    | inr from ↦ elim (cases_lt g end) [
-      | inl inside ↦ let here = marked.inside g from inside in omega (arith, here)
-      | inr past ↦ let here = marked.after g from past in let most = holds.1 g in omega (arith, here, most)
-    ]
-  ],
-)
-
--- and no granule from the new top on has a byte
-pub marked_free : (old new : List ℕ) (first end to top more : ℕ) → MarkedTo old new first end to → first ≤ end → AllFree old top 256
-    → (nat_lt 0 to ≡ true → more ≡ max top end) → (nat_lt 0 to ≡ false → more ≡ (if nat_le top end then min top first else top)) → AllFree new more 256
-marked_free old new first end to top more marked order free used freed = λ j low high. elim (cases_lt 0 to) [
-  | inl some ↦
-      let is = used (lt-ltb 0 to some) in
-      marked.after j (omega (arith, low, is, order)) (omega (arith, low, is)) ∙ free j (omega (arith, low, is)) high
-  | inr none ↦ elim (cases_lt end top) [
-    | inl above ↦
-        let is : more ≡ top = freed (le-ltb 0 to none) ∙ rw (lt-leb top end above) refl in
-        marked.after j (omega (arith, low, is, above, order)) (omega (arith, low, is, above)) ∙ free j (omega (arith, low, is)) high
-    | inr below ↦
-        let is : more ≡ min top first = freed (le-ltb 0 to none) ∙ rw (le-leb top end below) refl in
-        elim (cases_lt j first) [
-          | inl before ↦
-              let zero = free j (omega (arith, low, is, before)) high in
-              let here = marked.before j before in
-              omega (arith, zero, here)
-          | inr from ↦ elim (cases_lt j end) [
-            | inl inside ↦ let here = marked.inside j from inside in omega (arith, here, none)
-            | inr past ↦ marked.after j from past ∙ free j (omega (arith, past, below)) high
-          ]
-        ]
-  ]
-]
 
 -- granules that were marked show zeros up to the place, and the others what they showed
 pub marked_shows : (bytes zeroed old new : List ℕ) (first end to : ℕ) → MarkedTo old new first end to

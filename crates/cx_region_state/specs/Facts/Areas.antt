@@ -11,7 +11,7 @@ use Rattle.cx_storage.specs.Place.{Misses, CanPlace, IsLeastPlace}
 use Rattle.cx_region_state.specs.Areas.{IsTaskPlace}
 use Rattle.cx_storage.specs.Storage.{area_from}
 use Rattle.cx_storage.specs.Facts.Areas.{area_after_get, area_after_free, area_of_areas}
-use Rattle.cx_storage.specs.Facts.Sound.{All-put_held, All-filter}
+use Rattle.cx_storage.specs.Facts.Sound.{All-put_held}
 use Rattle.cx_storage.specs.Facts.Writes.{areas_after_write}
 
 -- no area starts where one may be placed
@@ -62,10 +62,6 @@ all_areas_written P s a bytes all = all_areas_same P s (after_write s a bytes) (
 pub all_areas_put : (P : Area → Type 0) (s : Storage) (a len : ℕ) (owner : Owner) → P (area_from a len owner) → AllByRecursion (λ h. P h.area) s → AllByRecursion (λ h. P h.area) (with_area s (Some a) len owner)
 unfolding with_area
 all_areas_put P s a len owner new all = All-put_held (λ h. P h.area) (zeros a len owner) s new all
-
-pub all_areas_kept : (P : Area → Type 0) (s : Storage) (keeps : Area → Bool) → AllByRecursion (λ h. P h.area) s → AllByRecursion (λ h. P h.area) (with_areas_kept keeps s)
-unfolding with_areas_kept
-all_areas_kept P s keeps all = All-filter (λ h. P h.area) (λ h. keeps h.area) s all
 
 -- each area kept passes the test
 pub kept_pass : (P : Area → Type 0) (Q : Area → Type 0) (keeps : Area → Bool) (s : Storage) → ((area : Area) → P area → keeps area ≡ true → Q area) → AllByRecursion (λ h. P h.area) s → AllByRecursion (λ h. Q h.area) (with_areas_kept keeps s)
