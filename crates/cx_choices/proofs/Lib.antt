@@ -1,5 +1,4 @@
 mod ActingLemmas
 mod MoveLemmas
-mod NumberLemmas
 mod RunLemmas
 mod SettlingLemmas

@@ -4,7 +4,6 @@
 mod acting;
 pub mod laws;
 mod moves;
-mod numbers;
 mod search;
 mod settling;
 mod states;

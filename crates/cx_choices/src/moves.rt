@@ -9,7 +9,6 @@ ghost use Rattle.cx_orders.specs.Facts.Keys.{AreFew-prop};
 ghost use Rattle.cx_orders.specs.Moves.{IsFew};
 
 use crate::acting::{can_press, first_to_act};
-use crate::numbers::renumber;
 use crate::settling::settle;
 use crate::states::{ChoicesState, Passage};
 use cx_orders::KeyLine;
@@ -32,6 +31,16 @@ pub struct Choices<S: Store + Drop> {
     pub stores: PhantomData<S>,
     ghost few: { AllByRecursion IsFew choices.items } by { AreFew-prop choices.items },
     ghost small: { unwrap_or one_number 0 ≤ 9999999 } by { le_prop },
+}
+
+/// Gives a region another number of its last task, where there is one to be given; all else stays.
+fn renumber<S: Store + Drop>(region: &mut Region<S>, number: Option<u32>)
+    requires { unwrap_or number 0 ≤ 9999999 }
+    ensures { region.new ≡ numbered number region.old }
+{
+    if let Some(counter) = number {
+        region.set_counter(counter);
+    }
 }
 
 impl<S: Store + Drop> Choices<S> {
@@ -85,7 +94,7 @@ impl<S: Store + Drop> Choices<S> {
         let Some(choice) = self.choice(number) else {
             return Ok(None);
         };
-        renumber(region, self.one_number)?;
+        renumber(region, self.one_number);
         let passage = self.press(region, from, choice)?;
         Ok(passage)
     }
@@ -104,7 +113,7 @@ impl<S: Store + Drop> Choices<S> {
         if self.one_number.is_none() {
             return Ok(ChoicesState { region: after });
         }
-        renumber(region, self.one_number)?;
+        renumber(region, self.one_number);
         let region = RegionSnapshot::take(self.alloc, region, Some(&after))?;
         Ok(ChoicesState { region })
     }

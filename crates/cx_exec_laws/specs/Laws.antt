@@ -5,3 +5,4 @@ pub mod Rows
 pub mod Interruptions
 pub mod Numbers
 pub mod Strings
+pub mod Passages

@@ -1,16 +1,19 @@
-//! Laws of execution: a step and a run are decided by the machine before them, and leave the areas of storage; every
-//! instruction has a row; what an interruption leaves; and what the definitions of numbers, shifts, registers, strings and
-//! decimal numbers come to.
+//! Laws of execution: a step and a run are decided by the machine before them, and so is what is counted and noted of a
+//! run; they leave the areas of storage; every instruction has a row; what an interruption leaves; and what the
+//! definitions of numbers, shifts, registers, strings and decimal numbers come to.
 
 ghost use Rattle.std.specs.Prelude.{ℕ};
 ghost use Rattle.cx_exec.specs.Step.{Steps};
 ghost use Rattle.cx_exec.specs.Advance.{Advances};
 ghost use Rattle.cx_exec_laws.specs.Laws.Decide.{StepsDecide, RunsDecide};
 ghost use Rattle.cx_exec_laws.specs.Laws.Areas.{RunsKeepAreas};
+ghost use Rattle.cx_exec_laws.specs.Laws.Passages.{PassagesDecide, TalliesDecide, WatchesDecide};
 ghost use Rattle.cx_exec_laws.specs.Laws.Rows.{EveryRowIsThere};
 ghost use Rattle.cx_exec_laws.specs.Laws.Interruptions.{InterruptionsLeave, InterruptionsKeep};
 ghost use Rattle.cx_exec_laws.specs.Laws.Numbers.{ResultIsExact, ProductIsExact, ShiftedIsFloor, ShiftedIsExact, StoredWords, LoadedWords};
 ghost use Rattle.cx_exec_laws.specs.Laws.Strings.{DecimalReadsBack, ApartIsCopied};
+
+use cx_exec::Watcher;
 
 /// The step's answer and the machine after it are determined by the machine before.
 pub fn steps_decide()
@@ -24,6 +27,27 @@ pub fn runs_decide()
     ensures { (limit : ℕ) → RunsDecide (Advances limit) }
 {
     cx_exec::laws::division_is_one();
+}
+
+/// A machine and a limit have one list of passages.
+pub fn passages_decide()
+    ensures { PassagesDecide }
+{
+    steps_decide();
+}
+
+/// A machine, a limit and the tallies before have one list of tallies after the run.
+pub fn tallies_decide()
+    ensures { TalliesDecide }
+{
+    passages_decide();
+}
+
+/// A machine, a limit and what a watcher holds before have one outcome of what it holds after the run.
+pub fn watches_decide<W: Watcher>()
+    ensures { WatchesDecide W.noted }
+{
+    passages_decide();
 }
 
 /// No instruction makes, frees or moves an area: after a run the areas of storage are those before.

@@ -6,7 +6,8 @@ use Rattle.std.proofs.lemmas.List.{get_or-set_other, get_or-set_same, length-app
 use Rattle.std.proofs.lemmas.List.Sums.{sum_by-append}
 use Rattle.std.proofs.lemmas.Option.{unwrap_or-slice_get}
 use Rattle.std.proofs.lemmas.Bool.Decides.{nat_tests}
-use Rattle.cx_look_cover.specs.Laws.{PassagesDecide, ProgramsAreReached, TalliesCount, times_at, times_in}
+use Rattle.cx_exec_laws.specs.Laws.Passages.{PassagesDecide}
+use Rattle.cx_look_cover.specs.Laws.{ProgramsAreReached, TalliesCount, times_at, times_in}
 use Rattle.cx_exec.specs.Passages.{Passage, places_run, went_away}
 use Rattle.cx_exec.specs.Tallies.{capped, no_runs, tally_after, tally_at, with_passage, with_run}
 use Rattle.cx_load.specs.declared.program.Loaded.{Loaded}

@@ -1,5 +1,5 @@
--- What follows from the definitions: the passages of a run are decided by it, and are those of its visits; targets are
--- those of EX, and conditional branches those of the table; a tally counts passages; ranges name exactly their lines.
+-- What follows from the definitions: the passages of a run are those of its visits; targets are those of EX, and
+-- conditional branches those of the table; a tally counts passages; ranges name exactly their lines.
 use Rattle.std.specs.Prelude.{◌≡◌, ◌≢◌, ◌↔◌, ◌⊎◌, Bool, true, ◌&&◌, not, slice_index, ℕ, zero, suc, ◌+◌, ◌-◌, ◌<◌, ◌≤◌, ◌^◌, ◌==◌, ⊤, Some, List, [], ◌∷◌, length, map, slice_get}
 use Rattle.std.specs.List.{count_by, filter, flat_map}
 use Rattle.cx_code.specs.Reading.{reading}
@@ -14,24 +14,16 @@ use Rattle.cx_look_turn.specs.declared.traces.Visit.{Visit}
 use Rattle.cx_look_cover.specs.Counts.{is_conditional, is_of_some_codes}
 use Rattle.cx_exec.specs.Passages.{Passage, Passages, places_run, target_of, went_away}
 use Rattle.cx_look_cover.specs.Ranges.{ranges_of}
-use Rattle.cx_exec.specs.Tallies.{IsTallied, capped, tally_at}
+use Rattle.cx_exec.specs.Tallies.{capped, tally_at}
 use Rattle.cx_load.specs.declared.program.Loaded.{Loaded}
 use Rattle.cx_look_cover.specs.Tallies.{programs_end, reaching}
 use Rattle.cx_look_cover.specs.declared.ranges.LineRange.{LineRange}
 use Rattle.cx_exec.specs.declared.tallied.Tally.{Tally}
 
-abbrev pub PassagesDecide : Type 0
-PassagesDecide = (limit : ℕ) (m : Machine) (passages others : List Passage)
-    → Passages limit m passages → Passages limit m others → passages ≡ others
-
 -- each count is one of visits
 abbrev pub PassagesAreVisits : Type 0
 PassagesAreVisits = (limit : ℕ) (m : Machine) (passages : List Passage) (visits : List Visit)
     → Passages limit m passages → Visits limit m visits → map (λ p. visit p.before) passages ≡ visits
-
-abbrev pub TalliesDecide : Type 0
-TalliesDecide = (limit : ℕ) (m : Machine) (old new other : List Tally)
-    → IsTallied limit m old new → IsTallied limit m old other → new ≡ other
 
 -- ---- targets
 -- the next instruction reads as an EX, and this is the address of its target (GA22-7000, "Execute")

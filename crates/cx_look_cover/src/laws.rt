@@ -1,15 +1,8 @@
 //! What follows from the definitions of what was run.
-ghost use Rattle.cx_look_cover.specs.Laws.{BranchesAreOfTable, PassagesAreVisits, PassagesDecide, ProgramsAreReached, RangesName, TalliesCount, TalliesDecide, TargetsAreOfExecutes};
+ghost use Rattle.cx_look_cover.specs.Laws.{BranchesAreOfTable, PassagesAreVisits, ProgramsAreReached, RangesName, TalliesCount, TargetsAreOfExecutes};
 
 use cx_code::laws::{one_row, read_by_first_byte};
-use cx_exec_laws::laws::steps_decide;
-
-/// A machine and a limit have one list of passages.
-pub fn passages_decide()
-    ensures { PassagesDecide }
-{
-    steps_decide();
-}
+use cx_exec_laws::laws::{passages_decide, steps_decide};
 
 /// The passages of a run are at the instructions that it comes to, in their order: so each count is a number of these.
 pub fn passages_are_visits()
@@ -33,13 +26,6 @@ pub fn branches_are_of_table()
 {
     one_row();
     read_by_first_byte();
-}
-
-/// A machine, a limit and the tallies before have one list of tallies after the run.
-pub fn tallies_decide()
-    ensures { TalliesDecide }
-{
-    passages_decide();
 }
 
 /// After a run the runs of each address that the tallies reach are those before it and one for each time that a passage

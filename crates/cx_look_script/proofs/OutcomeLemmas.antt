@@ -7,7 +7,7 @@ use Rattle.cx_ebcdic.specs.Names.{is_name}
 use Rattle.cx_edf.specs.State.{EdfState}
 use Rattle.cx_exec.specs.Machine.{Machine}
 use Rattle.cx_region_task.specs.Turn.{most_steps}
-use Rattle.cx_look_cover.specs.Laws.{TalliesDecide}
+use Rattle.cx_exec_laws.specs.Laws.Passages.{TalliesDecide}
 use Rattle.cx_exec.specs.declared.tallied.Tally.{Tally}
 use Rattle.cx_look_cover.specs.Tallies.{programs_end, reaching}
 use Rattle.cx_look_script.specs.Covered.{Covers, machine_run}

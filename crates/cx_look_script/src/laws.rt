@@ -111,7 +111,7 @@ pub fn an_action_has_one_outcome()
     orders_are_reported_once();
     choices_are_reported_once();
     watched_texts_decide();
-    cx_look_cover::laws::tallies_decide();
+    cx_exec_laws::laws::tallies_decide();
 }
 
 /// A list of actions has one outcome: where no two terminals share a name, the state and the list determine the

@@ -160,6 +160,16 @@ impl<S: Store + Drop> Region<S> {
         self.counter
     }
 
+    /// Gives the region another number of its last task, from which those of the tasks that are attached later go on; all
+    /// else stays.
+    #[doc(hidden)]
+    pub fn set_counter(&mut self, counter: u32)
+        requires { counter ≤ 9999999 }
+        ensures { self.new ≡ record self.old { counter = counter } }
+    {
+        self.counter = counter;
+    }
+
     /// Puts these parts, which must be sound (`IsSound`), in the place of all that the region keeps, which is dropped.
     /// It takes no memory.
     #[doc(hidden)]

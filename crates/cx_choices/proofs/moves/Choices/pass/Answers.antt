@@ -25,4 +25,4 @@ returns-clause-chosen g c =
     chooses_by c.args.self.now.choices.items c.args.self.now.one_number c.args.from.now c.args.number c.in-Some-choice.choice.now c.renumber.new.region
     c.in_ok-passage.passage (subst IsAtRest c.in_ok-restore.ensures.ok c.in_default.ensures.none)
     (sym c.choice.ensures ∙ ap option_copied c.in-Some-choice.is)
-    (c.in_ok-renumber.ensures ∙ ap (numbered c.args.self.now.one_number) c.in_ok-restore.ensures.ok) c.in_ok-passage.ensures.pressed
+    (c.renumber.ensures ∙ ap (numbered c.args.self.now.one_number) c.in_ok-restore.ensures.ok) c.in_ok-passage.ensures.pressed
