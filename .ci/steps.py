@@ -15,7 +15,7 @@ class Step:
     takes less than a twentieth of a processor for `idle` seconds hangs."""
 
     command: str
-    limit: int = 300
+    limit: int = 900
     after: tuple[str, ...] = ()
     idle: int = 180
 
@@ -71,8 +71,8 @@ BUILT = [
     Sweep("docs/index --commands"),
     Sweep("checks/same-test crates/cicsedf/out/cicsedf"),
     Sweep("checks/refuse-memory crates/cicsedf/out/cicsedf", 1_500),
-    Sweep("checks/refuse-memory crates/cicslook/out/cicslook --looks", 900),
-    Sweep("checks/refused-events crates/tool_refusals/out/tool_refusals", 900),
+    Sweep("checks/refuse-memory crates/cicslook/out/cicslook --looks"),
+    Sweep("checks/refused-events crates/tool_refusals/out/tool_refusals"),
     Sweep("checks/event-lists crates/tool_refusals/out/tool_refusals"),
     Sweep("checks/refuse-places", 900, after=("tool_bench",)),
     Sweep("checks/refuse-tests", 900, after=(PROOF,)),
@@ -89,19 +89,19 @@ BUILT = [
     Sweep("checks/watch crates/cicslook/out/cicslook"),
     Sweep("checks/faulty-sources crates/cicsedf/out/cicsedf crates/cicslook/out/cicslook"),
     Sweep("checks/interleaved crates/cicsedf/out/cicsedf"),
-    Sweep("checks/orders crates/cicsedf/out/cicsedf crates/cicslook/out/cicslook", 600),
-    Sweep("checks/choices crates/cicsedf/out/cicsedf crates/cicslook/out/cicslook", 600),
-    Sweep("checks/choices crates/cicsedf/out/cicsedf crates/cicslook/out/cicslook --test", 600),
+    Sweep("checks/orders crates/cicsedf/out/cicsedf crates/cicslook/out/cicslook"),
+    Sweep("checks/choices crates/cicsedf/out/cicsedf crates/cicslook/out/cicslook"),
+    Sweep("checks/choices crates/cicsedf/out/cicsedf crates/cicslook/out/cicslook --test"),
     Sweep("checks/pairs crates/cicsedf/out/cicsedf"),
     Sweep("checks/hostile-lines crates/cicsedf/out/cicsedf"),
     Sweep("checks/sizes crates/cicsedf/out/cicsedf"),
     Sweep("checks/sizes crates/cicslook/out/cicslook --looks"),
     Sweep("bench/instructions crates/tool_bench/out/tool_bench crates/cicslook/out/cicslook"),
     Sweep("bench/turns crates/cicsedf/out/cicsedf crates/cicslook/out/cicslook"),
-    Sweep("companions/test companions crates/cicsedf/out/cicsedf"),
-    Sweep("companions/test film crates/cicsedf/out/cicsedf", 600),
-    Sweep("companions/test terminals crates/cicsedf/out/cicsedf", 600),
+    Sweep("companions/test companions crates/cicsedf/out/cicsedf", 1_800),
+    Sweep("companions/test film crates/cicsedf/out/cicsedf"),
+    Sweep("companions/test terminals crates/cicsedf/out/cicsedf"),
     Sweep("companions/test conversation crates/cicsedf/out/cicsedf"),
-    Sweep("companions/test exact crates/cicsedf/out/cicsedf", 600),
-    Sweep("companions/test stand_in crates/cicsedf/out/cicsedf", 600),
+    Sweep("companions/test exact crates/cicsedf/out/cicsedf"),
+    Sweep("companions/test stand_in crates/cicsedf/out/cicsedf"),
 ]

@@ -2,6 +2,7 @@
 //! apart from a region.
 #![tactic(auto)]
 
+mod queues;
 mod snapshot;
 mod task;
 mod terminal;
@@ -9,6 +10,8 @@ mod turned;
 
 pub use snapshot::RegionSnapshot;
 // A crate can name the snapshot in a contract only if the types of its fields are exported.
+#[doc(hidden)]
+pub use queues::KeptQueues;
 #[doc(hidden)]
 pub use snapshot::Defined;
 #[doc(hidden)]

@@ -2,12 +2,12 @@
 ghost use Rattle.std.specs.Prelude.{◌≡◌, ◌↔◌, IsTrue, IfOk, IfSome, OnOk, OnErr, ◌+◌, ◌++◌, ◌<◌, [], Some, fold, length, slice_get, take, unwrap_or};
 ghost use Rattle.std.specs.List.{IsDistinct};
 ghost use Rattle.std.specs.Map.{keys_of};
-ghost use Rattle.cx_base.specs.Hash.{hash_with};
 ghost use Rattle.cx_ebcdic.specs.Names.{is_name};
 ghost use Rattle.cx_region.specs.Changes.{HasRoomFor};
 ghost use Rattle.cx_region_snapshot.specs.Parts.Changes.{Becomes, MakeRoom, changed_at};
-ghost use Rattle.cx_region_snapshot.specs.Hash.{region_hash, hash_with_task};
+ghost use Rattle.cx_region_snapshot.specs.Hash.{hash_with_task, region_hash};
 
+use crate::queues::KeptQueues;
 use crate::terminal::TerminalSnapshot;
 use cx_base::{
     Replica, Same, are_same_items, are_same_tables, hash_with, replica_of_table, share_replica,
@@ -15,7 +15,7 @@ use cx_base::{
 use cx_ebcdic::{Name4, Name8};
 use cx_load::Loaded;
 use cx_region::{ChangedParts, ChangedTerminal, Region, RegionParts, Shared, Terminal};
-use cx_service::{Enqueues, Queue, Queues};
+use cx_service::Enqueues;
 use cx_storage::Store;
 use cx_storage_snapshot::StorageSnapshot;
 use indexmap::IndexMap;
@@ -40,7 +40,7 @@ pub struct RegionSnapshot {
     counter: u32,
     defined: Rc<Defined>,
     terminals: Vec<TerminalSnapshot>,
-    queues: Rc<Queues>,
+    queues: KeptQueues,
     resources: Rc<Enqueues>,
 }
 
@@ -55,7 +55,7 @@ impl Model for RegionSnapshot {
           shared = record {
             storage = r.storage;
             programs = r.defined.value.programs.entries;
-            queues = r.queues.value;
+            queues = r.queues;
             resources = r.resources.value;
           };
           time = r.time;
@@ -70,7 +70,7 @@ impl Model for RegionSnapshot {
           shared = record {
             storage = r.storage;
             programs = r.defined.value.programs.entries;
-            queues = r.queues.value;
+            queues = r.queues;
             resources = r.resources.value;
           };
           time = r.time;
@@ -259,7 +259,7 @@ impl RegionSnapshot {
         )?;
         let defined = defined_of(alloc, &shared.programs, region.transactions(), before)?;
         let terminals = snapshots_of(alloc, region.terminals(), before)?;
-        let queues = share_replica(alloc, &shared.queues, before.map(|before| &before.queues))?;
+        let queues = KeptQueues::take(alloc, &shared.queues, before.map(|before| &before.queues))?;
         let resources = share_replica(
             alloc,
             &shared.enqueues,
@@ -286,7 +286,7 @@ impl RegionSnapshot {
             alloc,
             store: self.storage.store_like(&shared.store)?,
             programs: replica_of_table(alloc, &self.defined.programs)?,
-            queues: self.queues.replica(alloc)?,
+            queues: self.queues.queues().replica(alloc)?,
             enqueues: self.resources.replica(alloc)?,
         })
     }
@@ -320,7 +320,7 @@ impl RegionSnapshot {
         let Some(terminals) = terminals else {
             return Ok(None);
         };
-        let queues = changed(alloc, &shared.queues, &self.queues)?;
+        let queues = changed(alloc, &shared.queues, self.queues.queues())?;
         let enqueues = changed(alloc, &shared.enqueues, &self.resources)?;
         Ok(Some(ChangedParts {
             queues,
@@ -402,14 +402,14 @@ impl RegionSnapshot {
             && are_same_tables(&self.defined.transactions, &other.defined.transactions)
     }
 
-    /// Its hash: that of storage, of tasks' registers and next addresses, and of how many items queues have. Equal
-    /// states have equal hashes.
+    /// Its hash: that of storage, of tasks' registers and next addresses, and of queues' items. Equal states have equal
+    /// hashes.
     #[tactic(auto, unfolding(crate::specs::Hash::region_hash))]
     pub fn hash(&self) -> u64
         ensures { result ≡ region_hash self.now }
     {
         let tasks = hash_of_tasks(self.storage.hash(), self.terminals.as_slice());
-        hash_of_queues(tasks, self.queues.all())
+        hash_with(tasks, self.queues.hash())
     }
 }
 
@@ -420,17 +420,6 @@ fn hash_of_tasks(before: u64, terminals: &[TerminalSnapshot]) -> u64
     let mut hash = before;
     for terminal in terminals {
         hash = terminal.hash(hash);
-    }
-    hash
-}
-
-/// The hash with how many items queues have.
-fn hash_of_queues(before: u64, queues: &IndexMap<Name8, Queue>) -> u64
-    ensures { result ≡ fold (λ hash entry. hash_with hash (length entry.1.items)) before queues.now.entries }
-{
-    let mut hash = before;
-    for (_, queue) in queues.iter() {
-        hash = hash_with(hash, queue.count() as u64);
     }
     hash
 }

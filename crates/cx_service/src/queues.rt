@@ -78,6 +78,13 @@ impl Queue {
         self.last_read
     }
 
+    /// Its items, number 1 first.
+    pub fn items(&self) -> &[Item]
+        ensures { result.now ≡ self.now.items }
+    {
+        self.items.as_slice()
+    }
+
     /// Item number n, counted from 1; None where there is no such item.
     pub fn item(&self, n: usize) -> Option<&Item>
         ensures { option_copied result ≡ item_numbered n self.now }
