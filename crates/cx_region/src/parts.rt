@@ -1,5 +1,5 @@
 //! All that a region keeps, read and put in its place.
-ghost use Rattle.std.specs.Prelude.{◌≡◌, ◌<◌, ℕ, List, Some, fold, length, map, slice_get, unwrap_or};
+ghost use Rattle.std.specs.Prelude.{◌≡◌, ◌<◌, ◌≤◌, ℕ, List, Some, fold, length, map, slice_get, unwrap_or};
 ghost use Rattle.std.specs.List.{AllByRecursion};
 ghost use Rattle.cx_storage.specs.Storage.{areas_of};
 ghost use Rattle.indexmap.specs.IndexMap.{set_value_at};
