@@ -32,7 +32,6 @@ use Rattle.cx_region_state.specs.Areas.{IsTaskPlace, got_owner}
 use Rattle.cx_region_state.specs.State.{TaskContext}
 use Rattle.cx_region_state.specs.Parts.Fits.{Fits, IsThere}
 use Rattle.cx_region_state.specs.declared.verdict.Verdict.{Verdict}
-use Rattle.cx_region_commands.specs.Address.{address_row}
 use Rattle.cx_region_commands.specs.Common.{does, has, condition_alone, name_at, output, piece_at, place_at}
 use Rattle.cx_region_commands.specs.DeleteqTs.{deleteq_row}
 use Rattle.cx_region_commands.specs.Deq.{deq_row}
@@ -106,10 +105,6 @@ enq_never resources slot name = go (hold_of resources name)
     go (Some hold) = first_or _ fault.Enqbusy _ enqbusy_other (first_or _ fault.Invreq _ invreq_other no_fault)
 
 -- ---- each row
-
-pub address_fits : (r : TaskContext) (v : Verdict) → v ≡ address_row → Fits v r
-unfolding address_row
-address_fits r v e = rw e (normal_fits, tt)
 
 pub deleteq_fits : (call : Call) (r : TaskContext) (v : Verdict) → v ≡ deleteq_row r.shared.storage r.shared.queues call → Fits v r
 unfolding deleteq_row
