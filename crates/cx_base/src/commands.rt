@@ -2,7 +2,7 @@
 ghost use Rattle.std.specs.Prelude.{◌≡◌, ◌↔◌, ◌==◌, Some};
 ghost use Rattle.std.specs.List.{find};
 ghost use Rattle.std.specs.Str.{bytes_eq};
-ghost use Rattle.cx_base.specs.Commands.{command_called, command_named, command_with, with_blank_between, row_of};
+ghost use Rattle.cx_base.specs.Commands.{command_called, command_named, command_with, row, row_of, with_blank_between};
 ghost use Rattle.cx_base.specs.Legal.{lists_conditions};
 
 use crate::options::{ArgumentKind, CommandOption, OptionName, Rule};
@@ -35,6 +35,18 @@ pub enum Command {
     SendText,
 }
 
+/// A command's row of the table.
+struct CommandRow {
+    /// The function value.
+    function: u16,
+    /// The command's name, as `READQ TS`.
+    name: &'static str,
+    /// The options that have a bit in option byte 1, in the order of their words in the argument list.
+    options: &'static [CommandOption],
+    /// The rules of their legal sets.
+    rules: &'static [Rule],
+}
+
 impl Command {
     /// All commands, in the order of their function values.
     pub const ALL: [Command; 20] = [
@@ -60,60 +72,62 @@ impl Command {
         Command::SendText,
     ];
 
+    /// The command's row of the table.
+    #[rattlefmt::skip]
+    fn row(self) -> &'static CommandRow
+        ensures { row result.now.function result.now.name.now result.now.options.now result.now.rules.now
+            ≡ row_of self }
+    {
+        match self {
+            Command::Address => &CommandRow { function: 0x0202, name: "ADDRESS", options: &ADDRESS, rules: &[] },
+            Command::HandleCondition => &CommandRow { function: 0x0204, name: "HANDLE CONDITION", options: &[], rules: &[] },
+            Command::IgnoreCondition => &CommandRow { function: 0x020A, name: "IGNORE CONDITION", options: &[], rules: &[] },
+            Command::PushHandle => &CommandRow { function: 0x020C, name: "PUSH HANDLE", options: &[], rules: &[] },
+            Command::PopHandle => &CommandRow { function: 0x020E, name: "POP HANDLE", options: &[], rules: &[] },
+            Command::Receive => &CommandRow { function: 0x0402, name: "RECEIVE", options: &RECEIVE, rules: &[] },
+            Command::WriteqTs => &CommandRow { function: 0x0A02, name: "WRITEQ TS", options: &WRITEQ_TS, rules: &WRITEQ_TS_RULES },
+            Command::ReadqTs => &CommandRow { function: 0x0A04, name: "READQ TS", options: &READQ_TS, rules: &READQ_TS_RULES },
+            Command::DeleteqTs => &CommandRow { function: 0x0A06, name: "DELETEQ TS", options: &DELETEQ_TS, rules: &[] },
+            Command::Getmain => &CommandRow { function: 0x0C02, name: "GETMAIN", options: &GETMAIN, rules: &[] },
+            Command::Freemain => &CommandRow { function: 0x0C04, name: "FREEMAIN", options: &FREEMAIN, rules: &[] },
+            Command::Link => &CommandRow { function: 0x0E02, name: "LINK", options: &LINK, rules: &COMMAREA_RULES },
+            Command::Xctl => &CommandRow { function: 0x0E04, name: "XCTL", options: &XCTL, rules: &COMMAREA_RULES },
+            Command::Return => &CommandRow { function: 0x0E08, name: "RETURN", options: &RETURN, rules: &COMMAREA_RULES },
+            Command::Abend => &CommandRow { function: 0x0E0C, name: "ABEND", options: &ABEND, rules: &[] },
+            Command::HandleAbend => &CommandRow { function: 0x0E0E, name: "HANDLE ABEND", options: &HANDLE_ABEND, rules: &HANDLE_ABEND_RULES },
+            Command::Enq => &CommandRow { function: 0x1204, name: "ENQ", options: &ENQ, rules: &[] },
+            Command::Deq => &CommandRow { function: 0x1206, name: "DEQ", options: &DEQ, rules: &[] },
+            Command::Suspend => &CommandRow { function: 0x1208, name: "SUSPEND", options: &[], rules: &[] },
+            Command::SendText => &CommandRow { function: 0x1806, name: "SEND TEXT", options: &SEND_TEXT, rules: &[] },
+        }
+    }
+
     /// The function value, the first two bytes of the argument list's block, and EIBFN afterwards.
     pub fn function(self) -> u16
         ensures { result ≡ (row_of self).function }
     {
-        match self {
-            Command::Address => 0x0202,
-            Command::HandleCondition => 0x0204,
-            Command::IgnoreCondition => 0x020A,
-            Command::PushHandle => 0x020C,
-            Command::PopHandle => 0x020E,
-            Command::Receive => 0x0402,
-            Command::WriteqTs => 0x0A02,
-            Command::ReadqTs => 0x0A04,
-            Command::DeleteqTs => 0x0A06,
-            Command::Getmain => 0x0C02,
-            Command::Freemain => 0x0C04,
-            Command::Link => 0x0E02,
-            Command::Xctl => 0x0E04,
-            Command::Return => 0x0E08,
-            Command::Abend => 0x0E0C,
-            Command::HandleAbend => 0x0E0E,
-            Command::Enq => 0x1204,
-            Command::Deq => 0x1206,
-            Command::Suspend => 0x1208,
-            Command::SendText => 0x1806,
-        }
+        self.row().function
     }
 
     /// The command's name, as `READQ TS`.
     pub fn name(self) -> &'static str
         ensures { result.now ≡ (row_of self).name }
     {
-        match self {
-            Command::Address => "ADDRESS",
-            Command::HandleCondition => "HANDLE CONDITION",
-            Command::IgnoreCondition => "IGNORE CONDITION",
-            Command::PushHandle => "PUSH HANDLE",
-            Command::PopHandle => "POP HANDLE",
-            Command::Receive => "RECEIVE",
-            Command::WriteqTs => "WRITEQ TS",
-            Command::ReadqTs => "READQ TS",
-            Command::DeleteqTs => "DELETEQ TS",
-            Command::Getmain => "GETMAIN",
-            Command::Freemain => "FREEMAIN",
-            Command::Link => "LINK",
-            Command::Xctl => "XCTL",
-            Command::Return => "RETURN",
-            Command::Abend => "ABEND",
-            Command::HandleAbend => "HANDLE ABEND",
-            Command::Enq => "ENQ",
-            Command::Deq => "DEQ",
-            Command::Suspend => "SUSPEND",
-            Command::SendText => "SEND TEXT",
-        }
+        self.row().name
+    }
+
+    /// The options that have a bit in option byte 1, in the order of their words in the argument list.
+    pub fn options(self) -> &'static [CommandOption]
+        ensures { result.now ≡ (row_of self).options }
+    {
+        self.row().options
+    }
+
+    /// The rules of the command's legal sets of options.
+    pub fn rules(self) -> &'static [Rule]
+        ensures { result.now ≡ (row_of self).rules }
+    {
+        self.row().rules
     }
 
     /// The command of that function value, or None where no command has it.
@@ -139,60 +153,6 @@ impl Command {
             return Some((command, 1));
         }
         with_words(&Command::ALL, first, b"TS").map(|command| (command, 1))
-    }
-
-    /// The options that have a bit in option byte 1, in the order of their words in the argument list.
-    pub fn options(self) -> &'static [CommandOption]
-        ensures { result.now ≡ (row_of self).options }
-    {
-        match self {
-            Command::Address => &ADDRESS,
-            Command::Receive => &RECEIVE,
-            Command::WriteqTs => &WRITEQ_TS,
-            Command::ReadqTs => &READQ_TS,
-            Command::DeleteqTs => &DELETEQ_TS,
-            Command::Getmain => &GETMAIN,
-            Command::Freemain => &FREEMAIN,
-            Command::Link => &LINK,
-            Command::Xctl => &XCTL,
-            Command::Return => &RETURN,
-            Command::Abend => &ABEND,
-            Command::HandleAbend => &HANDLE_ABEND,
-            Command::Enq => &ENQ,
-            Command::Deq => &DEQ,
-            Command::SendText => &SEND_TEXT,
-            Command::HandleCondition
-            | Command::IgnoreCondition
-            | Command::PushHandle
-            | Command::PopHandle
-            | Command::Suspend => &[],
-        }
-    }
-
-    /// The rules of the command's legal sets of options.
-    pub fn rules(self) -> &'static [Rule]
-        ensures { result.now ≡ (row_of self).rules }
-    {
-        match self {
-            Command::WriteqTs => &[Rule::NotBoth(0x10, 0x08), Rule::Needs(0x01, 0x02)],
-            Command::ReadqTs => &[Rule::OneOfTwo(0x40, 0x04), Rule::NotBoth(0x10, 0x08)],
-            Command::Link | Command::Xctl | Command::Return => &[Rule::Together(0x40, 0x20)],
-            Command::HandleAbend => &[Rule::OneOfThree(0x80, 0x40, 0x20)],
-            Command::Address
-            | Command::HandleCondition
-            | Command::IgnoreCondition
-            | Command::PushHandle
-            | Command::PopHandle
-            | Command::Receive
-            | Command::DeleteqTs
-            | Command::Getmain
-            | Command::Freemain
-            | Command::Abend
-            | Command::Enq
-            | Command::Deq
-            | Command::Suspend
-            | Command::SendText => &[],
-        }
     }
 
     /// Whether the command lists conditions: option byte 1 is then their number, and two bytes for each follow the
@@ -352,3 +312,12 @@ const SEND_TEXT: [CommandOption; 4] = [
     CommandOption { bit: 0x20, name: OptionName::Erase, kind: ArgumentKind::Flag, required: false },
     CommandOption { bit: 0x10, name: OptionName::Freekb, kind: ArgumentKind::Flag, required: false },
 ];
+
+const WRITEQ_TS_RULES: [Rule; 2] = [Rule::NotBoth(0x10, 0x08), Rule::Needs(0x01, 0x02)];
+
+const READQ_TS_RULES: [Rule; 2] = [Rule::OneOfTwo(0x40, 0x04), Rule::NotBoth(0x10, 0x08)];
+
+/// COMMAREA and LENGTH come together in LINK, XCTL and RETURN.
+const COMMAREA_RULES: [Rule; 1] = [Rule::Together(0x40, 0x20)];
+
+const HANDLE_ABEND_RULES: [Rule; 1] = [Rule::OneOfThree(0x80, 0x40, 0x20)];
