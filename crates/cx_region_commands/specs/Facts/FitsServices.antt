@@ -1,5 +1,5 @@
 -- What the commands of storage, queues and resources are judged to do can be done.
-use Rattle.std.proofs.Common.{◌≡◌, ℕ, ◌+◌, ◌<◌, ◌≤◌, ◌^◌, ◌==◌, Bool, true, false, List, [], ◌∷◌, Option, Some, None, refl, sym, ap, ◌∙◌, arith, inl, inr, nat_le, length, unwrap_or, is_none, is_some}
+use Rattle.std.proofs.Common.{◌≡◌, ℕ, ◌+◌, ◌<◌, ◌≤◌, ◌^◌, ◌==◌, Bool, true, false, List, [], ◌∷◌, Option, Some, None, refl, sym, ap, ◌∙◌, arith, inl, inr, nat_le, length, unwrap_or, is_none}
 use Rattle.std.specs.Prelude.{◌&&◌, if◌then◌else◌}
 use Rattle.std.specs.Option.{option_and_then, option_map, option_map_or}
 use Rattle.std.specs.List.{AllByRecursion}
@@ -20,7 +20,7 @@ use Rattle.cx_service.specs.declared.faults.ServiceFault.{ServiceFault}
 use Rattle.cx_service.specs.declared.faults.ServiceFault.TheVariants as fault
 use Rattle.cx_service.specs.declared.resources.Hold.{Hold}
 use Rattle.cx_service.specs.declared.resources.ResourceName.{ResourceName}
-use Rattle.cx_service.specs.Queues.{AreSoundQueues, Queues, count_of, item_len_of, item_numbered, item_of, queue_of, reading_of_queue, rewrite_fault, write_fault}
+use Rattle.cx_service.specs.Queues.{AreSoundQueues, Queues, count_of, item_len_of, item_numbered, queue_of, reading_of_queue, rewrite_fault, write_fault}
 use Rattle.cx_service.specs.declared.queues.Reading.{Reading}
 use Rattle.cx_service.specs.Facts.Readings.{reading_is}
 use Rattle.cx_service.specs.Resources.{Resources, enq_fault, hold_fault, hold_of}
