@@ -5,7 +5,11 @@ ghost use Rattle.std.specs.Str.{bytes_eq};
 ghost use Rattle.cx_base.specs.Commands.{command_called, command_named, command_with, row, row_of, with_blank_between};
 ghost use Rattle.cx_base.specs.Legal.{lists_conditions};
 
-use crate::options::{ArgumentKind, CommandOption, OptionName, Rule};
+use crate::options::{
+    ABEND, ADDRESS, COMMAREA_RULES, CommandOption, DELETEQ_TS, DEQ, ENQ, FREEMAIN, GETMAIN,
+    HANDLE_ABEND, HANDLE_ABEND_RULES, LINK, READQ_TS, READQ_TS_RULES, RECEIVE, RETURN, Rule,
+    SEND_TEXT, WRITEQ_TS, WRITEQ_TS_RULES, XCTL,
+};
 
 /// A command that a program can give by EXEC CICS.
 ///
@@ -204,120 +208,3 @@ fn is_joined(text: &[u8], first: &[u8], second: &[u8]) -> bool
     };
     *blank == b' ' && last == second
 }
-
-#[rattlefmt::skip]
-const ADDRESS: [CommandOption; 1] = [
-    CommandOption { bit: 0x80, name: OptionName::Cwa, kind: ArgumentKind::Pointer, required: true },
-];
-
-#[rattlefmt::skip]
-const RECEIVE: [CommandOption; 2] = [
-    CommandOption { bit: 0x80, name: OptionName::Into, kind: ArgumentKind::BytesWritten, required: true },
-    CommandOption { bit: 0x40, name: OptionName::Length, kind: ArgumentKind::HalfwordBothWays, required: true },
-];
-
-#[rattlefmt::skip]
-const WRITEQ_TS: [CommandOption; 8] = [
-    CommandOption { bit: 0x80, name: OptionName::Queue, kind: ArgumentKind::Name8, required: true },
-    CommandOption { bit: 0x40, name: OptionName::From, kind: ArgumentKind::BytesRead, required: true },
-    CommandOption { bit: 0x20, name: OptionName::Length, kind: ArgumentKind::Halfword, required: true },
-    CommandOption { bit: 0x10, name: OptionName::Main, kind: ArgumentKind::Flag, required: false },
-    CommandOption { bit: 0x08, name: OptionName::Auxiliary, kind: ArgumentKind::Flag, required: false },
-    CommandOption { bit: 0x04, name: OptionName::Nosuspend, kind: ArgumentKind::Flag, required: false },
-    CommandOption { bit: 0x02, name: OptionName::Item, kind: ArgumentKind::HalfwordOutWithoutRewrite, required: false },
-    CommandOption { bit: 0x01, name: OptionName::Rewrite, kind: ArgumentKind::Flag, required: false },
-];
-
-#[rattlefmt::skip]
-const READQ_TS: [CommandOption; 7] = [
-    CommandOption { bit: 0x80, name: OptionName::Queue, kind: ArgumentKind::Name8, required: true },
-    CommandOption { bit: 0x40, name: OptionName::Into, kind: ArgumentKind::BytesWritten, required: false },
-    CommandOption { bit: 0x20, name: OptionName::Length, kind: ArgumentKind::HalfwordBothWaysWithoutSet, required: true },
-    CommandOption { bit: 0x10, name: OptionName::Item, kind: ArgumentKind::Halfword, required: false },
-    CommandOption { bit: 0x08, name: OptionName::Next, kind: ArgumentKind::Flag, required: false },
-    CommandOption { bit: 0x04, name: OptionName::Set, kind: ArgumentKind::Pointer, required: false },
-    CommandOption { bit: 0x02, name: OptionName::Numitems, kind: ArgumentKind::HalfwordOut, required: false },
-];
-
-#[rattlefmt::skip]
-const DELETEQ_TS: [CommandOption; 1] = [
-    CommandOption { bit: 0x80, name: OptionName::Queue, kind: ArgumentKind::Name8, required: true },
-];
-
-#[rattlefmt::skip]
-const GETMAIN: [CommandOption; 4] = [
-    CommandOption { bit: 0x80, name: OptionName::Set, kind: ArgumentKind::Pointer, required: true },
-    CommandOption { bit: 0x40, name: OptionName::Length, kind: ArgumentKind::Halfword, required: true },
-    CommandOption { bit: 0x20, name: OptionName::Initimg, kind: ArgumentKind::Byte, required: false },
-    CommandOption { bit: 0x10, name: OptionName::Nosuspend, kind: ArgumentKind::Flag, required: false },
-];
-
-#[rattlefmt::skip]
-const FREEMAIN: [CommandOption; 1] = [
-    CommandOption { bit: 0x80, name: OptionName::Data, kind: ArgumentKind::Address, required: true },
-];
-
-#[rattlefmt::skip]
-const LINK: [CommandOption; 3] = [
-    CommandOption { bit: 0x80, name: OptionName::Program, kind: ArgumentKind::Name8, required: true },
-    CommandOption { bit: 0x40, name: OptionName::Commarea, kind: ArgumentKind::Address, required: false },
-    CommandOption { bit: 0x20, name: OptionName::Length, kind: ArgumentKind::Halfword, required: false },
-];
-
-#[rattlefmt::skip]
-const XCTL: [CommandOption; 3] = [
-    CommandOption { bit: 0x80, name: OptionName::Program, kind: ArgumentKind::Name8, required: true },
-    CommandOption { bit: 0x40, name: OptionName::Commarea, kind: ArgumentKind::BytesRead, required: false },
-    CommandOption { bit: 0x20, name: OptionName::Length, kind: ArgumentKind::Halfword, required: false },
-];
-
-#[rattlefmt::skip]
-const RETURN: [CommandOption; 3] = [
-    CommandOption { bit: 0x80, name: OptionName::Transid, kind: ArgumentKind::Name4, required: false },
-    CommandOption { bit: 0x40, name: OptionName::Commarea, kind: ArgumentKind::BytesRead, required: false },
-    CommandOption { bit: 0x20, name: OptionName::Length, kind: ArgumentKind::Halfword, required: false },
-];
-
-#[rattlefmt::skip]
-const ABEND: [CommandOption; 3] = [
-    CommandOption { bit: 0x80, name: OptionName::Abcode, kind: ArgumentKind::Name4, required: false },
-    CommandOption { bit: 0x40, name: OptionName::Cancel, kind: ArgumentKind::Flag, required: false },
-    CommandOption { bit: 0x20, name: OptionName::Nodump, kind: ArgumentKind::Flag, required: false },
-];
-
-#[rattlefmt::skip]
-const HANDLE_ABEND: [CommandOption; 3] = [
-    CommandOption { bit: 0x80, name: OptionName::Label, kind: ArgumentKind::Address, required: false },
-    CommandOption { bit: 0x40, name: OptionName::Cancel, kind: ArgumentKind::Flag, required: false },
-    CommandOption { bit: 0x20, name: OptionName::Reset, kind: ArgumentKind::Flag, required: false },
-];
-
-#[rattlefmt::skip]
-const ENQ: [CommandOption; 3] = [
-    CommandOption { bit: 0x80, name: OptionName::Resource, kind: ArgumentKind::BytesOrAddress, required: true },
-    CommandOption { bit: 0x40, name: OptionName::Length, kind: ArgumentKind::Halfword, required: false },
-    CommandOption { bit: 0x20, name: OptionName::Nosuspend, kind: ArgumentKind::Flag, required: false },
-];
-
-#[rattlefmt::skip]
-const DEQ: [CommandOption; 2] = [
-    CommandOption { bit: 0x80, name: OptionName::Resource, kind: ArgumentKind::BytesOrAddress, required: true },
-    CommandOption { bit: 0x40, name: OptionName::Length, kind: ArgumentKind::Halfword, required: false },
-];
-
-#[rattlefmt::skip]
-const SEND_TEXT: [CommandOption; 4] = [
-    CommandOption { bit: 0x80, name: OptionName::From, kind: ArgumentKind::BytesRead, required: true },
-    CommandOption { bit: 0x40, name: OptionName::Length, kind: ArgumentKind::Halfword, required: true },
-    CommandOption { bit: 0x20, name: OptionName::Erase, kind: ArgumentKind::Flag, required: false },
-    CommandOption { bit: 0x10, name: OptionName::Freekb, kind: ArgumentKind::Flag, required: false },
-];
-
-const WRITEQ_TS_RULES: [Rule; 2] = [Rule::NotBoth(0x10, 0x08), Rule::Needs(0x01, 0x02)];
-
-const READQ_TS_RULES: [Rule; 2] = [Rule::OneOfTwo(0x40, 0x04), Rule::NotBoth(0x10, 0x08)];
-
-/// COMMAREA and LENGTH come together in LINK, XCTL and RETURN.
-const COMMAREA_RULES: [Rule; 1] = [Rule::Together(0x40, 0x20)];
-
-const HANDLE_ABEND_RULES: [Rule; 1] = [Rule::OneOfThree(0x80, 0x40, 0x20)];
