@@ -1,5 +1,5 @@
 -- Each command, condition and option is found by its number and by its name.
-use Rattle.std.proofs.Common.{◌≡◌, ℕ, ◌==◌, ◌↔◌, Some, List, refl, sym, ◌∙◌, ap, arith}
+use Rattle.std.proofs.Common.{◌≡◌, ℕ, ◌==◌, ◌↔◌, Some, List, sym, ◌∙◌, ap, arith}
 use Rattle.std.specs.List.{find}
 use Rattle.std.specs.Str.{bytes_eq}
 use Rattle.std.proofs.lemmas.Bool.{eqb-true}
@@ -11,12 +11,10 @@ use Rattle.cx_base.specs.Options.{option_name}
 use Rattle.cx_base.specs.Facts.Commands.{function_finds}
 use Rattle.cx_base.specs.Facts.Conditions.{number_finds}
 use Rattle.cx_base.specs.declared.commands.Command.{Command}
-use Rattle.cx_base.specs.declared.commands.Command.TheVariants as command
 use Rattle.cx_base.specs.declared.commands.TheConstants as commands
 use Rattle.cx_base.specs.declared.conditions.Condition.{Condition}
 use Rattle.cx_base.specs.declared.conditions.TheConstants as conditions
 use Rattle.cx_base.specs.declared.options.OptionName.{OptionName}
-use Rattle.cx_base.specs.declared.options.OptionName.TheVariants as option
 use Rattle.cx_base.specs.declared.options.TheConstants as options
 
 pub found_by_function : (n : ℕ) (x : Command) → (find (λ y. (row_of y).function == n) commands.Command.ALL ≡ Some x) ↔ ((row_of x).function ≡ n)
@@ -26,26 +24,7 @@ found_by_function n x = (
 )
 
 name_finds : (x : Command) → find (λ y. bytes_eq (row_of y).name (row_of x).name) all_commands ≡ Some x
-name_finds command.Address = refl
-name_finds command.HandleCondition = refl
-name_finds command.IgnoreCondition = refl
-name_finds command.PushHandle = refl
-name_finds command.PopHandle = refl
-name_finds command.Receive = refl
-name_finds command.WriteqTs = refl
-name_finds command.ReadqTs = refl
-name_finds command.DeleteqTs = refl
-name_finds command.Getmain = refl
-name_finds command.Freemain = refl
-name_finds command.Link = refl
-name_finds command.Xctl = refl
-name_finds command.Return = refl
-name_finds command.Abend = refl
-name_finds command.HandleAbend = refl
-name_finds command.Enq = refl
-name_finds command.Deq = refl
-name_finds command.Suspend = refl
-name_finds command.SendText = refl
+name_finds x = grind arith
 
 -- the two look-ups of the table of commands
 pub command_by_function : (n : ℕ) (x : Command) → (command_with n ≡ Some x) ↔ ((row_of x).function ≡ n)
@@ -75,32 +54,7 @@ found_by_condition_name t x = (
 )
 
 option_name_finds : (x : OptionName) → find (λ y. bytes_eq (option_name y) (option_name x)) options.OptionName.ALL ≡ Some x
-option_name_finds option.Abcode = refl
-option_name_finds option.Auxiliary = refl
-option_name_finds option.Cancel = refl
-option_name_finds option.Commarea = refl
-option_name_finds option.Cwa = refl
-option_name_finds option.Data = refl
-option_name_finds option.Erase = refl
-option_name_finds option.Freekb = refl
-option_name_finds option.From = refl
-option_name_finds option.Initimg = refl
-option_name_finds option.Into = refl
-option_name_finds option.Item = refl
-option_name_finds option.Label = refl
-option_name_finds option.Length = refl
-option_name_finds option.Main = refl
-option_name_finds option.Next = refl
-option_name_finds option.Nodump = refl
-option_name_finds option.Nosuspend = refl
-option_name_finds option.Numitems = refl
-option_name_finds option.Program = refl
-option_name_finds option.Queue = refl
-option_name_finds option.Reset = refl
-option_name_finds option.Resource = refl
-option_name_finds option.Rewrite = refl
-option_name_finds option.Set = refl
-option_name_finds option.Transid = refl
+option_name_finds x = grind arith
 
 pub found_by_option_name : (t : List ℕ) (x : OptionName) → (find (λ y. bytes_eq (option_name y) t) options.OptionName.ALL ≡ Some x) ↔ (option_name x ≡ t)
 found_by_option_name t x = (

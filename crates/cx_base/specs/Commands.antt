@@ -7,7 +7,7 @@ use Rattle.std.specs.Option.{option_map, option_or}
 use Rattle.std.specs.Str.{bytes_eq}
 use Rattle.cx_base.specs.declared.options.CommandOption.{CommandOption}
 use Rattle.cx_base.specs.declared.options.OptionName.{OptionName}
-use Rattle.cx_base.specs.declared.options.OptionName.TheVariants.{Abcode, Auxiliary, Cancel, Commarea, Cwa, Data, Erase, Freekb, From, Initimg, Into, Item, Label, Length, Main, Next, Nodump, Nosuspend, Numitems, Program, Queue, Reset, Resource, Rewrite, Set, Transid}
+use Rattle.cx_base.specs.declared.options.OptionName.TheVariants as option
 use Rattle.cx_base.specs.declared.options.ArgumentKind.{ArgumentKind}
 use Rattle.cx_base.specs.declared.options.ArgumentKind.TheVariants.{Flag, Address, BytesRead, BytesWritten, BytesOrAddress, Byte, Name4, Name8, Halfword, HalfwordBothWays, HalfwordBothWaysWithoutSet, HalfwordOut, HalfwordOutWithoutRewrite, Pointer}
 use Rattle.cx_base.specs.declared.options.Rule.{Rule}
@@ -34,105 +34,105 @@ abbrev pub optional_option : ℕ → OptionName → ArgumentKind → CommandOpti
 optional_option bit name kind = record { bit = bit; name = name; kind = kind; required = false }
 
 abbrev pub row_of : Command → Row
-row_of command.Address = row 0x0202 (codes "ADDRESS") (required_option 0x80 Cwa Pointer ∷ []) ([])
+row_of command.Address = row 0x0202 (codes "ADDRESS") (required_option 0x80 option.Cwa Pointer ∷ []) ([])
 row_of command.HandleCondition = row 0x0204 (codes "HANDLE CONDITION") ([]) ([])
 row_of command.IgnoreCondition = row 0x020A (codes "IGNORE CONDITION") ([]) ([])
 row_of command.PushHandle = row 0x020C (codes "PUSH HANDLE") ([]) ([])
 row_of command.PopHandle = row 0x020E (codes "POP HANDLE") ([]) ([])
 row_of command.Receive =
     row 0x0402 (codes "RECEIVE")
-    (required_option 0x80 Into BytesWritten
-    ∷ required_option 0x40 Length HalfwordBothWays
+    (required_option 0x80 option.Into BytesWritten
+    ∷ required_option 0x40 option.Length HalfwordBothWays
     ∷ [])
     []
 row_of command.WriteqTs =
     row 0x0A02 (codes "WRITEQ TS")
-    (required_option 0x80 Queue Name8
-    ∷ required_option 0x40 From BytesRead
-    ∷ required_option 0x20 Length Halfword
-    ∷ optional_option 0x10 Main Flag
-    ∷ optional_option 0x08 Auxiliary Flag
-    ∷ optional_option 0x04 Nosuspend Flag
-    ∷ optional_option 0x02 Item HalfwordOutWithoutRewrite
-    ∷ optional_option 0x01 Rewrite Flag
+    (required_option 0x80 option.Queue Name8
+    ∷ required_option 0x40 option.From BytesRead
+    ∷ required_option 0x20 option.Length Halfword
+    ∷ optional_option 0x10 option.Main Flag
+    ∷ optional_option 0x08 option.Auxiliary Flag
+    ∷ optional_option 0x04 option.Nosuspend Flag
+    ∷ optional_option 0x02 option.Item HalfwordOutWithoutRewrite
+    ∷ optional_option 0x01 option.Rewrite Flag
     ∷ [])
     (NotBoth 0x10 0x08 ∷ Needs 0x01 0x02 ∷ [])
 row_of command.ReadqTs =
     row 0x0A04 (codes "READQ TS")
-    (required_option 0x80 Queue Name8
-    ∷ optional_option 0x40 Into BytesWritten
-    ∷ required_option 0x20 Length HalfwordBothWaysWithoutSet
-    ∷ optional_option 0x10 Item Halfword
-    ∷ optional_option 0x08 Next Flag
-    ∷ optional_option 0x04 Set Pointer
-    ∷ optional_option 0x02 Numitems HalfwordOut
+    (required_option 0x80 option.Queue Name8
+    ∷ optional_option 0x40 option.Into BytesWritten
+    ∷ required_option 0x20 option.Length HalfwordBothWaysWithoutSet
+    ∷ optional_option 0x10 option.Item Halfword
+    ∷ optional_option 0x08 option.Next Flag
+    ∷ optional_option 0x04 option.Set Pointer
+    ∷ optional_option 0x02 option.Numitems HalfwordOut
     ∷ [])
     (OneOfTwo 0x40 0x04 ∷ NotBoth 0x10 0x08 ∷ [])
-row_of command.DeleteqTs = row 0x0A06 (codes "DELETEQ TS") (required_option 0x80 Queue Name8 ∷ []) ([])
+row_of command.DeleteqTs = row 0x0A06 (codes "DELETEQ TS") (required_option 0x80 option.Queue Name8 ∷ []) ([])
 row_of command.Getmain =
     row 0x0C02 (codes "GETMAIN")
-    (required_option 0x80 Set Pointer
-    ∷ required_option 0x40 Length Halfword
-    ∷ optional_option 0x20 Initimg Byte
-    ∷ optional_option 0x10 Nosuspend Flag
+    (required_option 0x80 option.Set Pointer
+    ∷ required_option 0x40 option.Length Halfword
+    ∷ optional_option 0x20 option.Initimg Byte
+    ∷ optional_option 0x10 option.Nosuspend Flag
     ∷ [])
     []
-row_of command.Freemain = row 0x0C04 (codes "FREEMAIN") (required_option 0x80 Data Address ∷ []) ([])
+row_of command.Freemain = row 0x0C04 (codes "FREEMAIN") (required_option 0x80 option.Data Address ∷ []) ([])
 row_of command.Link =
     row 0x0E02 (codes "LINK")
-    (required_option 0x80 Program Name8
-    ∷ optional_option 0x40 Commarea Address
-    ∷ optional_option 0x20 Length Halfword
+    (required_option 0x80 option.Program Name8
+    ∷ optional_option 0x40 option.Commarea Address
+    ∷ optional_option 0x20 option.Length Halfword
     ∷ [])
     (Together 0x40 0x20 ∷ [])
 row_of command.Xctl =
     row 0x0E04 (codes "XCTL")
-    (required_option 0x80 Program Name8
-    ∷ optional_option 0x40 Commarea BytesRead
-    ∷ optional_option 0x20 Length Halfword
+    (required_option 0x80 option.Program Name8
+    ∷ optional_option 0x40 option.Commarea BytesRead
+    ∷ optional_option 0x20 option.Length Halfword
     ∷ [])
     (Together 0x40 0x20 ∷ [])
 row_of command.Return =
     row 0x0E08 (codes "RETURN")
-    (optional_option 0x80 Transid Name4
-    ∷ optional_option 0x40 Commarea BytesRead
-    ∷ optional_option 0x20 Length Halfword
+    (optional_option 0x80 option.Transid Name4
+    ∷ optional_option 0x40 option.Commarea BytesRead
+    ∷ optional_option 0x20 option.Length Halfword
     ∷ [])
     (Together 0x40 0x20 ∷ [])
 row_of command.Abend =
     row 0x0E0C (codes "ABEND")
-    (optional_option 0x80 Abcode Name4
-    ∷ optional_option 0x40 Cancel Flag
-    ∷ optional_option 0x20 Nodump Flag
+    (optional_option 0x80 option.Abcode Name4
+    ∷ optional_option 0x40 option.Cancel Flag
+    ∷ optional_option 0x20 option.Nodump Flag
     ∷ [])
     []
 row_of command.HandleAbend =
     row 0x0E0E (codes "HANDLE ABEND")
-    (optional_option 0x80 Label Address
-    ∷ optional_option 0x40 Cancel Flag
-    ∷ optional_option 0x20 Reset Flag
+    (optional_option 0x80 option.Label Address
+    ∷ optional_option 0x40 option.Cancel Flag
+    ∷ optional_option 0x20 option.Reset Flag
     ∷ [])
     (OneOfThree 0x80 0x40 0x20 ∷ [])
 row_of command.Enq =
     row 0x1204 (codes "ENQ")
-    (required_option 0x80 Resource BytesOrAddress
-    ∷ optional_option 0x40 Length Halfword
-    ∷ optional_option 0x20 Nosuspend Flag
+    (required_option 0x80 option.Resource BytesOrAddress
+    ∷ optional_option 0x40 option.Length Halfword
+    ∷ optional_option 0x20 option.Nosuspend Flag
     ∷ [])
     []
 row_of command.Deq =
     row 0x1206 (codes "DEQ")
-    (required_option 0x80 Resource BytesOrAddress
-    ∷ optional_option 0x40 Length Halfword
+    (required_option 0x80 option.Resource BytesOrAddress
+    ∷ optional_option 0x40 option.Length Halfword
     ∷ [])
     []
 row_of command.Suspend = row 0x1208 (codes "SUSPEND") ([]) ([])
 row_of command.SendText =
     row 0x1806 (codes "SEND TEXT")
-    (required_option 0x80 From BytesRead
-    ∷ required_option 0x40 Length Halfword
-    ∷ optional_option 0x20 Erase Flag
-    ∷ optional_option 0x10 Freekb Flag
+    (required_option 0x80 option.From BytesRead
+    ∷ required_option 0x40 option.Length Halfword
+    ∷ optional_option 0x20 option.Erase Flag
+    ∷ optional_option 0x10 option.Freekb Flag
     ∷ [])
     []
 

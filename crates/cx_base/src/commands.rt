@@ -2,10 +2,14 @@
 ghost use Rattle.std.specs.Prelude.{◌≡◌, ◌↔◌, ◌==◌, Some};
 ghost use Rattle.std.specs.List.{find};
 ghost use Rattle.std.specs.Str.{bytes_eq};
-ghost use Rattle.cx_base.specs.Commands.{command_called, command_named, command_with, with_blank_between, row_of};
+ghost use Rattle.cx_base.specs.Commands.{command_called, command_named, command_with, row, row_of, with_blank_between};
 ghost use Rattle.cx_base.specs.Legal.{lists_conditions};
 
-use crate::options::{ArgumentKind, CommandOption, OptionName, Rule};
+use crate::options::{
+    ABEND, ADDRESS, COMMAREA_RULES, CommandOption, DELETEQ_TS, DEQ, ENQ, FREEMAIN, GETMAIN,
+    HANDLE_ABEND, HANDLE_ABEND_RULES, LINK, READQ_TS, READQ_TS_RULES, RECEIVE, RETURN, Rule,
+    SEND_TEXT, WRITEQ_TS, WRITEQ_TS_RULES, XCTL,
+};
 
 /// A command that a program can give by EXEC CICS.
 ///
@@ -35,6 +39,18 @@ pub enum Command {
     SendText,
 }
 
+/// A command's row of the table.
+struct CommandRow {
+    /// The function value.
+    function: u16,
+    /// The command's name, as `READQ TS`.
+    name: &'static str,
+    /// The options that have a bit in option byte 1, in the order of their words in the argument list.
+    options: &'static [CommandOption],
+    /// The rules of their legal sets.
+    rules: &'static [Rule],
+}
+
 impl Command {
     /// All commands, in the order of their function values.
     pub const ALL: [Command; 20] = [
@@ -60,60 +76,62 @@ impl Command {
         Command::SendText,
     ];
 
+    /// The command's row of the table.
+    #[rattlefmt::skip]
+    fn row(self) -> &'static CommandRow
+        ensures { row result.now.function result.now.name.now result.now.options.now result.now.rules.now
+            ≡ row_of self }
+    {
+        match self {
+            Command::Address => &CommandRow { function: 0x0202, name: "ADDRESS", options: &ADDRESS, rules: &[] },
+            Command::HandleCondition => &CommandRow { function: 0x0204, name: "HANDLE CONDITION", options: &[], rules: &[] },
+            Command::IgnoreCondition => &CommandRow { function: 0x020A, name: "IGNORE CONDITION", options: &[], rules: &[] },
+            Command::PushHandle => &CommandRow { function: 0x020C, name: "PUSH HANDLE", options: &[], rules: &[] },
+            Command::PopHandle => &CommandRow { function: 0x020E, name: "POP HANDLE", options: &[], rules: &[] },
+            Command::Receive => &CommandRow { function: 0x0402, name: "RECEIVE", options: &RECEIVE, rules: &[] },
+            Command::WriteqTs => &CommandRow { function: 0x0A02, name: "WRITEQ TS", options: &WRITEQ_TS, rules: &WRITEQ_TS_RULES },
+            Command::ReadqTs => &CommandRow { function: 0x0A04, name: "READQ TS", options: &READQ_TS, rules: &READQ_TS_RULES },
+            Command::DeleteqTs => &CommandRow { function: 0x0A06, name: "DELETEQ TS", options: &DELETEQ_TS, rules: &[] },
+            Command::Getmain => &CommandRow { function: 0x0C02, name: "GETMAIN", options: &GETMAIN, rules: &[] },
+            Command::Freemain => &CommandRow { function: 0x0C04, name: "FREEMAIN", options: &FREEMAIN, rules: &[] },
+            Command::Link => &CommandRow { function: 0x0E02, name: "LINK", options: &LINK, rules: &COMMAREA_RULES },
+            Command::Xctl => &CommandRow { function: 0x0E04, name: "XCTL", options: &XCTL, rules: &COMMAREA_RULES },
+            Command::Return => &CommandRow { function: 0x0E08, name: "RETURN", options: &RETURN, rules: &COMMAREA_RULES },
+            Command::Abend => &CommandRow { function: 0x0E0C, name: "ABEND", options: &ABEND, rules: &[] },
+            Command::HandleAbend => &CommandRow { function: 0x0E0E, name: "HANDLE ABEND", options: &HANDLE_ABEND, rules: &HANDLE_ABEND_RULES },
+            Command::Enq => &CommandRow { function: 0x1204, name: "ENQ", options: &ENQ, rules: &[] },
+            Command::Deq => &CommandRow { function: 0x1206, name: "DEQ", options: &DEQ, rules: &[] },
+            Command::Suspend => &CommandRow { function: 0x1208, name: "SUSPEND", options: &[], rules: &[] },
+            Command::SendText => &CommandRow { function: 0x1806, name: "SEND TEXT", options: &SEND_TEXT, rules: &[] },
+        }
+    }
+
     /// The function value, the first two bytes of the argument list's block, and EIBFN afterwards.
     pub fn function(self) -> u16
         ensures { result ≡ (row_of self).function }
     {
-        match self {
-            Command::Address => 0x0202,
-            Command::HandleCondition => 0x0204,
-            Command::IgnoreCondition => 0x020A,
-            Command::PushHandle => 0x020C,
-            Command::PopHandle => 0x020E,
-            Command::Receive => 0x0402,
-            Command::WriteqTs => 0x0A02,
-            Command::ReadqTs => 0x0A04,
-            Command::DeleteqTs => 0x0A06,
-            Command::Getmain => 0x0C02,
-            Command::Freemain => 0x0C04,
-            Command::Link => 0x0E02,
-            Command::Xctl => 0x0E04,
-            Command::Return => 0x0E08,
-            Command::Abend => 0x0E0C,
-            Command::HandleAbend => 0x0E0E,
-            Command::Enq => 0x1204,
-            Command::Deq => 0x1206,
-            Command::Suspend => 0x1208,
-            Command::SendText => 0x1806,
-        }
+        self.row().function
     }
 
     /// The command's name, as `READQ TS`.
     pub fn name(self) -> &'static str
         ensures { result.now ≡ (row_of self).name }
     {
-        match self {
-            Command::Address => "ADDRESS",
-            Command::HandleCondition => "HANDLE CONDITION",
-            Command::IgnoreCondition => "IGNORE CONDITION",
-            Command::PushHandle => "PUSH HANDLE",
-            Command::PopHandle => "POP HANDLE",
-            Command::Receive => "RECEIVE",
-            Command::WriteqTs => "WRITEQ TS",
-            Command::ReadqTs => "READQ TS",
-            Command::DeleteqTs => "DELETEQ TS",
-            Command::Getmain => "GETMAIN",
-            Command::Freemain => "FREEMAIN",
-            Command::Link => "LINK",
-            Command::Xctl => "XCTL",
-            Command::Return => "RETURN",
-            Command::Abend => "ABEND",
-            Command::HandleAbend => "HANDLE ABEND",
-            Command::Enq => "ENQ",
-            Command::Deq => "DEQ",
-            Command::Suspend => "SUSPEND",
-            Command::SendText => "SEND TEXT",
-        }
+        self.row().name
+    }
+
+    /// The options that have a bit in option byte 1, in the order of their words in the argument list.
+    pub fn options(self) -> &'static [CommandOption]
+        ensures { result.now ≡ (row_of self).options }
+    {
+        self.row().options
+    }
+
+    /// The rules of the command's legal sets of options.
+    pub fn rules(self) -> &'static [Rule]
+        ensures { result.now ≡ (row_of self).rules }
+    {
+        self.row().rules
     }
 
     /// The command of that function value, or None where no command has it.
@@ -139,60 +157,6 @@ impl Command {
             return Some((command, 1));
         }
         with_words(&Command::ALL, first, b"TS").map(|command| (command, 1))
-    }
-
-    /// The options that have a bit in option byte 1, in the order of their words in the argument list.
-    pub fn options(self) -> &'static [CommandOption]
-        ensures { result.now ≡ (row_of self).options }
-    {
-        match self {
-            Command::Address => &ADDRESS,
-            Command::Receive => &RECEIVE,
-            Command::WriteqTs => &WRITEQ_TS,
-            Command::ReadqTs => &READQ_TS,
-            Command::DeleteqTs => &DELETEQ_TS,
-            Command::Getmain => &GETMAIN,
-            Command::Freemain => &FREEMAIN,
-            Command::Link => &LINK,
-            Command::Xctl => &XCTL,
-            Command::Return => &RETURN,
-            Command::Abend => &ABEND,
-            Command::HandleAbend => &HANDLE_ABEND,
-            Command::Enq => &ENQ,
-            Command::Deq => &DEQ,
-            Command::SendText => &SEND_TEXT,
-            Command::HandleCondition
-            | Command::IgnoreCondition
-            | Command::PushHandle
-            | Command::PopHandle
-            | Command::Suspend => &[],
-        }
-    }
-
-    /// The rules of the command's legal sets of options.
-    pub fn rules(self) -> &'static [Rule]
-        ensures { result.now ≡ (row_of self).rules }
-    {
-        match self {
-            Command::WriteqTs => &[Rule::NotBoth(0x10, 0x08), Rule::Needs(0x01, 0x02)],
-            Command::ReadqTs => &[Rule::OneOfTwo(0x40, 0x04), Rule::NotBoth(0x10, 0x08)],
-            Command::Link | Command::Xctl | Command::Return => &[Rule::Together(0x40, 0x20)],
-            Command::HandleAbend => &[Rule::OneOfThree(0x80, 0x40, 0x20)],
-            Command::Address
-            | Command::HandleCondition
-            | Command::IgnoreCondition
-            | Command::PushHandle
-            | Command::PopHandle
-            | Command::Receive
-            | Command::DeleteqTs
-            | Command::Getmain
-            | Command::Freemain
-            | Command::Abend
-            | Command::Enq
-            | Command::Deq
-            | Command::Suspend
-            | Command::SendText => &[],
-        }
     }
 
     /// Whether the command lists conditions: option byte 1 is then their number, and two bytes for each follow the
@@ -244,111 +208,3 @@ fn is_joined(text: &[u8], first: &[u8], second: &[u8]) -> bool
     };
     *blank == b' ' && last == second
 }
-
-#[rattlefmt::skip]
-const ADDRESS: [CommandOption; 1] = [
-    CommandOption { bit: 0x80, name: OptionName::Cwa, kind: ArgumentKind::Pointer, required: true },
-];
-
-#[rattlefmt::skip]
-const RECEIVE: [CommandOption; 2] = [
-    CommandOption { bit: 0x80, name: OptionName::Into, kind: ArgumentKind::BytesWritten, required: true },
-    CommandOption { bit: 0x40, name: OptionName::Length, kind: ArgumentKind::HalfwordBothWays, required: true },
-];
-
-#[rattlefmt::skip]
-const WRITEQ_TS: [CommandOption; 8] = [
-    CommandOption { bit: 0x80, name: OptionName::Queue, kind: ArgumentKind::Name8, required: true },
-    CommandOption { bit: 0x40, name: OptionName::From, kind: ArgumentKind::BytesRead, required: true },
-    CommandOption { bit: 0x20, name: OptionName::Length, kind: ArgumentKind::Halfword, required: true },
-    CommandOption { bit: 0x10, name: OptionName::Main, kind: ArgumentKind::Flag, required: false },
-    CommandOption { bit: 0x08, name: OptionName::Auxiliary, kind: ArgumentKind::Flag, required: false },
-    CommandOption { bit: 0x04, name: OptionName::Nosuspend, kind: ArgumentKind::Flag, required: false },
-    CommandOption { bit: 0x02, name: OptionName::Item, kind: ArgumentKind::HalfwordOutWithoutRewrite, required: false },
-    CommandOption { bit: 0x01, name: OptionName::Rewrite, kind: ArgumentKind::Flag, required: false },
-];
-
-#[rattlefmt::skip]
-const READQ_TS: [CommandOption; 7] = [
-    CommandOption { bit: 0x80, name: OptionName::Queue, kind: ArgumentKind::Name8, required: true },
-    CommandOption { bit: 0x40, name: OptionName::Into, kind: ArgumentKind::BytesWritten, required: false },
-    CommandOption { bit: 0x20, name: OptionName::Length, kind: ArgumentKind::HalfwordBothWaysWithoutSet, required: true },
-    CommandOption { bit: 0x10, name: OptionName::Item, kind: ArgumentKind::Halfword, required: false },
-    CommandOption { bit: 0x08, name: OptionName::Next, kind: ArgumentKind::Flag, required: false },
-    CommandOption { bit: 0x04, name: OptionName::Set, kind: ArgumentKind::Pointer, required: false },
-    CommandOption { bit: 0x02, name: OptionName::Numitems, kind: ArgumentKind::HalfwordOut, required: false },
-];
-
-#[rattlefmt::skip]
-const DELETEQ_TS: [CommandOption; 1] = [
-    CommandOption { bit: 0x80, name: OptionName::Queue, kind: ArgumentKind::Name8, required: true },
-];
-
-#[rattlefmt::skip]
-const GETMAIN: [CommandOption; 4] = [
-    CommandOption { bit: 0x80, name: OptionName::Set, kind: ArgumentKind::Pointer, required: true },
-    CommandOption { bit: 0x40, name: OptionName::Length, kind: ArgumentKind::Halfword, required: true },
-    CommandOption { bit: 0x20, name: OptionName::Initimg, kind: ArgumentKind::Byte, required: false },
-    CommandOption { bit: 0x10, name: OptionName::Nosuspend, kind: ArgumentKind::Flag, required: false },
-];
-
-#[rattlefmt::skip]
-const FREEMAIN: [CommandOption; 1] = [
-    CommandOption { bit: 0x80, name: OptionName::Data, kind: ArgumentKind::Address, required: true },
-];
-
-#[rattlefmt::skip]
-const LINK: [CommandOption; 3] = [
-    CommandOption { bit: 0x80, name: OptionName::Program, kind: ArgumentKind::Name8, required: true },
-    CommandOption { bit: 0x40, name: OptionName::Commarea, kind: ArgumentKind::Address, required: false },
-    CommandOption { bit: 0x20, name: OptionName::Length, kind: ArgumentKind::Halfword, required: false },
-];
-
-#[rattlefmt::skip]
-const XCTL: [CommandOption; 3] = [
-    CommandOption { bit: 0x80, name: OptionName::Program, kind: ArgumentKind::Name8, required: true },
-    CommandOption { bit: 0x40, name: OptionName::Commarea, kind: ArgumentKind::BytesRead, required: false },
-    CommandOption { bit: 0x20, name: OptionName::Length, kind: ArgumentKind::Halfword, required: false },
-];
-
-#[rattlefmt::skip]
-const RETURN: [CommandOption; 3] = [
-    CommandOption { bit: 0x80, name: OptionName::Transid, kind: ArgumentKind::Name4, required: false },
-    CommandOption { bit: 0x40, name: OptionName::Commarea, kind: ArgumentKind::BytesRead, required: false },
-    CommandOption { bit: 0x20, name: OptionName::Length, kind: ArgumentKind::Halfword, required: false },
-];
-
-#[rattlefmt::skip]
-const ABEND: [CommandOption; 3] = [
-    CommandOption { bit: 0x80, name: OptionName::Abcode, kind: ArgumentKind::Name4, required: false },
-    CommandOption { bit: 0x40, name: OptionName::Cancel, kind: ArgumentKind::Flag, required: false },
-    CommandOption { bit: 0x20, name: OptionName::Nodump, kind: ArgumentKind::Flag, required: false },
-];
-
-#[rattlefmt::skip]
-const HANDLE_ABEND: [CommandOption; 3] = [
-    CommandOption { bit: 0x80, name: OptionName::Label, kind: ArgumentKind::Address, required: false },
-    CommandOption { bit: 0x40, name: OptionName::Cancel, kind: ArgumentKind::Flag, required: false },
-    CommandOption { bit: 0x20, name: OptionName::Reset, kind: ArgumentKind::Flag, required: false },
-];
-
-#[rattlefmt::skip]
-const ENQ: [CommandOption; 3] = [
-    CommandOption { bit: 0x80, name: OptionName::Resource, kind: ArgumentKind::BytesOrAddress, required: true },
-    CommandOption { bit: 0x40, name: OptionName::Length, kind: ArgumentKind::Halfword, required: false },
-    CommandOption { bit: 0x20, name: OptionName::Nosuspend, kind: ArgumentKind::Flag, required: false },
-];
-
-#[rattlefmt::skip]
-const DEQ: [CommandOption; 2] = [
-    CommandOption { bit: 0x80, name: OptionName::Resource, kind: ArgumentKind::BytesOrAddress, required: true },
-    CommandOption { bit: 0x40, name: OptionName::Length, kind: ArgumentKind::Halfword, required: false },
-];
-
-#[rattlefmt::skip]
-const SEND_TEXT: [CommandOption; 4] = [
-    CommandOption { bit: 0x80, name: OptionName::From, kind: ArgumentKind::BytesRead, required: true },
-    CommandOption { bit: 0x40, name: OptionName::Length, kind: ArgumentKind::Halfword, required: true },
-    CommandOption { bit: 0x20, name: OptionName::Erase, kind: ArgumentKind::Flag, required: false },
-    CommandOption { bit: 0x10, name: OptionName::Freekb, kind: ArgumentKind::Flag, required: false },
-];

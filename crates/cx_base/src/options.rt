@@ -1,4 +1,4 @@
-//! The options of commands: names, marks, rules.
+//! The options of commands: names, marks, rules; and the lists of options and rules of each command that has some.
 ghost use Rattle.std.specs.Prelude.{◌≡◌, ◌↔◌, Some};
 ghost use Rattle.std.specs.List.{find};
 ghost use Rattle.std.specs.Str.{bytes_eq};
@@ -261,3 +261,123 @@ pub enum Rule {
     /// One of the three, and no other of them.
     OneOfThree(u8, u8, u8),
 }
+
+#[rattlefmt::skip]
+pub(crate) const ADDRESS: [CommandOption; 1] = [
+    CommandOption { bit: 0x80, name: OptionName::Cwa, kind: ArgumentKind::Pointer, required: true },
+];
+
+#[rattlefmt::skip]
+pub(crate) const RECEIVE: [CommandOption; 2] = [
+    CommandOption { bit: 0x80, name: OptionName::Into, kind: ArgumentKind::BytesWritten, required: true },
+    CommandOption { bit: 0x40, name: OptionName::Length, kind: ArgumentKind::HalfwordBothWays, required: true },
+];
+
+#[rattlefmt::skip]
+pub(crate) const WRITEQ_TS: [CommandOption; 8] = [
+    CommandOption { bit: 0x80, name: OptionName::Queue, kind: ArgumentKind::Name8, required: true },
+    CommandOption { bit: 0x40, name: OptionName::From, kind: ArgumentKind::BytesRead, required: true },
+    CommandOption { bit: 0x20, name: OptionName::Length, kind: ArgumentKind::Halfword, required: true },
+    CommandOption { bit: 0x10, name: OptionName::Main, kind: ArgumentKind::Flag, required: false },
+    CommandOption { bit: 0x08, name: OptionName::Auxiliary, kind: ArgumentKind::Flag, required: false },
+    CommandOption { bit: 0x04, name: OptionName::Nosuspend, kind: ArgumentKind::Flag, required: false },
+    CommandOption { bit: 0x02, name: OptionName::Item, kind: ArgumentKind::HalfwordOutWithoutRewrite, required: false },
+    CommandOption { bit: 0x01, name: OptionName::Rewrite, kind: ArgumentKind::Flag, required: false },
+];
+
+#[rattlefmt::skip]
+pub(crate) const READQ_TS: [CommandOption; 7] = [
+    CommandOption { bit: 0x80, name: OptionName::Queue, kind: ArgumentKind::Name8, required: true },
+    CommandOption { bit: 0x40, name: OptionName::Into, kind: ArgumentKind::BytesWritten, required: false },
+    CommandOption { bit: 0x20, name: OptionName::Length, kind: ArgumentKind::HalfwordBothWaysWithoutSet, required: true },
+    CommandOption { bit: 0x10, name: OptionName::Item, kind: ArgumentKind::Halfword, required: false },
+    CommandOption { bit: 0x08, name: OptionName::Next, kind: ArgumentKind::Flag, required: false },
+    CommandOption { bit: 0x04, name: OptionName::Set, kind: ArgumentKind::Pointer, required: false },
+    CommandOption { bit: 0x02, name: OptionName::Numitems, kind: ArgumentKind::HalfwordOut, required: false },
+];
+
+#[rattlefmt::skip]
+pub(crate) const DELETEQ_TS: [CommandOption; 1] = [
+    CommandOption { bit: 0x80, name: OptionName::Queue, kind: ArgumentKind::Name8, required: true },
+];
+
+#[rattlefmt::skip]
+pub(crate) const GETMAIN: [CommandOption; 4] = [
+    CommandOption { bit: 0x80, name: OptionName::Set, kind: ArgumentKind::Pointer, required: true },
+    CommandOption { bit: 0x40, name: OptionName::Length, kind: ArgumentKind::Halfword, required: true },
+    CommandOption { bit: 0x20, name: OptionName::Initimg, kind: ArgumentKind::Byte, required: false },
+    CommandOption { bit: 0x10, name: OptionName::Nosuspend, kind: ArgumentKind::Flag, required: false },
+];
+
+#[rattlefmt::skip]
+pub(crate) const FREEMAIN: [CommandOption; 1] = [
+    CommandOption { bit: 0x80, name: OptionName::Data, kind: ArgumentKind::Address, required: true },
+];
+
+#[rattlefmt::skip]
+pub(crate) const LINK: [CommandOption; 3] = [
+    CommandOption { bit: 0x80, name: OptionName::Program, kind: ArgumentKind::Name8, required: true },
+    CommandOption { bit: 0x40, name: OptionName::Commarea, kind: ArgumentKind::Address, required: false },
+    CommandOption { bit: 0x20, name: OptionName::Length, kind: ArgumentKind::Halfword, required: false },
+];
+
+#[rattlefmt::skip]
+pub(crate) const XCTL: [CommandOption; 3] = [
+    CommandOption { bit: 0x80, name: OptionName::Program, kind: ArgumentKind::Name8, required: true },
+    CommandOption { bit: 0x40, name: OptionName::Commarea, kind: ArgumentKind::BytesRead, required: false },
+    CommandOption { bit: 0x20, name: OptionName::Length, kind: ArgumentKind::Halfword, required: false },
+];
+
+#[rattlefmt::skip]
+pub(crate) const RETURN: [CommandOption; 3] = [
+    CommandOption { bit: 0x80, name: OptionName::Transid, kind: ArgumentKind::Name4, required: false },
+    CommandOption { bit: 0x40, name: OptionName::Commarea, kind: ArgumentKind::BytesRead, required: false },
+    CommandOption { bit: 0x20, name: OptionName::Length, kind: ArgumentKind::Halfword, required: false },
+];
+
+#[rattlefmt::skip]
+pub(crate) const ABEND: [CommandOption; 3] = [
+    CommandOption { bit: 0x80, name: OptionName::Abcode, kind: ArgumentKind::Name4, required: false },
+    CommandOption { bit: 0x40, name: OptionName::Cancel, kind: ArgumentKind::Flag, required: false },
+    CommandOption { bit: 0x20, name: OptionName::Nodump, kind: ArgumentKind::Flag, required: false },
+];
+
+#[rattlefmt::skip]
+pub(crate) const HANDLE_ABEND: [CommandOption; 3] = [
+    CommandOption { bit: 0x80, name: OptionName::Label, kind: ArgumentKind::Address, required: false },
+    CommandOption { bit: 0x40, name: OptionName::Cancel, kind: ArgumentKind::Flag, required: false },
+    CommandOption { bit: 0x20, name: OptionName::Reset, kind: ArgumentKind::Flag, required: false },
+];
+
+#[rattlefmt::skip]
+pub(crate) const ENQ: [CommandOption; 3] = [
+    CommandOption { bit: 0x80, name: OptionName::Resource, kind: ArgumentKind::BytesOrAddress, required: true },
+    CommandOption { bit: 0x40, name: OptionName::Length, kind: ArgumentKind::Halfword, required: false },
+    CommandOption { bit: 0x20, name: OptionName::Nosuspend, kind: ArgumentKind::Flag, required: false },
+];
+
+#[rattlefmt::skip]
+pub(crate) const DEQ: [CommandOption; 2] = [
+    CommandOption { bit: 0x80, name: OptionName::Resource, kind: ArgumentKind::BytesOrAddress, required: true },
+    CommandOption { bit: 0x40, name: OptionName::Length, kind: ArgumentKind::Halfword, required: false },
+];
+
+#[rattlefmt::skip]
+pub(crate) const SEND_TEXT: [CommandOption; 4] = [
+    CommandOption { bit: 0x80, name: OptionName::From, kind: ArgumentKind::BytesRead, required: true },
+    CommandOption { bit: 0x40, name: OptionName::Length, kind: ArgumentKind::Halfword, required: true },
+    CommandOption { bit: 0x20, name: OptionName::Erase, kind: ArgumentKind::Flag, required: false },
+    CommandOption { bit: 0x10, name: OptionName::Freekb, kind: ArgumentKind::Flag, required: false },
+];
+
+pub(crate) const WRITEQ_TS_RULES: [Rule; 2] = [Rule::NotBoth(0x10, 0x08), Rule::Needs(0x01, 0x02)];
+
+pub(crate) const READQ_TS_RULES: [Rule; 2] = [
+    Rule::OneOfTwo(0x40, 0x04),
+    Rule::NotBoth(0x10, 0x08),
+];
+
+/// COMMAREA and LENGTH come together in LINK, XCTL and RETURN.
+pub(crate) const COMMAREA_RULES: [Rule; 1] = [Rule::Together(0x40, 0x20)];
+
+pub(crate) const HANDLE_ABEND_RULES: [Rule; 1] = [Rule::OneOfThree(0x80, 0x40, 0x20)];

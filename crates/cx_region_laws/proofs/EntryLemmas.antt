@@ -1,15 +1,15 @@
 -- How a level begins: by LINK or XCTL alone, as their rows say; and what is in its program's DFHEICAP.
-use Rattle.std.proofs.Common.{◌≡◌, ℕ, ◌<◌, Bool, true, false, Option, Some, None, List, [], ◌∷◌, length, refl, sym, arith, inl, inr}
-use Rattle.std.specs.Prelude.{◌⊎◌, ◌&&◌, ◌||◌, not, nat_lt, MatchOption}
+use Rattle.std.proofs.Common.{◌≡◌, ℕ, ◌<◌, Bool, true, false, Option, Some, None, List, [], length, refl, sym, arith, inl, inr}
+use Rattle.std.specs.Prelude.{◌⊎◌, nat_lt, MatchOption}
+use Rattle.std.specs.List.{list_any}
 use Rattle.std.specs.Option.{option_map, option_map_or}
-use Rattle.std.proofs.lemmas.Bool.{cases_Bool, cases_lt, ne_eqb}
+use Rattle.std.proofs.lemmas.Bool.{cases_lt, ne_eqb, true≢false}
 use Rattle.std.proofs.lemmas.Option.{same_Some}
 use Rattle.cx_base.specs.declared.abends.Abend.TheVariants as abend
 use Rattle.cx_base.specs.declared.commands.Command.{Command}
 use Rattle.cx_base.specs.declared.commands.Command.TheVariants as command
 use Rattle.cx_base.specs.declared.conditions.Condition.TheVariants.{Lengerr, Pgmiderr}
 use Rattle.cx_base.specs.declared.options.OptionName.TheVariants as option
-use Rattle.cx_program.specs.declared.level.Level.{Level}
 use Rattle.cx_storage.specs.Storage.{Storage, span}
 use Rattle.cx_storage.specs.Facts.Spans.{span_length}
 use Rattle.cx_region_state.specs.declared.inputs.StorageSpan.{StorageSpan}
@@ -22,39 +22,30 @@ use Rattle.cx_region_state.specs.declared.verdict.TaskChange.TheVariants.{Enters
 use Rattle.cx_region_state.specs.declared.verdict.Verdict.{Verdict}
 use Rattle.cx_region_state.specs.declared.verdict.Verdict.TheVariants.{Refuses}
 use Rattle.cx_region_commands.specs.declared.common.Called.{Called}
-use Rattle.cx_region_commands.specs.Common.{commarea_of, does, has, named_program, new_level, condition_alone}
-use Rattle.cx_region_commands.specs.Abend.{abend_row}
-use Rattle.cx_region_commands.specs.Address.{address_row}
-use Rattle.cx_region_commands.specs.HandleAbend.{handle_abend_row}
-use Rattle.cx_region_commands.specs.Handling.{handle_row, ignore_row}
+use Rattle.cx_region_commands.specs.Common.{commarea_of, does, named_program, new_level, condition_alone}
 use Rattle.cx_region_commands.specs.CommandVerdicts.{HasVerdict, JudgedBy}
 use Rattle.cx_region_commands.specs.Link.{LinkRow, Links, enters}
-use Rattle.cx_region_commands.specs.Return.{return_row}
-use Rattle.cx_region_commands.specs.Suspend.{suspend_row}
 use Rattle.cx_region_commands.specs.Xctl.{Copies, Transfers, XctlRow, XctlTo, copying_to, replaces}
 use Rattle.cx_region_commands.specs.Facts.FitsParts.{by_option, by_test}
 use Rattle.cx_region_laws.specs.Laws.Commareas.{passed_by}
-use Rattle.cx_region_laws.proofs.RowLemmas.{IsApart, IsOfNoService, deleteq_none, deq_none, enq_none, freemain_none, getmain_none, never, passes, pop_none, push_none, readq_none, receive_none, send_text_none, writeq_none}
+use Rattle.cx_region_laws.proofs.RowLemmas.{EntersLevel, Kind, ReplacesLevel, has_kind, kind_of, kinds_of, never, passes}
 
--- ---- the changes with which a level begins
+-- ---- the changes with which a level begins, and their kinds
 unfoldable pub begins : TaskChange → Bool
 begins (Enters level) = true
 begins (Replaces copying level) = true
 begins _ = false
 
-apart : IsApart begins
-unfolding begins
-apart = record { none = refl; ends = λ e. refl; shows = λ piece erase. refl }
+abbrev is_beginning : Kind → Bool
+is_beginning EntersLevel = true
+is_beginning ReplacesLevel = true
+is_beginning _ = false
 
-services : IsOfNoService begins
+begins_kind : (change : TaskChange) → begins change ≡ true → is_beginning (kind_of change) ≡ true
 unfolding begins
-services =
-    record {
-      last = λ name piece. refl;
-      at = λ name n piece. refl;
-      enqueues = λ name. refl;
-      gets = λ got. refl;
-    }
+begins_kind (Enters level) e = refl
+begins_kind (Replaces copying level) e = refl
+begins_kind _ e = cc
 
 -- LINK's verdict, and XCTL's, where a level begins
 pub record IsLink (s : Storage) (call : Call) (v : Verdict) : Type 0 where
@@ -113,49 +104,18 @@ xctl_begins call r v row e =
     by_commarea called (Some piece) from copies = copied called piece copies.place from copies.goes
 
 -- ---- by which commands
-return_none : (s : Storage) (callers : List Level) (call : Call) → passes begins (return_row s callers call) ≡ false
-unfolding return_row passes begins
-return_none s [] call = elim (cases_Bool (has call option.Commarea && not (has call option.Transid))) [
-  | inl t ↦ rw t refl
-  | inr f ↦ elim (cases_Bool (is_length_negative s call)) [
-    | inl y ↦ rw (f, y) refl
-    | inr n ↦ rw (f, n) refl
-  ]
-]
-return_none s (caller ∷ callers) call = elim (cases_Bool (has call option.Transid || has call option.Commarea)) [
-  | inl t ↦ rw t refl
-  | inr f ↦ rw f refl
-]
-
 pub judged_begins : (call : Call) (r : TaskContext) (v : Verdict) → HasVerdict call r v → passes begins v ≡ true
     → ((call.command ≡ command.Link) × IsLink r.shared.storage call v) ⊎ ((call.command ≡ command.Xctl) × IsXctl r.shared.storage call v)
-unfolding HasVerdict address_row abend_row handle_row ignore_row suspend_row handle_abend_row passes begins
-judged_begins call r v judged e = go call.command judged
+unfolding HasVerdict
+judged_begins call r v judged e = go call.command judged (has_kind begins is_beginning begins_kind call r v judged e)
   where
     Either : Command → Type 0
     Either c = ((c ≡ command.Link) × IsLink r.shared.storage call v) ⊎ ((c ≡ command.Xctl) × IsXctl r.shared.storage call v)
 
-    go : (c : Command) → JudgedBy c call r v → Either c
-    go command.Address is = never begins v _ is refl e
-    go command.HandleCondition is = never begins v _ is refl e
-    go command.IgnoreCondition is = never begins v _ is refl e
-    go command.PushHandle is = never begins v _ is (push_none begins apart (λ _. refl) r.task.levels.current.handles.kept) e
-    go command.PopHandle is = never begins v _ is (pop_none begins apart (λ _. refl) r.task.levels.current.handles.kept) e
-    go command.Receive is = never begins v _ is (receive_none begins apart r.terminal_entry.input _) e
-    go command.WriteqTs is = never begins v _ is (writeq_none begins apart services call r) e
-    go command.ReadqTs row = readq_none begins apart services call r v row e
-    go command.DeleteqTs is = never begins v _ is (deleteq_none begins apart r.shared.storage r.shared.queues call) e
-    go command.Getmain row = getmain_none begins apart services call r v row e
-    go command.Freemain is = never begins v _ is (freemain_none begins apart r.shared.storage r.terminal_entry.slot call) e
-    go command.Link row = inl (refl, link_begins call r v row e)
-    go command.Xctl row = inr (refl, xctl_begins call r v row e)
-    go command.Return is = never begins v _ is (return_none r.shared.storage r.task.levels.callers call) e
-    go command.Abend is = never begins v _ is refl e
-    go command.HandleAbend is = never begins v _ is refl e
-    go command.Enq is = never begins v _ is (enq_none begins apart services call r) e
-    go command.Deq is = never begins v _ is (deq_none begins apart r.shared.storage call) e
-    go command.Suspend is = never begins v _ is refl e
-    go command.SendText is = never begins v _ is (send_text_none begins apart r.shared.storage call) e
+    go : (c : Command) → JudgedBy c call r v → list_any is_beginning (kinds_of c) ≡ true → Either c
+    go command.Link row begun = inl (refl, link_begins call r v row e)
+    go command.Xctl row begun = inr (refl, xctl_begins call r v row e)
+    go _ is begun = absurd (true≢false (sym begun))
 
 -- ---- the COMMAREA that is passed
 -- no bytes are passed, or these at a place

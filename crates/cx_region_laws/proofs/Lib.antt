@@ -13,7 +13,6 @@ mod TaskMemoryLemmas
 mod ReturnLemmas
 mod DueLemmas
 mod TakenLemmas
-mod PlainLemmas
 mod StandLemmas
 mod PointerLemmas
 mod StayingLemmas

@@ -47,7 +47,7 @@ use Rattle.cx_region_laws.proofs.ClearLemmas.{clear_of}
 use Rattle.cx_region_laws.proofs.CommandLemmas.{call_low, resource_reported, text_same}
 use Rattle.cx_region_laws.proofs.AppliedLemmas.{applied_task}
 use Rattle.cx_region_laws.proofs.LevelLemmas.{finished_task}
-use Rattle.cx_region_laws.proofs.PlainLemmas.{AreShort, IsShort, judged_plain, keeps_areas}
+use Rattle.cx_region_laws.proofs.RowLemmas.{AreShort, IsShort, judged_row, keeps_areas}
 use Rattle.cx_region_laws.proofs.StandLemmas.{KeepsPresent, area_present, puts_stand, report_elsewhere, room_in, short_bytes, short_in, spans_kept, word_stands, write_present}
 use Rattle.cx_region_laws.proofs.WrittenLemmas.{AreLow, resource_fits}
 
@@ -259,7 +259,7 @@ outputs_stand : (condition : Condition) (before after : TaskContext) (done : IsD
     → OutputsStand after.shared.storage before.task.eib done.call (handed_over done.change before) done.outputs
 unfolding has_room
 outputs_stand condition before after done places low front later output place k byte split at_place at apart =
-    elim (judged_plain done.call before (Meets condition done.outputs done.change) done.judged) [
+    elim (judged_row done.call before (Meets condition done.outputs done.change) done.judged).plain [
       | inl none ↦ no_split done.outputs front later output none split
       | inr plain ↦ stands plain.0 (short_in front later output (subst AreShort split plain.1))
     ]
@@ -286,7 +286,7 @@ outputs_stand condition before after done places low front later output place k 
 pointers_stand : (condition : Condition) (before after : TaskContext) (done : IsDone condition before after) → AreLow done.call.places → before.task.eib < 2 ^ 24
     → PointersStand after.shared.storage before.task.eib done.call (handed_over done.change before) done.outputs
 pointers_stand condition before after done places low front later option place pointer split at_place apart =
-    elim (judged_plain done.call before (Meets condition done.outputs done.change) done.judged) [
+    elim (judged_row done.call before (Meets condition done.outputs done.change) done.judged).plain [
       | inl none ↦ no_split done.outputs front later (output_of option (Word pointer)) none split
       | inr plain ↦
           word_stands after.shared.storage place pointer (place_below done.call option place places at_place)

@@ -1,5 +1,6 @@
 -- A half-turn is answered Returned only where there is a caller.
 use Rattle.std.proofs.Common.{◌≡◌, ℕ, ◌<◌, Bool, true, false, List, [], ◌∷◌, length, Option, Some, None, refl, sym, ◌∙◌, ap, subst, arith, inl, inr}
+use Rattle.std.specs.List.{list_any}
 use Rattle.std.specs.Prelude.{◌&&◌, ◌||◌, not, MatchBool, if◌then◌else◌}
 use Rattle.std.proofs.lemmas.Bool.{cases_Bool, true≢false}
 use Rattle.cx_base.specs.Abends.{abend_code}
@@ -19,18 +20,11 @@ use Rattle.cx_region_state.specs.State.{TaskContext}
 use Rattle.cx_region_state.specs.declared.replies.TurnReply.TheVariants as turn
 use Rattle.cx_region_state.specs.declared.verdict.TaskChange.{TaskChange}
 use Rattle.cx_region_state.specs.declared.verdict.TaskChange.TheVariants.{Nothing, Before, After, Gets, Enters, Replaces, LevelEnds, TaskEnds, AbendsWith}
-use Rattle.cx_region_state.specs.declared.verdict.BeforeOutputs.TheVariants.{Handles}
-use Rattle.cx_region_state.specs.declared.verdict.Request.{Request}
 use Rattle.cx_region_state.specs.declared.verdict.Verdict.{Verdict}
 use Rattle.cx_region_state.specs.declared.verdict.Verdict.TheVariants.{Meets}
 use Rattle.cx_region_commands.specs.Common.{has}
-use Rattle.cx_region_commands.specs.Abend.{abend_row}
-use Rattle.cx_region_commands.specs.Address.{address_row}
-use Rattle.cx_region_commands.specs.HandleAbend.{handle_abend_row}
-use Rattle.cx_region_commands.specs.Handling.{handle_row, ignore_row}
 use Rattle.cx_region_commands.specs.CommandVerdicts.{HasVerdict, JudgedBy}
 use Rattle.cx_region_commands.specs.Return.{highest_return, return_row}
-use Rattle.cx_region_commands.specs.Suspend.{suspend_row}
 use Rattle.cx_region_task.specs.declared.continuation.Continuation.{Continuation}
 use Rattle.cx_region_task.specs.declared.continuation.Continuation.TheVariants as continuation
 use Rattle.cx_region_task.specs.Abends.{Abends, AbendsAt}
@@ -41,34 +35,21 @@ use Rattle.cx_region_task.specs.declared.cause.AbendRecord.{AbendRecord}
 use Rattle.cx_region_task.specs.Turn.{HalfTurnWith, PerformsCommand, EndsRun, RunsOn}
 use Rattle.cx_region_task.specs.Continuations.{Goes, choice_for, is_normal, continuation_by, continuation_chosen, continuation_of}
 use Rattle.cx_region_laws.specs.Laws.Levels.{ReturnsHaveCallers}
-use Rattle.cx_region_laws.proofs.RowLemmas.{IsApart, IsOfNoOther, deleteq_none, deq_none, enq_none, freemain_none, getmain_none, link_none, never, passes, pop_none, push_none, readq_none, receive_none, send_text_none, writeq_none, xctl_none}
+use Rattle.cx_region_laws.proofs.RowLemmas.{EndsLevel, Kind, has_kind, kind_of, kinds_of, passes}
 
--- whether a change ends a level
+-- whether a change ends a level, and whether one of a kind does
 unfoldable pub ends_level : TaskChange → Bool
 ends_level LevelEnds = true
 ends_level _ = false
 
-apart : IsApart ends_level
-unfolding ends_level
-apart = record { none = refl; ends = λ e. refl; shows = λ piece erase. refl }
+abbrev is_level_end : Kind → Bool
+is_level_end EndsLevel = true
+is_level_end _ = false
 
-others : IsOfNoOther ends_level
+ends_kind : (change : TaskChange) → ends_level change ≡ true → is_level_end (kind_of change) ≡ true
 unfolding ends_level
-others =
-    record {
-      services = record {
-        last = λ name piece. refl;
-        at = λ name n piece. refl;
-        enqueues = λ name. refl;
-        gets = λ got. refl;
-      };
-      enters = λ level. refl;
-      replaces = λ copying level. refl;
-    }
-
-no_handles : (r : Request) → ends_level (Before (Handles r)) ≡ false
-unfolding ends_level
-no_handles r = refl
+ends_kind LevelEnds e = refl
+ends_kind _ e = cc
 
 -- ---- RETURN
 -- a level has linked to the current one, and a condition that is met is NORMAL
@@ -97,30 +78,12 @@ return_ends call r v is e = subst (EndsWell r) (sym is) (go r.task.levels.caller
     ]
 
 pub judged_ends : (call : Call) (r : TaskContext) (v : Verdict) → HasVerdict call r v → passes ends_level v ≡ true → EndsWell r v
-unfolding HasVerdict address_row abend_row handle_row ignore_row suspend_row handle_abend_row passes ends_level
-judged_ends call r v judged e = go call.command judged
+unfolding HasVerdict
+judged_ends call r v judged e = go call.command judged (has_kind ends_level is_level_end ends_kind call r v judged e)
   where
-    go : (c : Command) → JudgedBy c call r v → EndsWell r v
-    go command.Address is = never ends_level v _ is refl e
-    go command.HandleCondition is = never ends_level v _ is refl e
-    go command.IgnoreCondition is = never ends_level v _ is refl e
-    go command.PushHandle is = never ends_level v _ is (push_none ends_level apart no_handles r.task.levels.current.handles.kept) e
-    go command.PopHandle is = never ends_level v _ is (pop_none ends_level apart no_handles r.task.levels.current.handles.kept) e
-    go command.Receive is = never ends_level v _ is (receive_none ends_level apart r.terminal_entry.input _) e
-    go command.WriteqTs is = never ends_level v _ is (writeq_none ends_level apart others.services call r) e
-    go command.ReadqTs row = readq_none ends_level apart others.services call r v row e
-    go command.DeleteqTs is = never ends_level v _ is (deleteq_none ends_level apart r.shared.storage r.shared.queues call) e
-    go command.Getmain row = getmain_none ends_level apart others.services call r v row e
-    go command.Freemain is = never ends_level v _ is (freemain_none ends_level apart r.shared.storage r.terminal_entry.slot call) e
-    go command.Link row = link_none ends_level apart others call r v row e
-    go command.Xctl row = xctl_none ends_level apart others call r v row e
-    go command.Return is = return_ends call r v is e
-    go command.Abend is = never ends_level v _ is refl e
-    go command.HandleAbend is = never ends_level v _ is refl e
-    go command.Enq is = never ends_level v _ is (enq_none ends_level apart others.services call r) e
-    go command.Deq is = never ends_level v _ is (deq_none ends_level apart r.shared.storage call) e
-    go command.Suspend is = never ends_level v _ is refl e
-    go command.SendText is = never ends_level v _ is (send_text_none ends_level apart r.shared.storage call) e
+    go : (c : Command) → JudgedBy c call r v → list_any is_level_end (kinds_of c) ≡ true → EndsWell r v
+    go command.Return is ends = return_ends call r v is e
+    go _ is ends = absurd (true≢false (sym ends))
 
 -- ---- the way of a level's end
 ends_by : (change : TaskChange) → continuation_by change ≡ continuation.LevelEnds → ends_level change ≡ true

@@ -29,7 +29,7 @@ use Rattle.cx_region_state.specs.Outputs.{bytes_from, can_put, is_room, put_out,
 use Rattle.cx_region_state.specs.Facts.Inputs.{place_below}
 use Rattle.cx_region_laws.specs.Laws.Bytes.{is_among, is_in_output}
 use Rattle.cx_region_laws.proofs.OthersLemmas.{bytes_elsewhere}
-use Rattle.cx_region_laws.proofs.PlainLemmas.{AreShort, IsShort}
+use Rattle.cx_region_laws.proofs.RowLemmas.{AreShort, IsShort}
 use Rattle.cx_region_laws.proofs.WrittenLemmas.{AreLow, aid_fits, or_none, resp_low}
 
 -- ---- one write

@@ -1,6 +1,7 @@
 -- Which commands' changes take memory.
-use Rattle.std.proofs.Common.{◌≡◌, ℕ, Bool, true, List, [], ◌∷◌, Option, Some, None, refl, sym, ◌∙◌, ap, inl, inr}
+use Rattle.std.proofs.Common.{◌≡◌, ℕ, Bool, true, false, List, [], ◌∷◌, Option, Some, None, refl, sym, ◌∙◌, ap, inl, inr}
 use Rattle.std.specs.Prelude.{◌&&◌, ◌||◌, not, is_some}
+use Rattle.std.specs.List.{list_any}
 use Rattle.std.specs.Option.{option_map}
 use Rattle.std.proofs.lemmas.Bool.{cases_Bool, true≢false}
 use Rattle.cx_base.specs.declared.commands.Command.{Command}
@@ -12,30 +13,44 @@ use Rattle.cx_service.specs.Queues.{queue_of, reading_of_queue}
 use Rattle.cx_region_state.specs.Call.{Call}
 use Rattle.cx_region_state.specs.Inputs.{bytes_of, halfword_of, is_length_negative, length_option}
 use Rattle.cx_region_state.specs.State.{TaskContext}
-use Rattle.cx_region_state.specs.declared.verdict.TaskChange.TheVariants.{TaskEnds}
+use Rattle.cx_region_state.specs.declared.verdict.BeforeOutputs.TheVariants as made
+use Rattle.cx_region_state.specs.declared.verdict.TaskChange.{TaskChange}
+use Rattle.cx_region_state.specs.declared.verdict.TaskChange.TheVariants.{Before, Gets, Enters, Replaces, TaskEnds}
 use Rattle.cx_region_state.specs.declared.verdict.Verdict.{Verdict}
 use Rattle.cx_region_state.specs.declared.verdict.Verdict.TheVariants.{Meets}
 use Rattle.cx_region_commands.specs.Common.{commarea_of, does, has, name_at, condition_alone}
-use Rattle.cx_region_commands.specs.Abend.{abend_row}
-use Rattle.cx_region_commands.specs.Address.{address_row}
-use Rattle.cx_region_commands.specs.HandleAbend.{handle_abend_row}
-use Rattle.cx_region_commands.specs.Handling.{handle_row, ignore_row}
 use Rattle.cx_region_commands.specs.CommandVerdicts.{HasVerdict, JudgedBy}
 use Rattle.cx_region_commands.specs.ReadqTs.{ReadqRow, ReadsQueueItem, reads_into}
 use Rattle.cx_region_commands.specs.Return.{highest_return, next_of, return_row}
-use Rattle.cx_region_commands.specs.Suspend.{suspend_row}
 use Rattle.cx_region_commands.specs.Facts.FitsParts.{by_option, by_test}
 use Rattle.cx_region_task.specs.Facts.Met.{to_be_done}
 use Rattle.cx_region_task.specs.Changes.{change_takes_memory}
 use Rattle.cx_region_laws.specs.Laws.TaskMemory.{OnlyTheseTakeMemory, takes_memory}
-use Rattle.cx_region_laws.proofs.RowLemmas.{IsApart, deleteq_none, deq_none, freemain_none, never, passes, pop_none, push_none, receive_none, send_text_none}
+use Rattle.cx_region_laws.proofs.RowLemmas.{EndsTask, Enqueues, EntersLevel, GetsArea, Kind, ReplacesLevel, WritesItem, has_kind, kind_of, kinds_of, never, passes}
 
 -- whether a verdict's change takes memory
 takes : Verdict → Bool
 takes v = passes change_takes_memory v
 
-apart : IsApart change_takes_memory
-apart = record { none = refl; ends = λ e. refl; shows = λ piece erase. refl }
+-- the kinds of changes that may take memory
+abbrev may_take : Kind → Bool
+may_take WritesItem = true
+may_take Enqueues = true
+may_take GetsArea = true
+may_take EntersLevel = true
+may_take ReplacesLevel = true
+may_take EndsTask = true
+may_take _ = false
+
+takes_kind : (change : TaskChange) → change_takes_memory change ≡ true → may_take (kind_of change) ≡ true
+takes_kind (Before (made.ItemLast name piece)) e = refl
+takes_kind (Before (made.ItemAt name n piece)) e = refl
+takes_kind (Before (made.Enqueues resource)) e = refl
+takes_kind (Gets got) e = refl
+takes_kind (Enters level) e = refl
+takes_kind (Replaces copying level) e = refl
+takes_kind (TaskEnds next) e = refl
+takes_kind _ e = cc
 
 -- ---- rows whose change takes memory in one case
 readq_takes : (call : Call) (r : TaskContext) (v : Verdict) → ReadqRow r.shared.storage r.shared.queues call v → takes v ≡ true → has call option.Set ≡ true
@@ -77,30 +92,18 @@ return_takes call r v is e = go r.task.levels.callers (sym (ap takes is) ∙ e)
 
 -- ---- the commands
 judged_takes : (call : Call) (r : TaskContext) (v : Verdict) → HasVerdict call r v → takes v ≡ true → takes_memory call.command call r.shared.storage ≡ true
-unfolding HasVerdict address_row abend_row handle_row ignore_row suspend_row handle_abend_row takes passes
-judged_takes call r v judged e = go call.command judged
+unfolding HasVerdict takes
+judged_takes call r v judged e = go call.command judged (has_kind change_takes_memory may_take takes_kind call r v judged e)
   where
-    go : (c : Command) → JudgedBy c call r v → takes_memory c call r.shared.storage ≡ true
-    go command.Address is = never change_takes_memory v _ is refl e
-    go command.HandleCondition is = never change_takes_memory v _ is refl e
-    go command.IgnoreCondition is = never change_takes_memory v _ is refl e
-    go command.PushHandle is = never change_takes_memory v _ is (push_none change_takes_memory apart (λ r. refl) r.task.levels.current.handles.kept) e
-    go command.PopHandle is = never change_takes_memory v _ is (pop_none change_takes_memory apart (λ r. refl) r.task.levels.current.handles.kept) e
-    go command.Receive is = never change_takes_memory v _ is (receive_none change_takes_memory apart r.terminal_entry.input _) e
-    go command.WriteqTs is = refl
-    go command.ReadqTs row = readq_takes call r v row e
-    go command.DeleteqTs is = never change_takes_memory v _ is (deleteq_none change_takes_memory apart r.shared.storage r.shared.queues call) e
-    go command.Getmain row = refl
-    go command.Freemain is = never change_takes_memory v _ is (freemain_none change_takes_memory apart r.shared.storage r.terminal_entry.slot call) e
-    go command.Link row = refl
-    go command.Xctl row = refl
-    go command.Return is = return_takes call r v is e
-    go command.Abend is = never change_takes_memory v _ is refl e
-    go command.HandleAbend is = never change_takes_memory v _ is refl e
-    go command.Enq is = refl
-    go command.Deq is = never change_takes_memory v _ is (deq_none change_takes_memory apart r.shared.storage call) e
-    go command.Suspend is = never change_takes_memory v _ is refl e
-    go command.SendText is = never change_takes_memory v _ is (send_text_none change_takes_memory apart r.shared.storage call) e
+    go : (c : Command) → JudgedBy c call r v → list_any may_take (kinds_of c) ≡ true → takes_memory c call r.shared.storage ≡ true
+    go command.WriteqTs is some = refl
+    go command.ReadqTs row some = readq_takes call r v row e
+    go command.Getmain row some = refl
+    go command.Link row some = refl
+    go command.Xctl row some = refl
+    go command.Return is some = return_takes call r v is e
+    go command.Enq is some = refl
+    go _ is some = absurd (true≢false (sym some))
 
 pub only_these_take_memory : OnlyTheseTakeMemory
 unfolding takes passes

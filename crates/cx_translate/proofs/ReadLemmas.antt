@@ -20,7 +20,6 @@ use Rattle.cx_base.specs.Commands.{row_of}
 use Rattle.cx_base.specs.Facts.Commands.{each_command}
 use Rattle.cx_base.specs.Options.{common_of, option_name}
 use Rattle.cx_base.specs.Legal.{has_bit}
-use Rattle.cx_translate.specs.declared.due_arguments.DueArgument.TheVariants.{Value}
 use Rattle.cx_translate.specs.declared.words.Argument.{Argument}
 use Rattle.cx_translate.specs.declared.words.Argument.TheVariants.{Absent, Given, Bad}
 use Rattle.cx_translate.specs.declared.words.Word.{Word}
@@ -179,24 +178,7 @@ in_options : (c : Command) (words : List Word) → has_wrong c words ≡ false
 unfolding first_byte arguments_in
 in_options command.HandleCondition words w = refl
 in_options command.IgnoreCondition words w = refl
-in_options command.Address words w = operands_read command.Address words (row_of command.Address).options (row_of command.Address).options (all_own command.Address) w
-in_options command.PushHandle words w = refl
-in_options command.PopHandle words w = refl
-in_options command.Receive words w = operands_read command.Receive words (row_of command.Receive).options (row_of command.Receive).options (all_own command.Receive) w
-in_options command.WriteqTs words w = operands_read command.WriteqTs words (row_of command.WriteqTs).options (row_of command.WriteqTs).options (all_own command.WriteqTs) w
-in_options command.ReadqTs words w = operands_read command.ReadqTs words (row_of command.ReadqTs).options (row_of command.ReadqTs).options (all_own command.ReadqTs) w
-in_options command.DeleteqTs words w = operands_read command.DeleteqTs words (row_of command.DeleteqTs).options (row_of command.DeleteqTs).options (all_own command.DeleteqTs) w
-in_options command.Getmain words w = operands_read command.Getmain words (row_of command.Getmain).options (row_of command.Getmain).options (all_own command.Getmain) w
-in_options command.Freemain words w = operands_read command.Freemain words (row_of command.Freemain).options (row_of command.Freemain).options (all_own command.Freemain) w
-in_options command.Link words w = operands_read command.Link words (row_of command.Link).options (row_of command.Link).options (all_own command.Link) w
-in_options command.Xctl words w = operands_read command.Xctl words (row_of command.Xctl).options (row_of command.Xctl).options (all_own command.Xctl) w
-in_options command.Return words w = operands_read command.Return words (row_of command.Return).options (row_of command.Return).options (all_own command.Return) w
-in_options command.Abend words w = operands_read command.Abend words (row_of command.Abend).options (row_of command.Abend).options (all_own command.Abend) w
-in_options command.HandleAbend words w = operands_read command.HandleAbend words (row_of command.HandleAbend).options (row_of command.HandleAbend).options (all_own command.HandleAbend) w
-in_options command.Enq words w = operands_read command.Enq words (row_of command.Enq).options (row_of command.Enq).options (all_own command.Enq) w
-in_options command.Deq words w = operands_read command.Deq words (row_of command.Deq).options (row_of command.Deq).options (all_own command.Deq) w
-in_options command.Suspend words w = operands_read command.Suspend words (row_of command.Suspend).options (row_of command.Suspend).options (all_own command.Suspend) w
-in_options command.SendText words w = operands_read command.SendText words (row_of command.SendText).options (row_of command.SendText).options (all_own command.SendText) w
+in_options c words w = operands_read c words (row_of c).options (row_of c).options (all_own c) w
 
 -- ---- the labels, and RESP's argument
 
@@ -213,28 +195,9 @@ labels_read (word ∷ rest) =
     go (Some x) (Given text) e = omega (arith, e, sum_by-cons (λ l. cond (has_label l) 1 0) (listed_condition x (Given text)) (listed_of rest))
     go (Some x) Bad e = omega (arith, e, sum_by-cons (λ l. cond (has_label l) 1 0) (listed_condition x Bad) (listed_of rest))
 
-response_due : (c : Command) → due_of c (common_of Resp).name ≡ Some Value
+response_due : (c : Command) → fits (due_of c (common_of Resp).name) kind.Halfword ≡ true
 unfolding due_of option_called common_due condition_due
-response_due command.Address = refl
-response_due command.HandleCondition = refl
-response_due command.IgnoreCondition = refl
-response_due command.PushHandle = refl
-response_due command.PopHandle = refl
-response_due command.Receive = refl
-response_due command.WriteqTs = refl
-response_due command.ReadqTs = refl
-response_due command.DeleteqTs = refl
-response_due command.Getmain = refl
-response_due command.Freemain = refl
-response_due command.Link = refl
-response_due command.Xctl = refl
-response_due command.Return = refl
-response_due command.Abend = refl
-response_due command.HandleAbend = refl
-response_due command.Enq = refl
-response_due command.Deq = refl
-response_due command.Suspend = refl
-response_due command.SendText = refl
+response_due = each_command (λ c. fits (due_of c (common_of Resp).name) kind.Halfword) refl
 
 response_bit : (words : List Word) → has_bit (second_byte words) (common_of Resp).bit ≡ is_given words (common_of Resp).name
 unfolding second_byte has_bit
@@ -258,7 +221,7 @@ response_read : (c : Command) (words : List Word) → has_wrong c words ≡ fals
     → length (option_to_list (argument_of words (common_of Resp).name)) ≡ cond (has_bit (second_byte words) (common_of Resp).bit) 1 0
 response_read c words w =
     one_text (argument_of words (common_of Resp).name)
-    ∙ ap (λ b. cond b 1 0) (argued c words (common_of Resp).name kind.Halfword (rw (response_due c) refl) w ∙ and_true (is_given words (common_of Resp).name) ∙ sym (response_bit words))
+    ∙ ap (λ b. cond b 1 0) (argued c words (common_of Resp).name kind.Halfword (response_due c) w ∙ and_true (is_given words (common_of Resp).name) ∙ sym (response_bit words))
 
 -- the block, the options' arguments, the labels and RESP's argument
 pub all_read : (line : ℕ) (c : Command) (cics named words : List Word) → fault_in line c cics named words ≡ None

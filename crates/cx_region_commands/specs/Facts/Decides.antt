@@ -88,23 +88,8 @@ unfolding HasVerdict
 judged_once call r v w one other = go call.command one other
   where
     go : (c : Command) → JudgedBy c call r v → JudgedBy c call r w → v ≡ w
-    go command.Address m n = same m n
-    go command.HandleCondition m n = same m n
-    go command.IgnoreCondition m n = same m n
-    go command.PushHandle m n = same m n
-    go command.PopHandle m n = same m n
-    go command.Receive m n = same m n
-    go command.WriteqTs m n = same m n
     go command.ReadqTs m n = readq_once r.shared.storage r.shared.queues call v w m n
-    go command.DeleteqTs m n = same m n
     go command.Getmain m n = getmain_once r.shared.storage call v w m n
-    go command.Freemain m n = same m n
     go command.Link m n = link_once r.shared.storage r.shared.programs r.task.levels call v w m n
     go command.Xctl m n = xctl_once r.shared.storage r.terminal_entry.slot r.shared.programs call v w m n
-    go command.Return m n = same m n
-    go command.Abend m n = same m n
-    go command.HandleAbend m n = same m n
-    go command.Enq m n = same m n
-    go command.Deq m n = same m n
-    go command.Suspend m n = same m n
-    go command.SendText m n = same m n
+    go _ m n = same m n

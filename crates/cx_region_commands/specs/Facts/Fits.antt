@@ -28,6 +28,7 @@ use Rattle.cx_region_commands.specs.declared.common.Called.{Called}
 use Rattle.cx_region_commands.specs.Facts.Programs.{program_sound}
 use Rattle.cx_region_commands.specs.Common.{AreSoundPrograms, commarea_of, has, name_at, named_program, program_named}
 use Rattle.cx_region_commands.specs.Abend.{abend_row}
+use Rattle.cx_region_commands.specs.Address.{address_row}
 use Rattle.cx_region_commands.specs.HandleAbend.{handle_abend_row}
 use Rattle.cx_region_commands.specs.Handling.{asks, handle_row, ignore_row, pop_row, push_row}
 use Rattle.cx_region_commands.specs.CommandVerdicts.{HasVerdict, JudgedBy}
@@ -38,7 +39,7 @@ use Rattle.cx_region_commands.specs.SendText.{send_text_row}
 use Rattle.cx_region_commands.specs.Suspend.{suspend_row}
 use Rattle.cx_region_commands.specs.Xctl.{Copies, Transfers, XctlRow, XctlTo, copying_to, replaces}
 use Rattle.cx_region_commands.specs.Facts.FitsParts.{by_option, by_test, invreq_fits, lengerr_fits, normal_fits, pgmiderr_fits, piece_at_there, piece_there}
-use Rattle.cx_region_commands.specs.Facts.FitsServices.{address_fits, deleteq_fits, deq_fits, enq_fits, freemain_fits, getmain_fits, readq_fits, writeq_fits}
+use Rattle.cx_region_commands.specs.Facts.FitsServices.{deleteq_fits, deq_fits, enq_fits, freemain_fits, getmain_fits, readq_fits, writeq_fits}
 
 -- a COMMAREA with bytes
 commarea_is : (s : Storage) (call : Call) (piece : StorageSpan) → commarea_of s call ≡ Some piece → (piece_of s call Commarea ≡ Some piece) × (0 < piece.len)
@@ -76,10 +77,6 @@ named_sound s call programs called sound e = found (name_at s call Program) (pro
 
 -- ---- each row
 
-suspend_fits : (r : TaskContext) (v : Verdict) → v ≡ suspend_row → Fits v r
-unfolding suspend_row
-suspend_fits r v e = rw e (normal_fits, tt)
-
 receive_fits : (room : ℕ) (r : TaskContext) (v : Verdict) → v ≡ receive_row r.terminal_entry.input room → Fits v r
 unfolding receive_row
 receive_fits room r v e = rw e (go r.terminal_entry.input)
@@ -90,18 +87,6 @@ receive_fits room r v e = rw e (go r.terminal_entry.input)
       | inl t ↦ rw t (normal_fits, tt)
       | inr f ↦ rw f (lengerr_fits, tt)
     ]
-
-abend_fits : (call : Call) (r : TaskContext) (v : Verdict) → v ≡ abend_row r.shared.storage call → Fits v r
-unfolding abend_row
-abend_fits call r v e = rw e (normal_fits, tt)
-
-handle_fits : (call : Call) (r : TaskContext) (v : Verdict) → v ≡ handle_row call → Fits v r
-unfolding handle_row
-handle_fits call r v e = rw e (normal_fits, tt)
-
-ignore_fits : (call : Call) (r : TaskContext) (v : Verdict) → v ≡ ignore_row call → Fits v r
-unfolding ignore_row
-ignore_fits call r v e = rw e (normal_fits, tt)
 
 push_fits : (r : TaskContext) (v : Verdict) → v ≡ push_row r.task.levels.current.handles.kept → Fits v r
 unfolding push_row
@@ -226,13 +211,10 @@ xctl_fits call r v low is there sound row =
 -- What a call is judged to do can be done, where its inputs are in storage.
 pub judged_fits : (call : Call) (r : TaskContext) (v : Verdict) → AreSoundQueues r.shared.queues → AllByRecursion (λ place. place < 2 ^ 24) call.places → AreSoundPrograms r.shared.programs → are_inputs_there r.shared.storage call ≡ true
     → HasVerdict call r v → Fits v r
-unfolding HasVerdict
+unfolding HasVerdict abend_row address_row handle_row ignore_row suspend_row
 judged_fits call r v queues low sound there judged = go call.command refl judged
   where
     go : (c : Command) → call.command ≡ c → JudgedBy c call r v → Fits v r
-    go command.Address is e = address_fits r v e
-    go command.HandleCondition is e = handle_fits call r v e
-    go command.IgnoreCondition is e = ignore_fits call r v e
     go command.PushHandle is e = push_fits r v e
     go command.PopHandle is e = pop_fits r v e
     go command.Receive is e = receive_fits _ r v e
@@ -244,9 +226,8 @@ judged_fits call r v queues low sound there judged = go call.command refl judged
     go command.Link is e = link_fits call r v sound e
     go command.Xctl is e = xctl_fits call r v low is there sound e
     go command.Return is e = return_fits call r v low is there e
-    go command.Abend is e = abend_fits call r v e
     go command.HandleAbend is e = handle_abend_fits call r v e
     go command.Enq is e = enq_fits call r v e
     go command.Deq is e = deq_fits call r v e
-    go command.Suspend is e = suspend_fits r v e
     go command.SendText is e = send_text_fits call r v low is there e
+    go _ is e = rw e (normal_fits, tt)

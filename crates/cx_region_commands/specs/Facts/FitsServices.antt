@@ -1,5 +1,5 @@
 -- What the commands of storage, queues and resources are judged to do can be done.
-use Rattle.std.proofs.Common.{◌≡◌, ℕ, ◌+◌, ◌<◌, ◌≤◌, ◌^◌, ◌==◌, Bool, true, false, List, [], ◌∷◌, Option, Some, None, refl, sym, ap, ◌∙◌, arith, inl, inr, nat_le, length, unwrap_or, is_none, is_some}
+use Rattle.std.proofs.Common.{◌≡◌, ℕ, ◌+◌, ◌<◌, ◌≤◌, ◌^◌, ◌==◌, Bool, true, false, List, [], ◌∷◌, Option, Some, None, refl, sym, ap, ◌∙◌, arith, inl, inr, nat_le, length, unwrap_or, is_none}
 use Rattle.std.specs.Prelude.{◌&&◌, if◌then◌else◌}
 use Rattle.std.specs.Option.{option_and_then, option_map, option_map_or}
 use Rattle.std.specs.List.{AllByRecursion}
@@ -20,7 +20,7 @@ use Rattle.cx_service.specs.declared.faults.ServiceFault.{ServiceFault}
 use Rattle.cx_service.specs.declared.faults.ServiceFault.TheVariants as fault
 use Rattle.cx_service.specs.declared.resources.Hold.{Hold}
 use Rattle.cx_service.specs.declared.resources.ResourceName.{ResourceName}
-use Rattle.cx_service.specs.Queues.{AreSoundQueues, Queues, count_of, item_len_of, item_numbered, item_of, queue_of, reading_of_queue, rewrite_fault, write_fault}
+use Rattle.cx_service.specs.Queues.{AreSoundQueues, Queues, count_of, item_len_of, item_numbered, queue_of, reading_of_queue, rewrite_fault, write_fault}
 use Rattle.cx_service.specs.declared.queues.Reading.{Reading}
 use Rattle.cx_service.specs.Facts.Readings.{reading_is}
 use Rattle.cx_service.specs.Resources.{Resources, enq_fault, hold_fault, hold_of}
@@ -32,7 +32,6 @@ use Rattle.cx_region_state.specs.Areas.{IsTaskPlace, got_owner}
 use Rattle.cx_region_state.specs.State.{TaskContext}
 use Rattle.cx_region_state.specs.Parts.Fits.{Fits, IsThere}
 use Rattle.cx_region_state.specs.declared.verdict.Verdict.{Verdict}
-use Rattle.cx_region_commands.specs.Address.{address_row}
 use Rattle.cx_region_commands.specs.Common.{does, has, condition_alone, name_at, output, piece_at, place_at}
 use Rattle.cx_region_commands.specs.DeleteqTs.{deleteq_row}
 use Rattle.cx_region_commands.specs.Deq.{deq_row}
@@ -106,10 +105,6 @@ enq_never resources slot name = go (hold_of resources name)
     go (Some hold) = first_or _ fault.Enqbusy _ enqbusy_other (first_or _ fault.Invreq _ invreq_other no_fault)
 
 -- ---- each row
-
-pub address_fits : (r : TaskContext) (v : Verdict) → v ≡ address_row → Fits v r
-unfolding address_row
-address_fits r v e = rw e (normal_fits, tt)
 
 pub deleteq_fits : (call : Call) (r : TaskContext) (v : Verdict) → v ≡ deleteq_row r.shared.storage r.shared.queues call → Fits v r
 unfolding deleteq_row
