@@ -1,8 +1,8 @@
 -- A constant's bytes are no more than its length.
-use Rattle.std.specs.Prelude.{pos, Result, Ok, Err, not, is_some, drop, slice_index, take_while, ◌&&◌, ◌==◌, ◌*◌, ◌^◌, ⊤, flat_map, map, option_and_then, sum_by, take, unwrap_or}
+use Rattle.std.specs.Prelude.{Result, Ok, Err, not, is_some, drop, slice_index, take_while, ◌&&◌, ◌==◌, ◌*◌, ◌^◌, flat_map, map, option_and_then, sum_by, take, unwrap_or}
 use Rattle.std.specs.Option.{option_map_or}
 use Rattle.std.specs.Int.{bytes_high_first}
-use Rattle.std.proofs.Common.{◌≡◌, ◌≤◌, ℕ, zero, suc, ℤ, Bool, true, false, cond, Option, Some, None, option_map, List, [], ◌∷◌, length, refl, sym, ◌∙◌, ap, subst, arith}
+use Rattle.std.proofs.Common.{◌≡◌, ◌≤◌, ℕ, zero, suc, ℤ, Bool, true, false, cond, Option, Some, None, option_map, List, [], ◌∷◌, length, refl, sym, ◌∙◌, ap, subst, ⊎_elim, arith}
 use Rattle.std.proofs.lemmas.Bool.Decides.{nat_tests}
 use Rattle.std.proofs.lemmas.List.Concat.{length-flat_map}
 use Rattle.std.proofs.lemmas.List.Sums.{sum_by-le-sum_by}
@@ -10,14 +10,14 @@ use Rattle.std.proofs.lemmas.Option.{none-some}
 use Rattle.cx_asm_expressions.specs.Bytes.{CopyOfConstant, address_made, body_made, copy_of_constant, constant_copy, address_constant, plain_made}
 use Rattle.cx_asm_expressions.specs.Digits.{at_most, is_digit, number_in}
 use Rattle.cx_asm_expressions.specs.Expressions.{value_of}
+use Rattle.cx_asm_expressions.specs.Facts.Constants.{address_or_plain}
 use Rattle.cx_asm_expressions.specs.Faults.{lowest}
 use Rattle.cx_asm_expressions.specs.Items.{Constant, after_digits, constant, constant_in, duplication_in, length_of, constant_or_fault, modifier_in, value_in, value_length, values_in, with_modifier, with_value}
-use Rattle.cx_asm_expressions.specs.Kinds.{bounded_decimal, half_bytes, integer_bytes, is_below, kind_of, row_of_kind}
+use Rattle.cx_asm_expressions.specs.Kinds.{half_bytes, integer_bytes, is_below, kind_of, row_of_kind}
 use Rattle.cx_asm_expressions.specs.Weights.{stands_in}
 use Rattle.cx_asm_expressions.specs.declared.faults.FaultKind.{FaultKind}
 use Rattle.cx_asm_expressions.specs.declared.faults.FaultKind.TheVariants.{BadOperand, NotRelocatable, ValueOutOfRange}
 use Rattle.cx_asm_expressions.specs.declared.kinds.ConstantKind.{ConstantKind}
-use Rattle.cx_asm_expressions.specs.declared.kinds.ConstantKind.TheVariants.{Character, Hexadecimal, Binary, Fullword, Halfword, Packed, Address, External, Doubleword}
 use Rattle.cx_asm_expressions.specs.declared.values.Value.{Value}
 use Rattle.cx_asm_operands.specs.Checking.{then_check as judged_as}
 use Rattle.cx_asm_pass2.specs.Whole.{Whole, item_made}
@@ -62,22 +62,12 @@ abbrev body_length : ConstantKind → Option ℕ → Option (List ℕ) → ℕ
 body_length kind modifier value =
     option_map_or (λ body. sum_by (value_length kind modifier) (values_in (row_of_kind kind).style body)) value (unwrap_or modifier (row_of_kind kind).alignment)
 
--- an external address has no length modifier
+-- a type that takes no length modifier has none
 abbrev Modified : ConstantKind → Option ℕ → Type 0
-Modified External (Some modifier) = ⊥
-Modified kind modifier = ⊤
+Modified kind modifier = (row_of_kind kind).greatest_in_dc ≡ 0 → modifier ≡ None
 
 value_fits : (kind : ConstantKind) (modifier : Option ℕ) → Modified kind modifier → (value : List ℕ) → length (bytes_of_value kind modifier value) ≤ value_length kind modifier value
-value_fits Character modifier is value = taken (value_length Character modifier value) _
-value_fits Hexadecimal modifier is value = omega (arith, halves Hexadecimal value (value_length Hexadecimal modifier value))
-value_fits Binary modifier is value = omega (arith, halves Binary value (value_length Binary modifier value))
-value_fits Fullword modifier is value = integers (value_length Fullword modifier value) (unwrap_or (bounded_decimal value) (pos 0))
-value_fits Halfword modifier is value = integers (value_length Halfword modifier value) (unwrap_or (bounded_decimal value) (pos 0))
-value_fits Packed modifier is value = omega (arith, halves Packed value (value_length Packed modifier value))
-value_fits Address modifier is value = omega arith
-value_fits External None is value = omega arith
-value_fits External (Some modifier) is value = absurd is
-value_fits Doubleword modifier is value = omega arith
+value_fits kind modifier is value = grind (arith, taken, halves, integers)
 
 -- ---- all values
 values_fit : (kind : ConstantKind) (modifier : Option ℕ) → Modified kind modifier → (values : List (List ℕ)) → length (flat_map (bytes_of_value kind modifier) values) ≤ sum_by (value_length kind modifier) values
@@ -125,20 +115,18 @@ address_fits : (n : ℕ) (control : Option (List ℕ)) (value : Result Value Fau
 address_fits n control (Ok value) m e = placed_fits n control value.section value.number m e
 address_fits n control (Err fault) m e = cc
 
+one_value : (size : List ℕ → ℕ) (body : List ℕ) (values : List (List ℕ)) → values ≡ body ∷ [] → size body ≤ sum_by size values
+one_value size body values is = subst (λ values. size body ≤ sum_by size values) (sym is) (omega arith)
+
 -- ---- a constant
 body_fits : (find : List ℕ → Option Value) (here : Option Value) (control : Option (List ℕ)) (kind : ConstantKind) (modifier : Option ℕ) (value : Option (List ℕ)) (m : CopyOfConstant)
     → Modified kind modifier → body_made find here control kind modifier value ≡ Ok m → MadeFits m (body_length kind modifier value)
 body_fits find here control kind modifier None m is e = fits_plain [] m _ (omega arith) cc
-body_fits find here control Address modifier (Some body) m is e =
-    fits_more m (value_length Address modifier body) _ (omega arith) (address_fits (value_length Address modifier body) control (value_of find here body) m e)
-body_fits find here control Character modifier (Some body) m is e = plain_fits Character modifier body m is e
-body_fits find here control Hexadecimal modifier (Some body) m is e = plain_fits Hexadecimal modifier body m is e
-body_fits find here control Binary modifier (Some body) m is e = plain_fits Binary modifier body m is e
-body_fits find here control Fullword modifier (Some body) m is e = plain_fits Fullword modifier body m is e
-body_fits find here control Halfword modifier (Some body) m is e = plain_fits Halfword modifier body m is e
-body_fits find here control Packed modifier (Some body) m is e = plain_fits Packed modifier body m is e
-body_fits find here control External modifier (Some body) m is e = plain_fits External modifier body m is e
-body_fits find here control Doubleword modifier (Some body) m is e = plain_fits Doubleword modifier body m is e
+body_fits find here control kind modifier (Some body) m is e =
+    ⊎_elim
+    (λ address. fits_more m (value_length kind modifier body) _ (one_value (value_length kind modifier) body _ address.1) (address_fits (value_length kind modifier body) control (value_of find here body) m (sym address.0 ∙ e)))
+    (λ plain. plain_fits kind modifier body m is (sym plain ∙ e))
+    (address_or_plain find here control kind modifier body)
 
 -- ---- length modifiers
 abbrev at_least_one : ℕ → Option ℕ
@@ -148,22 +136,15 @@ none_least : (n : ℕ) → option_map Some (option_and_then at_least_one (at_mos
 none_least zero = refl
 none_least (suc n) = grind (arith, nat_tests)
 
-external_modified : (is_ds : Bool) (digits : List ℕ) (modifier : Option ℕ) → modifier_in is_ds External (Some digits) ≡ Some modifier → ⊥
-external_modified true digits modifier e = none-some modifier (sym (none_least (number_in 10 digits)) ∙ e)
-external_modified false digits modifier e = none-some modifier (sym (none_least (number_in 10 digits)) ∙ e)
+no_limit : (is_ds : Bool) (kind : ConstantKind) → (row_of_kind kind).greatest_in_dc ≡ 0 → cond is_ds (row_of_kind kind).greatest_in_ds (row_of_kind kind).greatest_in_dc ≡ 0
+no_limit is_ds kind none = grind arith
 
 modified : (is_ds : Bool) (kind : ConstantKind) (digits : Option (List ℕ)) (modifier : Option ℕ) → modifier_in is_ds kind digits ≡ Some modifier → Modified kind modifier
-modified is_ds Character digits modifier e = tt
-modified is_ds Hexadecimal digits modifier e = tt
-modified is_ds Binary digits modifier e = tt
-modified is_ds Fullword digits modifier e = tt
-modified is_ds Halfword digits modifier e = tt
-modified is_ds Packed digits modifier e = tt
-modified is_ds Address digits modifier e = tt
-modified is_ds External digits None e = tt
-modified is_ds External None (Some modifier) e = cc
-modified is_ds External (Some digits) (Some modifier) e = absurd (external_modified is_ds digits (Some modifier) e)
-modified is_ds Doubleword digits modifier e = tt
+modified is_ds kind None modifier e none = cc
+modified is_ds kind (Some digits) modifier e none =
+    let refused : option_map Some (option_and_then at_least_one (at_most 0 (number_in 10 digits))) ≡ Some modifier =
+    subst (λ most. option_map Some (option_and_then at_least_one (at_most most (number_in 10 digits))) ≡ Some modifier) (no_limit is_ds kind none) e in
+    absurd (none-some modifier (sym (none_least (number_in 10 digits)) ∙ refused))
 
 limited_parts : (duplication : Option ℕ) (modifier : Option (Option ℕ)) (kind : ConstantKind) (value : Option (List ℕ)) (item : Constant) → constant_or_fault duplication modifier kind value ≡ Ok item
     → (modifier ≡ Some item.modifier) × (kind ≡ item.kind)

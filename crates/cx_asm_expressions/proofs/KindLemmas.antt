@@ -5,7 +5,6 @@ use Rattle.std.proofs.lemmas.Bool.Decides.{nat_tests}
 use Rattle.cx_ebcdic.specs.Facts.Lookup.{find_passes}
 use Rattle.cx_asm_expressions.specs.Kinds.{kind_of, kinds, row_of_kind}
 use Rattle.cx_asm_expressions.specs.declared.kinds.ConstantKind.{ConstantKind}
-use Rattle.cx_asm_expressions.specs.declared.kinds.ConstantKind.TheVariants.{Character, Hexadecimal, Binary, Fullword, Halfword, Packed, Address, External, Doubleword}
 
 -- no type has no letter
 pub no_kind_in : (rest : List ℕ) → length rest ≡ 0 → kind_of (slice_index rest 0) ≡ None
@@ -16,15 +15,7 @@ no_kind_in (c ∷ rest) e = absurd (omega arith)
 -- each type is found by its letter
 pub kind_of_letter : (kind : ConstantKind) → kind_of (row_of_kind kind).letter ≡ Some kind
 unfolding kind_of
-kind_of_letter Character = refl
-kind_of_letter Hexadecimal = refl
-kind_of_letter Binary = refl
-kind_of_letter Fullword = refl
-kind_of_letter Halfword = refl
-kind_of_letter Packed = refl
-kind_of_letter Address = refl
-kind_of_letter External = refl
-kind_of_letter Doubleword = refl
+kind_of_letter kind = grind arith
 
 passes : (letter : ℕ) (kind : ConstantKind) → kind_of letter ≡ Some kind → ((row_of_kind kind).letter == letter) ≡ true
 unfolding kind_of

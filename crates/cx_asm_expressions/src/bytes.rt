@@ -284,7 +284,7 @@ fn bad_unless(good: bool) -> Option<FaultKind>
     }
 }
 
-/// The fault of one value.
+/// The fault of one value; that of an address is its expression's.
 fn fault_of_value(kind: ConstantKind, modifier: Option<u16>, value: &[u8]) -> Option<FaultKind>
     ensures { result ≡ (row_of_kind kind).fault value.now (value_length kind modifier value.now) }
 {
@@ -297,11 +297,11 @@ fn fault_of_value(kind: ConstantKind, modifier: Option<u16>, value: &[u8]) -> Op
             integer_fault(value_length(kind, modifier, value), value)
         }
         ConstantKind::External => bad_unless(value == b"DFHEI1".as_slice()),
-        ConstantKind::Address | ConstantKind::Doubleword => None,
+        _ => None,
     }
 }
 
-/// The bytes of one value.
+/// The bytes of one value; those of an address are its expression's.
 fn bytes_of_value(
     alloc: Global,
     kind: ConstantKind,
@@ -321,7 +321,7 @@ fn bytes_of_value(
             integer_bytes(alloc, n, decimal_number(value).unwrap_or(0))
         }
         ConstantKind::External => Vec::from_slice(alloc, &COMMAND_ENTRY),
-        ConstantKind::Address | ConstantKind::Doubleword => Ok(Vec::new(alloc)),
+        _ => Ok(Vec::new(alloc)),
     }
 }
 

@@ -92,13 +92,9 @@ fn is_whole(kind: ConstantKind, modified: bool, body: &[u8]) -> bool
 {
     match kind {
         ConstantKind::Character => is_paired(body),
-        ConstantKind::Hexadecimal
-        | ConstantKind::Binary
-        | ConstantKind::Fullword
-        | ConstantKind::Halfword
-        | ConstantKind::Doubleword => is_doubled(APOSTROPHE, body),
         ConstantKind::Packed => is_doubled(APOSTROPHE, body) && (modified || are_decimals(body)),
         ConstantKind::Address | ConstantKind::External => true,
+        _ => is_doubled(APOSTROPHE, body),
     }
 }
 

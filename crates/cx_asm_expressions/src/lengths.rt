@@ -31,9 +31,7 @@ fn natural_length(kind: ConstantKind, value: &[u8]) -> usize
         ConstantKind::Hexadecimal => rounded_up(value.len(), 2),
         ConstantKind::Binary => rounded_up(value.len(), 8),
         ConstantKind::Packed => packed_length(value),
-        ConstantKind::Fullword | ConstantKind::Address | ConstantKind::External => 4,
-        ConstantKind::Halfword => 2,
-        ConstantKind::Doubleword => 8,
+        _ => kind.own_length(),
     }
 }
 

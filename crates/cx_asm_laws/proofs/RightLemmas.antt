@@ -3,7 +3,7 @@
 use Rattle.std.specs.Prelude.{Result, ℤ, ◌^◌, flat_map, map, nat_lt, option_map, pos, replicate, reverse, slice_index, take, unwrap_or, Contains}
 use Rattle.std.specs.List.{AllByRecursion, find, list_all, repeat}
 use Rattle.std.specs.Option.{option_map_or}
-use Rattle.std.proofs.Common.{◌≡◌, ◌≤◌, ◌<◌, ℕ, zero, suc, ◌+◌, ◌-◌, ◌*◌, ◌/◌, ◌%◌, Bool, true, false, cond, ◌==◌, ◌&&◌, Option, Some, None, Ok, Err, List, [], ◌∷◌, ◌++◌, inl, inr, length, refl, sym, ◌∙◌, ap, subst, arith}
+use Rattle.std.proofs.Common.{◌≡◌, ◌≤◌, ◌<◌, ℕ, zero, suc, ◌+◌, ◌-◌, ◌*◌, ◌/◌, ◌%◌, Bool, true, false, cond, ◌==◌, ◌&&◌, Option, Some, None, Ok, Err, List, [], ◌∷◌, ◌++◌, ◌⊎◌, inl, inr, ⊎_elim, length, refl, sym, ◌∙◌, ap, subst, arith}
 use Rattle.std.specs.Int.{w128}
 use Rattle.std.proofs.lemmas.Bool.Decides.{nat_tests}
 use Rattle.std.proofs.lemmas.List.Elements.{Contains-append_right}
@@ -17,16 +17,16 @@ use Rattle.cx_source.specs.declared.source.Stmt.{Stmt}
 use Rattle.cx_asm_expressions.specs.Bytes.{CopyOfConstant, address_constant, address_made, body_made, copy_of_constant, constant_copy, plain_made}
 use Rattle.cx_asm_expressions.specs.Digits.{digit, digit_value}
 use Rattle.cx_asm_expressions.specs.Expressions.{value_of}
+use Rattle.cx_asm_expressions.specs.Facts.Constants.{address_or_plain}
 use Rattle.cx_asm_expressions.specs.Faults.{lowest}
 use Rattle.cx_asm_expressions.specs.Fields.{without_sign}
 use Rattle.cx_asm_expressions.specs.Items.{Constant, constant_in, size_of as constant_size, value_length, values_in}
-use Rattle.cx_asm_expressions.specs.Kinds.{bit_from_right, bits_from_right, bounded_decimal, digit_from_right, half_byte, half_bytes, integer_bytes, is_below, is_binary_length, packed_from_right, row_of_kind}
+use Rattle.cx_asm_expressions.specs.Kinds.{bit_from_right, bits_from_right, bounded_decimal, character_bytes, decimal_bytes, digit_from_right, half_byte, half_bytes, integer_bytes, is_below, is_binary_length, packed_from_right, row_of_kind}
 use Rattle.cx_asm_expressions.specs.Texts.{characters, code}
 use Rattle.cx_asm_expressions.specs.Weights.{stands_in}
 use Rattle.cx_asm_expressions.specs.declared.faults.FaultKind.{FaultKind}
 use Rattle.cx_asm_expressions.specs.declared.faults.FaultKind.TheVariants.{NotRelocatable, ValueOutOfRange}
 use Rattle.cx_asm_expressions.specs.declared.kinds.ConstantKind.{ConstantKind}
-use Rattle.cx_asm_expressions.specs.declared.kinds.ConstantKind.TheVariants.{Character, Hexadecimal, Binary, Fullword, Halfword, Packed, Address, External, Doubleword}
 use Rattle.cx_asm_expressions.specs.declared.values.Value.{Value}
 use Rattle.cx_asm_pools.specs.Pools.{PlacedLiterals}
 use Rattle.cx_asm_pass1.specs.Given.{location_counter}
@@ -127,15 +127,7 @@ right_packed field j = go (j == 0) (slice_index field 0 == 45)
     go false m = right_digit (without_sign field) (j - 1)
 
 half_below : (kind : ConstantKind) (value : List ℕ) (j : ℕ) → half_byte kind value j < 16
-half_below Binary value j = right_bits value j
-half_below Packed value j = right_packed value j
-half_below Character value j = right_digit value j
-half_below Hexadecimal value j = right_digit value j
-half_below Fullword value j = right_digit value j
-half_below Halfword value j = right_digit value j
-half_below Address value j = right_digit value j
-half_below External value j = right_digit value j
-half_below Doubleword value j = right_digit value j
+half_below kind value j = grind (arith, right_bits, right_packed, right_digit)
 
 halves_below : (kind : ConstantKind) (value : List ℕ) (n : ℕ) → EachIsByte (half_bytes kind value n)
 halves_below kind value zero = tt
@@ -159,16 +151,31 @@ number_below n number = go (is_binary_length n)
     go false = tt
 
 -- ---- the bytes of a constant
+-- a type's bytes are characters, half bytes, a binary number, or given ones
+bytes_by : (kind : ConstantKind) (value : List ℕ) (n : ℕ)
+    → ((row_of_kind kind).bytes value n ≡ character_bytes value n) ⊎ (((row_of_kind kind).bytes value n ≡ half_bytes kind value n)
+    ⊎ (((row_of_kind kind).bytes value n ≡ decimal_bytes value n) ⊎ (list_all (λ byte. nat_lt byte 256) ((row_of_kind kind).bytes value n) ≡ true)))
+bytes_by kind value n = grind arith
+
+given_below : (bytes : List ℕ) → list_all (λ byte. nat_lt byte 256) bytes ≡ true → EachIsByte bytes
+given_below [] h = tt
+given_below (byte ∷ bytes) h =
+    let parts = both (nat_lt byte 256) (list_all (λ b. nat_lt b 256) bytes) h in
+    let own = parts.0 in (grind (arith, nat_tests, own), given_below bytes parts.1)
+
+characters_below : (value : List ℕ) (n : ℕ) → EachIsByte (character_bytes value n)
+characters_below value n = bytes_taken n (map code (characters value) ++ replicate n 64) (bytes_joined (map code (characters value)) (replicate n 64) (codes_below (characters value)) (blanks n))
+
 kind_below : (kind : ConstantKind) (value : List ℕ) (n : ℕ) → EachIsByte ((row_of_kind kind).bytes value n)
-kind_below Character value n = bytes_taken n (map code (characters value) ++ replicate n 64) (bytes_joined (map code (characters value)) (replicate n 64) (codes_below (characters value)) (blanks n))
-kind_below Hexadecimal value n = halves_below Hexadecimal value n
-kind_below Binary value n = halves_below Binary value n
-kind_below Packed value n = halves_below Packed value n
-kind_below Fullword value n = number_below n (unwrap_or (bounded_decimal value) (pos 0))
-kind_below Halfword value n = number_below n (unwrap_or (bounded_decimal value) (pos 0))
-kind_below Address value n = tt
-kind_below External value n = (omega arith, (omega arith, (omega arith, (omega arith, tt))))
-kind_below Doubleword value n = tt
+kind_below kind value n = go (bytes_by kind value n)
+  where
+    go : ((row_of_kind kind).bytes value n ≡ character_bytes value n) ⊎ (((row_of_kind kind).bytes value n ≡ half_bytes kind value n)
+        ⊎ (((row_of_kind kind).bytes value n ≡ decimal_bytes value n) ⊎ (list_all (λ byte. nat_lt byte 256) ((row_of_kind kind).bytes value n) ≡ true)))
+        → EachIsByte ((row_of_kind kind).bytes value n)
+    go (inl e) = subst EachIsByte (sym e) (characters_below value n)
+    go (inr (inl e)) = subst EachIsByte (sym e) (halves_below kind value n)
+    go (inr (inr (inl e))) = subst EachIsByte (sym e) (number_below n (unwrap_or (bounded_decimal value) (pos 0)))
+    go (inr (inr (inr h))) = given_below ((row_of_kind kind).bytes value n) h
 
 values_below : (kind : ConstantKind) (modifier : Option ℕ) (values : List (List ℕ)) → EachIsByte (flat_map (λ value. (row_of_kind kind).bytes value (value_length kind modifier value)) values)
 values_below kind modifier [] = tt
@@ -201,15 +208,11 @@ found_address n control (Err fault) once e = absurd (cc)
 body_below : (find : List ℕ → Option Value) (here : Option Value) (control : Option (List ℕ)) (kind : ConstantKind) (modifier : Option ℕ) (value : Option (List ℕ)) (once : CopyOfConstant)
     → body_made find here control kind modifier value ≡ Ok once → EachIsByte once.bytes
 body_below find here control kind modifier None once e = (let same : copy_of_constant [] false ≡ once = cc in subst (λ k. EachIsByte k.bytes) same tt)
-body_below find here control Address modifier (Some body) once e = found_address (value_length Address modifier body) control (value_of find here body) once e
-body_below find here control Character modifier (Some body) once e = plain_below Character modifier body once e
-body_below find here control Hexadecimal modifier (Some body) once e = plain_below Hexadecimal modifier body once e
-body_below find here control Binary modifier (Some body) once e = plain_below Binary modifier body once e
-body_below find here control Fullword modifier (Some body) once e = plain_below Fullword modifier body once e
-body_below find here control Halfword modifier (Some body) once e = plain_below Halfword modifier body once e
-body_below find here control Packed modifier (Some body) once e = plain_below Packed modifier body once e
-body_below find here control External modifier (Some body) once e = plain_below External modifier body once e
-body_below find here control Doubleword modifier (Some body) once e = plain_below Doubleword modifier body once e
+body_below find here control kind modifier (Some body) once e =
+    ⊎_elim
+    (λ address. found_address (value_length kind modifier body) control (value_of find here body) once (sym address.0 ∙ e))
+    (λ plain. plain_below kind modifier body once (sym plain ∙ e))
+    (address_or_plain find here control kind modifier body)
 
 once_below : (whole : Whole) (counter : Option Value) (text : List ℕ) (c : Constant) (once : CopyOfConstant) → constant_in false text ≡ Ok c → item_made whole false counter text ≡ Ok once → EachIsByte once.bytes
 unfolding constant_copy

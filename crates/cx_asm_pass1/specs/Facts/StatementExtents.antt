@@ -12,7 +12,6 @@ use Rattle.cx_asm_expressions.specs.Kinds.{row_of_kind}
 use Rattle.cx_asm_expressions.specs.declared.faults.FaultKind.{FaultKind}
 use Rattle.cx_asm_expressions.specs.declared.faults.FaultKind.TheVariants.{ValueOutOfRange}
 use Rattle.cx_asm_expressions.specs.declared.kinds.ConstantKind.{ConstantKind}
-use Rattle.cx_asm_expressions.specs.declared.kinds.ConstantKind.TheVariants.{Character, Hexadecimal, Binary, Fullword, Halfword, Packed, Address, External, Doubleword}
 use Rattle.cx_asm_pools.specs.Facts.Literals.{no_pool_stands, pool_stands}
 use Rattle.cx_asm_pools.specs.Laws.Literals.{IsPool, StandApart}
 use Rattle.cx_asm_pools.specs.Pools.{OpenLiterals, cap, constant_size, closed_pool, pool_extent, pool_size}
@@ -23,15 +22,7 @@ use Rattle.cx_asm_pass1.specs.declared.roles.Role.TheVariants.{Unknown, Instruct
 
 -- ---- boundaries
 kind_small : (kind : ConstantKind) → (1 ≤ (row_of_kind kind).alignment) × ((row_of_kind kind).alignment ≤ 8)
-kind_small Character = (lit≤ tt, lit≤ tt)
-kind_small Hexadecimal = (lit≤ tt, lit≤ tt)
-kind_small Binary = (lit≤ tt, lit≤ tt)
-kind_small Fullword = (lit≤ tt, lit≤ tt)
-kind_small Halfword = (lit≤ tt, lit≤ tt)
-kind_small Packed = (lit≤ tt, lit≤ tt)
-kind_small Address = (lit≤ tt, lit≤ tt)
-kind_small External = (lit≤ tt, lit≤ tt)
-kind_small Doubleword = (lit≤ tt, lit≤ tt)
+kind_small kind = (grind arith, grind arith)
 
 small : (kind : ConstantKind) (modifier : Option ℕ) → (1 ≤ (if is_some modifier then 1 else (row_of_kind kind).alignment)) × ((if is_some modifier then 1 else (row_of_kind kind).alignment) ≤ 8)
 small kind None = kind_small kind
