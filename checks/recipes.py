@@ -239,12 +239,12 @@ class Change:
 TABLE, STRINGS, LIB = "crates/cx_code/src/table.rt", "crates/cx_exec/src/strings.rt", "crates/cx_code/src/lib.rt"
 CHANGES = [
     Change("nothing", LIB, "", "", None),
-    Change("a row too few", PAGE, "| `cx_code/src/table.rt` | ", "| cx_code/src/table.rt | ", f"{TABLE}: XC is found there, in `use`, `Op`,"),
+    Change("a row too few", PAGE, "| `cx_code/src/table.rt` | ", "| cx_code/src/table.rt | ", f"{TABLE}: XC is found there, in `Op`, `instruction_rows`,"),
     Change("a row too many", PAGE, "| `cx_code/src/table.rt` | ", "| `cx_code/src/lib.rt` | all of it | |\n| `cx_code/src/table.rt` | ",
            f"{LIB}: its recipe names it, and XC isn't found there"),
     Change("a row twice", PAGE, "| `cx_code/src/table.rt` | ", "| `cx_code/src/table.rt` | | |\n| `cx_code/src/table.rt` | ", f"{TABLE}: 2 rows"),
-    Change("a place too few", PAGE, "`BY_CODE`, ", "", f"{TABLE}: XC is found in `use`, `Op`, `BY_CODE`,"),
-    Change("a place too many", PAGE, "`BY_CODE`, ", "`BY_CODE`, `length`, ", f"{TABLE}: XC is found in `use`, `Op`, `BY_CODE`,"),
+    Change("a place too few", PAGE, "`Op`, ", "", f"{TABLE}: XC is found in `Op`, `instruction_rows`,"),
+    Change("a place too many", PAGE, "`Op`, ", "`Op`, `length`, ", f"{TABLE}: XC is found in `Op`, `instruction_rows`,"),
     Change("a file more", LIB, "\n", "\nfn more(op: Op) -> bool {\n    op == Op::Xc\n}\n", f"{LIB}: XC is found there, in `more`, and", 1),
     Change("a comment", LIB, "\n", "\n// Op::Xc\n", None, 1),
     Change("a file less", "docs/MACHINE.md", "XC", "XD", "docs/MACHINE.md: its recipe names it, and XC isn't found there"),

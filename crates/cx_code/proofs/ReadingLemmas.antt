@@ -3,7 +3,6 @@ use Rattle.std.proofs.Common.{◌≡◌, ℕ, ◌+◌, ◌*◌, ◌/◌, ◌%◌
 use Rattle.std.proofs.lemmas.List.{take-append-drop}
 use Rattle.std.specs.Int.{byte_at, bytes_high_first}
 use Rattle.cx_code.specs.declared.table.Op.{Op}
-use Rattle.cx_code.specs.declared.table.Op.TheVariants.{Srl, Sll, Sra, Sla, Srda}
 use Rattle.cx_code.specs.declared.table.Format.{Format}
 use Rattle.cx_code.specs.declared.table.Format.TheVariants as form
 use Rattle.cx_code.specs.declared.instruction.Fields.{Fields}
@@ -18,12 +17,7 @@ use Rattle.cx_code.proofs.SpellingLemmas.{spelling_bytes}
 -- a shift's format is RS
 pub shift_format : (op : Op) → is_shift op ≡ true → format_of op ≡ form.Rs
 unfolding is_shift operation_row
-shift_format Srl h = refl
-shift_format Sll h = refl
-shift_format Sra h = refl
-shift_format Sla h = refl
-shift_format Srda h = refl
-shift_format _ h = cc
+shift_format op h = grind arith
 
 -- the fields are in the bytes that they make
 pub decoded_fields-bytes : (c : ℕ) (fields : Fields) (rest : List ℕ) → AreInRange fields → decoded_fields (format_with fields) (bytes_with c fields ++ rest) ≡ fields

@@ -1,5 +1,5 @@
 -- MVC and XC of operands of which the first doesn't begin inside the second after its first byte.
-use Rattle.std.proofs.Common.{◌≡◌, ◌≢◌, ℕ, ◌-◌, ◌^◌, ◌<◌, ◌≤◌, ◌&&◌, true, false, Some, List, is_some, None, Option, Err, rules, length, take, slice_index, bit_xor, refl, sym, ◌∙◌, inl, inr, arith, unwrap_or}
+use Rattle.std.proofs.Common.{◌≡◌, ◌≢◌, ℕ, ◌-◌, ◌^◌, ◌<◌, ◌≤◌, ◌&&◌, true, false, Some, List, is_some, None, Option, Err, rules, length, take, slice_index, bit_xor, refl, subst, sym, ◌∙◌, inl, inr, arith, unwrap_or}
 use Rattle.std.proofs.lemmas.Bool.{cases_lt, le-ltb}
 use Rattle.std.proofs.lemmas.Grind.{same_number_lists}
 use Rattle.std.proofs.lemmas.List.{length-take-le}
@@ -129,6 +129,12 @@ copied_lent m after n a1 a2 bytes updated outcome low1 low2 fits outside there s
     let same : stored_by (moved_byte m.storage a1 a2) n ≡ bytes = outside_is_moved m.storage a1 a2 n bytes low1 low2 fits outside there in
     let moves : Stores a1 (stored_by (moved_byte m.storage a1 a2) n) m.cc updated m outcome after = rw same stores in
     rw there moves
+
+-- XC on a machine which nothing has changed
+pub xored_as_before : (before m after : Machine) (n a1 a2 : ℕ) (updated : Updated) (outcome : Outcome) → m ≡ before
+    → XcEffect n a1 a2 updated m outcome after → XcEffect n a1 a2 updated before outcome after
+xored_as_before before m after n a1 a2 updated outcome same joins =
+    subst (λ (x : Machine). XcEffect n a1 a2 updated x outcome after) same joins
 
 -- XC of operands of which one isn't there
 pub not_joined : (m : Machine) (n a1 a2 : ℕ) (updated : Updated) → (is_some (span m.storage a1 n) && is_some (span m.storage a2 n)) ≡ false

@@ -6,7 +6,7 @@ use Rattle.cx_exec.specs.Machine.{Machine}
 use Rattle.cx_exec.specs.Outcome.{Outcome}
 use Rattle.cx_exec.specs.Operands.{Stores}
 use Rattle.cx_exec.specs.Masks.{StcmEffect}
-use Rattle.cx_exec.specs.Strings.{MvcEffect, XcEffect}
+use Rattle.cx_exec.specs.Strings.{MvcEffect}
 
 -- where a byte is absent, a write changes nothing
 pub not_written : (s : Storage) (a : ℕ) (bytes : List ℕ) → is_some (span s a (length bytes)) ≡ false → after_write s a bytes ≡ s
@@ -23,11 +23,6 @@ pub moved_as_before : (before m after : Machine) (n a1 a2 : ℕ) (updated : Upda
     → MvcEffect n a1 a2 updated m outcome after → MvcEffect n a1 a2 updated before outcome after
 moved_as_before before m after n a1 a2 updated outcome same moves =
     subst (λ (x : Machine). MvcEffect n a1 a2 updated x outcome after) same moves
-
-pub xored_as_before : (before m after : Machine) (n a1 a2 : ℕ) (updated : Updated) (outcome : Outcome) → m ≡ before
-    → XcEffect n a1 a2 updated m outcome after → XcEffect n a1 a2 updated before outcome after
-xored_as_before before m after n a1 a2 updated outcome same joins =
-    subst (λ (x : Machine). XcEffect n a1 a2 updated x outcome after) same joins
 
 pub coded_as_before : (before m after : Machine) (a cc : ℕ) (bytes : List ℕ) (updated : Updated) (outcome : Outcome) → m ≡ before
     → Stores a bytes cc updated m outcome after → Stores a bytes cc updated before outcome after

@@ -30,62 +30,7 @@ use Rattle.cx_exec.proofs.RunLemmas.{interrupt_left, one_more, passes_start, row
 -- ---- an instruction in bytes that are lent: what follows it, and its target
 code_tells : (o : Op) → (code_of o == 0x44) ≡ is_execute o
 unfolding operation_row
-code_tells op.Balr = refl
-code_tells op.Bctr = refl
-code_tells op.Bcr = refl
-code_tells op.Ltr = refl
-code_tells op.Lcr = refl
-code_tells op.Clr = refl
-code_tells op.Xr = refl
-code_tells op.Lr = refl
-code_tells op.Cr = refl
-code_tells op.Ar = refl
-code_tells op.Sr = refl
-code_tells op.Mr = refl
-code_tells op.Dr = refl
-code_tells op.Sth = refl
-code_tells op.La = refl
-code_tells op.Stc = refl
-code_tells op.Ic = refl
-code_tells op.Ex = refl
-code_tells op.Bal = refl
-code_tells op.Bct = refl
-code_tells op.Bc = refl
-code_tells op.Lh = refl
-code_tells op.Ch = refl
-code_tells op.Ah = refl
-code_tells op.Sh = refl
-code_tells op.Cvd = refl
-code_tells op.Cvb = refl
-code_tells op.St = refl
-code_tells op.Cl = refl
-code_tells op.L = refl
-code_tells op.C = refl
-code_tells op.A = refl
-code_tells op.S = refl
-code_tells op.M = refl
-code_tells op.D = refl
-code_tells op.Srl = refl
-code_tells op.Sll = refl
-code_tells op.Sra = refl
-code_tells op.Sla = refl
-code_tells op.Srda = refl
-code_tells op.Stm = refl
-code_tells op.Tm = refl
-code_tells op.Mvi = refl
-code_tells op.Ni = refl
-code_tells op.Cli = refl
-code_tells op.Oi = refl
-code_tells op.Lm = refl
-code_tells op.Stcm = refl
-code_tells op.Icm = refl
-code_tells op.Mvc = refl
-code_tells op.Clc = refl
-code_tells op.Xc = refl
-code_tells op.Tr = refl
-code_tells op.Trt = refl
-code_tells op.Pack = refl
-code_tells op.Unpk = refl
+code_tells o = grind arith
 
 pub lent_following : (m : Machine) (o : Op) (prefix : List ℕ) → LongByCode → m.next + 8 ≤ 2 ^ 24
     → option_map (take 6) (span m.storage m.next 8) ≡ Some prefix → slice_index prefix 0 ≡ code_of o → following m ≡ Some (m.next + length_of o)

@@ -88,25 +88,6 @@ has_address op.Ic = true
 has_address op.Cvb = true
 has_address _ = false
 
--- the rows that store; EX does as its target does
-abbrev pub stores : Op → Bool
-stores op.Sth = true
-stores op.Stc = true
-stores op.St = true
-stores op.Cvd = true
-stores op.Stm = true
-stores op.Stcm = true
-stores op.Mvi = true
-stores op.Ni = true
-stores op.Oi = true
-stores op.Mvc = true
-stores op.Xc = true
-stores op.Tr = true
-stores op.Pack = true
-stores op.Unpk = true
-stores op.Ex = true
-stores _ = false
-
 -- the tallies after an instruction that is done, with its target, if it has one
 abbrev pub with_done : Bool → ℕ → Option ℕ → List Tally → List Tally
 with_done goes_away at target tallies = fold (with_run goes_away) tallies (at ∷ cons_option target [])

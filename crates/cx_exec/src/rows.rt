@@ -3,14 +3,14 @@
 ghost use Rattle.std.specs.Prelude.{◌≡◌, ◌<◌, ◌≤◌, ◌^◌, ◌+◌, ◌/◌, ◌%◌, true, false, slice_index, unwrap_or, IfSome};
 ghost use Rattle.byteorder.specs.Endian.{big_from};
 ghost use Rattle.cx_code.specs.declared.table.Format.TheVariants as format;
-ghost use Rattle.cx_code.specs.Table.{format_of, length_of};
+ghost use Rattle.cx_code.specs.Table.{format_of, length_of, stores};
 ghost use Rattle.cx_code.specs.Spelling.{instruction};
 ghost use Rattle.cx_code.specs.Reading.{left_half, right_half, base_at, displacement_at, fields_at};
 ghost use Rattle.cx_exec.specs.Machine.{machine};
 ghost use Rattle.cx_exec.specs.Machine.{address_part, effective};
 ghost use Rattle.cx_exec.specs.Step.{is_execute};
 ghost use Rattle.cx_exec.specs.Rows.{Effect};
-ghost use Rattle.cx_exec.specs.Parts.{updated_at, has_word, has_word_result, has_half, has_address, stores};
+ghost use Rattle.cx_exec.specs.Parts.{updated_at, has_word, has_word_result, has_half, has_address};
 
 use crate::addresses::Addresses;
 use crate::arithmetic::{complement, difference, put_sum, sum};
@@ -446,15 +446,14 @@ pub(crate) fn strings_effect<S: Store>(
 macro_rules! in_group {
     ($op:expr, $perform:ident, $execute:expr) => {
         match $op {
-            Op::Balr | Op::Bctr | Op::Bcr | Op::Ltr | Op::Lcr | Op::Clr | Op::Xr | Op::Lr | Op::Cr | Op::Ar
-            | Op::Sr | Op::Mr | Op::Dr => $perform!(register_rows),
-            Op::Srl | Op::Sll | Op::Sra | Op::Sla | Op::Srda | Op::Stm | Op::Lm | Op::Stcm | Op::Icm => $perform!(register_storage_rows),
+            cx_code::rows_of!(Rr) => $perform!(register_rows),
+            cx_code::rows_of!(Rs) => $perform!(register_storage_rows),
             Op::L | Op::Cl | Op::C => $perform!(word_rows),
             Op::A | Op::S | Op::M | Op::D => $perform!(word_result_rows),
             Op::Lh | Op::Ch | Op::Ah | Op::Sh => $perform!(half_rows),
             Op::Sth | Op::La | Op::Stc | Op::Bal | Op::Bct | Op::Bc | Op::St | Op::Cvd | Op::Ic | Op::Cvb => $perform!(indexed_rows),
-            Op::Tm | Op::Mvi | Op::Ni | Op::Cli | Op::Oi => $perform!(immediate_rows),
-            Op::Mvc | Op::Clc | Op::Xc | Op::Tr | Op::Trt | Op::Pack | Op::Unpk => $perform!(strings_effect),
+            cx_code::rows_of!(Si) => $perform!(immediate_rows),
+            cx_code::rows_of!(Ss) | cx_code::rows_of!(Ss2) => $perform!(strings_effect),
             Op::Ex => $execute,
         }
     };

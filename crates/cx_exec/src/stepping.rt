@@ -197,7 +197,7 @@ fn execute<S: Store>(cpu: &mut Cpu, store: &mut S, r1: u8, a: u32) -> Performed
         return execute_slow(cpu, store, r1, a, updated);
     };
     match found.op {
-        Op::Mvc | Op::Clc | Op::Xc | Op::Tr | Op::Trt | Op::Pack | Op::Unpk => {
+        cx_code::rows_of!(Ss) | cx_code::rows_of!(Ss2) => {
             strings_effect(cpu, store, found.op, &found.prefix, Place::after(updated))
         }
         _ => effect_after(cpu, store, found.op, found.prefix, updated),

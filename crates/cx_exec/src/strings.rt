@@ -414,7 +414,7 @@ pub(crate) fn mvc<S: Store>(
 }
 
 /// XC. The operands, of `n` bytes, begin at `a1` and `a2`.
-#[tactic(auto, using(crate::proofs::Storing::xored_as_before))]
+#[tactic(auto, using(crate::proofs::BlockLemmas::xored_as_before))]
 #[inline(never)]
 pub(crate) fn xc<S: Store>(
     cpu: &mut Cpu,

@@ -1,9 +1,10 @@
 //! Runs of steps each of which is noted.
 
 ghost use Rattle.std.specs.Prelude.{◌≡◌, false, IfOk, MatchOption, OnOk};
+ghost use Rattle.cx_code.specs.Table.{stores};
 ghost use Rattle.cx_exec.specs.Advance.{Advances};
 ghost use Rattle.cx_exec.specs.Machine.{machine};
-ghost use Rattle.cx_exec.specs.Parts.{IsNoted, NotesAll, NotesOn, NotesStep, stores};
+ghost use Rattle.cx_exec.specs.Parts.{IsNoted, NotesAll, NotesOn, NotesStep};
 ghost use Rattle.cx_exec.specs.Step.{Steps};
 ghost use Rattle.cx_exec.specs.Watches.{IsWatched};
 
@@ -44,31 +45,6 @@ pub trait Watcher {
     ghost stays: { (s : Storage) (at : ℕ) (held : Self) → is_of s held → held ≡ noted s at held };
 }
 
-/// Whether a row may store.
-#[inline(always)]
-fn may_store(op: Op) -> bool
-    ensures { result ≡ stores op }
-{
-    match op {
-        Op::Sth
-        | Op::Stc
-        | Op::St
-        | Op::Cvd
-        | Op::Stm
-        | Op::Stcm
-        | Op::Mvi
-        | Op::Ni
-        | Op::Oi
-        | Op::Mvc
-        | Op::Xc
-        | Op::Tr
-        | Op::Pack
-        | Op::Unpk
-        | Op::Ex => true,
-        _ => false,
-    }
-}
-
 /// Notes an instruction.
 #[inline(always)]
 fn note<S: Store, W: Watcher>(watcher: &mut W, store: &S, at: u32) -> Result<(), AllocError>
@@ -98,7 +74,7 @@ fn note_stored<S: Store, W: Watcher>(
     requires { stores op ≡ false → W.is_of (S.storage store.now) watcher.old }
     ensures { let s = S.storage store.now in OnOk result (IsNoted W.noted W.is_of s at watcher.old watcher.new) }
 {
-    if may_store(op) {
+    if op.stores() {
         return note(watcher, store, at);
     }
     note_none(watcher, store, at);

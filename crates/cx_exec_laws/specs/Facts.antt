@@ -1,4 +1,6 @@
--- Lemmas that other crates cite: of these `runs_keep_areas`, which rests on what holds of every row.
+-- Lemmas that other crates cite: `runs_keep_areas`, what holds of every row, and tests.
+pub mod Tests
+pub mod Found
 pub mod Effects
 pub mod Rows
 pub mod Keeps

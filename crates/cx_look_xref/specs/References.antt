@@ -12,7 +12,9 @@ use Rattle.cx_source.specs.declared.source.Source.{Source}
 use Rattle.cx_source.specs.declared.source.Stmt.{Stmt}
 use Rattle.cx_asm_expressions.specs.Names.{is_same, symbol_name}
 use Rattle.cx_code.specs.declared.table.Op.{Op}
-use Rattle.cx_code.specs.declared.table.Op.TheVariants as op
+use Rattle.cx_code.specs.declared.table.Format.{Format}
+use Rattle.cx_code.specs.declared.table.Format.TheVariants as format
+use Rattle.cx_code.specs.Table.{format_of, stores}
 use Rattle.cx_asm_operations.specs.Operations.{operation_named}
 use Rattle.cx_asm_operations.specs.declared.operations.Operation.{Operation}
 use Rattle.cx_asm_operations.specs.declared.operations.Operation.TheVariants as operation
@@ -59,22 +61,14 @@ names_used (Some (operation.Directive other)) parts = []
 names_used operation parts = flat_map names_of_part parts
 
 -- ---- the operand into which an instruction stores, counted from 0
+-- which operand of a format lies in storage; of two the first
+abbrev pub storage_operand : Format → ℕ
+storage_operand format.Rx = 1
+storage_operand format.Rs = 2
+storage_operand _ = 0
+
 abbrev pub stored_operand : Op → Option ℕ
-stored_operand op.Sth = Some 1
-stored_operand op.Stc = Some 1
-stored_operand op.Cvd = Some 1
-stored_operand op.St = Some 1
-stored_operand op.Stm = Some 2
-stored_operand op.Stcm = Some 2
-stored_operand op.Mvi = Some 0
-stored_operand op.Ni = Some 0
-stored_operand op.Oi = Some 0
-stored_operand op.Mvc = Some 0
-stored_operand op.Xc = Some 0
-stored_operand op.Tr = Some 0
-stored_operand op.Pack = Some 0
-stored_operand op.Unpk = Some 0
-stored_operand _ = None
+stored_operand op = if stores op then Some (storage_operand (format_of op)) else None
 
 abbrev pub part_stored : Option Operation → Option ℕ
 part_stored (Some (operation.Machine op)) = stored_operand op

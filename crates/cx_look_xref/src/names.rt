@@ -8,12 +8,12 @@ ghost use Rattle.cx_source.specs.declared.marks.Delimiter.TheVariants.{Parenthes
 ghost use Rattle.cx_asm_expressions.specs.Names.{symbol_name};
 ghost use Rattle.cx_asm_operations.specs.Operations.{operation_named};
 ghost use Rattle.cx_asm_pass1.specs.PassState.{parts_in};
-ghost use Rattle.cx_look_xref.specs.References.{name_ended, names_from, names_in, names_of_constant, names_of_part, names_stored, names_used, part_stored, stored_operand};
+ghost use Rattle.cx_look_xref.specs.References.{name_ended, names_from, names_in, names_of_constant, names_of_part, names_stored, names_used, part_stored, storage_operand, stored_operand};
 
 use cx_asm_expressions::symbol_name;
 use cx_asm_operations::{Directive, Operation};
 use cx_asm_pools::literal_text;
-use cx_code::Op;
+use cx_code::{Format, Op};
 use cx_ebcdic::Name8;
 use cx_source::{Delimiter, Stmt, cut, first_mark, is_symbol_name_character, outside};
 use std::alloc::{AllocError, Global};
@@ -175,16 +175,25 @@ pub(crate) fn names_used(alloc: Global, stmt: &Stmt) -> Result<Vec<Name8>, Alloc
     Ok(names)
 }
 
+/// Which operand of a format lies in storage, counted from 0; of two the first.
+fn storage_operand(format: Format) -> usize
+    ensures { result ≡ storage_operand format }
+{
+    match format {
+        Format::Rx => 1,
+        Format::Rs => 2,
+        Format::Rr | Format::Si | Format::Ss | Format::Ss2 => 0,
+    }
+}
+
 /// The operand, counted from 0, into which an instruction stores.
 fn stored_operand(op: Op) -> Option<usize>
     ensures { result ≡ stored_operand op }
 {
-    match op {
-        Op::Mvi | Op::Ni | Op::Oi | Op::Mvc | Op::Xc | Op::Tr | Op::Pack | Op::Unpk => Some(0),
-        Op::Sth | Op::Stc | Op::Cvd | Op::St => Some(1),
-        Op::Stm | Op::Stcm => Some(2),
-        _ => None,
+    if !op.stores() {
+        return None;
     }
+    Some(storage_operand(op.format()))
 }
 
 /// The operand, counted from 0, into which an operation stores.

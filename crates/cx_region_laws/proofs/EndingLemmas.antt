@@ -26,34 +26,10 @@ use Rattle.cx_region.specs.declared.replies.KeyReply.TheVariants as key
 use Rattle.cx_region.specs.State.{RegionState, TerminalState}
 use Rattle.cx_region.specs.Attach.{ArePlaced, Attaches, HasNoPlaces, IsCopyPlace, with_task_attached, commarea_kept, with_eib_area, with_kept_area}
 use Rattle.cx_region.specs.declared.asking.Places.{Places}
+use Rattle.cx_exec_laws.specs.Facts.Tests.{Least, both_or_not, le_or_not, least, zero_or_not}
 use Rattle.cx_region_laws.proofs.DecideLemmas.{copy_place_once, task_place_once}
 
 -- ---- the least place, or none
--- the least number with a property; or none below a number has it
-abbrev pub Least : (ℕ → Type 0) → ℕ → Type 0
-Least P n = ((a : ℕ) × P a × ((b : ℕ) → P b → a ≤ b)) ⊎ ((b : ℕ) → b < n → P b → ⊥)
-
-least_after : (P : ℕ → Type 0) (n : ℕ) → P n ⊎ (P n → ⊥) → Least P n → Least P (suc n)
-least_after P n here (inl found) = inl found
-least_after P n (inl p) (inr none) =
-    inl (
-      n,
-      p,
-      λ b q. elim (leb_tells n b) [
-        | inl t ↦ omega (arith, t.1)
-        | inr f ↦ absurd (none b (omega (arith, f.1)) q)
-      ],
-    )
-least_after P n (inr never) (inr none) =
-    inr (λ b below q. elim (leb_tells n b) [
-      | inl t ↦ (let same : b ≡ n = omega (arith, t.1, below) in never (subst P same q))
-      | inr f ↦ none b (omega (arith, f.1)) q
-    ])
-
-pub least : (P : ℕ → Type 0) → ((b : ℕ) → P b ⊎ (P b → ⊥)) → (n : ℕ) → Least P n
-least P decide zero = inr (λ b below q. omega (arith, below))
-least P decide (suc n) = least_after P n (decide n) (least P decide n)
-
 misses_or_not : (len b : ℕ) (h : Held) → Misses len b h ⊎ (Misses len b h → ⊥)
 misses_or_not len b h = elim (leb_tells (end_of h.area) b) [
   | inl t ↦ inl (inl (omega (arith, t.1)))
@@ -66,24 +42,9 @@ misses_or_not len b h = elim (leb_tells (end_of h.area) b) [
   ]
 ]
 
-pub both_or_not : {A B : Type 0} → A ⊎ (A → ⊥) → B ⊎ (B → ⊥) → (A × B) ⊎ (A × B → ⊥)
-both_or_not (inl a) (inl b) = inl (a, b)
-both_or_not (inl a) (inr never) = inr (λ p. never p.1)
-both_or_not (inr never) other = inr (λ p. never p.0)
-
 all_or_not : (len b : ℕ) (s : Storage) → AllByRecursion (Misses len b) s ⊎ (AllByRecursion (Misses len b) s → ⊥)
 all_or_not len b [] = inl tt
 all_or_not len b (h ∷ hs) = both_or_not (misses_or_not len b h) (all_or_not len b hs)
-
-pub le_or_not : (a b : ℕ) → (a ≤ b) ⊎ (a ≤ b → ⊥)
-le_or_not a b = elim (leb_tells a b) [
-  | inl t ↦ inl (omega (arith, t.1))
-  | inr f ↦ inr (λ le. omega (arith, le, f.1))
-]
-
-pub zero_or_not : (a : ℕ) → (a ≡ 0) ⊎ (a ≡ 0 → ⊥)
-zero_or_not zero = inl refl
-zero_or_not (suc a) = inr (λ e. omega (arith, e))
 
 can_or_not : (s : Storage) (first last len b : ℕ) → CanPlace s first last len b ⊎ (CanPlace s first last len b → ⊥)
 unfolding CanPlace

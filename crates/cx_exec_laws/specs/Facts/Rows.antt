@@ -1,5 +1,5 @@
--- Every row's effect decides its outcome, keeps the areas of storage, and is interrupted as it should be.
-use Rattle.std.proofs.Common.{◌≡◌, ℕ, ◌+◌, false, Option, Some, None, Ok, Err, List, length, slice_set, refl, sym, ◌∙◌, ap, inl, inr, ℤ}
+-- Every row's effect has one outcome, keeps the areas of storage, and is interrupted as it should be.
+use Rattle.std.proofs.Common.{◌≡◌, ℕ, ◌+◌, false, Option, Some, None, Ok, Err, List, length, slice_set, refl, sym, ◌∙◌, ap, ◌⊎◌, inl, inr, ℤ}
 use Rattle.cx_code.specs.declared.table.Op.{Op}
 use Rattle.cx_code.specs.declared.table.Op.TheVariants as op
 use Rattle.cx_code.specs.declared.table.Format.TheVariants as form
@@ -15,14 +15,15 @@ use Rattle.cx_exec.specs.declared.machine.Interruption.{Interruption}
 use Rattle.cx_exec.specs.declared.machine.Interruption.TheVariants as interruption
 use Rattle.cx_exec.specs.declared.machine.Updated.{Updated}
 use Rattle.cx_exec.specs.Machine.{Machine, reg, effective}
-use Rattle.cx_exec.specs.Numbers.{word_of}
+use Rattle.cx_exec.specs.Numbers.{signed_double, signed_word, word_of}
+use Rattle.cx_exec.specs.Results.{pair}
 use Rattle.cx_exec.specs.Outcome.{Outcome, Completes}
 use Rattle.cx_exec.specs.Operands.{extended_at, IfPresent, Stores}
-use Rattle.cx_exec.specs.Division.{DividesRegisters}
+use Rattle.cx_exec.specs.Division.{DividesRegisters, IsDivision}
 use Rattle.cx_exec.specs.Registers.{words_at, LoadsRegisters}
 use Rattle.cx_exec.specs.Strings.{MvcEffect, XcEffect}
 use Rattle.cx_exec.specs.Comparison.{ComparesStrings}
-use Rattle.cx_exec.specs.Translation.{table_byte, first_found, found_at, Finds, TrEffect, TrtEffect}
+use Rattle.cx_exec.specs.Translation.{table_byte, first_found, found_at, Finds, HasTable, TrEffect, TrtEffect}
 use Rattle.cx_exec.specs.Zoned.{PackEffect, UnpkEffect}
 use Rattle.cx_exec.specs.Decimal.{IsReadAs, Converts, CvbEffect, CvdEffect}
 use Rattle.cx_exec.specs.Masks.{IcmEffect, StcmEffect}
@@ -30,7 +31,8 @@ use Rattle.cx_exec.specs.Rows.{RrEffect, RxEffect, RsEffect, SiEffect, SsEffect,
 use Rattle.cx_exec.specs.Step.{is_execute}
 use Rattle.cx_exec_laws.specs.Laws.Areas.{SameAreas}
 use Rattle.cx_exec.specs.Laws.Numbers.{DivisionIsOne}
-use Rattle.cx_exec_laws.specs.Facts.Effects.{IsEffect, goes, changed, stops, when_option, when_present, when_even, when_bool, for_one, weaken}
+use Rattle.cx_exec_laws.specs.Facts.Found.{division_or_not, read_as_number, table_or_not}
+use Rattle.cx_exec_laws.specs.Facts.Effects.{Ends, IsEffect, goes, changed, stops, when_option, when_present, when_even, when_bool, for_one, weaken}
 
 loads : {unknown : Type 0} {aside : Interruption → Machine → Type 0} (operand : Option ℕ) (m : Machine) (left : ℕ → Machine) → ((x : ℕ) → SameAreas m (left x))
     → IsEffect unknown aside m (λ o a. IfPresent operand m o a (λ x. Completes o a (left x)))
@@ -60,9 +62,19 @@ unfolding DividesRegisters
 divided_keeps r divisor updated m (Ok u) a h = ap (λ (x : Machine). areas_of x.storage) h.3
 divided_keeps r divisor updated m (Err cause) a h = ap (λ (x : Machine). areas_of x.storage) h.2
 
+divides_ends : (r divisor : ℕ) (updated : Updated) (m : Machine) → Ends (DividesRegisters r divisor updated m)
+unfolding DividesRegisters
+divides_ends r divisor updated m = go (division_or_not (signed_double (pair m.regs r)) (signed_word divisor))
+  where
+    go : ((q : ℤ) × (rest : ℤ) × IsDivision (signed_double (pair m.regs r)) (signed_word divisor) q rest) ⊎ ((q rest : ℤ) → IsDivision (signed_double (pair m.regs r)) (signed_word divisor) q rest → ⊥)
+        → Ends (DividesRegisters r divisor updated m)
+    go (inl found) = (Ok tt, _, (found.0, found.1, found.2, refl))
+    go (inr none) = (Err interruption.FixedPointDivide, m, (none, refl, refl))
+
 divided : {unknown : Type 0} {aside : Interruption → Machine → Type 0} (r divisor : ℕ) (updated : Updated) (m : Machine) → IsEffect unknown aside m (DividesRegisters r divisor updated m)
 unfolding DividesRegisters
 divided r divisor updated m = record {
+  ends = divides_ends r divisor updated m;
   decides = λ one. divided_once one r divisor updated m;
   keeps = divided_keeps r divisor updated m;
   left = λ cause a h. inl h.2;
@@ -106,7 +118,7 @@ cvb : {unknown : Type 0} (r1 a : ℕ) (updated : Updated) (m : Machine) → IsEf
 unfolding CvbEffect
 cvb r1 a updated m =
     when_present (span m.storage a 8) m _
-    (λ bytes. for_one m _ _ (readings_alike bytes) (λ number. when_option number interruption.Data m _ (λ e. cc) (λ z. converts r1 z updated m)))
+    (λ bytes. for_one m _ _ (read_as_number bytes) (readings_alike bytes) (λ number. when_option number interruption.Data m _ (λ e. cc) (λ z. converts r1 z updated m)))
 
 rx : (row : Op) (r1 a : ℕ) (updated : Updated) (m : Machine)
     → IsEffect (format_of row ≡ form.Rx → is_execute row ≡ false → ⊥) (IsConverted row r1 m) m (RxEffect row r1 a updated m)
@@ -169,9 +181,18 @@ unfolding TrEffect
 tr_keeps n a1 a2 updated m (Ok u) a h = ap (λ (x : Machine). areas_of x.storage) h.1 ∙ areas_after_write m.storage a1 _
 tr_keeps n a1 a2 updated m (Err cause) a h = ap (λ (x : Machine). areas_of x.storage) h.2
 
+tr_ends : (n a1 a2 : ℕ) (updated : Updated) (m : Machine) → Ends (TrEffect n a1 a2 updated m)
+unfolding TrEffect
+tr_ends n a1 a2 updated m = go (table_or_not m.storage n a1 a2)
+  where
+    go : HasTable m.storage n a1 a2 ⊎ (HasTable m.storage n a1 a2 → ⊥) → Ends (TrEffect n a1 a2 updated m)
+    go (inl has) = (Ok tt, _, (has, refl))
+    go (inr never) = (Err interruption.Addressing, m, (never, refl, refl))
+
 tr : {unknown : Type 0} {aside : Interruption → Machine → Type 0} (n a1 a2 : ℕ) (updated : Updated) (m : Machine) → IsEffect unknown aside m (TrEffect n a1 a2 updated m)
 unfolding TrEffect
 tr n a1 a2 updated m = record {
+  ends = tr_ends n a1 a2 updated m;
   decides = λ one. tr_once n a1 a2 updated m;
   keeps = tr_keeps n a1 a2 updated m;
   left = λ cause a h. inl h.2;
