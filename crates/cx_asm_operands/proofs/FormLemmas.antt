@@ -1,13 +1,13 @@
 -- What a form's operands give fits the form's fields.
-use Rattle.std.proofs.Common.{◌≡◌, ℕ, ◌≤◌, ◌<◌, ◌^◌, Bool, true, false, cond, Option, Some, None, List, [], ◌∷◌, Ok, Err, refl, ◌∙◌, ap, subst, arith}
-use Rattle.std.specs.Prelude.{Result}
+use Rattle.std.proofs.Common.{◌≡◌, ℕ, ◌≤◌, ◌<◌, ◌^◌, Bool, true, false, cond, Option, Some, None, List, [], ◌∷◌, Ok, Err, refl, sym, ◌∙◌, ap, subst, arith}
+use Rattle.std.specs.Prelude.{Result, if◌then◌else◌}
 use Rattle.std.specs.Option.{option_map_or, option_zip}
 use Rattle.cx_asm_expressions.specs.declared.faults.FaultKind.TheVariants.{UnknownOperation}
 use Rattle.std.proofs.lemmas.Option.{same_Some}
 use Rattle.cx_code.specs.Table.{format_of, is_shift, operation_row}
 use Rattle.cx_code.specs.Spelling.{Instruction, instruction, IsWellFormed, AreInRange, format_with, r3_of}
 use Rattle.cx_code.specs.declared.table.Op.{Op}
-use Rattle.cx_code.specs.declared.table.Op.TheVariants.{Balr, Bctr, Bcr, Ltr, Lcr, Clr, Xr, Lr, Cr, Ar, Sr, Mr, Dr, Sth, La, Stc, Ic, Ex, Bal, Bct, Bc, Lh, Ch, Ah, Sh, Cvd, Cvb, St, Cl, L, C, A, S, M, D, Srl, Sll, Sra, Sla, Srda, Stm, Tm, Mvi, Ni, Cli, Oi, Lm, Stcm, Icm, Mvc, Clc, Xc, Tr, Trt, Pack, Unpk}
+use Rattle.cx_code.specs.declared.table.Op.TheVariants.{Bc, Bcr}
 use Rattle.cx_code.specs.declared.table.Format.{Format}
 use Rattle.cx_code.specs.declared.table.Format.TheVariants as format
 use Rattle.cx_code.specs.declared.instruction.Fields.{Fields}
@@ -196,64 +196,16 @@ mask_most m = omega (arith, bit_most m.on_0 8, bit_most m.on_1 4, bit_most m.on_
 abbrev pub FormOf : Op → Form → Type 0
 FormOf op f = (format_of_form f ≡ format_of op) × HasMask f × (is_shift op ≡ true → is_shift_form f ≡ true)
 
+shift_format : (op : Op) → is_shift op ≡ true → format_of op ≡ format.Rs
+unfolding is_shift operation_row
+shift_format op is = grind arith
+
 op_form : (op : Op) → FormOf op (form_of_op op)
-unfolding operation_row is_shift
-op_form Balr = (refl, tt, λ s. cc)
-op_form Bctr = (refl, tt, λ s. cc)
-op_form Bcr = (refl, tt, λ s. cc)
-op_form Ltr = (refl, tt, λ s. cc)
-op_form Lcr = (refl, tt, λ s. cc)
-op_form Clr = (refl, tt, λ s. cc)
-op_form Xr = (refl, tt, λ s. cc)
-op_form Lr = (refl, tt, λ s. cc)
-op_form Cr = (refl, tt, λ s. cc)
-op_form Ar = (refl, tt, λ s. cc)
-op_form Sr = (refl, tt, λ s. cc)
-op_form Mr = (refl, tt, λ s. cc)
-op_form Dr = (refl, tt, λ s. cc)
-op_form Sth = (refl, tt, λ s. cc)
-op_form La = (refl, tt, λ s. cc)
-op_form Stc = (refl, tt, λ s. cc)
-op_form Ic = (refl, tt, λ s. cc)
-op_form Ex = (refl, tt, λ s. cc)
-op_form Bal = (refl, tt, λ s. cc)
-op_form Bct = (refl, tt, λ s. cc)
-op_form Bc = (refl, tt, λ s. cc)
-op_form Lh = (refl, tt, λ s. cc)
-op_form Ch = (refl, tt, λ s. cc)
-op_form Ah = (refl, tt, λ s. cc)
-op_form Sh = (refl, tt, λ s. cc)
-op_form Cvd = (refl, tt, λ s. cc)
-op_form Cvb = (refl, tt, λ s. cc)
-op_form St = (refl, tt, λ s. cc)
-op_form Cl = (refl, tt, λ s. cc)
-op_form L = (refl, tt, λ s. cc)
-op_form C = (refl, tt, λ s. cc)
-op_form A = (refl, tt, λ s. cc)
-op_form S = (refl, tt, λ s. cc)
-op_form M = (refl, tt, λ s. cc)
-op_form D = (refl, tt, λ s. cc)
-op_form Srl = (refl, tt, λ s. refl)
-op_form Sll = (refl, tt, λ s. refl)
-op_form Sra = (refl, tt, λ s. refl)
-op_form Sla = (refl, tt, λ s. refl)
-op_form Srda = (refl, tt, λ s. refl)
-op_form Stm = (refl, tt, λ s. cc)
-op_form Tm = (refl, tt, λ s. cc)
-op_form Mvi = (refl, tt, λ s. cc)
-op_form Ni = (refl, tt, λ s. cc)
-op_form Cli = (refl, tt, λ s. cc)
-op_form Oi = (refl, tt, λ s. cc)
-op_form Lm = (refl, tt, λ s. cc)
-op_form Stcm = (refl, tt, λ s. cc)
-op_form Icm = (refl, tt, λ s. cc)
-op_form Mvc = (refl, tt, λ s. cc)
-op_form Clc = (refl, tt, λ s. cc)
-op_form Xc = (refl, tt, λ s. cc)
-op_form Tr = (refl, tt, λ s. cc)
-op_form Trt = (refl, tt, λ s. cc)
-op_form Pack = (refl, tt, λ s. cc)
-op_form Unpk = (refl, tt, λ s. cc)
+op_form op = go (is_shift op) refl
+  where
+    go : (b : Bool) → is_shift op ≡ b → FormOf op (if b then form.Shift else form.Format (format_of op))
+    go true e = (sym (shift_format op e), tt, λ s. refl)
+    go false e = (refl, tt, λ s. cc)
 
 branch_form : (m : Mask) → FormOf Bc (form.Branch (number m))
 unfolding operation_row is_shift
