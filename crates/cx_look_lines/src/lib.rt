@@ -6,7 +6,9 @@ mod registers;
 mod reports;
 mod values;
 
-pub use lines::{decimal, push_word, push_words};
+pub use lines::{decimal, joined, push_word, push_words};
 pub use registers::register_lines;
 pub use reports::Report;
-pub use values::{hex_group, in_apostrophes, spelled, written_bytes, written_name};
+pub use values::{
+    bytes_from, first_bytes, hex_group, in_apostrophes, spelled, written_bytes, written_name,
+};

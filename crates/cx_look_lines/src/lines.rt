@@ -29,6 +29,17 @@ pub fn push_words(text: &mut Vec<u8>, words: &[&[u8]]) -> Result<(), AllocError>
     Ok(())
 }
 
+/// Two texts, one after the other.
+///
+/// An error comes only where memory for them was refused.
+pub fn joined(alloc: Global, first: &[u8], second: &[u8]) -> Result<Vec<u8>, AllocError>
+    ensures { IfOk result (λ text. text.items ≡ first.now ++ second.now) }
+{
+    let mut text = first.to_vec(alloc)?;
+    text.extend_from_slice(second)?;
+    Ok(text)
+}
+
 /// A number in decimal digits, without zeros in front.
 ///
 /// An error comes only where memory for it was refused.

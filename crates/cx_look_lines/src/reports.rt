@@ -1,11 +1,11 @@
 //! Reports: what a look has to say, a line after the other.
-ghost use Rattle.std.specs.Prelude.{◌≡◌, ◌∷◌, ◌++◌, [], IfOk, OnOk, map};
+ghost use Rattle.std.specs.Prelude.{◌≡◌, ◌↔◌, ◌∷◌, ◌++◌, [], IfOk, IsTrue, OnOk, map};
 ghost use Rattle.std.specs.List.{filter};
 ghost use Rattle.cx_look_lines.specs.Words.{is_in_line, joined_line, look_line, marked, or_none};
 ghost use Rattle.cx_look_lines.specs.Parts.Words.{marked_line};
 
 use crate::lines::push_words;
-use cx_base::List;
+use cx_base::{List, are_same_items};
 use std::alloc::{AllocError, Global};
 use std::marker::Model;
 
@@ -94,6 +94,17 @@ impl Report {
         }
     }
 
+    /// A report of one line of words, a blank between one and the next.
+    ///
+    /// An error comes only where memory for it was refused.
+    pub fn of_line(alloc: Global, words: &[&[u8]]) -> Result<Report, AllocError>
+        ensures { IfOk result (λ report. report ≡ look_line (map (λ word. word.now) words.now)) }
+    {
+        let mut report = Report::new(alloc);
+        report.line(words)?;
+        Ok(report)
+    }
+
     /// The allocator that the report's memory comes from.
     pub fn alloc(&self) -> Global {
         self.alloc
@@ -133,6 +144,13 @@ impl Report {
         ensures { OnOk result (self.new ≡ self.old ++ more.now) }
     {
         push_copies(self.alloc, &mut self.lines, more.lines.as_slice())
+    }
+
+    /// Whether another report has the same lines. It takes no memory.
+    pub fn is_same(&self, other: &Report) -> bool
+        ensures { IsTrue result ↔ (self.now ≡ other.now) }
+    {
+        are_same_items(self.lines(), other.lines())
     }
 
     /// The report; where it has no line, one with a line of `word` and NONE.

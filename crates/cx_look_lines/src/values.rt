@@ -60,15 +60,15 @@ pub fn spelled(alloc: Global, bytes: &[u8]) -> Result<Vec<u8>, AllocError>
     Ok(text)
 }
 
-/// The bytes from a place on; none where there are none.
-fn after(bytes: &[u8], place: usize) -> &[u8]
+/// The bytes from a place on; none where there are none. It takes no memory.
+pub fn bytes_from(bytes: &[u8], place: usize) -> &[u8]
     ensures { result.now ≡ drop place bytes.now }
 {
     bytes.split_at(place.min(bytes.len())).1
 }
 
-/// The first `count` bytes, or all where there are fewer.
-fn first_bytes(bytes: &[u8], count: usize) -> &[u8]
+/// The first `count` bytes, or all where there are fewer. It takes no memory.
+pub fn first_bytes(bytes: &[u8], count: usize) -> &[u8]
     ensures { result.now ≡ take count bytes.now }
 {
     bytes.split_at(count.min(bytes.len())).0
@@ -81,7 +81,7 @@ pub fn hex_group(alloc: Global, row: &[u8], place: usize) -> Result<[u8; 8], All
     ensures { let digits = hex_digits (take 4 (drop place row.now)) in
         IfOk result (λ text. text ≡ in_columns 8 (join (digits ∷ []))) }
 {
-    let digits = spelled(alloc, first_bytes(after(row, place), 4))?;
+    let digits = spelled(alloc, first_bytes(bytes_from(row, place), 4))?;
     Ok(in_columns::<8>(&[&digits]))
 }
 

@@ -10,7 +10,7 @@ ghost use Rattle.cx_look_storage.specs.Uses.{area_line};
 use crate::uses::area_line;
 use cx_base::shown_name;
 use cx_ebcdic::Name4;
-use cx_look_lines::Report;
+use cx_look_lines::{Report, joined};
 use cx_region::Region;
 use cx_storage::laws::store_is_sound;
 use cx_storage::{Area, Store};
@@ -99,8 +99,6 @@ pub fn task_areas_text<S: Store + Drop>(
     let areas = task_areas(alloc, region, name)?;
     let mut report = Report::new(alloc);
     area_lines(&mut report, region, &areas)?;
-    let name = shown_name(alloc, name)?;
-    let mut word = b"AREAS ".to_vec(alloc)?;
-    word.extend_from_slice(&name)?;
+    let word = joined(alloc, b"AREAS ", &shown_name(alloc, name)?)?;
     report.or_none(&word)
 }

@@ -8,7 +8,7 @@ ghost use Rattle.cx_look_storage.specs.Parts.Walk.{fixed_use, program_at, stg_at
 use cx_base::{hexadecimal, shown_name};
 use cx_ebcdic::{Name4, Name8};
 use cx_load::Loaded;
-use cx_look_lines::Report;
+use cx_look_lines::{Report, decimal, joined};
 use cx_program::LevelStack;
 use cx_region::{Region, Task, Terminal, terminal_at};
 use cx_storage::{Area, Kind, Store, address_after};
@@ -64,9 +64,7 @@ fn fixed_use(
     let Some((name, _)) = program_at(programs, start) else {
         return b"CWA".to_vec(alloc);
     };
-    let mut text = b"PROGRAM ".to_vec(alloc)?;
-    text.extend_from_slice(&shown_name(alloc, name)?)?;
-    Ok(text)
+    joined(alloc, b"PROGRAM ", &shown_name(alloc, name)?)
 }
 
 /// The number of the level whose DFHEISTG starts at an address, counted from 1 for the highest.
@@ -90,10 +88,7 @@ fn stg_use(alloc: Global, level: Option<usize>) -> Result<Vec<u8>, AllocError>
     let Some(n) = level else {
         return b"OTHER".to_vec(alloc);
     };
-    let number = n.to_string(alloc)?.into_bytes();
-    let mut text = b"DFHEISTG ".to_vec(alloc)?;
-    text.extend_from_slice(&number)?;
-    Ok(text)
+    joined(alloc, b"DFHEISTG ", &decimal(alloc, n)?)
 }
 
 /// What an area is that a task was given unasked.
