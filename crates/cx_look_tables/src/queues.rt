@@ -7,10 +7,10 @@ ghost use Rattle.cx_service.specs.Queues.{AreSoundQueues, item_of, item_numbered
 ghost use Rattle.cx_look_tables.specs.Queues.{item_found, item_line, items_text, item_text, queue_line, queue_text, row_line_at};
 ghost use Rattle.cx_look_lines.specs.Words.{look_line};
 
-use crate::rows::{first_bytes, rows_text};
+use crate::rows::rows_text;
 use cx_base::shown;
 use cx_ebcdic::Name8;
-use cx_look_lines::{Report, decimal, in_apostrophes, written_name};
+use cx_look_lines::{Report, decimal, first_bytes, in_apostrophes, written_name};
 use cx_service::{Queue, Queues};
 use indexmap::IndexMap;
 use std::alloc::AllocError;

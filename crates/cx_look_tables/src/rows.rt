@@ -1,28 +1,14 @@
 //! Bytes in rows of sixteen.
-ghost use Rattle.std.specs.Prelude.{◌≡◌, ◌*◌, ◌+◌, ◌/◌, ◌<◌, ◌≤◌, ◌^◌, ◌++◌, OnOk, drop, length, take};
+ghost use Rattle.std.specs.Prelude.{◌≡◌, ◌*◌, ◌+◌, ◌/◌, ◌<◌, ◌≤◌, ◌^◌, ◌++◌, OnOk, length};
 ghost use Rattle.std.specs.List.{flat_map, range_with_len};
 ghost use Rattle.cx_look_tables.specs.Queues.{row_line, row_line_at};
 
 use cx_base::{hexadecimal, shown};
-use cx_look_lines::{Report, hex_group, in_apostrophes};
+use cx_look_lines::{Report, bytes_from, first_bytes, hex_group, in_apostrophes};
 use std::alloc::AllocError;
 
 /// The bytes of a row.
 const ROW: u32 = 16;
-
-/// The bytes from a place on; none where there are none.
-fn after(bytes: &[u8], place: usize) -> &[u8]
-    ensures { result.now ≡ drop place bytes.now }
-{
-    bytes.split_at(place.min(bytes.len())).1
-}
-
-/// The first `count` bytes, or all where there are fewer.
-pub(crate) fn first_bytes(bytes: &[u8], count: usize) -> &[u8]
-    ensures { result.now ≡ take count bytes.now }
-{
-    bytes.split_at(count.min(bytes.len())).0
-}
 
 /// Adds the line of a row at an offset.
 fn row_line(report: &mut Report, offset: u32, row: &[u8]) -> Result<(), AllocError>
@@ -44,7 +30,7 @@ fn row_line_at(report: &mut Report, k: u32, bytes: &[u8]) -> Result<(), AllocErr
     ensures { OnOk result (report.new ≡ report.old ++ row_line_at bytes.now k) }
 {
     let offset = ROW * k;
-    let row = first_bytes(after(bytes, offset as usize), ROW as usize);
+    let row = first_bytes(bytes_from(bytes, offset as usize), ROW as usize);
     row_line(report, offset, row)
 }
 

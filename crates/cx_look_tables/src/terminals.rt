@@ -7,11 +7,10 @@ ghost use Rattle.cx_look_tables.specs.Terminals.{length_and_bytes, stop_conditio
 ghost use Rattle.cx_base.specs.Digits.{digits};
 ghost use Rattle.cx_look_lines.specs.Words.{look_line};
 
-use crate::rows::first_bytes;
 use cx_base::{Condition, shown_name};
 use cx_ebcdic::Name4;
 use cx_edf::{Debugged, Mode, Session, Stops};
-use cx_look_lines::{Report, decimal, push_word, written_bytes, written_name};
+use cx_look_lines::{Report, decimal, first_bytes, push_word, written_bytes, written_name};
 use cx_region::{Region, Terminal};
 use cx_region_state::{Input, NextTransaction};
 use cx_storage::Store;
