@@ -5,12 +5,12 @@ use Rattle.std.proofs.lemmas.Bool.{cases_lt}
 use Rattle.std.proofs.lemmas.Option.{none-some, same_Some, slice_get_within}
 use Rattle.cx_region.specs.State.{RegionState, TerminalState}
 use Rattle.cx_region.specs.Tables.{terminal_of}
-use Rattle.cx_look_tasks.specs.Activities.{IsActivity}
+use Rattle.cx_look_tasks.specs.Activities.{IsActivity, is_acting}
 use Rattle.cx_look_tasks.specs.Laws.{ActivitiesDecide}
 use Rattle.cx_look_tasks.specs.declared.activities.Activity.{Activity}
 use Rattle.cx_orders.specs.Moves.{is_ready}
 use Rattle.cx_choices.specs.Moves.{IsReady}
-use Rattle.cx_choices.specs.Settling.{CanAct, IsAtRest, IsFirstToAct, is_acting}
+use Rattle.cx_choices.specs.Settling.{CanAct, IsAtRest, IsFirstToAct}
 use Rattle.cx_choices.specs.declared.acting.Actor.{Actor}
 
 module _ (region : RegionState) (number : ℕ) where

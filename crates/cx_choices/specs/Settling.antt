@@ -1,17 +1,10 @@
 -- Turns of terminals until none can act (this product's own).
-use Rattle.std.specs.Prelude.{◌≡◌, ◌⊎◌, ℕ, ◌<◌, ◌≤◌, Bool, true, false, List, [], ◌∷◌, length, Some, slice_get}
+use Rattle.std.specs.Prelude.{◌≡◌, ◌⊎◌, ℕ, ◌<◌, ◌≤◌, true, List, [], ◌∷◌, length, Some, slice_get}
 use Rattle.cx_region.specs.State.{RegionState, TerminalState}
 use Rattle.cx_region.specs.Turn.{TakesTurn}
-use Rattle.cx_look_tasks.specs.Activities.{IsActivity}
+use Rattle.cx_look_tasks.specs.Activities.{IsActivity, is_acting}
 use Rattle.cx_look_tasks.specs.declared.activities.Activity.{Activity}
-use Rattle.cx_look_tasks.specs.declared.activities.Activity.TheVariants.{Due, Running}
 use Rattle.cx_choices.specs.declared.states.TurnMade.{TurnMade}
-
--- the next turn runs instructions, or performs a command
-abbrev pub is_acting : Activity → Bool
-is_acting Running = true
-is_acting (Due command) = true
-is_acting _ = false
 
 -- the terminal with that number, in the order of their definition, and that name can act
 pub record CanAct (region : RegionState) (number : ℕ) (name : List ℕ) : Type 0 where

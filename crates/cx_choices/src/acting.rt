@@ -2,12 +2,12 @@
 
 ghost use Rattle.std.specs.Prelude.{◌≡◌, ◌<◌, ℕ, IfNone, IfSome, List as Items, MatchBool};
 ghost use Rattle.cx_choices.specs.Moves.{IsReady};
-ghost use Rattle.cx_choices.specs.Settling.{CanAct, IsAtRest, IsFirstToAct, is_acting};
-ghost use Rattle.cx_orders.specs.Moves.{is_ready};
+ghost use Rattle.cx_choices.specs.Settling.{CanAct, IsAtRest, IsFirstToAct};
 
 use cx_ebcdic::Name4;
+use cx_look_tasks::activity;
 use cx_look_tasks::laws::activities_decide;
-use cx_look_tasks::{Activity, Wait, activity};
+use cx_orders::is_ready;
 use cx_region::Region;
 use cx_storage::Store;
 
@@ -20,20 +20,6 @@ pub(crate) struct Actor {
     pub name: Name4,
 }
 
-/// Whether the next turn runs instructions, or performs a command.
-fn is_acting(activity: &Activity) -> bool
-    ensures { result ≡ is_acting activity.now }
-{
-    matches!(activity, Activity::Running | Activity::Due(_))
-}
-
-/// Whether an operator could press a key.
-fn is_ready(activity: &Activity) -> bool
-    ensures { result ≡ is_ready activity.now }
-{
-    matches!(activity, Activity::NoTask | Activity::Waiting(Wait::Input))
-}
-
 /// The name of the terminal with that number, where it can act.
 fn acting_at<S: Store + Drop>(region: &Region<S>, number: usize) -> Option<Name4>
     ensures acts { IfSome result (CanAct region.now number) }
@@ -43,7 +29,7 @@ fn acting_at<S: Store + Drop>(region: &Region<S>, number: usize) -> Option<Name4
     activities_decide();
     let (name, terminal) = region.terminals().get_index(number)?;
     let doing = activity(region, terminal);
-    if is_acting(&doing) { Some(*name) } else { None }
+    if doing.is_acting() { Some(*name) } else { None }
 }
 
 /// The first of the terminals that can act, in the order of their definition; `None` where none can.

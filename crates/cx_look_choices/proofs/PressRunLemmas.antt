@@ -19,14 +19,14 @@ use Rattle.cx_region.specs.declared.replies.Reply.{Reply}
 use Rattle.cx_region.specs.declared.replies.Reply.TheVariants as reply
 use Rattle.cx_region_laws.specs.Laws.Regions.{KeysKeepToTheirTerminal, TurnsKeepToTheirTask}
 use Rattle.cx_region_state.specs.declared.replies.TurnReply.{TurnReply}
-use Rattle.cx_look_tasks.specs.Activities.{is_waiting}
+use Rattle.cx_look_tasks.specs.Activities.{is_acting, is_waiting}
 use Rattle.cx_look_tasks.specs.declared.activities.Activity.{Activity}
 use Rattle.cx_look_tasks.specs.declared.activities.Activity.TheVariants.{Due, NoTask, Running, Waiting}
 use Rattle.cx_orders.specs.Laws.{ActingTurnsMove, IsOrder}
 use Rattle.cx_orders.specs.Moves.{is_move, keys_of}
 use Rattle.cx_orders.specs.declared.states.KeyLine.{KeyLine}
 use Rattle.cx_choices.specs.Moves.{Presses, begun}
-use Rattle.cx_choices.specs.Settling.{CanAct, MakesTurns, is_acting}
+use Rattle.cx_choices.specs.Settling.{CanAct, MakesTurns}
 use Rattle.cx_choices.specs.declared.states.ChoicesState.{ChoicesState}
 use Rattle.cx_choices.specs.declared.states.Passage.{Passage}
 use Rattle.cx_choices.specs.declared.states.TurnMade.{TurnMade}

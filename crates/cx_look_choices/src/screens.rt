@@ -1,10 +1,9 @@
 //! What is to be seen of states, each text once.
 
-ghost use Rattle.std.specs.Prelude.{◌≡◌, ◌↔◌, ◌++◌, ℕ, IfOk, IsTrue, MatchOption, OnOk, Some, slice_get};
+ghost use Rattle.std.specs.Prelude.{◌≡◌, ◌++◌, ℕ, IfOk, MatchOption, OnOk, Some, slice_get};
 ghost use Rattle.cx_look_choices.specs.Parts.Ways.{Numbers};
 ghost use Rattle.cx_look_choices.specs.States.{StateText, running_line};
 
-use cx_base::are_same_items;
 use cx_choices::{ChoicesState, is_at_rest};
 use cx_look_lines::Report;
 use cx_look_orders::Seen;
@@ -48,20 +47,13 @@ pub(crate) fn state_text<S: Store + Drop, V: Seen<S>>(
     Ok(report)
 }
 
-/// Whether two texts are the same.
-fn are_same(one: &Report, other: &Report) -> bool
-    ensures { IsTrue result ↔ (one.now ≡ other.now) }
-{
-    are_same_items(one.lines(), other.lines())
-}
-
 /// The number of a text among those that came; `None` where it is none of them.
 fn number_of(texts: &[Report], text: &Report) -> Option<usize>
     ensures { MatchOption result ((number : ℕ) → slice_get texts.now number ≡ Some text.now → ⊥)
         (λ number. slice_get texts.now number ≡ Some text.now) }
 {
     for (i, one) in texts.iter().enumerate() {
-        if are_same(one, text) {
+        if one.is_same(text) {
             return Some(i);
         }
     }

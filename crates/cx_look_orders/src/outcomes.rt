@@ -1,6 +1,6 @@
 //! The outcomes of orders.
 
-ghost use Rattle.std.specs.Prelude.{◌≡◌, ◌↔◌, ◌+◌, IsTrue, IfOk, MatchBool, OnOk, slice_get};
+ghost use Rattle.std.specs.Prelude.{◌≡◌, ◌+◌, IfOk, MatchBool, OnOk, slice_get};
 ghost use Rattle.cx_look_orders.specs.Outcomes.{AreOutcomes, HasText};
 ghost use Rattle.cx_look_orders.specs.Parts.Ways.{AreOfFirst, AreSorted, Reaches};
 ghost use Rattle.cx_orders.specs.Moves.{Moves, begun};
@@ -9,7 +9,7 @@ ghost use Rattle.cx_search.specs.Finds.{Finds};
 use crate::rest::rest_text;
 use crate::seen::Seen;
 use crate::steps::{Step, steps_to};
-use cx_base::{List, are_same_items};
+use cx_base::List;
 use cx_look_lines::Report;
 use cx_look_tasks::laws::texts_decide;
 use cx_orders::Orders;
@@ -26,19 +26,12 @@ pub struct Outcome {
     pub steps: List<Step>,
 }
 
-/// Whether two texts are the same.
-fn are_same(one: &Report, other: &Report) -> bool
-    ensures { IsTrue result ↔ (one.now ≡ other.now) }
-{
-    are_same_items(one.lines(), other.lines())
-}
-
 /// Whether an outcome has that text.
 fn has_text(outcomes: &[Outcome], text: &Report) -> bool
     ensures { MatchBool result (HasText outcomes.now text.now) (HasText outcomes.now text.now → ⊥) }
 {
     for one in outcomes {
-        if are_same(&one.text, text) {
+        if one.text.is_same(text) {
             return true;
         }
     }

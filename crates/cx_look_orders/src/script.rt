@@ -9,7 +9,7 @@ use crate::rest::terminal_name_at;
 use crate::steps::Step;
 use cx_base::{List, shown_name};
 use cx_ebcdic::Name4;
-use cx_look_lines::{Report, decimal};
+use cx_look_lines::{Report, decimal, joined};
 use cx_orders::{KeyLine, key_of};
 use cx_region::Region;
 use cx_storage::Store;
@@ -29,15 +29,6 @@ fn fits(line: &[u8], text: &[u8]) -> bool
     ensures { result ≡ nat_le (length (with_text line.now text.now)) 100 }
 {
     line.len() + text.len() <= 98
-}
-
-/// Begins a line of comments.
-fn comment_with(alloc: Global, text: &[u8]) -> Result<Vec<u8>, AllocError>
-    ensures { IfOk result (λ line. line.items ≡ codes "* " ++ text.now) }
-{
-    let mut line = b"* ".to_vec(alloc)?;
-    line.extend_from_slice(text)?;
-    Ok(line)
 }
 
 /// A line of comments with a text more.
@@ -63,7 +54,7 @@ fn comment_on(report: &mut Report, line: Vec<u8>, text: &[u8]) -> Result<Vec<u8>
         return Ok(longer);
     }
     report.push(line)?;
-    let next = comment_with(report.alloc(), text)?;
+    let next = joined(report.alloc(), b"* ", text)?;
     Ok(next)
 }
 
@@ -74,7 +65,7 @@ fn comment_lines(report: &mut Report, texts: &[List<u8>]) -> Result<(), AllocErr
     let Some((first, others)) = texts.split_first() else {
         return Ok(());
     };
-    let mut line = comment_with(report.alloc(), first.as_slice())?;
+    let mut line = joined(report.alloc(), b"* ", first.as_slice())?;
     for text in others {
         line = comment_on(report, line, text.as_slice())?;
     }

@@ -1,25 +1,11 @@
 -- Lines, one after the other.
 use Rattle.std.proofs.Common.{◌≡◌, ℕ, zero, suc, ◌+◌, ◌<◌, ◌≤◌, List, [], ◌∷◌, ◌++◌, length, take, drop, slice_get, Some, refl, sym, ap, ◌∙◌, arith, append_assoc, append-nil}
-use Rattle.std.specs.List.{flat_map}
 use Rattle.cx_region.specs.State.{RegionState, TerminalState}
 use Rattle.cx_look_lines.specs.Words.{Lines}
 use Rattle.cx_look_tasks.specs.Activities.{AreActivities, IsActivity}
 use Rattle.cx_look_tasks.specs.Parts.Words.{of_one}
 use Rattle.cx_look_tasks.specs.Tasks.{of_each}
 use Rattle.cx_look_tasks.specs.declared.activities.Activity.{Activity}
-
--- ---- what is written of a list, an item at a time
-flat_step : {A : Type 0} (f : A → Lines) (xs : List A) (k : ℕ) → of_one f (slice_get xs k) ++ flat_map f (drop (suc k) xs) ≡ flat_map f (drop k xs)
-flat_step f [] zero = refl
-flat_step f [] (suc k) = refl
-flat_step f (x ∷ xs) zero = refl
-flat_step f (x ∷ xs) (suc k) = flat_step f xs k
-
-flat_end : {A : Type 0} (f : A → Lines) (xs : List A) (k : ℕ) → length xs ≤ k → flat_map f (drop k xs) ≡ []
-flat_end f [] zero l = refl
-flat_end f [] (suc k) l = refl
-flat_end f (x ∷ xs) zero l = absurd (omega arith)
-flat_end f (x ∷ xs) (suc k) l = flat_end f xs k (omega arith)
 
 -- what was written before, what is written of an item, and what is left
 goes_on : (k : ℕ) (before after one whole : Lines) (rest : ℕ → Lines) → after ≡ before ++ one → one ++ rest (suc k) ≡ rest k
@@ -30,15 +16,6 @@ goes_on k before after one whole rest written step so_far =
 
 done : (before whole rest : Lines) → rest ≡ [] → before ++ rest ≡ whole → before ≡ whole
 done before whole rest empty so_far = sym (append-nil before) ∙ ap (λ t. before ++ t) (sym empty) ∙ so_far
-
-pub flat_goes_on : {A : Type 0} (f : A → Lines) (xs : List A) (k : ℕ) (before after : Lines) → after ≡ before ++ of_one f (slice_get xs k)
-    → before ++ flat_map f (drop k xs) ≡ flat_map f xs → after ++ flat_map f (drop (k + 1) xs) ≡ flat_map f xs
-flat_goes_on f xs k before after written so_far =
-    goes_on k before after (of_one f (slice_get xs k)) (flat_map f xs) (λ k. flat_map f (drop k xs)) written (flat_step f xs k) so_far
-
-pub flat_done : {A : Type 0} (f : A → Lines) (xs : List A) (k : ℕ) (before : Lines) → length xs ≤ k
-    → before ++ flat_map f (drop k xs) ≡ flat_map f xs → before ≡ flat_map f xs
-flat_done f xs k before l so_far = done before (flat_map f xs) (flat_map f (drop k xs)) (flat_end f xs k l) so_far
 
 -- ---- of terminals and what their tasks are doing
 each_step : (f : List ℕ × TerminalState → Activity → Lines) (entries : List (List ℕ × TerminalState)) (activities : List Activity) (k : ℕ) (activity : Activity)

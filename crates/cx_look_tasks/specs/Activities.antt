@@ -35,6 +35,12 @@ AreActivities region (entry ∷ entries) (activity ∷ activities) =
     IsActivity region entry.1 activity × AreActivities region entries activities
 AreActivities region _ _ = ⊥
 
+-- the next turn runs instructions, or performs a command
+abbrev pub is_acting : Activity → Bool
+is_acting Running = true
+is_acting (Due command) = true
+is_acting _ = false
+
 abbrev pub is_waiting : Activity → Bool
 is_waiting (Waiting wait) = true
 is_waiting _ = false

@@ -1,5 +1,8 @@
 //! What a task is doing.
 
+ghost use Rattle.std.specs.Prelude.{◌≡◌};
+ghost use Rattle.cx_look_tasks.specs.Activities.{is_acting, is_waiting};
+
 use cx_base::Command;
 pub use cx_region_task::Wait;
 
@@ -14,4 +17,20 @@ pub enum Activity {
     Due(Option<Command>),
     /// Its next turn would find the command waiting.
     Waiting(Wait),
+}
+
+impl Activity {
+    /// Whether the next turn runs instructions, or performs a command. It takes no memory.
+    pub fn is_acting(&self) -> bool
+        ensures { result ≡ is_acting self.now }
+    {
+        matches!(self, Activity::Running | Activity::Due(_))
+    }
+
+    /// Whether the task waits. It takes no memory.
+    pub fn is_waiting(&self) -> bool
+        ensures { result ≡ is_waiting self.now }
+    {
+        matches!(self, Activity::Waiting(_))
+    }
 }

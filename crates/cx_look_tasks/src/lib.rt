@@ -5,6 +5,7 @@
 mod activities;
 mod judging;
 pub mod laws;
+mod lines;
 mod region;
 mod resources;
 mod tasks;
@@ -15,6 +16,6 @@ pub use activities::{Activity, Wait};
 pub use judging::activity;
 pub use region::command_text;
 pub use resources::resources_text;
-pub use tasks::{activities_in, tasks_text};
+pub use tasks::{activities_in, command_word, tasks_text};
 pub use waits::waits_text;
 pub use words::call_text;

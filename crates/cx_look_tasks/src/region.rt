@@ -18,10 +18,8 @@ use std::alloc::{AllocError, Global};
 fn command_look_line(alloc: Global, name: Name4, word: &[u8]) -> Result<Report, AllocError>
     ensures { IfOk result (λ report. report ≡ command_look_line name word.now) }
 {
-    let mut report = Report::new(alloc);
     let name = shown_name(alloc, name)?;
-    report.line(&[b"COMMAND", name.as_slice(), word])?;
-    Ok(report)
+    Report::of_line(alloc, &[b"COMMAND", name.as_slice(), word])
 }
 
 /// The command that a task's argument list gives.

@@ -1,12 +1,13 @@
 //! RESOURCES.
 
-ghost use Rattle.std.specs.Prelude.{◌≡◌, ◌++◌, [], if◌then◌else◌, slice_get, IfOk, OnOk};
+ghost use Rattle.std.specs.Prelude.{◌≡◌, ◌++◌, IfOk, OnOk};
 ghost use Rattle.std.specs.List.{flat_map};
 ghost use Rattle.cx_region.specs.Sound.{IsSound};
-ghost use Rattle.cx_look_tasks.specs.Parts.Words.{hold_line, of_one, waiter_line};
-ghost use Rattle.cx_look_tasks.specs.Tasks.{ResourcesText, of_each, resource_lines, waiter_text, waits_for};
+ghost use Rattle.cx_look_tasks.specs.Parts.Words.{hold_line, waiter_line};
+ghost use Rattle.cx_look_tasks.specs.Tasks.{ResourcesText, resource_lines, waits_for};
 
 use crate::activities::{Activity, Wait};
+use crate::lines::{TerminalLine, terminal_lines};
 use crate::tasks::{activities_in, owner_name, resource_value};
 use cx_base::{decimal, shown_name};
 use cx_ebcdic::Name4;
@@ -18,7 +19,7 @@ use indexmap::IndexMap;
 use std::alloc::{AllocError, Global};
 
 /// Whether a task waits for a resource.
-fn waits_for(name: &ResourceName, activity: &Activity) -> bool
+pub(crate) fn waits_for(name: &ResourceName, activity: &Activity) -> bool
     ensures { result ≡ waits_for name.now activity.now }
 {
     match activity {
@@ -50,7 +51,11 @@ fn hold_line<S: Store + Drop>(
 }
 
 /// Adds the line of a terminal whose task waits for a resource.
-fn waiter_line(report: &mut Report, name: &ResourceName, terminal: Name4) -> Result<(), AllocError>
+pub(crate) fn waiter_line(
+    report: &mut Report,
+    name: &ResourceName,
+    terminal: Name4,
+) -> Result<(), AllocError>
     ensures { OnOk result (report.new ≡ report.old ++ waiter_line name.now terminal) }
 {
     let resource = resource_value(report.alloc(), name)?;
@@ -61,43 +66,6 @@ fn waiter_line(report: &mut Report, name: &ResourceName, terminal: Name4) -> Res
         b"WAITER",
         terminal.as_slice(),
     ])
-}
-
-/// Adds the line of the terminal at an index, where its task waits for the resource.
-#[tactic(auto, unfolding(crate::specs::Tasks::waiter_text))]
-fn waiter_at<S: Store + Drop>(
-    report: &mut Report,
-    region: &Region<S>,
-    name: &ResourceName,
-    index: usize,
-    activity: &Activity,
-) -> Result<(), AllocError>
-    ensures { let due = slice_get region.now.terminals index in
-        OnOk result (report.new ≡ report.old ++ of_one (λ entry. waiter_text name.now entry activity.now) due) }
-{
-    let Some((terminal, _state)) = region.terminals().get_index(index) else {
-        return Ok(());
-    };
-    if !waits_for(name, activity) {
-        return Ok(());
-    }
-    waiter_line(report, name, *terminal)
-}
-
-/// Adds a line for each terminal whose task waits for a resource.
-fn waiter_lines<S: Store + Drop>(
-    report: &mut Report,
-    region: &Region<S>,
-    name: &ResourceName,
-    activities: &[Activity],
-) -> Result<(), AllocError>
-    ensures { let more = of_each (waiter_text name.now) region.now.terminals activities.now in
-        OnOk result (report.new ≡ report.old ++ more) }
-{
-    for (i, activity) in activities.iter().enumerate() {
-        waiter_at(report, region, name, i, activity)?;
-    }
-    Ok(())
 }
 
 /// The resources that are owned.
@@ -120,23 +88,7 @@ fn lines_of_hold<S: Store + Drop>(
         OnOk result (report.new ≡ report.old ++ more) }
 {
     hold_line(report, region, name, hold)?;
-    waiter_lines(report, region, name, activities)
-}
-
-/// Adds the lines of the resource at an index, where there is one.
-fn resource_at<S: Store + Drop>(
-    report: &mut Report,
-    region: &Region<S>,
-    activities: &[Activity],
-    index: usize,
-) -> Result<(), AllocError>
-    ensures { let hold = slice_get region.now.shared.resources index in
-        OnOk result (report.new ≡ report.old ++ of_one (resource_lines region.now activities.now) hold) }
-{
-    let Some((name, hold)) = holds(region).get_index(index) else {
-        return Ok(());
-    };
-    lines_of_hold(report, region, activities, name, *hold)
+    terminal_lines(report, region, &TerminalLine::Waiter(*name), activities)
 }
 
 /// The lines of all resources.
@@ -149,8 +101,9 @@ fn resource_lines<S: Store + Drop>(
         IfOk result (λ report. report ≡ lines) }
 {
     let mut report = Report::new(alloc);
-    for i in 0..holds(region).len() {
-        resource_at(&mut report, region, activities, i)?;
+    let held = holds(region);
+    for (name, hold) in held.iter() {
+        lines_of_hold(&mut report, region, activities, name, *hold)?;
     }
     Ok(report)
 }

@@ -2,15 +2,17 @@
 
 ghost use Rattle.std.specs.Prelude.{◌≡◌, ◌∷◌, ◌++◌, ℕ, List, [], codes, map, slice_get, IfOk, OnOk, Some};
 ghost use Rattle.std.specs.Option.{option_copied, option_map_or};
+ghost use Rattle.cx_base.specs.Commands.{row_of};
 ghost use Rattle.cx_region.specs.Sound.{IsSound};
 ghost use Rattle.cx_region.specs.State.{TerminalState};
 ghost use Rattle.cx_look_tasks.specs.Activities.{AreActivities, IsActivity};
-ghost use Rattle.cx_look_tasks.specs.Tasks.{TasksText, activity_words, of_each, owner_name, resource_value, task_line, task_words, wait_words};
-ghost use Rattle.cx_look_tasks.specs.Parts.Words.{command_word, of_one, owner_of, owner_word};
+ghost use Rattle.cx_look_tasks.specs.Tasks.{TasksText, activity_words, owner_name, resource_value, task_line, task_words, wait_words};
+ghost use Rattle.cx_look_tasks.specs.Parts.Words.{owner_of, owner_word};
 ghost use Rattle.cx_look_lines.specs.Words.{with_blanks, written_name};
 
 use crate::activities::{Activity, Wait};
 use crate::judging::activity;
+use crate::lines::{TerminalLine, terminal_lines};
 use cx_base::{Command, decimal, hexadecimal, shown_name};
 use cx_ebcdic::{Name4, Name8};
 use cx_look_lines::{Report, push_words, written_bytes, written_name};
@@ -89,9 +91,9 @@ fn queue_word(alloc: Global, name: Option<Name8>) -> Result<Vec<u8>, AllocError>
     }
 }
 
-/// The name of the command that is due.
-fn command_word(command: Option<Command>) -> &'static [u8]
-    ensures { result.now ≡ command_word command }
+/// The name of a command; a question mark for one that can't be read. It takes no memory.
+pub fn command_word(command: Option<Command>) -> &'static [u8]
+    ensures { result.now ≡ option_map_or (λ it. (row_of it).name) command (codes "?") }
 {
     match command {
         Some(command) => command.name().as_bytes(),
@@ -186,7 +188,7 @@ fn push_task(text: &mut Vec<u8>, alloc: Global, task: Option<&Task>) -> Result<(
 
 /// Adds the line of a terminal.
 #[tactic(auto, unfolding(crate::specs::Tasks::task_line), using(cx_look_lines::specs::Facts::Spaced::spaced_both))]
-fn task_line<S: Store + Drop>(
+pub(crate) fn task_line<S: Store + Drop>(
     report: &mut Report,
     region: &Region<S>,
     name: Name4,
@@ -201,37 +203,6 @@ fn task_line<S: Store + Drop>(
     push_task(&mut line, alloc, terminal.task())?;
     push_activity(&mut line, alloc, region, activity)?;
     report.push(line)
-}
-
-/// Adds the line of the terminal at an index, where there is one.
-fn line_at<S: Store + Drop>(
-    report: &mut Report,
-    region: &Region<S>,
-    index: usize,
-    activity: &Activity,
-) -> Result<(), AllocError>
-    ensures { let due = slice_get region.now.terminals index in
-        OnOk result (report.new ≡ report.old ++ of_one (λ entry. task_line region.now entry activity.now) due) }
-{
-    let Some((name, terminal)) = region.terminals().get_index(index) else {
-        return Ok(());
-    };
-    task_line(report, region, *name, terminal, activity)
-}
-
-/// The lines of all terminals.
-fn task_lines<S: Store + Drop>(
-    alloc: Global,
-    region: &Region<S>,
-    activities: &[Activity],
-) -> Result<Report, AllocError>
-    ensures { IfOk result (λ report. report ≡ of_each (task_line region.now) region.now.terminals activities.now) }
-{
-    let mut report = Report::new(alloc);
-    for (i, activity) in activities.iter().enumerate() {
-        line_at(&mut report, region, i, activity)?;
-    }
-    Ok(report)
 }
 
 /// What the task of the terminal at an index is doing.
@@ -273,6 +244,12 @@ pub fn tasks_text<S: Store + Drop>(alloc: Global, region: &Region<S>) -> Result<
     ensures { IfOk result (λ report. TasksText region.now report) }
 {
     let activities = activities_in(alloc, region)?;
-    let report = task_lines(alloc, region, activities.as_slice())?;
+    let mut report = Report::new(alloc);
+    terminal_lines(
+        &mut report,
+        region,
+        &TerminalLine::Task,
+        activities.as_slice(),
+    )?;
     report.or_none(b"TASKS")
 }

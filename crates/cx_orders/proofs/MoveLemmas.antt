@@ -21,14 +21,14 @@ use Rattle.cx_region_task.specs.Laws.Decisions.{is_wait_reply}
 use Rattle.cx_region_task.specs.Laws.HalfTurns.{HalfTurnsStay, is_of_task}
 use Rattle.cx_region_task.specs.declared.decision.Decision.{Decision}
 use Rattle.cx_region_task.specs.declared.decision.Decision.TheVariants as decision
-use Rattle.cx_look_tasks.specs.Activities.{HasActivity, ActsByCommand, IsActivity, activity_by, is_waiting}
+use Rattle.cx_look_tasks.specs.Activities.{HasActivity, ActsByCommand, IsActivity, activity_by, is_acting, is_waiting}
 use Rattle.cx_look_tasks.specs.Laws.{ActivitiesDecide, WaitsAreReported}
 use Rattle.cx_look_tasks.specs.declared.activities.Activity.{Activity}
 use Rattle.cx_look_tasks.specs.declared.activities.Activity.TheVariants.{Due, NoTask, Running, Waiting}
 use Rattle.cx_orders.specs.Laws.{MovesDecide}
 use Rattle.cx_orders.specs.Incidents.{incident_of_key, incident_of_turn, with_incident}
 use Rattle.cx_orders.specs.Moves.{KeyMoves, MayCome, Moves, TurnMoves, is_move, is_ready, is_taken, key_number, keys_of, turn_number}
-use Rattle.cx_orders.specs.Parts.{IsAsked, IsNowhere, has_come, is_acting}
+use Rattle.cx_orders.specs.Parts.{IsAsked, IsNowhere, has_come}
 use Rattle.cx_orders.specs.declared.moves.Asked.{Asked}
 use Rattle.cx_orders.specs.declared.states.KeyLine.{KeyLine}
 use Rattle.cx_orders.specs.declared.states.Keys.{Keys}

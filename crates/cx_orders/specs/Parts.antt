@@ -4,17 +4,9 @@ use Rattle.cx_region.specs.Sound.{IsSound}
 use Rattle.cx_region.specs.State.{TerminalState}
 use Rattle.cx_region.specs.declared.replies.KeyReply.{KeyReply}
 use Rattle.cx_look_tasks.specs.Activities.{IsActivity}
-use Rattle.cx_look_tasks.specs.declared.activities.Activity.{Activity}
-use Rattle.cx_look_tasks.specs.declared.activities.Activity.TheVariants.{Due, Running}
 use Rattle.cx_orders.specs.Moves.{is_taken}
 use Rattle.cx_orders.specs.declared.moves.Asked.{Asked}
 use Rattle.cx_orders.specs.declared.states.OrdersState.{OrdersState}
-
--- the next turn runs instructions, or performs a command
-abbrev pub is_acting : Activity → Bool
-is_acting Running = true
-is_acting (Due command) = true
-is_acting _ = false
 
 -- a key that was pressed has come: one that is typed ahead only where it was taken
 abbrev pub has_come : Bool → KeyReply → Bool

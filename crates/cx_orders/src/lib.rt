@@ -10,6 +10,6 @@ mod states;
 pub use incidents::{incident_of_key, incident_of_turn};
 #[doc(hidden)]
 pub use moves::Asked;
-pub use moves::{Orders, key_of};
+pub use moves::{Orders, is_ready, key_of};
 pub use search::begin;
 pub use states::{Incident, IncidentAt, KeyLine, Keys, OrdersState};

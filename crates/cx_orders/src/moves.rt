@@ -4,7 +4,8 @@ ghost use Rattle.std.specs.Prelude.{◌≡◌, ◌<◌, ◌+◌, ◌||◌, IfOk,
 ghost use Rattle.std.specs.List.{AllByRecursion};
 ghost use Rattle.std.specs.Option.{option_copied};
 ghost use Rattle.cx_orders.specs.Facts.Keys.{AreFew-prop};
-ghost use Rattle.cx_orders.specs.Parts.{IsAsked, IsNowhere, has_come, is_acting};
+ghost use Rattle.cx_orders.specs.Parts.{IsAsked, IsNowhere, has_come};
+ghost use Rattle.cx_look_tasks.specs.Activities.{is_acting};
 ghost use Rattle.cx_orders.specs.Incidents.{incident_of_key, with_incident};
 ghost use Rattle.cx_orders.specs.Moves.{IsFew, Moves, TurnMoves, is_ready, is_taken, key_number, keys_of, turn_number};
 ghost use Rattle.cx_search.specs.Moves.{GoesTo};
@@ -47,15 +48,8 @@ pub struct Asked {
     pub doing: Activity,
 }
 
-/// Whether the next turn runs instructions, or performs a command.
-fn is_acting(activity: &Activity) -> bool
-    ensures { result ≡ is_acting activity.now }
-{
-    matches!(activity, Activity::Running | Activity::Due(_))
-}
-
-/// Whether an operator could press a key.
-fn is_ready(activity: &Activity) -> bool
+/// Whether an operator could press a key. It takes no memory.
+pub fn is_ready(activity: &Activity) -> bool
     ensures { result ≡ is_ready activity.now }
 {
     matches!(activity, Activity::NoTask | Activity::Waiting(Wait::Input))
@@ -260,7 +254,7 @@ impl<S: Store + Drop> Orders<S> {
         let Some(asked) = about_terminal(region, from, number) else {
             return Ok(None);
         };
-        if is_acting(&asked.doing) {
+        if asked.doing.is_acting() {
             let to = self.turned(region, from, &asked)?;
             return Ok(Some(to));
         }

@@ -1,8 +1,7 @@
 use Rattle.std.proofs.Common.{◌≡◌, false, refl, true, true≢false}
-use Rattle.cx_look_tasks.specs.Activities.{is_waiting}
+use Rattle.cx_look_tasks.specs.Activities.{is_acting, is_waiting}
 use Rattle.cx_look_tasks.specs.declared.activities.Activity.{Activity}
 use Rattle.cx_look_tasks.specs.declared.activities.Activity.TheVariants.{Due, NoTask, Running, Waiting}
-use Rattle.cx_orders.specs.Parts.{is_acting}
 use Rattle.cx_orders.proofs.MoveLemmas as lemmas
 use Rattle.cx_orders.proofs.laws.acting_turns_move.Goals as goal
 
