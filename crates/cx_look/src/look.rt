@@ -253,9 +253,9 @@ pub fn subject_of(word: &[u8]) -> Option<Subject>
     subject_in(&Subject::ALL, word)
 }
 
-/// The number from 1 to a most that at most five decimal digits spell.
+/// The number from 1 to a most that at most five decimal digits spell. It takes no memory.
 #[tactic(auto, using(std::proofs::lemmas::Bool::Decides::nat_tests), unfolding(crate::specs::Looks::count_up_to))]
-fn count_up_to(word: &[u8], most: u32) -> Option<u32>
+pub fn count_up_to(word: &[u8], most: u32) -> Option<u32>
     ensures value { result ≡ count_up_to most word.now }
     ensures most { IfSome result (λ n. n ≤ most) }
 {

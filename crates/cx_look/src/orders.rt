@@ -218,8 +218,8 @@ fn is_sight(look: &Look) -> bool
     )
 }
 
-/// Puts a text into a buffer of its length, in upper case.
-fn put_upper(text: &[u8], out: &mut [u8])
+/// Puts a text into a buffer of its length, in upper case. It takes no memory.
+pub fn put_upper(text: &[u8], out: &mut [u8])
     requires { length out.old ≡ length text.now }
     ensures { out.new ≡ map to_ascii_uppercase text.now }
 {
