@@ -198,10 +198,7 @@ pub(crate) fn kinds_of(alloc: Global, lines: &[FaultyLine]) -> Result<Kinds, All
 pub(crate) fn kind_at(kinds: &Kinds, line: usize) -> Option<SourceKind>
     ensures { result ≡ kind_at kinds.now.entries line }
 {
-    match kinds.get(&line) {
-        Some(kind) => Some(*kind),
-        None => None,
-    }
+    kinds.get(&line).copied()
 }
 
 /// The lines in the order of their numbers, each with its first fault.
@@ -256,13 +253,10 @@ fn shown_of(
 ) -> Result<Vec<FaultyLine>, AllocError>
     ensures { IfOk result (λ found. found.items ≡ filter (is_shown items.now unread.now) all.now) }
 {
-    let mut found = Vec::new(alloc);
-    for fault in all {
-        if is_shown(items, unread, *fault) {
-            found.push(*fault)?;
-        }
-    }
-    Ok(found)
+    all.iter()
+        .copied()
+        .filter(|fault| is_shown(items, unread, *fault))
+        .collect(alloc)
 }
 
 /// A source that was read, translated and placed, each in spite of its faults.

@@ -55,13 +55,10 @@ fn is_kept(fault: FaultyLine) -> bool
 fn kept_of(alloc: Global, all: &[FaultyLine]) -> Result<Vec<FaultyLine>, AllocError>
     ensures { IfOk result (λ kept. kept.items ≡ filter is_kept all.now) }
 {
-    let mut kept = Vec::new(alloc);
-    for fault in all {
-        if is_kept(*fault) {
-            kept.push(*fault)?;
-        }
-    }
-    Ok(kept)
+    all.iter()
+        .copied()
+        .filter(|fault| is_kept(*fault))
+        .collect(alloc)
 }
 
 /// The source that lines make.

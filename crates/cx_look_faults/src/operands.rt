@@ -63,12 +63,10 @@ fn first_later(
 ) -> Option<Span>
     ensures { result ≡ find (λ part. is_later statements.now at (span_text part operand.now)) parts.now }
 {
-    for part in parts {
-        if is_later(statements, at, span_text(*part, operand)) {
-            return Some(*part);
-        }
-    }
-    None
+    parts
+        .iter()
+        .copied()
+        .find(|part| is_later(statements, at, span_text(*part, operand)))
 }
 
 /// What is asked of a part.
