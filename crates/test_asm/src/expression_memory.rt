@@ -1,6 +1,6 @@
 //! Calls that take memory: with ample memory each is answered as it should be; a failed allocation is answered as one,
 //! and no other answer takes its place. `checks/refuse-tests` refuses each allocation in turn.
-use crate::symbols::{name, table};
+use crate::symbols::{is_number, name, table};
 use cx_asm_expressions::{Constant, FaultKind, SymbolTable, TermFault, Value, value_of};
 use std::alloc::{AllocError, Global};
 use std::test::Fail;
@@ -56,6 +56,24 @@ fn answers(alloc: Global, symbols: &SymbolTable) -> [Result<bool, AllocError>; 6
     ]
 }
 
+/// Whether a new symbol is there just where its definition is no fault.
+fn is_defined_or_absent(symbols: &mut SymbolTable) -> bool {
+    let Some(new) = name(b"NEW") else {
+        return false;
+    };
+    let defined = symbols.define(new, Value::absolute(7));
+    symbols.get(new).is_some() == defined.is_ok()
+}
+
+/// Whether a new symbol is defined, and has its value then.
+fn defines(symbols: &mut SymbolTable) -> Result<bool, TermFault> {
+    let Some(new) = name(b"NEW") else {
+        return Ok(false);
+    };
+    symbols.define(new, Value::absolute(7))?;
+    Ok(is_number(symbols, new, 7))
+}
+
 #[test]
 fn a_refused_allocation_is_no_other_answer(rt: HostRuntime) {
     let alloc = rt.alloc();
@@ -69,9 +87,7 @@ fn a_refused_allocation_is_no_other_answer(rt: HostRuntime) {
     for answer in answers(alloc, &symbols) {
         assert!(rt; answer.unwrap_or(true));
     }
-    let new = name(b"NEW").expect(&rt, "a name");
-    let defined = symbols.define(new, Value::absolute(7));
-    assert_eq!(rt; symbols.get(new).is_some(), defined.is_ok());
+    assert!(rt; is_defined_or_absent(&mut symbols));
 }
 
 #[test]
@@ -81,8 +97,6 @@ fn ample_memory_does_not_run_out(rt: HostRuntime) -> Result<(), Fail> {
     for answer in answers(alloc, &symbols) {
         assert!(rt; answer?);
     }
-    let new = name(b"NEW").expect(&rt, "a name");
-    symbols.define(new, Value::absolute(7))?;
-    assert_eq!(rt; symbols.get(new), Some(Value::absolute(7)));
+    assert!(rt; defines(&mut symbols)?);
     Ok(())
 }

@@ -2,6 +2,7 @@
 use crate::symbols::{name, table};
 use cx_asm_expressions::{FaultKind, SymbolTable, TermFault, Value, value_of};
 use std::alloc::Global;
+use std::test::Fail;
 
 /// Expressions with their values: section, number, length attribute. `*` is P+20 with the length 6.
 const WORTH: &[(&[u8], &[u8], i128, u128)] = &[
@@ -72,19 +73,21 @@ fn is_fault(alloc: Global, symbols: &SymbolTable, text: &[u8], fault: FaultKind)
 }
 
 #[test]
-fn expressions_have_their_values(rt: HostRuntime) {
+fn expressions_have_their_values(rt: HostRuntime) -> Result<(), Fail> {
     let alloc = rt.alloc();
-    let symbols = table(alloc).expect(&rt, "the symbols");
+    let symbols = table(alloc)?;
     for &row in WORTH {
         assert!(rt; has_value(alloc, &symbols, row));
     }
+    Ok(())
 }
 
 #[test]
-fn the_lowest_fault_is_answered(rt: HostRuntime) {
+fn the_lowest_fault_is_answered(rt: HostRuntime) -> Result<(), Fail> {
     let alloc = rt.alloc();
-    let symbols = table(alloc).expect(&rt, "the symbols");
+    let symbols = table(alloc)?;
     for &(text, fault) in FAULTS {
         assert!(rt; is_fault(alloc, &symbols, text, fault));
     }
+    Ok(())
 }

@@ -1,7 +1,7 @@
 //! A section written out by hand: four instructions and three literals, with a gap before these.
 use crate::image_sections::{Beside, Content, LEAST, section};
 use cx_asm_image::push_words;
-use cx_code::{Line, SpanKind, line_text};
+use cx_code::{Image, Line, SpanKind, line_text};
 use std::alloc::{AllocError, Global};
 use std::process::Abort;
 use std::test::Fail;
@@ -28,15 +28,19 @@ const DISASSEMBLY: &[u8] = b"0 MVC 8(2,13),28(15)
 30 DC X'0002'
 ";
 
+/// A line with its offset.
+fn line_written(alloc: Global, line: &Line) -> Result<String, AllocError> {
+    let shown = line_text(alloc, line)?;
+    let at = line.at;
+    Ok(format!(in alloc; "{at} {shown}\n")?)
+}
+
 /// Lines with their offsets, one per line.
 fn written(alloc: Global, lines: &[Line]) -> Result<String, AllocError> {
     let mut text = String::new(alloc);
     for line in lines {
-        let shown = line_text(alloc, line)?;
-        let at = line.at;
-        text.push_str(format!(in alloc; "{at} ")?.as_str())?;
+        let shown = line_written(alloc, line)?;
         text.push_str(shown.as_str())?;
-        text.push_str("\n")?;
     }
     Ok(text)
 }
@@ -65,23 +69,41 @@ fn text_and_spans_give_the_lines(rt: HostRuntime) {
     assert!(rt; other.as_bytes() == DISASSEMBLY);
 }
 
-#[test]
-fn the_image_has_what_was_given(rt: HostRuntime) {
-    let alloc = rt.alloc();
+/// The offsets 24 and 28.
+fn words(alloc: Global) -> Result<Vec<u32>, AllocError> {
     let mut relocs = Vec::new(alloc);
-    assert!(rt; push_words(&mut relocs, 24, 2).is_ok());
+    push_words(&mut relocs, 24, 2)?;
+    Ok(relocs)
+}
+
+/// Whether an image has 40 bytes, these relocated words, the entry 6 and 100 bytes of working storage.
+fn is_given(image: &Image) -> bool {
+    image.text.as_slice().len() == 40
+        && image.relocs.as_slice() == [24, 28].as_slice()
+        && image.entry == 6
+        && image.stg_len == 100
+}
+
+/// The image of these lines, and of more than they need. An error means out of memory.
+fn given(alloc: Global) -> Result<Option<Image>, AllocError> {
+    let relocs = words(alloc)?;
     let beside = Beside {
         relocs: relocs.as_slice(),
         entry: 6,
         stg_len: 100,
     };
-    let Ok(Some(made)) = section(alloc, &LINES, 40, beside) else {
-        panic!(rt; "refused");
-    };
-    let image = made.into_image();
-    assert!(rt; image.text.as_slice().len() == 40);
-    assert!(rt; image.relocs.as_slice() == [24, 28].as_slice());
-    assert!(rt; image.entry == 6 && image.stg_len == 100);
+    match section(alloc, &LINES, 40, beside)? {
+        Some(made) => Ok(Some(made.into_image())),
+        None => Ok(None),
+    }
+}
+
+#[test]
+fn the_image_has_what_was_given(rt: HostRuntime) {
+    match given(rt.alloc()) {
+        Ok(Some(image)) => assert!(rt; is_given(&image)),
+        _ => assert!(rt; false),
+    }
 }
 
 /// The calls over these lines are answered as they should be. An error means out of memory.

@@ -1,32 +1,47 @@
 //! Sections of lines.
 use cx_asm_image::{Assembled, LARGEST_TEXT, ResolvedLines, working_storage};
-use cx_code::{Bytes, Line, LineContent, Offsets, decode};
+use cx_code::{Bytes, Inst, Line, LineContent, Offsets, decode};
 use std::alloc::{AllocError, Global};
 use std::test::Fail;
 
 /// What is at a place, as plain bytes: an instruction, data, or a number of bytes without content.
-#[derive(Clone, Copy, Debug)]
+#[derive(Clone, Copy)]
 pub enum Content {
     Code(&'static [u8]),
     Data(&'static [u8]),
     Space(u32),
 }
 
+/// The instruction that bytes are.
+fn inst_of(bytes: &[u8]) -> Option<Inst> {
+    let (inst, _) = decode(bytes)?;
+    Some(inst)
+}
+
+/// Bytes as data.
+fn data_of(alloc: Global, bytes: &[u8]) -> Result<LineContent, AllocError> {
+    Ok(LineContent::Data(Bytes::from_vec(bytes.to_vec(alloc)?)))
+}
+
 /// The instruction that bytes are; these bytes as data where they are none.
-fn what(alloc: Global, content: &Content) -> Result<LineContent, AllocError> {
+fn code_of(alloc: Global, bytes: &[u8]) -> Result<LineContent, AllocError> {
+    match inst_of(bytes) {
+        Some(inst) => Ok(LineContent::Code(inst)),
+        None => data_of(alloc, bytes),
+    }
+}
+
+fn what(alloc: Global, content: Content) -> Result<LineContent, AllocError> {
     match content {
-        Content::Code(bytes) => match decode(*bytes) {
-            Some((inst, _)) => Ok(LineContent::Code(inst)),
-            None => Ok(LineContent::Data(Bytes::from_vec(bytes.to_vec(alloc)?))),
-        },
-        Content::Data(bytes) => Ok(LineContent::Data(Bytes::from_vec(bytes.to_vec(alloc)?))),
-        Content::Space(count) => Ok(LineContent::Space(*count)),
+        Content::Code(bytes) => code_of(alloc, bytes),
+        Content::Data(bytes) => data_of(alloc, bytes),
+        Content::Space(count) => Ok(LineContent::Space(count)),
     }
 }
 
 /// What a section's image has beside its text: offsets of relocated words, the entry's offset, and the length of
 /// working storage in bytes.
-#[derive(Clone, Copy, Debug)]
+#[derive(Clone, Copy)]
 pub struct Beside<'a> {
     pub relocs: &'a [u32],
     pub entry: u32,
@@ -52,7 +67,7 @@ pub fn section(
     for (at, content) in contents {
         let line = Line {
             at: *at,
-            what: what(alloc, content)?,
+            what: what(alloc, *content)?,
         };
         if !lines.has_place_for(&line) {
             return Ok(None);
@@ -72,24 +87,54 @@ pub fn section(
     Ok(Some(made))
 }
 
+/// The section of these lines with the least image, if it is made.
+fn made(alloc: Global, contents: &[(u32, Content)], size: u32) -> Option<Assembled> {
+    match section(alloc, contents, size, LEAST) {
+        Ok(made) => made,
+        Err(_) => None,
+    }
+}
+
+/// Whether a section has this text from an offset on, where so many bytes are asked for.
+fn has_object(made: &Assembled, at: u32, len: u32, text: &[u8]) -> bool {
+    made.object(at, len) == text
+}
+
+/// Whether a section's text is of the greatest length, with these bytes at its front and its end.
+fn is_largest(made: &Assembled) -> bool {
+    made.image().text.as_slice().len() == 65_536
+        && has_object(made, 65_533, 8, b"\x00\x00\xFF")
+        && has_object(made, 0, 3, b"\x00\x00\x00")
+}
+
+/// Space before the last byte of the largest text.
+const WITHIN: [(u32, Content); 2] = [(0, Content::Space(3)), (65_535, Content::Data(b"\xFF"))];
+
+/// A byte past the largest text.
+const BEYOND: [(u32, Content); 2] = [
+    (0, Content::Space(65_536)),
+    (65_536, Content::Data(b"\xFF")),
+];
+
+/// A byte over space.
+const OVER: [(u32, Content); 2] = [(4, Content::Data(b"\xFF")), (4, Content::Space(1))];
+
+/// Whether lines that are no section are refused, and not for want of memory.
+fn is_none(alloc: Global, contents: &[(u32, Content)]) -> bool {
+    match section(alloc, contents, 65_536, LEAST) {
+        Ok(made) => made.is_none(),
+        Err(_) => false,
+    }
+}
+
 #[test]
 fn the_largest_text_is_made(rt: HostRuntime) {
-    let alloc = rt.alloc();
-    let lines = [(0, Content::Space(3)), (65_535, Content::Data(b"\xFF"))];
-    let Ok(Some(made)) = section(alloc, &lines, 65_536, LEAST) else {
-        panic!(rt; "refused");
-    };
-    let text = made.image().text.as_slice();
-    assert!(rt; text.len() == 65_536);
-    assert!(rt; made.object(65_533, 8) == b"\x00\x00\xFF".as_slice());
-    assert!(rt; made.object(0, 3) == b"\x00\x00\x00".as_slice());
-    let longer = [
-        (0, Content::Space(65_536)),
-        (65_536, Content::Data(b"\xFF")),
-    ];
-    assert!(rt; matches!(section(alloc, &longer, 65_536, LEAST), Ok(None)));
-    let over = [(4, Content::Data(b"\xFF")), (4, Content::Space(1))];
-    assert!(rt; matches!(section(alloc, &over, 65_536, LEAST), Ok(None)));
+    match made(rt.alloc(), &WITHIN, 65_536) {
+        Some(made) => assert!(rt; is_largest(&made)),
+        None => assert!(rt; false),
+    }
+    assert!(rt; is_none(rt.alloc(), &BEYOND));
+    assert!(rt; is_none(rt.alloc(), &OVER));
 }
 
 #[test]

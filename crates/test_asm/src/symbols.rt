@@ -48,17 +48,41 @@ pub(crate) fn table(alloc: Global) -> Result<SymbolTable, TermFault> {
     table_of(alloc, SYMBOLS)
 }
 
+/// Whether a symbol has this number as its value.
+pub(crate) fn is_number(table: &SymbolTable, name: Name8, number: i128) -> bool {
+    match table.get(name) {
+        Some(value) => value == Value::absolute(number),
+        None => false,
+    }
+}
+
+/// Whether a symbol is refused, as one that is defined.
+fn is_duplicate(table: &mut SymbolTable, name: Name8, number: i128) -> bool {
+    match table.define(name, Value::absolute(number)) {
+        Ok(()) => false,
+        Err(fault) => fault == TermFault::Refused(FaultKind::DuplicateSymbol),
+    }
+}
+
+/// Whether a name without a value gets one, and keeps it where it is defined again, which is refused.
+fn is_defined_once(table: &mut SymbolTable, one: Name8) -> Result<bool, TermFault> {
+    let is_new = table.get(one).is_none();
+    table.define(one, Value::absolute(1))?;
+    Ok(
+        is_new
+            && is_number(table, one, 1)
+            && is_duplicate(table, one, 2)
+            && is_number(table, one, 1),
+    )
+}
+
 #[test]
 fn a_symbol_is_defined_once(rt: HostRuntime) -> Result<(), Fail> {
-    let alloc = rt.alloc();
-    let mut symbols = SymbolTable::new(alloc);
-    let one = name(b"ONE@#$12").ok_or("no name")?;
-    assert!(rt; symbols.get(one).is_none());
-    symbols.define(one, Value::absolute(1))?;
-    assert_eq!(rt; symbols.get(one), Some(Value::absolute(1)));
-    let again = symbols.define(one, Value::absolute(2));
-    assert_eq!(rt; again, Err(TermFault::Refused(FaultKind::DuplicateSymbol)));
-    assert_eq!(rt; symbols.get(one), Some(Value::absolute(1)));
+    let mut symbols = SymbolTable::new(rt.alloc());
+    match name(b"ONE@#$12") {
+        Some(one) => assert!(rt; is_defined_once(&mut symbols, one)?),
+        None => assert!(rt; false),
+    }
     Ok(())
 }
 
@@ -73,7 +97,7 @@ fn names_have_at_most_eight_characters(rt: HostRuntime) {
 
 #[test]
 fn faults_have_numbers_and_names(rt: HostRuntime) {
-    assert_eq!(rt; FaultKind::UnknownOperation.number(), 1);
-    assert_eq!(rt; FaultKind::TooLarge.number(), 8);
-    assert_eq!(rt; FaultKind::NotRelocatable.name(), "NotRelocatable");
+    assert!(rt; FaultKind::UnknownOperation.number() == 1);
+    assert!(rt; FaultKind::TooLarge.number() == 8);
+    assert!(rt; FaultKind::NotRelocatable.name() == "NotRelocatable");
 }
