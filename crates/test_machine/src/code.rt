@@ -23,51 +23,55 @@ fn span(start: u32, len: u32, kind: SpanKind) -> Span {
     Span { start, len, kind }
 }
 
+/// Instructions with their lengths and their lines.
+#[rattlefmt::skip]
+const INSTRUCTIONS: &[(&[u8], u32, &str)] = &[
+    (&[0x1a, 0x12], 2, "AR 1,2"),
+    (&[0x07, 0xfe], 2, "BCR 15,14"),
+    (&[0x47, 0xf0, 0x30, 0x00], 4, "BC 15,0(0,3)"),
+    (&[0x58, 0x10, 0xf0, 0x18], 4, "L 1,24(0,15)"),
+    (&[0x98, 0xe1, 0xd0, 0x08], 4, "LM 14,1,8(13)"),
+    (&[0x88, 0x10, 0x00, 0x04], 4, "SRL 1,4(0)"),
+    (&[0x89, 0x10, 0x00, 0x04], 4, "SLL 1,4(0)"),
+    (&[0x89, 0x11, 0x00, 0x04], 4, "DC X'89110004'"),
+    (&[0x96, 0x80, 0xd0, 0x00], 4, "OI 0(13),128"),
+    (&[0xd2, 0x01, 0xd0, 0x08, 0xf0, 0x1c], 6, "MVC 8(2,13),28(15)"),
+    (&[0xf2, 0x24, 0x50, 0x08, 0x50, 0x00], 6, "PACK 8(3,5),0(5,5)"),
+    (&[0xbf, 0x17, 0x50, 0x00], 4, "ICM 1,7,0(5)"),
+    (&[0x05, 0xef, 0x00], 3, "DC X'05EF00'"),
+];
+
 #[test]
 fn lines_of_instructions(rt: HostRuntime) -> Result<(), Fail> {
-    let rows: [(&[u8], u32, &str); 13] = [
-        (&[0x1a, 0x12], 2, "AR 1,2"),
-        (&[0x07, 0xfe], 2, "BCR 15,14"),
-        (&[0x47, 0xf0, 0x30, 0x00], 4, "BC 15,0(0,3)"),
-        (&[0x58, 0x10, 0xf0, 0x18], 4, "L 1,24(0,15)"),
-        (&[0x98, 0xe1, 0xd0, 0x08], 4, "LM 14,1,8(13)"),
-        (&[0x88, 0x10, 0x00, 0x04], 4, "SRL 1,4(0)"),
-        (&[0x89, 0x10, 0x00, 0x04], 4, "SLL 1,4(0)"),
-        (&[0x89, 0x11, 0x00, 0x04], 4, "DC X'89110004'"),
-        (&[0x96, 0x80, 0xd0, 0x00], 4, "OI 0(13),128"),
-        (
-            &[0xd2, 0x01, 0xd0, 0x08, 0xf0, 0x1c],
-            6,
-            "MVC 8(2,13),28(15)",
-        ),
-        (
-            &[0xf2, 0x24, 0x50, 0x08, 0x50, 0x00],
-            6,
-            "PACK 8(3,5),0(5,5)",
-        ),
-        (&[0xbf, 0x17, 0x50, 0x00], 4, "ICM 1,7,0(5)"),
-        (&[0x05, 0xef, 0x00], 3, "DC X'05EF00'"),
-    ];
-    for (text, len, line) in rows {
+    for &(text, len, line) in INSTRUCTIONS {
         let code = span(0, len, SpanKind::Code);
         assert!(rt; is_line(rt.alloc(), text, code, line)?, "{line}");
     }
     Ok(())
 }
 
+/// Spans of a text, by start, length and kind, with their lines.
+#[rattlefmt::skip]
+const SPANS: &[(u32, u32, SpanKind, &str)] = &[
+    (4, 2, SpanKind::Data, "DC X'C1C2'"),
+    (6, 4, SpanKind::Code, "AR 1,2"),
+    (0, 2, SpanKind::Code, "DC X'5810'"),
+    (6, 9, SpanKind::Data, "DC X'1A12'"),
+    (8, 4, SpanKind::Code, "DC X''"),
+    (4_000_000_000, 4_000_000_000, SpanKind::Data, "DC X''"),
+    (6, 80, SpanKind::Space, "DS XL80"),
+];
+
+/// The text of these spans.
+const SPANNED: &[u8] = &[0x58, 0x10, 0xf0, 0x18, 0xc1, 0xc2, 0x1a, 0x12];
+
 #[test]
 fn lines_of_spans(rt: HostRuntime) -> Result<(), Fail> {
-    let text = [0x58, 0x10, 0xf0, 0x18, 0xc1, 0xc2, 0x1a, 0x12];
-    for (span, line) in [
-        (span(4, 2, SpanKind::Data), "DC X'C1C2'"),
-        (span(6, 4, SpanKind::Code), "AR 1,2"),
-        (span(0, 2, SpanKind::Code), "DC X'5810'"),
-        (span(6, 9, SpanKind::Data), "DC X'1A12'"),
-        (span(8, 4, SpanKind::Code), "DC X''"),
-        (span(4_000_000_000, 4_000_000_000, SpanKind::Data), "DC X''"),
-        (span(6, 80, SpanKind::Space), "DS XL80"),
-    ] {
-        assert!(rt; is_line(rt.alloc(), &text, span, line)?, "{line}");
+    for &(start, len, kind, line) in SPANS {
+        assert!(rt;
+            is_line(rt.alloc(), SPANNED, span(start, len, kind), line)?,
+            "{line}"
+        );
     }
     Ok(())
 }
@@ -75,10 +79,10 @@ fn lines_of_spans(rt: HostRuntime) -> Result<(), Fail> {
 /// The offset of the second of two spans' lines; None unless they are two.
 fn second_offset(alloc: Global, spans: [Span; 2]) -> Result<Option<u32>, AllocError> {
     let lines = disassemble(alloc, &[0x1a, 0x12, 0xc1, 0xc2], &spans)?;
-    if lines.len() != 2 {
-        return Ok(None);
+    match lines.as_slice() {
+        [_, line] => Ok(Some(line.at)),
+        _ => Ok(None),
     }
-    Ok(lines.last().map(|line| line.at))
 }
 
 #[test]
