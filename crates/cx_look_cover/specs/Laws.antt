@@ -14,7 +14,7 @@ use Rattle.cx_look_turn.specs.declared.traces.Visit.{Visit}
 use Rattle.cx_look_cover.specs.Counts.{is_conditional, is_of_some_codes}
 use Rattle.cx_exec.specs.Passages.{Passage, Passages, places_run, target_of, went_away}
 use Rattle.cx_look_cover.specs.Ranges.{ranges_of}
-use Rattle.cx_exec.specs.Tallies.{capped, tally_at}
+use Rattle.cx_exec.specs.Tallies.{IsTallied, capped, tally_at}
 use Rattle.cx_load.specs.declared.program.Loaded.{Loaded}
 use Rattle.cx_look_cover.specs.Tallies.{programs_end, reaching}
 use Rattle.cx_look_cover.specs.declared.ranges.LineRange.{LineRange}
