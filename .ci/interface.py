@@ -95,18 +95,22 @@ def next_block(tokens: list[Token], at: int) -> int:
     return at
 
 
-def body_of(tokens: list[Token], at: int) -> Span | None:
-    """Returns the indices of the body's braces and after them for the function whose `fn` is at this index, or None where it has no body."""
+def head_end(tokens: list[Token], at: int) -> int:
+    """Returns the index of the body's brace, or of the semicolon where there is no body, of the function whose `fn` is at this index."""
     while True:
         word = tokens[at][0]
-        if word == ";":
-            return None
+        if word == ";" or (word == "{" and tokens[at - 1][0] not in ("<", ",", "=")):
+            return at
         if word in CLAUSES:
             at = block_end(tokens, next_block(tokens, at))
-        elif word == "{" and tokens[at - 1][0] not in ("<", ",", "="):
-            return at, block_end(tokens, at)
         else:
             at = block_end(tokens, at) if word in CLOSES else at + 1
+
+
+def body_of(tokens: list[Token], at: int) -> Span | None:
+    """Returns the indices of the body's braces and after them for the function whose `fn` is at this index, or None where it has no body."""
+    begin = head_end(tokens, at)
+    return (begin, block_end(tokens, begin)) if tokens[begin][0] == "{" else None
 
 
 def bodies_of(text: str) -> list[Span]:

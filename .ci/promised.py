@@ -97,7 +97,8 @@ def promises_in(text: str) -> Iterator[Promise]:
             continue
         if word in ("struct", "enum", "trait") and is_public(tokens, at) and not owner:
             name, comment = tokens[at + 1][0], comment_of(text, tokens, at)
-            names = f" *One of*: {', '.join(variants_at(tokens, at))}." if word == "enum" else ""
+            variants = variants_at(tokens, at) if word == "enum" else []
+            names = f" *One of*: {', '.join(variants)}." if variants else ""
             yield Promise(frozenset({name}), name, comment and comment + names, [], False)
         if word in ("impl", "trait") and closing < 0:
             end = header_end(tokens, at)

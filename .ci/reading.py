@@ -27,6 +27,11 @@ def blocks_in(text: str) -> dict[str, tuple[str, list[str]]]:
     return found
 
 
+def words_through(module: str, text: str) -> list[str]:
+    """Returns the words that a text writes through a module's name."""
+    return re.findall(rf"(?<![\w.]){re.escape(module)}\.([^\W\d][\w'-]*)", text)
+
+
 class Module:
     """A file of definitions: the text of each word, the heads that it stands under, and where each word comes from that it imports."""
 
@@ -45,6 +50,7 @@ class Module:
         found: list[tuple[str | None, str]] = [(None, it) for it in self.heads if it != word and cites(block, it)]
         found += [(None, it) for it in self.heads.get(word, [])]
         found += [at for name, at in self.imports.items() if cites(block, name.partition("◌")[0] or name)]
+        found += [(crate, f"{path}.{it}") for name, (crate, path) in self.imports.items() for it in words_through(name, block)]
         return found + [(crate, path) for crate, path, _ in paths_in(block)]
 
 

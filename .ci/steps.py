@@ -78,6 +78,7 @@ BUILT = [
     Sweep("checks/refuse-tests", 900, after=(PROOF,)),
     Sweep("checks/failing-devices crates/cicsedf/out/cicsedf"),
     Sweep("checks/statements crates/cicslook/out/cicslook"),
+    Sweep("checks/translations crates/cicsedf/out/cicsedf"),
     Sweep("checks/scripts crates/cicsedf/out/cicsedf"),
     Sweep("checks/scripts crates/cicslook/out/cicslook --looks"),
     Sweep("checks/statuses crates/cicsedf/out/cicsedf crates/cicslook/out/cicslook"),

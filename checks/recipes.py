@@ -57,19 +57,20 @@ class Recipe:
 
 RECIPES = [
     Recipe(
-        "An instruction", "XC", r'\b(?:Xc|xc|XcEffect)\b|\bxc_\w+|"XC"', r"\bXC\b", r"\b56 (?:instr|mnem)|\bthe 56\b|\bninety\b",
+        "An instruction", "XC", r'\b(?:Xc|xc|XcEffect|xor_bytes|xored_byte)\b|\bxc_\w+|"XC"', r"\bXC\b",
+        r"\b56 (?:instr|mnem)|\b(?:the|one of) 56\b|\[Op; 56\]|\bninety\b",
         uses={r"companions/cics/exact/": WRITES, r"companions/cics/stand_in/": WRITES, r"companions/tests/": TESTS,
               r"docs/COMPANIONS\.md": TOLD, r"docs/DECISIONS\.md": TOLD, r"docs/FROM-CICS\.md": TOLD}),
     Recipe(
         "A command", "SUSPEND", r'\b(?:Suspend|suspend|judge_suspend|suspend_\w+)\b|"(?:CICS )?SUSPEND"',
-        r'"SUSPEND":|^SUSPEND = |, SUSPEND,|`SUSPEND`|\| SUSPEND |# SUSPEND |COMMAND SUSPEND$', r"\btwenty\b|\bother nineteen\b",
+        r'"SUSPEND":|^SUSPEND = |, SUSPEND,|`SUSPEND`|\| SUSPEND |# SUSPEND |COMMAND SUSPEND$|\("SUSPEND", "=', r"\btwenty\b|\bother nineteen\b",
         uses={r"crates/test_region/src/arrival\.rt": TESTS, r"crates/test_translate/src/texts\.rt": TESTS, r"companions/tests/": TESTS,
               r"crates/tool_hostile/src/calls\.rt": "where no command is drawn it takes this one"}),
     Recipe(
         "A type of constant", "D", r"""\bDoubleword\b|b"D", true|b"D'1'"|b"DL4\"""",
-        r'"D": 8|"FHPXBAYDES"|"CXBFHPZAVDEYSQL"|kind == "D"|^\| D \| 8 \|'),
+        r'"D": 8|"FHPXBAYDES"|"CXBFHPZAVDEYSQL"|kind == "D"|^\| D \| 8 \||"D[SC] D(?:"|L4|\x271)'),
     Recipe(
-        "A look of cicslook", "WHERE", r'\b(?:Where|where_text)\b|"WHERE\b|\bmod [Ww]heres\b', r"(?<!as \[)\bWHERE\b", own=r"[Ww]heres",
+        "A look of cicslook", "WHERE", r'\b(?:Where|where_text)\b|"WHERE\b|\bmod wheres\b', r"(?<!as \[)\bWHERE\b", own=r"wheres",
         uses={r"companions/cics/stand_in/": "it asks the look", r"companions/tests/stand_in/": TESTS}),
     Recipe(
         "An option of a command", "NUMITEMS", r"\bNumitems\b|\bnumitems_\w+|\bNUMITEMS\b", r"\bNUMITEMS\b",

@@ -11,6 +11,8 @@ RETURN, SUSPEND = f"{LISTED}0E080000", f"{LISTED}12080000"
 NO_LIST, LOOP = "4110000041E0080005EE", "47F0F000"
 # The first program with BC 0,0 in the place of the OI that sets the list's high bit.
 NO_HIGH_BIT = RETURN.replace("9680F018", "47000000")
+# The second program with LA 0,28(0), the block's offset without its base, in the place of the first instruction.
+NO_BASE = f"4100001C{SUSPEND[8:]}"
 # A program that sets all bytes of its EIB to FF, and then gives SUSPEND: MVI 0(11),255; MVC 1(87,11),0(11); and the list.
 SUSPEND_AFTER_FF = "92FFB000D256B001B0004100F0285000F0249680F0244110F02441E0080005EE000000000000000012080000"
 # A program whose list is ready: SUSPEND with NOHANDLE and RESP, whose word is the last of the text.
@@ -110,7 +112,8 @@ def answers() -> Iterator[Rows]:
     yield rows.do("TERMINAL T001 -> DEFINED", "TRANSACTION RET1 RET1 -> DEFINED", "CLOCK 123456 98365 -> SET", "KEY T001 ENTER RET1 -> Attached",
                   "TURN T001 -> AtCommand", "TURN T001 -> Ended")
     yield Rows().defined(RETURN).do("TERMINAL T001 -> REFUSED Duplicate", "KEY T001 ENTER RET1 -> Attached", "KEY T001 ENTER RET1 -> AlreadyHeldInput")
-    for text, code in [(NO_LIST, "XARG"), (NO_HIGH_BIT, "XARG"), (f"{LISTED}0EFF0000", "XFUN"), (f"{LISTED}0E084000", "XFUN"), (f"{LISTED}0E080001", "XFUN")]:
+    for text, code in [(NO_LIST, "XARG"), (NO_HIGH_BIT, "XARG"), (NO_BASE, "XARG"), (f"{LISTED}0EFF0000", "XFUN"), (f"{LISTED}0E084000", "XFUN"),
+                       (f"{LISTED}0E080001", "XFUN")]:
         yield Rows().attached(text).turns("AtCommand", f"Abended {code}")
     yield Rows().attached(LOOP).turns("Abended AICA", "Idle")
     yield Rows().defined(RETURN).do("KEY T000 ENTER RET1 -> NoSuchTerminal", "KEY T001 CLEAR RET1 -> NoSuchTransaction", "KEY T001 ENTER RET1 -> Attached",

@@ -1,8 +1,8 @@
-"""Scripts of `cicsedf`, or with --looks of `cicslook`, each with the transcript that is due and the line at fault. They are of bad lines, the
-ends and lengths of lines, faulty sources and when they are reported, refused definitions, calls of full size, blocks of ORDERS and
-CHOICES, regions with what is seen of their tasks and storage, and sources that were assembled by hand. Each is run twice: what it reads and
-writes moves whole, and byte by byte. A script without a fault is run with a bad line after it too, whose number tells that all its lines
-were read.
+"""Scripts of `cicsedf`, or with --looks of `cicslook`, each with the transcript that is due and the line at fault. They are of bad lines,
+the ends and lengths of lines, faulty sources and when they are reported, refused definitions, calls of full size, blocks of ORDERS and
+CHOICES, regions with what is seen of their tasks and storage, and sources and statements that were assembled by hand. Each is run twice:
+what it reads and writes moves whole, and byte by byte. A script without a fault is run with a bad line after it too, whose number tells
+that all its lines were read.
 """
 import re
 from collections import Counter
@@ -17,6 +17,7 @@ from checks.hostile_lines import CHARACTER
 from checks.refusing import Sweep, library
 from checks.regions import regions
 from checks.worked_sources import worked_sources
+from checks.worked_statements import worked_statements
 
 
 class Fault(NamedTuple):
@@ -319,10 +320,16 @@ def sources_by_hand() -> Iterator[Script]:
         yield Script(text_of(lines), text_of(written), Fault(*fault) if fault else None)
 
 
+def statements_by_hand() -> Iterator[Script]:
+    """Single statements that were assembled by hand, and faulty ones."""
+    for lines, written, fault in worked_statements():
+        yield Script(text_of(lines), text_of(written), Fault(*fault) if fault else None)
+
+
 PLAIN = (bad_lines, alterations, ends_of_lines, faulty_sources, blocks, refused_definitions, long_sources, transcripts, texts_of_keys,
          long_images, full_sizes)
 LOOKS = (bad_orders, orders, full_orders, bad_choices, choices, full_choices, acts_in_regions,
-         sources_by_hand)
+         sources_by_hand, statements_by_hand)
 
 
 def ending(script: Script, is_look: bool) -> Ended:

@@ -37,6 +37,7 @@ LOADED = [
     ("P CSECT\n DC CL2'ABC',XL2'1ABCD'\n END\n", "C1C2ABCD E0 S80"),
     ("P CSECT\n DC C'A''B&&'\n END\n", "C17DC250 E0 S80"),
     ("P CSECT\n PACK 8(3,5),0(5,5)\n ICM 1,7,0(5)\n END\n", "F22450085000BF175000 E0 S80"),
+    ("P CSECT\n DC AL4(P+8),X'C1C2C3',AL4(P-1),C'D'\n END P+4\n", "00000008C1C2C3FFFFFFFFC4 R0 R7 E4 S80"),
     ("P CSECT\n DC P'-1',P'123',PL3'-12',PL1'123',P'1,-23'\n END\n", "1D123C00012D3C1C023D E0 S80"),
 ]
 
@@ -70,6 +71,43 @@ FAULTY = [
     ("P CSECT\n LR 1,2\n USING P,15\n L 1,X(2,5)\nX DS F\n MVC X(257),X\n END\n", "4: BadOperand"),
     ("P CSECT\n DS 65537X\n END\n", "3: TooLarge"),
     ("P CSECT\n DS 4294967295XL256\n DS X\n END\n", "4: TooLarge"),
+    ("P CSECT\n MVCX 1,2\n END\n", "2: UnknownOperation"),
+    ("P CSECT\nX\n END\n", "2: UnknownOperation"),
+    ("P CSECT\nX DS F\nX DS F\n END\n", "3: DuplicateSymbol"),
+    ("P CSECT\nP DSECT\n END\n", "2: DuplicateSymbol"),
+    ("P DSECT\nP CSECT\n END\n", "2: DuplicateSymbol"),
+    ("P CSECT\nP DS F\n END\n", "2: DuplicateSymbol"),
+    ("P CSECT\nX DS F\nX DSECT\n END\n", "3: DuplicateSymbol"),
+    (" DFHREGS\n DFHREGS\n END\n", "2: DuplicateSymbol"),
+    ("R15 EQU 1\n DFHREGS\n END\n", "2: DuplicateSymbol"),
+    (" COPY DFHAID\nDFHPF1 EQU 1\n END\n", "2: DuplicateSymbol"),
+    ("X EQU 1\nX EQU X'FFFFFFFF'+1\n END\n", "2: DuplicateSymbol"),
+    ("P CSECT\nA DS F\nX EQU 1\nX EQU A+A\n END\n", "4: DuplicateSymbol"),
+    ("X EQU 1\nX EQU NONE\n END\n", "2: UndefinedSymbol"),
+    ("E EQU 0-2147483647-2\n END\n", "1: ValueOutOfRange"),
+    ("E EQU X\nX EQU 1\n END\n", "1: UndefinedSymbol"),
+    ("E EQU E\n END\n", "1: UndefinedSymbol"),
+    ("D DSECT\nA DS 4294967295XL8192\nB DS X\nC EQU B-A\n END\n", "4: ValueOutOfRange"),
+    ("P CSECT\n DC F'X'\n DS F'1'\nE EQU E\n END\n", "4: UndefinedSymbol"),
+    ("E EQU 1,2\n END\n", "1: BadOperand"),
+    ("E EQU *\n END\n", "1: BadOperand"),
+    (" EQU 1\n END\n", "1: BadOperand"),
+    (" CSECT\n END\n", "1: BadOperand"),
+    (" DSECT\n END\n", "1: BadOperand"),
+    (" START 0\n END\n", "1: BadOperand"),
+    ("P CSECT\nQ CSECT\n END\n", "2: BadOperand"),
+    ("P CSECT\nQ START\n END\n", "2: BadOperand"),
+    ("D DSECT\n LR 1,2\n END\n", "2: BadOperand"),
+    (" LTORG\n END\n", "1: BadOperand"),
+    (" DS F\n END\n", "1: BadOperand"),
+    ("P CSECT\n DS\n END\n", "2: BadOperand"),
+    ("P CSECT\n DC F'1',\n END\n", "2: BadOperand"),
+    ("P CSECT\n DC F\n END\n", "2: BadOperand"),
+    ("P CSECT\n DC 4294967296X'1'\n END\n", "2: ValueOutOfRange"),
+    ("P CSECT\n DC CL257'A'\n END\n", "2: ValueOutOfRange"),
+    ("P CSECT\n L 1,=FL5'1'\n END\n", "2: ValueOutOfRange"),
+    ("P CSECT\n L 1,=Q'1'\n END\n", "2: BadOperand"),
+    ("P CSECT\n L 99,NOWHERE\n DC F'X'\nX DS ZZ\n EQU 1\n END\n", "4: BadOperand"),
 ]
 
 # Sources with their disassemblies: of a program, and of instructions of two lengths and masks.
@@ -146,18 +184,39 @@ def placed(size: int) -> str:
     return f"PROGRAM P AT {PLACE:06X} LENGTH {size:06X}"
 
 
+def stored(data: bytes, size: int, offset: int = 0) -> list[str]:
+    """What STORAGE writes of bytes from an offset on in a program of a size."""
+    rows = [data[k : k + 16] for k in range(0, len(data), 16)]
+    words = [" ".join(digits(row[k : k + 4]) for k in range(0, len(row), 4)) for row in rows]
+    seen = [f"> {PLACE + offset + 16 * k:06X}  {words[k]:35}  {shown(row):16}" for k, row in enumerate(rows)]
+    return [*seen, f"> AREA {PLACE:06X} LENGTH {size:06X} OFFSET {offset:06X} PROGRAM P OWNER REGION"]
+
+
 def loaded(source: str, due: str) -> Worked:
     """The program's text is in storage, with the place added to each relocated word."""
     text, relocated, entry, size = re.findall(r"^(\w*)((?: R\d+)*) E(\d+) S(\d+)$", due)[0]
     data = bytearray.fromhex(text)
     for word in map(int, re.findall(r"R(\d+)", relocated)):
         data[word : word + 4] = ((int.from_bytes(data[word : word + 4], "big") + PLACE) % 2**32).to_bytes(4, "big")
-    rows = [data[k : k + 16] for k in range(0, len(data), 16)]
-    words = [" ".join(digits(row[k : k + 4]) for k in range(0, len(row), 4)) for row in rows]
-    seen = [f"> {PLACE + 16 * k:06X}  {words[k]:35}  {shown(row):16}" for k, row in enumerate(rows)]
-    area = f"> AREA {PLACE:06X} LENGTH {len(data):06X} OFFSET 000000 PROGRAM P OWNER REGION"
     program = f"> {placed(len(data))} ENTRY {PLACE + int(entry):06X} STORAGE {int(size):06X} TRANSACTIONS"
-    return Worked([*block(source), "PROGRAMS", f"STORAGE {PLACE:06X} {len(data)}"], [placed(len(data)), program, *seen, area])
+    return Worked([*block(source), "PROGRAMS", f"STORAGE {PLACE:06X} {len(data)}"], [placed(len(data)), program, *stored(data, len(data))])
+
+
+def loaded_again() -> Worked:
+    """A second program has the next place that is a multiple of 16, which is added to its relocated words."""
+    source = block("P CSECT\n DC AL4(P+8),X'C1C2C3',AL4(P-1),C'D'\n END P+4\n")
+    area = "> AREA 010010 LENGTH 00000C OFFSET 000000 PROGRAM Q OWNER REGION"
+    seen = ["PROGRAM Q AT 010010 LENGTH 00000C", f"> 010010  {'00010018 C1C2C300 01000FC4':35}  {'....ABC....D':16}", area]
+    return Worked([*source, "SOURCE Q", *source[1:], "STORAGE 010010 12"], [placed(12), *seen])
+
+
+def without_room() -> Worked:
+    """Of programs of the greatest length there are 31; another one, and a short one, is refused and changes nothing."""
+    longest, short = block("P CSECT\n DS 65535X\n DC X'07'\n END\n")[1:], block("P CSECT\n BR 14\n END\n")[1:]
+    lines = [line for number in range(1, 33) for line in (f"SOURCE P{number:02}", *longest)] + ["SOURCE P33", *short, "STORAGE 1FFFFF 2"]
+    placed_there = [f"PROGRAM P{number:02} AT {number:02X}0000 LENGTH 010000" for number in range(1, 32)]
+    seen = [f"> 1FFFFF  {'07--':35}  {'.-':16}", "> AREA 1F0000 LENGTH 010000 OFFSET 00FFFF PROGRAM P31 OWNER REGION"]
+    return Worked(lines, [*placed_there, "PROGRAM P32 REFUSED NoRoom", "PROGRAM P33 REFUSED NoRoom", *seen])
 
 
 def worked_sources() -> Iterator[Worked]:
@@ -171,3 +230,4 @@ def worked_sources() -> Iterator[Worked]:
         yield Worked(block(source, " DISASM"), [*due.removesuffix(";").split(";"), placed(len(bytes.fromhex(dict(LOADED)[source].split(" ")[0])))])
     for source, size, listing in LISTED:
         yield Worked(block(source, " LIST"), [*listing.removesuffix("\n").split("\n"), placed(size)])
+    yield from (loaded_again(), without_room())

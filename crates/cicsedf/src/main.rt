@@ -2,6 +2,7 @@
 //! `cx_script_main::start` on its machine.
 #![tactic(auto)]
 
+use cx_edf_display::EdfDisplays;
 use cx_script::edf_performer;
 use cx_script_main::{About, Machine, start};
 use std::process::ExitCode;
@@ -21,7 +22,7 @@ fn main(rt: HostRuntime) -> ExitCode {
     start(
         &mut Machine::new(&rt),
         rt.alloc(),
-        edf_performer(rt.alloc()),
+        edf_performer::<EdfDisplays>(rt.alloc()),
         ABOUT,
     )
 }

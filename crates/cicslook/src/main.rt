@@ -1,6 +1,7 @@
 //! `cicslook [FILE]`: runs a script with looks from a file or from standard input, and writes its transcript.
 #![tactic(auto)]
 
+use cx_edf_display::EdfDisplays;
 use cx_look_script::look_performer;
 use cx_script_main::{About, Machine, Texts, start};
 use std::process::ExitCode;
@@ -33,7 +34,7 @@ fn main(rt: HostRuntime) -> ExitCode {
     start(
         &mut Machine::new(&rt),
         rt.alloc(),
-        look_performer(rt.alloc()),
+        look_performer::<EdfDisplays>(rt.alloc()),
         ABOUT,
     )
 }

@@ -3,7 +3,6 @@ use Rattle.std.proofs.Common.{◌≡◌, ℕ, true, List, Some, refl, subst, sym
 use Rattle.std.proofs.lemmas.Bool.{and_parts, true≢false}
 use Rattle.cx_ebcdic.specs.declared.aids.Aid.{Aid}
 use Rattle.cx_ebcdic.specs.declared.aids.Aid.TheVariants as aid
-use Rattle.cx_edf_display.specs.Displays.{display_of}
 use Rattle.cx_region.specs.declared.changes.AlterReply.{AlterReply}
 use Rattle.cx_region.specs.declared.changes.AlterReply.TheVariants as alter
 use Rattle.cx_region.specs.declared.changes.Change.TheVariants as change
@@ -17,7 +16,7 @@ use Rattle.cx_region.specs.Events.{Applies}
 use Rattle.cx_region_laws.specs.Facts.Alterations.{abends_are_done, alter_reply}
 use Rattle.cx_edf.specs.declared.answers.Answer.TheVariants as answer
 use Rattle.cx_edf.specs.State.{EdfState, ends_by_key, holds, stopped_at}
-use Rattle.cx_edf.specs.Steps.{PassesOn, sessions_after}
+use Rattle.cx_edf.specs.Steps.{DisplayMaker, PassesOn, sessions_after}
 
 -- it is met in Stopped with a live task
 ends_held : (old : EdfState) (name : List ℕ) (a : Aid) → ends_by_key old name a ≡ true → holds old name ≡ true
@@ -38,10 +37,10 @@ ended_reply old name r new live applies =
     altered.1 ∙ ap (λ x. reply.Alter x) (abends_are_done old name altered.0 new altered.2 live)
 
 -- so the event is passed
-pub ended_passed : (old v new : EdfState) (name : List ℕ) (given : AlterReply) → old ≡ v → Alters old.region name change.Abend given new.region
-    → new.sessions ≡ sessions_after old.sessions (event.Alter name change.Abend) (reply.Alter given) (display_of new.region)
-    → PassesOn display_of v (event.Alter name change.Abend) (Some answer.ToEdf) answer.ToEdf new
+pub ended_passed : (make : DisplayMaker) (old v new : EdfState) (name : List ℕ) (given : AlterReply) → old ≡ v → Alters old.region name change.Abend given new.region
+    → new.sessions ≡ sessions_after old.sessions (event.Alter name change.Abend) (reply.Alter given) (make new.region)
+    → PassesOn make v (event.Alter name change.Abend) (Some answer.ToEdf) answer.ToEdf new
 unfolding Applies
-ended_passed old v new name given same alters table =
-    subst (λ (s : EdfState). PassesOn display_of s (event.Alter name change.Abend) (Some answer.ToEdf) answer.ToEdf new) same
+ended_passed make old v new name given same alters table =
+    subst (λ (s : EdfState). PassesOn make s (event.Alter name change.Abend) (Some answer.ToEdf) answer.ToEdf new) same
     (record { reply = reply.Alter given; applies = alters; table = table; answers = refl })

@@ -7,9 +7,8 @@ use Rattle.std.specs.Option.{option_and_then, option_map_or}
 use Rattle.std.proofs.lemmas.List.{append-nil}
 use Rattle.std.proofs.lemmas.Option.{none-some}
 use Rattle.circular_buffer.specs.Buffer.{keep_last}
-use Rattle.cx_edf_display.specs.declared.displays.Display.{Display}
-use Rattle.cx_edf_display.specs.declared.stops.StopPoint.{StopPoint}
-use Rattle.cx_edf_display.specs.Displays.{display_of}
+use Rattle.cx_edf.specs.declared.displays.Display.{Display}
+use Rattle.cx_edf.specs.declared.stops.StopPoint.{StopPoint}
 use Rattle.cx_ebcdic.specs.declared.aids.Aid.{Aid}
 use Rattle.cx_ebcdic.specs.declared.aids.Aid.TheVariants as aid
 use Rattle.cx_region.specs.State.{RegionState}
@@ -33,7 +32,7 @@ use Rattle.cx_edf.specs.declared.modes.PageName.TheVariants as page
 use Rattle.cx_edf.specs.Sessions.{SessionState, Sessions, session_after_change, after_key, after_reply, fresh_session, older, operators_end, session_in, stop_of_turn, stop_session, turned_to, with_session}
 use Rattle.cx_edf.specs.Stops.{stops_named}
 use Rattle.cx_edf.specs.State.{EdfState, ends_by_key, holds, session_at, stopped_at}
-use Rattle.cx_edf.specs.Steps.{AppliesBy, DoorAnswers, Door, EdfApplies, Keeps, Passes, with_session_changed, door_of, sessions_after}
+use Rattle.cx_edf.specs.Steps.{DisplayMaker, DoorAnswers, Door, EdfApplies, Keeps, Passes, with_session_changed, door_of, sessions_after}
 use Rattle.cx_edf.specs.Erasure.{is_refused, left_in, left_of}
 use Rattle.cx_edf.specs.Laws.Displays.{IsKept, displays_after, stop_taken}
 use Rattle.cx_edf.proofs.DoorLemmas.{Fits, by_test, by_tests, fits}
@@ -144,8 +143,8 @@ keeping old (edf_event.Plain (event.Terminal name)) q all kept = tt
 keeping old (edf_event.Plain (event.Clock time date)) q all kept = tt
 
 -- ---- what the region does
-taken : EdfState → RegionState → List ℕ → List (Event × Reply) → List Display
-taken old region q left = map (display_of region q) (filter_map (λ (p : Event × Reply). stop_taken old q p.0 p.1) left)
+taken : (make : DisplayMaker) → EdfState → RegionState → List ℕ → List (Event × Reply) → List Display
+taken make old region q left = map (make region q) (filter_map (λ (p : Event × Reply). stop_taken old q p.0 p.1) left)
 
 -- a session stopped
 had_stopped : (s : SessionState) (stop : StopPoint) (display : Display) (all : List Display) → s.displays ≡ keep_last 10 all → Had (Some (stop_session s stop display)) (all ++ display ∷ [])
@@ -156,14 +155,14 @@ had_stopped s stop display all kept t is =
 none_more : (o : Option SessionState) (all : List Display) → Had o all → Had o (all ++ [])
 none_more o all h = subst (Had o) (sym (append-nil all)) h
 
-had_replied : (s : SessionState) (r : TurnReply) (region : RegionState) (name q : List ℕ) (all : List Display) → name ≡ q → s.displays ≡ keep_last 10 all
-    → Had (Some (after_reply s r (display_of region name))) (all ++ map (display_of region q) (cons_option (stop_of_turn s r) []))
+had_replied : (make : DisplayMaker) (s : SessionState) (r : TurnReply) (region : RegionState) (name q : List ℕ) (all : List Display) → name ≡ q → s.displays ≡ keep_last 10 all
+    → Had (Some (after_reply s r (make region name))) (all ++ map (make region q) (cons_option (stop_of_turn s r) []))
 unfolding after_reply
-had_replied s r region name q all same kept = subst (λ (x : List ℕ). Had (Some (after_reply s r (display_of region x))) (all ++ map (display_of region q) (cons_option (stop_of_turn s r) []))) (sym same) (go (stop_of_turn s r))
+had_replied make s r region name q all same kept = subst (λ (x : List ℕ). Had (Some (after_reply s r (make region x))) (all ++ map (make region q) (cons_option (stop_of_turn s r) []))) (sym same) (go (stop_of_turn s r))
   where
-    go : (o : Option StopPoint) → Had (Some (option_map_or (λ stop. stop_session s stop (display_of region q stop)) o s)) (all ++ map (display_of region q) (cons_option o []))
+    go : (o : Option StopPoint) → Had (Some (option_map_or (λ stop. stop_session s stop (make region q stop)) o s)) (all ++ map (make region q) (cons_option o []))
     go None = none_more (Some s) all (had (Some s) all kept)
-    go (Some stop) = had_stopped s stop (display_of region q stop) all kept
+    go (Some stop) = had_stopped s stop (make region q stop) all kept
 
 -- the list of one stop, by the name and the session
 turn_stops : (old : EdfState) (name q : List ℕ) (r : TurnReply) (s : SessionState) → is_name name q ≡ true → session_at old q ≡ Some s
@@ -178,18 +177,18 @@ turn_elsewhere old name q r is = ap (λ (b : Bool). cons_option (if b then optio
 end_stops : (b c : Bool) → b ≡ c → cons_option (if b then Some operators_end else None) [] ≡ cons_option (if c then Some operators_end else None) []
 end_stops b c is = ap (λ (d : Bool). cons_option (if d then Some operators_end else None) []) is
 
-had_altered : (s : SessionState) (c : Change) (region : RegionState) (name q : List ℕ) (all : List Display) → name ≡ q → s.displays ≡ keep_last 10 all
+had_altered : (make : DisplayMaker) (s : SessionState) (c : Change) (region : RegionState) (name q : List ℕ) (all : List Display) → name ≡ q → s.displays ≡ keep_last 10 all
     → (old : EdfState) → is_name name q ≡ true
-    → Had (Some (session_after_change s c (display_of region name))) (all ++ map (display_of region q) (cons_option (stop_taken old q (event.Alter name c) (reply.Alter alter.Altered)) []))
+    → Had (Some (session_after_change s c (make region name))) (all ++ map (make region q) (cons_option (stop_taken old q (event.Alter name c) (reply.Alter alter.Altered)) []))
 unfolding session_after_change
-had_altered s change.Abend region name q all same kept old is =
-    subst (λ (ks : List StopPoint). Had (Some (stop_session s operators_end (display_of region name operators_end))) (all ++ map (display_of region q) ks)) (sym (end_stops (is_name name q) true is))
-    (subst (λ (x : List ℕ). Had (Some (stop_session s operators_end (display_of region x operators_end))) (all ++ display_of region q operators_end ∷ [])) (sym same)
-    (had_stopped s operators_end (display_of region q operators_end) all kept))
-had_altered s change.Nop region name q all same kept old is =
+had_altered make s change.Abend region name q all same kept old is =
+    subst (λ (ks : List StopPoint). Had (Some (stop_session s operators_end (make region name operators_end))) (all ++ map (make region q) ks)) (sym (end_stops (is_name name q) true is))
+    (subst (λ (x : List ℕ). Had (Some (stop_session s operators_end (make region x operators_end))) (all ++ make region q operators_end ∷ [])) (sym same)
+    (had_stopped s operators_end (make region q operators_end) all kept))
+had_altered make s change.Nop region name q all same kept old is =
     none_more (Some (record s { mode = mode.Free })) all (λ t e. alike (record s { mode = mode.Free }) t e ∙ kept)
-had_altered s (change.Register r v) region name q all same kept old is = none_more (Some s) all (had (Some s) all kept)
-had_altered s (change.Byte a v) region name q all same kept old is = none_more (Some s) all (had (Some s) all kept)
+had_altered make s (change.Register r v) region name q all same kept old is = none_more (Some s) all (had (Some s) all kept)
+had_altered make s (change.Byte a v) region name q all same kept old is = none_more (Some s) all (had (Some s) all kept)
 
 alter_elsewhere : (c : Change) (old : EdfState) (name q : List ℕ) → is_name name q ≡ false → cons_option (stop_taken old q (event.Alter name c) (reply.Alter alter.Altered)) [] ≡ []
 alter_elsewhere change.Abend old name q is = end_stops (is_name name q) false is
@@ -197,38 +196,38 @@ alter_elsewhere change.Nop old name q is = refl
 alter_elsewhere (change.Register r v) old name q is = refl
 alter_elsewhere (change.Byte a v) old name q is = refl
 
-passing : (old : EdfState) (x : Event) (r : Reply) (region : RegionState) (q : List ℕ) (all : List Display) → IsKept (session_at old q) all
-    → Had (session_in (sessions_after old.sessions x r (display_of region)) q) (all ++ taken old region q (if is_refused x r then [] else (x, r) ∷ []))
+passing : (make : DisplayMaker) (old : EdfState) (x : Event) (r : Reply) (region : RegionState) (q : List ℕ) (all : List Display) → IsKept (session_at old q) all
+    → Had (session_in (sessions_after old.sessions x r (make region)) q) (all ++ taken make old region q (if is_refused x r then [] else (x, r) ∷ []))
 unfolding taken
-passing old (event.Turn name) (reply.Turn r) region q all kept =
-    had_changed old.sessions name q (λ s. Some (after_reply s r (display_of region name))) (all ++ map (display_of region q) (cons_option (stop_taken old q (event.Turn name) (reply.Turn r)) []))
-    (λ s is there. subst (λ (ks : List StopPoint). Had (Some (after_reply s r (display_of region name))) (all ++ map (display_of region q) ks)) (sym (turn_stops old name q r s is there))
-    (had_replied s r region name q all (same_name name q is) (had (session_at old q) all kept s there)))
-    (λ is. subst (λ (ks : List StopPoint). Had (session_at old q) (all ++ map (display_of region q) ks)) (sym (turn_elsewhere old name q r is)) (none_more (session_at old q) all (had (session_at old q) all kept)))
-passing old (event.Turn name) _ region q all kept = none_more (session_at old q) all (had (session_at old q) all kept)
-passing old (event.Alter name c) (reply.Alter alter.Altered) region q all kept =
-    had_changed old.sessions name q (λ s. Some (session_after_change s c (display_of region name)))
-    (all ++ map (display_of region q) (cons_option (stop_taken old q (event.Alter name c) (reply.Alter alter.Altered)) []))
-    (λ s is there. had_altered s c region name q all (same_name name q is) (had (session_at old q) all kept s there) old is)
-    (λ is. subst (λ (ks : List StopPoint). Had (session_at old q) (all ++ map (display_of region q) ks)) (sym (alter_elsewhere c old name q is)) (none_more (session_at old q) all (had (session_at old q) all kept)))
-passing old (event.Alter name c) (reply.Alter _) region q all kept = none_more (session_at old q) all (had (session_at old q) all kept)
-passing old (event.Alter name c) _ region q all kept = none_more (session_at old q) all (had (session_at old q) all kept)
-passing old _ r region q all kept = none_more (session_at old q) all (had (session_at old q) all kept)
+passing make old (event.Turn name) (reply.Turn r) region q all kept =
+    had_changed old.sessions name q (λ s. Some (after_reply s r (make region name))) (all ++ map (make region q) (cons_option (stop_taken old q (event.Turn name) (reply.Turn r)) []))
+    (λ s is there. subst (λ (ks : List StopPoint). Had (Some (after_reply s r (make region name))) (all ++ map (make region q) ks)) (sym (turn_stops old name q r s is there))
+    (had_replied make s r region name q all (same_name name q is) (had (session_at old q) all kept s there)))
+    (λ is. subst (λ (ks : List StopPoint). Had (session_at old q) (all ++ map (make region q) ks)) (sym (turn_elsewhere old name q r is)) (none_more (session_at old q) all (had (session_at old q) all kept)))
+passing make old (event.Turn name) _ region q all kept = none_more (session_at old q) all (had (session_at old q) all kept)
+passing make old (event.Alter name c) (reply.Alter alter.Altered) region q all kept =
+    had_changed old.sessions name q (λ s. Some (session_after_change s c (make region name)))
+    (all ++ map (make region q) (cons_option (stop_taken old q (event.Alter name c) (reply.Alter alter.Altered)) []))
+    (λ s is there. had_altered make s c region name q all (same_name name q is) (had (session_at old q) all kept s there) old is)
+    (λ is. subst (λ (ks : List StopPoint). Had (session_at old q) (all ++ map (make region q) ks)) (sym (alter_elsewhere c old name q is)) (none_more (session_at old q) all (had (session_at old q) all kept)))
+passing make old (event.Alter name c) (reply.Alter _) region q all kept = none_more (session_at old q) all (had (session_at old q) all kept)
+passing make old (event.Alter name c) _ region q all kept = none_more (session_at old q) all (had (session_at old q) all kept)
+passing make old _ r region q all kept = none_more (session_at old q) all (had (session_at old q) all kept)
 
 -- ---- both
-after_door : (old : EdfState) (e : EdfEvent) (door : Door) (given : Answer) (new : EdfState) (q : List ℕ) (all : List Display) → Fits old e door → Keeping old q all door → DoorAnswers display_of old door given new
-    → IsKept (session_at old q) all → Had (session_at new q) (all ++ taken old new.region q (left_in door given))
+after_door : (make : DisplayMaker) (old : EdfState) (e : EdfEvent) (door : Door) (given : Answer) (new : EdfState) (q : List ℕ) (all : List Display) → Fits old e door → Keeping old q all door → DoorAnswers make old door given new
+    → IsKept (session_at old q) all → Had (session_at new q) (all ++ taken make old new.region q (left_in door given))
 unfolding Keeping taken
-after_door old e (Keeps own sessions) given new q all fit keeps row kept =
+after_door make old e (Keeps own sessions) given new q all fit keeps row kept =
     none_more (session_at new q) all (subst (λ (s : EdfState). Had (session_at s q) all) (sym row.1) keeps)
-after_door old e (Passes x own) given new q all fit keeps row kept =
-    subst (λ (r : Reply). Had (session_at new q) (all ++ taken old new.region q (if is_refused x r then [] else (x, r) ∷ []))) (sym (reported_reply display_of old e x own given new fit row))
-    (subst (λ (s : Sessions). Had (session_in s q) (all ++ taken old new.region q (if is_refused x row.reply then [] else (x, row.reply) ∷ []))) (sym row.table)
-    (passing old x row.reply new.region q all kept))
+after_door make old e (Passes x own) given new q all fit keeps row kept =
+    subst (λ (r : Reply). Had (session_at new q) (all ++ taken make old new.region q (if is_refused x r then [] else (x, r) ∷ []))) (sym (reported_reply make old e x own given new fit row))
+    (subst (λ (s : Sessions). Had (session_in s q) (all ++ taken make old new.region q (if is_refused x row.reply then [] else (x, row.reply) ∷ []))) (sym row.table)
+    (passing make old x row.reply new.region q all kept))
 
-pub kept_after : (old : EdfState) (e : EdfEvent) (given : Answer) (new : EdfState) (q : List ℕ) (all : List Display) → EdfApplies old e given new → IsKept (session_at old q) all
-    → IsKept (session_at new q) (displays_after old e given new q all)
-unfolding AppliesBy displays_after left_of taken
-kept_after old e given new q all row kept =
-    had_kept (session_at new q) (all ++ taken old new.region q (left_in (door_of old e) given))
-    (after_door old e (door_of old e) given new q all (fits old e) (keeping old e q all kept) row kept)
+pub kept_after : (make : DisplayMaker) (old : EdfState) (e : EdfEvent) (given : Answer) (new : EdfState) (q : List ℕ) (all : List Display) → EdfApplies make old e given new → IsKept (session_at old q) all
+    → IsKept (session_at new q) (displays_after make old e given new q all)
+unfolding EdfApplies displays_after left_of taken
+kept_after make old e given new q all row kept =
+    had_kept (session_at new q) (all ++ taken make old new.region q (left_in (door_of old e) given))
+    (after_door make old e (door_of old e) given new q all (fits old e) (keeping old e q all kept) row kept)

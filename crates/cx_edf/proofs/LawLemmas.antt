@@ -4,9 +4,8 @@ use Rattle.std.specs.Prelude.{MatchOption, ◌&&◌, ◌||◌, ◌==◌, not, le
 use Rattle.std.specs.Option.{option_and_then, option_map_or}
 use Rattle.std.proofs.lemmas.Bool.{true≢false}
 use Rattle.std.proofs.lemmas.Option.{none-some}
-use Rattle.cx_edf_display.specs.declared.displays.Display.{Display}
-use Rattle.cx_edf_display.specs.declared.stops.StopPoint.{StopPoint}
-use Rattle.cx_edf_display.specs.Displays.{display_of}
+use Rattle.cx_edf.specs.declared.displays.Display.{Display}
+use Rattle.cx_edf.specs.declared.stops.StopPoint.{StopPoint}
 use Rattle.cx_region.specs.State.{RegionState, TerminalState}
 use Rattle.cx_region.specs.Tables.{task_of, terminal_of}
 use Rattle.cx_region.specs.Events.{Applies, Run}
@@ -29,7 +28,7 @@ use Rattle.cx_edf.specs.declared.modes.Mode.{Mode}
 use Rattle.cx_edf.specs.declared.modes.Mode.TheVariants as mode
 use Rattle.cx_edf.specs.Sessions.{Sessions, is_stopped, session_in, stop_of, takes_in}
 use Rattle.cx_edf.specs.State.{EdfState, stopped_at}
-use Rattle.cx_edf.specs.Steps.{AppliesBy, DisplayMaker, DoorAnswers, Door, Keeps, PassesOn, Passes, door_of, sessions_after}
+use Rattle.cx_edf.specs.Steps.{DisplayMaker, DoorAnswers, Door, EdfApplies, Keeps, PassesOn, Passes, door_of, sessions_after}
 use Rattle.cx_edf.specs.Erasure.{is_own, is_refused, left_in, left_of, region_replies}
 use Rattle.cx_edf.specs.Runs.{Trace, last_state}
 use Rattle.cx_edf.specs.Laws.Edf.{EdfEventsDecide, EdfRunsDecide, ErasedEvents, ErasedEventsLeaveTheRegion, OffIsTheRegion, OtherEventsArePassed, OwnEventsHaveOwnAnswers, PlainRunsAgree, StopsAreMissedUnderSuppression, ReportedAreThoseGiven, TheRegionIsOff, event_ends_task, given_by, given_in, is_alteration, is_edfs, is_refusal, off_at}
@@ -41,39 +40,39 @@ use Rattle.cx_edf.proofs.TraceLemmas.{what_is_left_is_a_run}
 same_state : (a b : EdfState) → a.region ≡ b.region → a.sessions ≡ b.sessions → a ≡ b
 same_state a b regions sessions = λ i. record { region = regions i; sessions = sessions i }
 
-done_decides : EventsDecide → (old : EdfState) (door : Door) (given other : Answer) (new later : EdfState)
-    → DoorAnswers display_of old door given new → DoorAnswers display_of old door other later → (given ≡ other) × (new ≡ later)
-done_decides decide old (Keeps own sessions) given other new later h k = (h.0 ∙ sym k.0, h.1 ∙ sym k.1)
-done_decides decide old (Passes e own) given other new later h k =
+done_decides : (make : DisplayMaker) → EventsDecide → (old : EdfState) (door : Door) (given other : Answer) (new later : EdfState)
+    → DoorAnswers make old door given new → DoorAnswers make old door other later → (given ≡ other) × (new ≡ later)
+done_decides make decide old (Keeps own sessions) given other new later h k = (h.0 ∙ sym k.0, h.1 ∙ sym k.1)
+done_decides make decide old (Passes e own) given other new later h k =
     let same = decide old.region e h.reply k.reply new.region later.region h.applies k.applies in (
       h.answers ∙ ap (λ r. unwrap_or own (answer.Region r)) same.0 ∙ sym k.answers,
-      same_state new later same.1 (h.table ∙ (λ i. sessions_after old.sessions e (same.0 i) (display_of (same.1 i))) ∙ sym k.table),
+      same_state new later same.1 (h.table ∙ (λ i. sessions_after old.sessions e (same.0 i) (make (same.1 i))) ∙ sym k.table),
     )
 
 pub edf_events_decide : EventsDecide → EdfEventsDecide
-unfolding AppliesBy
-edf_events_decide decide old e given other new later h k = done_decides decide old (door_of old e) given other new later h k
+unfolding EdfApplies
+edf_events_decide decide make old e given other new later h k = done_decides make decide old (door_of old e) given other new later h k
 
-traces_decide : EdfEventsDecide → (old : EdfState) (events : List EdfEvent) (answers others : List Answer) (states more : List EdfState)
-    → Trace display_of old events answers states → Trace display_of old events others more → (answers ≡ others) × (states ≡ more)
+traces_decide : (make : DisplayMaker) → EdfEventsDecide → (old : EdfState) (events : List EdfEvent) (answers others : List Answer) (states more : List EdfState)
+    → Trace make old events answers states → Trace make old events others more → (answers ≡ others) × (states ≡ more)
 unfolding Trace
-traces_decide decide old [] [] [] [] [] h k = (refl, refl)
-traces_decide decide old [] [] [] [] (t ∷ ts) h k = absurd k
-traces_decide decide old [] [] (o ∷ os) [] ts h k = absurd k
-traces_decide decide old [] [] os (s ∷ ss) ts h k = absurd h
-traces_decide decide old [] (g ∷ gs) os ss ts h k = absurd h
-traces_decide decide old (e ∷ es) [] os ss ts h k = absurd h
-traces_decide decide old (e ∷ es) (g ∷ gs) os [] ts h k = absurd h
-traces_decide decide old (e ∷ es) (g ∷ gs) [] (s ∷ ss) ts h k = absurd k
-traces_decide decide old (e ∷ es) (g ∷ gs) (o ∷ os) (s ∷ ss) [] h k = absurd k
-traces_decide decide old (e ∷ es) (g ∷ gs) (o ∷ os) (s ∷ ss) (t ∷ ts) h k =
-    let first = decide old e g o s t h.0 k.0 in
-    let rest = traces_decide decide t es gs os ss ts (subst (λ (x : EdfState). Trace display_of x es gs ss) first.1 h.1) k.1 in
+traces_decide make decide old [] [] [] [] [] h k = (refl, refl)
+traces_decide make decide old [] [] [] [] (t ∷ ts) h k = absurd k
+traces_decide make decide old [] [] (o ∷ os) [] ts h k = absurd k
+traces_decide make decide old [] [] os (s ∷ ss) ts h k = absurd h
+traces_decide make decide old [] (g ∷ gs) os ss ts h k = absurd h
+traces_decide make decide old (e ∷ es) [] os ss ts h k = absurd h
+traces_decide make decide old (e ∷ es) (g ∷ gs) os [] ts h k = absurd h
+traces_decide make decide old (e ∷ es) (g ∷ gs) [] (s ∷ ss) ts h k = absurd k
+traces_decide make decide old (e ∷ es) (g ∷ gs) (o ∷ os) (s ∷ ss) [] h k = absurd k
+traces_decide make decide old (e ∷ es) (g ∷ gs) (o ∷ os) (s ∷ ss) (t ∷ ts) h k =
+    let first = decide make old e g o s t h.0 k.0 in
+    let rest = traces_decide make decide t es gs os ss ts (subst (λ (x : EdfState). Trace make x es gs ss) first.1 h.1) k.1 in
     (λ i. first.0 i ∷ rest.0 i, λ i. first.1 i ∷ rest.1 i)
 
 pub edf_runs_decide : EventsDecide → EdfRunsDecide
-edf_runs_decide decide old events answers others new later h k =
-    let same = traces_decide (edf_events_decide decide) old events answers others h.states k.states h.trace k.trace in
+edf_runs_decide decide make old events answers others new later h k =
+    let same = traces_decide make (edf_events_decide decide) old events answers others h.states k.states h.trace k.trace in
     (same.0, sym h.ends ∙ ap (last_state old) same.1 ∙ k.ends, same.1)
 
 -- ---- watching changes nothing
@@ -88,7 +87,7 @@ own_answer make old e (Passes x None) given new fit row = ap is_edfs (sym row.an
 own_answer make old e (Passes x (Some own)) given new fit row = ap is_edfs (sym (row.answers ∙ fit.1.own_answer))
 
 pub own_answers : OwnEventsHaveOwnAnswers
-unfolding AppliesBy
+unfolding EdfApplies
 own_answers make old e given new row = own_at_door old e ∙ own_answer make old e (door_of old e) given new (fits old e) row
 
 -- EDF's own answer refuses no alteration of the region's
@@ -130,8 +129,8 @@ left_by make old e (Passes x (Some own)) given new fit row =
     (subst (λ (y : Event). IsLeft old e answer.ToEdf (left_in (Passes y (Some own)) answer.ToEdf)) (sym fit.1.abend)
     (ended old e answer.ToEdf (event.Alter fit.1.name change.Abend) refl fit.0))
 
-left_is : (make : DisplayMaker) (old : EdfState) (e : EdfEvent) (given : Answer) (new : EdfState) → AppliesBy make old e given new → IsLeft old e given (left_of old e given)
-unfolding AppliesBy left_of
+left_is : (make : DisplayMaker) (old : EdfState) (e : EdfEvent) (given : Answer) (new : EdfState) → EdfApplies make old e given new → IsLeft old e given (left_of old e given)
+unfolding EdfApplies left_of
 left_is make old e given new row = left_by make old e (door_of old e) given new (fits old e) row
 
 pub reported_are_those_given : ReportedAreThoseGiven
@@ -175,14 +174,14 @@ turn_without_task r name given new stop h idle stops = by_terminal (terminal_of 
     by_terminal (Some t) h idle = by_task t t.task h idle
 
 pub stops_are_missed : StopsAreMissedUnderSuppression
-unfolding AppliesBy door_of Applies
-stops_are_missed old name r new session stop row there stops missed = by_mode session.mode refl missed
+unfolding EdfApplies door_of Applies
+stops_are_missed make old name r new session stop row there stops missed = by_mode session.mode refl missed
   where
     of_region : (x : Reply) → answer.Region (reply.Turn r) ≡ answer.Region x → Applies old.region (event.Turn name) x new.region → TakesTurn old.region name r new.region
     of_region x same applies = subst (λ (y : Reply). Applies old.region (event.Turn name) y new.region) (sym (let e : reply.Turn r ≡ x = cc in e)) applies
 
     held : (live : Bool) → is_some (task_of old.region name) ≡ live
-        → DoorAnswers display_of old (if live then Keeps answer.Held old.sessions else Passes (event.Turn name) None) (answer.Region (reply.Turn r)) new → ⊥
+        → DoorAnswers make old (if live then Keeps answer.Held old.sessions else Passes (event.Turn name) None) (answer.Region (reply.Turn r)) new → ⊥
     held true is row = let never : answer.Region (reply.Turn r) ≡ answer.Held = row.0 in cc
     held false is row = turn_without_task old.region name r new.region stop (of_region row.reply row.answers row.applies) is stops
 
@@ -234,16 +233,16 @@ none_own old _ off plain = refl
 
 -- an event that isn't EDF's own is done by the region
 pub passed_on : (make : DisplayMaker) (old : EdfState) (e : Event) (r : Reply) (new : RegionState) → is_own old (edf_event.Plain e) ≡ false → Applies old.region e r new
-    → AppliesBy make old (edf_event.Plain e) (answer.Region r) (record { region = new; sessions = sessions_after old.sessions e r (make new) })
-unfolding AppliesBy
+    → EdfApplies make old (edf_event.Plain e) (answer.Region r) (record { region = new; sessions = sessions_after old.sessions e r (make new) })
+unfolding EdfApplies
 passed_on make old e r new own applies =
     let after : EdfState = record { region = new; sessions = sessions_after old.sessions e r (make new) } in
     subst (λ (door : Door). DoorAnswers make old door (answer.Region r) after) (sym (others_are_passed old e own))
     (record { reply = r; applies = applies; table = refl; answers = refl })
 
-plainly : (make : DisplayMaker) (old : EdfState) (e : Event) (given : Answer) (new : EdfState) → old.sessions ≡ [] → is_alteration e ≡ false → AppliesBy make old (edf_event.Plain e) given new
+plainly : (make : DisplayMaker) (old : EdfState) (e : Event) (given : Answer) (new : EdfState) → old.sessions ≡ [] → is_alteration e ≡ false → EdfApplies make old (edf_event.Plain e) given new
     → Plainly make old e given new
-unfolding AppliesBy
+unfolding EdfApplies
 plainly make old e given new off plain row =
     let passed : PassesOn make old e None given new = subst (λ (door : Door). DoorAnswers make old door given new) (others_are_passed old e (none_own old e off plain)) row in
     record { reply = passed.reply; applies = passed.applies; off = passed.table ∙ none_after old.sessions e passed.reply (make new.region) off plain; answers = passed.answers }
@@ -262,9 +261,9 @@ off_is_the_region make old (e ∷ es) (g ∷ gs) (s ∷ ss) off plain trace =
 
 -- and the other way round
 off_step : (make : DisplayMaker) (old : RegionState) (e : Event) (r : Reply) (new : RegionState) → is_alteration e ≡ false → Applies old e r new
-    → AppliesBy make (off_at old) (edf_event.Plain e) (answer.Region r) (off_at new)
+    → EdfApplies make (off_at old) (edf_event.Plain e) (answer.Region r) (off_at new)
 off_step make old e r new plain applies =
-    subst (λ (s : Sessions). AppliesBy make (off_at old) (edf_event.Plain e) (answer.Region r) (record { region = new; sessions = s }))
+    subst (λ (s : Sessions). EdfApplies make (off_at old) (edf_event.Plain e) (answer.Region r) (record { region = new; sessions = s }))
     (none_after [] e r (make new) refl plain) (passed_on make (off_at old) e r new (none_own (off_at old) e refl plain) applies)
 
 pub the_region_is_off : TheRegionIsOff

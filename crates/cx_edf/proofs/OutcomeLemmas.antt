@@ -8,7 +8,7 @@ use Rattle.cx_edf.specs.declared.answers.EdfEvent.{EdfEvent}
 use Rattle.cx_edf.specs.declared.answers.Answer.{Answer}
 use Rattle.cx_edf.specs.declared.answers.Answer.TheVariants as answer
 use Rattle.cx_edf.specs.State.{EdfState}
-use Rattle.cx_edf.specs.Steps.{AppliesBy, DisplayMaker, Door, DoorAnswers, Keeps, Passes, door_of, sessions_after}
+use Rattle.cx_edf.specs.Steps.{DisplayMaker, Door, DoorAnswers, EdfApplies, Keeps, Passes, door_of, sessions_after}
 use Rattle.cx_edf.specs.Runs.{Trace}
 use Rattle.cx_edf.specs.Laws.Memory.{IsCheckedEdf}
 use Rattle.cx_edf.specs.Laws.Outcomes.{EdfEventListsAreRuns, EdfEventsHaveOutcomes}
@@ -37,7 +37,7 @@ ends outcomes make old e (Passes x None) fit checked = passed outcomes make old 
 ends outcomes make old e (Passes x (Some own)) fit checked = passed outcomes make old x (Some own) (subst IsChecked (sym fit.1.abend) tt)
 
 pub events_have_outcomes : EventsHaveOutcomes → EdfEventsHaveOutcomes
-unfolding AppliesBy
+unfolding EdfApplies
 events_have_outcomes outcomes make old e checked =
     let found : HasEnd make old (door_of old e) = ends outcomes make old e (door_of old e) (fits old e) checked in
     record { given = found.given; new = found.new; applies = found.done }

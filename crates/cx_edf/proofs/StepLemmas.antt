@@ -12,7 +12,7 @@ use Rattle.cx_region.specs.declared.replies.Reply.TheVariants as reply
 use Rattle.cx_edf.specs.declared.answers.EdfEvent.{EdfEvent}
 use Rattle.cx_edf.specs.declared.answers.Answer.{Answer}
 use Rattle.cx_edf.specs.State.{EdfState}
-use Rattle.cx_edf.specs.Steps.{AppliesBy, DisplayMaker, DoorAnswers, Door, Keeps, PassesOn, Passes, door_of}
+use Rattle.cx_edf.specs.Steps.{DisplayMaker, DoorAnswers, Door, EdfApplies, Keeps, PassesOn, Passes, door_of}
 use Rattle.cx_edf.specs.Erasure.{is_refused, left_in, left_of, reply_in}
 use Rattle.cx_edf.proofs.DoorLemmas.{Fits, fits}
 use Rattle.cx_edf.proofs.EndLemmas.{ended_reply}
@@ -62,7 +62,7 @@ left_at make old e (Passes x own) given new fit row =
     (sym (reported_reply make old e x own given new fit row)) (left_runs_in old.region x row.reply new.region row.applies)
 
 -- what is left of one event is a run of the region
-pub left_runs : (make : DisplayMaker) (old : EdfState) (e : EdfEvent) (given : Answer) (new : EdfState) → AppliesBy make old e given new
+pub left_runs : (make : DisplayMaker) (old : EdfState) (e : EdfEvent) (given : Answer) (new : EdfState) → EdfApplies make old e given new
     → Run old.region (map (λ (p : Event × Reply). p.0) (left_of old e given)) (map (λ (p : Event × Reply). p.1) (left_of old e given)) new.region
-unfolding AppliesBy left_of
+unfolding EdfApplies left_of
 left_runs make old e given new row = left_at make old e (door_of old e) given new (fits old e) row

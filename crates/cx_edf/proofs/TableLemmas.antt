@@ -5,7 +5,6 @@ use Rattle.std.specs.Option.{option_map_or}
 use Rattle.std.proofs.lemmas.Bool.{true≢false}
 use Rattle.cx_ebcdic.specs.declared.aids.Aid.TheVariants as aid
 use Rattle.cx_base.specs.Facts.Tables.{insert_entry_present}
-use Rattle.cx_edf_display.specs.Displays.{display_of}
 use Rattle.cx_region.specs.State.{RegionState}
 use Rattle.cx_ebcdic.specs.Names.{is_name}
 use Rattle.cx_region.specs.declared.changes.AlterReply.{AlterReply}
@@ -14,7 +13,7 @@ use Rattle.cx_region.specs.declared.changes.Change.{Change}
 use Rattle.cx_region.specs.declared.replies.Event.TheVariants as event
 use Rattle.cx_region.specs.declared.replies.Reply.TheVariants as reply
 use Rattle.cx_edf.specs.Sessions.{SessionState, Sessions, after_key, is_stopped, session_in, with_session}
-use Rattle.cx_edf.specs.Steps.{with_session_changed, sessions_after}
+use Rattle.cx_edf.specs.Steps.{DisplayMaker, with_session_changed, sessions_after}
 
 -- a session set under the name of one is that session put there
 pub put_present : (sessions : Sessions) (name : List ℕ) (old new : SessionState) → session_in sessions name ≡ Some old
@@ -44,7 +43,7 @@ ended_there sessions name bytes stopped = go (session_in sessions name) stopped
     go (Some s) is = refl
 
 -- nothing is done at a session where the alteration was refused
-pub refused_leaves : (sessions : Sessions) (name : List ℕ) (change : Change) (given : AlterReply) (region : RegionState) → (given ≡ alter.Altered → ⊥)
-    → sessions ≡ sessions_after sessions (event.Alter name change) (reply.Alter given) (display_of region)
-refused_leaves sessions name change alter.Altered region refused = absurd (refused refl)
-refused_leaves sessions name change _ region refused = refl
+pub refused_leaves : (make : DisplayMaker) (sessions : Sessions) (name : List ℕ) (change : Change) (given : AlterReply) (region : RegionState) → (given ≡ alter.Altered → ⊥)
+    → sessions ≡ sessions_after sessions (event.Alter name change) (reply.Alter given) (make region)
+refused_leaves make sessions name change alter.Altered region refused = absurd (refused refl)
+refused_leaves make sessions name change _ region refused = refl

@@ -4,11 +4,10 @@ use Rattle.cx_region.specs.State.{RegionState}
 use Rattle.cx_region.specs.declared.replies.Event.{Event}
 use Rattle.cx_region.specs.declared.replies.Reply.{Reply}
 use Rattle.cx_region.specs.Events.{Run}
-use Rattle.cx_edf_display.specs.Displays.{display_of}
 use Rattle.cx_edf.specs.declared.answers.EdfEvent.{EdfEvent}
 use Rattle.cx_edf.specs.declared.answers.Answer.{Answer}
 use Rattle.cx_edf.specs.State.{EdfState}
-use Rattle.cx_edf.specs.Steps.{AppliesBy, DisplayMaker, EdfApplies}
+use Rattle.cx_edf.specs.Steps.{DisplayMaker, EdfApplies}
 use Rattle.cx_edf.specs.Erasure.{erasure, region_replies}
 use Rattle.cx_edf.specs.Runs.{EdfRun, Trace, last_state}
 use Rattle.cx_edf.specs.Laws.Displays.{LastDisplaysAreKept, displays_after, history}
@@ -54,17 +53,17 @@ fronts_are_traces make old (e ∷ es) (a ∷ gs) (s ∷ ss) (suc n) trace = (tra
 -- what is kept after a trace
 pub last_displays_are_kept : LastDisplaysAreKept
 unfolding Trace history last_state
-last_displays_are_kept old [] [] [] q all trace kept = kept
-last_displays_are_kept old [] [] (s ∷ ss) q all trace kept = absurd trace
-last_displays_are_kept old [] (a ∷ gs) ss q all trace kept = absurd trace
-last_displays_are_kept old (e ∷ es) [] ss q all trace kept = absurd trace
-last_displays_are_kept old (e ∷ es) (a ∷ gs) [] q all trace kept = absurd trace
-last_displays_are_kept old (e ∷ es) (a ∷ gs) (s ∷ ss) q all trace kept =
-    last_displays_are_kept s es gs ss q (displays_after old e a s q all) trace.1 (kept_after old e a s q all trace.0 kept)
+last_displays_are_kept make old [] [] [] q all trace kept = kept
+last_displays_are_kept make old [] [] (s ∷ ss) q all trace kept = absurd trace
+last_displays_are_kept make old [] (a ∷ gs) ss q all trace kept = absurd trace
+last_displays_are_kept make old (e ∷ es) [] ss q all trace kept = absurd trace
+last_displays_are_kept make old (e ∷ es) (a ∷ gs) [] q all trace kept = absurd trace
+last_displays_are_kept make old (e ∷ es) (a ∷ gs) (s ∷ ss) q all trace kept =
+    last_displays_are_kept make s es gs ss q (displays_after make old e a s q all) trace.1 (kept_after make old e a s q all trace.0 kept)
 
 -- one more event
 trace_more : (make : DisplayMaker) (old : EdfState) (events : List EdfEvent) (answers : List Answer) (states : List EdfState) (e : EdfEvent) (given : Answer) (new : EdfState)
-    → Trace make old events answers states → AppliesBy make (last_state old states) e given new
+    → Trace make old events answers states → EdfApplies make (last_state old states) e given new
     → Trace make old (events ++ e ∷ []) (answers ++ given ∷ []) (states ++ new ∷ [])
 unfolding Trace last_state
 trace_more make old [] [] [] e given new trace row = (row, tt)
@@ -82,12 +81,12 @@ last_more old (s ∷ ss) new = last_more s ss new
 pub events_are_steps : EventsAreSteps
 events_are_steps make old events answers states e given new trace row = (trace_more make old events answers states e given new trace row, last_more old states new)
 
-pub run_empty : (old : EdfState) → EdfRun old [] [] old
+pub run_empty : (make : DisplayMaker) (old : EdfState) → EdfRun make old [] [] old
 unfolding Trace last_state
-run_empty old = record { states = []; trace = tt; ends = refl }
+run_empty make old = record { states = []; trace = tt; ends = refl }
 
-pub run_last : (old mid new : EdfState) (events : List EdfEvent) (e : EdfEvent) (answers : List Answer) (given : Answer) → EdfRun old events answers mid → EdfApplies mid e given new
-    → EdfRun old (events ++ e ∷ []) (answers ++ given ∷ []) new
-run_last old mid new events e answers given run row =
-    let more = events_are_steps display_of old events answers run.states e given new run.trace (subst (λ (s : EdfState). EdfApplies s e given new) (sym run.ends) row) in
+pub run_last : (make : DisplayMaker) (old mid new : EdfState) (events : List EdfEvent) (e : EdfEvent) (answers : List Answer) (given : Answer) → EdfRun make old events answers mid → EdfApplies make mid e given new
+    → EdfRun make old (events ++ e ∷ []) (answers ++ given ∷ []) new
+run_last make old mid new events e answers given run row =
+    let more = events_are_steps make old events answers run.states e given new run.trace (subst (λ (s : EdfState). EdfApplies make s e given new) (sym run.ends) row) in
     record { states = run.states ++ new ∷ []; trace = more.0; ends = more.1 }

@@ -18,7 +18,7 @@ use Rattle.cx_edf.specs.declared.answers.Answer.{Answer}
 use Rattle.cx_edf.specs.declared.answers.Answer.TheVariants as answer
 use Rattle.cx_edf.specs.Sessions.{SessionState, Sessions, after_key, fresh_session, is_stopped, session_in, with_session}
 use Rattle.cx_edf.specs.State.{EdfState, session_at, stopped_at}
-use Rattle.cx_edf.specs.Steps.{AppliesBy, DisplayMaker, Door, DoorAnswers, Keeps, Passes, door_of, sessions_after, with_session_changed}
+use Rattle.cx_edf.specs.Steps.{DisplayMaker, Door, DoorAnswers, EdfApplies, Keeps, Passes, door_of, sessions_after, with_session_changed}
 use Rattle.cx_edf.specs.Erasure.{erasure, is_own, is_refused, left_in, left_of, region_replies}
 use Rattle.cx_edf.specs.Runs.{Trace, last_state}
 use Rattle.cx_edf.specs.Laws.Edf.{is_alteration}
@@ -37,7 +37,7 @@ record Leaves (make : DisplayMaker) (old : EdfState) (events : List EdfEvent) (l
 
 -- one more in front
 leaves_more : (make : DisplayMaker) (old : EdfState) (e : EdfEvent) (given : Answer) (mid : EdfState) (of_it : List (Event × Reply)) (events : List EdfEvent) (left : List Event) (replies : List Reply) (new : RegionState)
-    → AppliesBy make old e given mid → left_of old e given ≡ of_it → Leaves make mid events left replies new
+    → EdfApplies make old e given mid → left_of old e given ≡ of_it → Leaves make mid events left replies new
     → Leaves make old (e ∷ events) (map (λ (p : Event × Reply). p.0) of_it ++ left) (map (λ (p : Event × Reply). p.1) of_it ++ replies) new
 unfolding Trace erasure region_replies last_state
 leaves_more make old e given mid of_it events left replies new applies is rest =
@@ -58,7 +58,7 @@ with_region region sessions = record { region = region; sessions = sessions }
 keeps_more : (make : DisplayMaker) (region : RegionState) (sessions after : Sessions) (e : EdfEvent) (own : Answer) (events : List EdfEvent) (left : List Event) (replies : List Reply) (new : RegionState)
     → door_of (with_region region sessions) e ≡ Keeps own after → Leaves make (with_region region after) events left replies new
     → Leaves make (with_region region sessions) (e ∷ events) left replies new
-unfolding AppliesBy left_of
+unfolding EdfApplies left_of
 keeps_more make region sessions after e own events left replies new is rest =
     leaves_more make (with_region region sessions) e own (with_region region after) [] events left replies new
     (subst (λ (door : Door). DoorAnswers make (with_region region sessions) door own (with_region region after)) (sym is) (refl, refl))

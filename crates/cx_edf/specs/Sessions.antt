@@ -11,10 +11,10 @@ use Rattle.cx_ebcdic.specs.declared.aids.Aid.TheVariants as aid
 use Rattle.cx_base.specs.declared.abends.Abend.TheVariants.{Xedf}
 use Rattle.cx_base.specs.declared.conditions.Condition.TheVariants as condition
 use Rattle.cx_base.specs.Abends.{abend_code}
-use Rattle.cx_edf_display.specs.declared.displays.Display.{Display}
-use Rattle.cx_edf_display.specs.declared.stops.StopPoint.{StopPoint}
-use Rattle.cx_edf_display.specs.declared.stops.StopPoint.TheVariants as kind
-use Rattle.cx_edf_display.specs.declared.stops.Ending.TheVariants as ending
+use Rattle.cx_edf.specs.declared.displays.Display.{Display}
+use Rattle.cx_edf.specs.declared.stops.StopPoint.{StopPoint}
+use Rattle.cx_edf.specs.declared.stops.StopPoint.TheVariants as kind
+use Rattle.cx_edf.specs.declared.stops.Ending.TheVariants as ending
 use Rattle.cx_region.specs.declared.changes.Change.{Change}
 use Rattle.cx_region.specs.declared.changes.Change.TheVariants as change
 use Rattle.cx_ebcdic.specs.Names.{is_name}

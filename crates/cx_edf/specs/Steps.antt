@@ -1,9 +1,8 @@
 -- One event under EDF (own).
 use Rattle.std.specs.Prelude.{◌≡◌, ℕ, List, Option, Some, None, is_some, ◌&&◌, not, unwrap_or, if◌then◌else◌, MatchBool}
 use Rattle.std.specs.Option.{option_map_or}
-use Rattle.cx_edf_display.specs.declared.displays.Display.{Display}
-use Rattle.cx_edf_display.specs.declared.stops.StopPoint.{StopPoint}
-use Rattle.cx_edf_display.specs.Displays.{display_of}
+use Rattle.cx_edf.specs.declared.displays.Display.{Display}
+use Rattle.cx_edf.specs.declared.stops.StopPoint.{StopPoint}
 use Rattle.cx_region_task.specs.declared.cause.AbendRecord.{AbendRecord}
 use Rattle.cx_region.specs.State.{RegionState}
 use Rattle.cx_region.specs.Tables.{terminal_of}
@@ -84,12 +83,8 @@ DoorAnswers make old (Keeps own sessions) given new = (given ≡ own) × (new �
 DoorAnswers make old (Passes event own) given new = PassesOn make old event own given new
 
 -- one event, where displays are made so: its answer, and the state after it
-unfoldable pub AppliesBy : DisplayMaker → EdfState → EdfEvent → Answer → EdfState → Type 0
-AppliesBy make old e given new = DoorAnswers make old (door_of old e) given new
-
--- one event, with the displays that EDF makes
-abbrev pub EdfApplies : EdfState → EdfEvent → Answer → EdfState → Type 0
-EdfApplies = AppliesBy display_of
+unfoldable pub EdfApplies : DisplayMaker → EdfState → EdfEvent → Answer → EdfState → Type 0
+EdfApplies make old e given new = DoorAnswers make old (door_of old e) given new
 
 -- The record of an abend to which an event leads: that of the region's turn, where it isn't held; no other event leads
 -- to one that has a cause: PF12 and ALTER ABEND are the operator's.

@@ -6,9 +6,9 @@ use Rattle.cx_ebcdic.specs.Characters.{shown_as}
 use Rattle.cx_base.specs.Conditions.{entry_of, handled_conditions, condition_place}
 use Rattle.cx_base.specs.declared.conditions.Condition.{Condition}
 use Rattle.cx_base.specs.declared.conditions.Condition.TheVariants as condition
-use Rattle.cx_edf_display.specs.declared.stops.StopPoint.{StopPoint}
-use Rattle.cx_edf_display.specs.declared.stops.StopPoint.TheVariants as kind
-use Rattle.cx_edf_display.specs.declared.stops.Ending.TheVariants as ending
+use Rattle.cx_edf.specs.declared.stops.StopPoint.{StopPoint}
+use Rattle.cx_edf.specs.declared.stops.StopPoint.TheVariants as kind
+use Rattle.cx_edf.specs.declared.stops.Ending.TheVariants as ending
 use Rattle.cx_edf.specs.declared.stop_words.StopWord.{StopWord}
 use Rattle.cx_edf.specs.declared.stop_words.StopWord.TheVariants as word
 use Rattle.cx_edf.specs.declared.stop_words.Stops.{Stops}

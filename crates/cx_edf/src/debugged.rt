@@ -10,7 +10,6 @@ ghost use Rattle.cx_region.specs.Tables.{task_of, terminal_of};
 ghost use Rattle.cx_region.specs.declared.changes.Change.TheVariants as change;
 ghost use Rattle.cx_region.specs.declared.replies.Event.TheVariants as event;
 ghost use Rattle.cx_region.specs.declared.replies.Reply.TheVariants as reply;
-ghost use Rattle.cx_edf_display.specs.Displays.{display_of};
 ghost use Rattle.cx_edf.specs.Answers.{alter_answer, key_answer, turn_answer};
 ghost use Rattle.cx_edf.specs.Erasure.{reply_in};
 ghost use Rattle.cx_edf.specs.Runs.{MayTakeEdf};
@@ -21,28 +20,29 @@ ghost use Rattle.cx_edf.specs.declared.answers.EdfEvent.TheVariants as edf_event
 ghost use Rattle.cx_edf.specs.declared.answers.Answer.TheVariants as answer;
 
 use crate::answers::{AlterAnswer, Answer, EdfReply, KeyAnswer, TurnAnswer};
+use crate::displays::{Display, MakesDisplays};
 use crate::modes::View;
 use crate::sessions::Session;
 use crate::table;
 use cx_ebcdic::{Aid, Name4, Name8};
-use cx_edf_display::Display;
 use cx_load::{CheckedImage, Loaded};
 use cx_region::{AbendRecord, Change, DefineFault, Event, Region, TaskInfo};
 use cx_service::Screen;
 use cx_storage::Store;
 use indexmap::IndexMap;
 use std::alloc::{AllocError, Global};
-use std::marker::Model;
+use std::marker::{Model, PhantomData};
 
-/// A region under EDF: each terminal is Off, or has a session.
+/// A region under EDF: each terminal is Off, or has a session. `M` makes its displays.
 #[derive(Drop)]
-pub struct Debugged<S: Store + Drop> {
+pub struct Debugged<S: Store + Drop, M: MakesDisplays> {
     pub(crate) alloc: Global,
     pub(crate) region: Region<S>,
     pub(crate) sessions: IndexMap<Name4, Session>,
+    pub(crate) displays: PhantomData<M>,
 }
 
-impl<S: Store + Drop> Model for Debugged<S> {
+impl<S: Store + Drop, M: MakesDisplays> Model for Debugged<S, M> {
     ghost use Rattle.cx_region.specs.Sound.{IsSound};
     ghost use Rattle.cx_edf.specs.State.{EdfState};
 
@@ -53,9 +53,9 @@ impl<S: Store + Drop> Model for Debugged<S> {
     ghost invariant = { λ d. IsSound d.region };
 }
 
-impl<S: Store + Drop> Debugged<S> {
+impl<S: Store + Drop, M: MakesDisplays> Debugged<S, M> {
     /// The region, which is sound (`IsSound`), with EDF Off at each terminal. It takes no memory.
-    pub fn new(alloc: Global, region: Region<S>) -> Debugged<S>
+    pub fn new(alloc: Global, region: Region<S>) -> Debugged<S, M>
         requires { IsSound region }
         ensures region { result.region ≡ region }
         ensures off { result.sessions ≡ [] }
@@ -64,6 +64,7 @@ impl<S: Store + Drop> Debugged<S> {
             alloc,
             region,
             sessions: IndexMap::new(alloc),
+            displays: PhantomData,
         }
     }
 
@@ -76,11 +77,11 @@ impl<S: Store + Drop> Debugged<S> {
     /// with `Change::Abend`; without a task it has no effect, and neither has any other key.
     ///
     /// An error comes only where an allocation failed in the region's key. Then all is as before.
-    #[tactic(auto, unfolding(crate::specs::Steps::AppliesBy, crate::specs::Steps::door_of, crate::specs::Runs::MayTakeEdf, cx_region::specs::Events::Applies, cx_region::specs::Events::MayTakeMemory))]
+    #[tactic(auto, unfolding(crate::specs::Steps::EdfApplies, crate::specs::Steps::door_of, crate::specs::Runs::MayTakeEdf, cx_region::specs::Events::Applies, cx_region::specs::Events::MayTakeMemory))]
     pub fn key(&mut self, name: Name4, aid: Aid, bytes: &[u8]) -> Result<KeyAnswer, AllocError>
         requires { length bytes.now ≤ 1920 }
         ensures applies { let key = edf_event.Plain (event.Key name aid bytes.now) in
-            IfOk result (λ given. EdfApplies self.old key (key_answer given) self.new) }
+            IfOk result (λ given. EdfApplies M.make self.old key (key_answer given) self.new) }
         ensures memory { OnErr result (MayTakeEdf self.old (edf_event.Plain (event.Key name aid bytes.now))) }
         ensures succeeds { stopped_at self.old name ≡ true → IsOk result }
         ensures err { OnErr result (self.new ≡ self.old) }
@@ -118,11 +119,11 @@ impl<S: Store + Drop> Debugged<S> {
     /// Ends the task of a terminal by an abend that no exit takes.
     fn end_task(&mut self, name: Name4)
         ensures ended { let end = event.Alter name change.Abend in
-            PassesOn display_of self.old end (Some answer.ToEdf) answer.ToEdf self.new }
+            PassesOn M.make self.old end (Some answer.ToEdf) answer.ToEdf self.new }
         ensures sound { IsSound self.new.region }
     {
         let reply = self.region.alter(name, Change::Abend);
-        table::alter(&mut self.sessions, &self.region, name, Change::Abend, reply);
+        table::alter::<S, M>(&mut self.sessions, &self.region, name, Change::Abend, reply);
     }
 
     /// Alters the task of a terminal in Stopped: a register (0 to 15), a byte of storage, the command that is due, or
@@ -133,18 +134,18 @@ impl<S: Store + Drop> Debugged<S> {
     /// It is refused by the first that applies of: no such terminal, not stopped, no task, no command due for
     /// `Change::Nop`, no byte at the address for `Change::Byte` (from 2^24 on there is none). Then all is as before. It
     /// takes no memory.
-    #[tactic(auto, unfolding(crate::specs::Steps::AppliesBy, crate::specs::Steps::door_of, cx_region::specs::Events::Applies))]
+    #[tactic(auto, unfolding(crate::specs::Steps::EdfApplies, crate::specs::Steps::door_of, cx_region::specs::Events::Applies))]
     pub fn alter(&mut self, name: Name4, change: Change) -> AlterAnswer
         requires { IsAllowedChange change }
         ensures applies { let alter = edf_event.Plain (event.Alter name change) in
-            EdfApplies self.old alter (alter_answer result) self.new }
+            EdfApplies M.make self.old alter (alter_answer result) self.new }
         ensures sound { IsSound self.new.region }
     {
         if self.region.screen(name).is_some() && !table::is_stopped(&self.sessions, name) {
             return AlterAnswer::NotStopped;
         }
         let reply = self.region.alter(name, change);
-        table::alter(&mut self.sessions, &self.region, name, change, reply);
+        table::alter::<S, M>(&mut self.sessions, &self.region, name, change, reply);
         AlterAnswer::Region(reply)
     }
 
@@ -155,7 +156,7 @@ impl<S: Store + Drop> Debugged<S> {
     /// An error comes only where an allocation failed in the region's turn. Then all is as before.
     pub fn turn(&mut self, name: Name4) -> Result<TurnAnswer, AllocError>
         ensures applies { let turn = edf_event.Plain (event.Turn name) in
-            IfOk result (λ given. EdfApplies self.old turn (turn_answer given) self.new) }
+            IfOk result (λ given. EdfApplies M.make self.old turn (turn_answer given) self.new) }
         ensures memory { OnErr result (MayTakeEdf self.old (edf_event.Plain (event.Turn name))) }
         ensures held { holds self.old name ≡ true → IsOk result }
         ensures err { OnErr result (self.new ≡ self.old) }
@@ -168,13 +169,13 @@ impl<S: Store + Drop> Debugged<S> {
     /// A turn of a terminal, as `turn`, that reports why it leads to an abend, where it does.
     ///
     /// An error comes only where an allocation failed in the region's turn. Then all is as before.
-    #[tactic(auto, unfolding(crate::specs::Steps::AppliesBy, crate::specs::Steps::door_of, crate::specs::Steps::EdfHasAbendRecord, crate::specs::Runs::MayTakeEdf, cx_region::specs::Events::Applies, cx_region::specs::Events::MayTakeMemory))]
+    #[tactic(auto, unfolding(crate::specs::Steps::EdfApplies, crate::specs::Steps::door_of, crate::specs::Steps::EdfHasAbendRecord, crate::specs::Runs::MayTakeEdf, cx_region::specs::Events::Applies, cx_region::specs::Events::MayTakeMemory))]
     pub fn turn_with_cause(
         &mut self,
         name: Name4,
     ) -> Result<(TurnAnswer, Option<AbendRecord>), AllocError>
         ensures applies { let turn = edf_event.Plain (event.Turn name) in
-            IfOk result (λ both. EdfApplies self.old turn (turn_answer both.0) self.new) }
+            IfOk result (λ both. EdfApplies M.make self.old turn (turn_answer both.0) self.new) }
         ensures abend_record { IfOk result
             (λ both. EdfHasAbendRecord self.old (edf_event.Plain (event.Turn name)) both.1) }
         ensures memory { OnErr result (MayTakeEdf self.old (edf_event.Plain (event.Turn name))) }
@@ -186,7 +187,7 @@ impl<S: Store + Drop> Debugged<S> {
             return Ok((TurnAnswer::Held, None));
         }
         let (reply, abend_record) = self.region.turn_with_cause(name)?;
-        table::note(&mut self.sessions, &self.region, name, &reply);
+        table::note::<S, M>(&mut self.sessions, &self.region, name, &reply);
         Ok((TurnAnswer::Region(reply), abend_record))
     }
 
@@ -194,9 +195,10 @@ impl<S: Store + Drop> Debugged<S> {
     /// on. Else it is answered NoSuchTerminal or AlreadyOn.
     ///
     /// An error comes only where memory for the session was refused. Then all is as before.
-    #[tactic(auto, unfolding(crate::specs::Steps::AppliesBy, crate::specs::Steps::door_of, crate::specs::Runs::MayTakeEdf))]
+    #[tactic(auto, unfolding(crate::specs::Steps::EdfApplies, crate::specs::Steps::door_of, crate::specs::Runs::MayTakeEdf))]
     pub fn edf_on(&mut self, name: Name4) -> Result<EdfReply, AllocError>
-        ensures applies { IfOk result (λ given. EdfApplies self.old (edf_event.On name) (answer.Edf given) self.new) }
+        ensures applies { let on = edf_event.On name in
+            IfOk result (λ given. EdfApplies M.make self.old on (answer.Edf given) self.new) }
         ensures memory { OnErr result (MayTakeEdf self.old (edf_event.On name)) }
         ensures err { OnErr result (self.new ≡ self.old) }
         ensures sound { IsSound self.new.region }
@@ -213,9 +215,9 @@ impl<S: Store + Drop> Debugged<S> {
 
     /// Ends the session of a terminal, in any mode, and drops its displays. Where there is none it is answered
     /// NoSuchTerminal or NotOn. It takes no memory.
-    #[tactic(auto, unfolding(crate::specs::Steps::AppliesBy, crate::specs::Steps::door_of))]
+    #[tactic(auto, unfolding(crate::specs::Steps::EdfApplies, crate::specs::Steps::door_of))]
     pub fn edf_off(&mut self, name: Name4) -> EdfReply
-        ensures applies { EdfApplies self.old (edf_event.Off name) (answer.Edf result) self.new }
+        ensures applies { EdfApplies M.make self.old (edf_event.Off name) (answer.Edf result) self.new }
         ensures sound { IsSound self.new.region }
     {
         if self.region.screen(name).is_none() {
@@ -250,17 +252,18 @@ impl<S: Store + Drop> Debugged<S> {
     /// Loads a program and defines it by its name, as the region does.
     ///
     /// The faults are the region's, and so is when each comes. Then all is as before.
-    #[tactic(auto, unfolding(crate::specs::Steps::AppliesBy, crate::specs::Steps::door_of, cx_region::specs::Events::Applies, cx_region::specs::Events::MayTakeMemory))]
+    #[tactic(auto, unfolding(crate::specs::Steps::EdfApplies, crate::specs::Steps::door_of, cx_region::specs::Events::Applies, cx_region::specs::Events::MayTakeMemory))]
     pub fn define_program(
         &mut self,
         name: Name8,
         image: &CheckedImage,
     ) -> Result<Loaded, DefineFault>
         ensures defined { let define = edf_event.Plain (event.Program name image.now) in
-            IfOk result (λ loaded. EdfApplies self.old define (answer.Region (reply.Program (Ok loaded))) self.new) }
+            IfOk result (λ loaded. let defined = answer.Region (reply.Program (Ok loaded)) in
+            EdfApplies M.make self.old define defined self.new) }
         ensures refused { let define = edf_event.Plain (event.Program name image.now) in
             IfErr result (λ fault. let refusal = answer.Region (reply.Program (Err fault)) in
-            fault ≢ DefineFault.Memory → EdfApplies self.old define refusal self.new) }
+            fault ≢ DefineFault.Memory → EdfApplies M.make self.old define refusal self.new) }
         ensures memory { let defined = event.Program name image.now in
             IsErrOf result DefineFault.Memory → MayTakeMemory self.old.region defined }
         ensures err { OnErr result (self.new ≡ self.old) }
@@ -272,13 +275,14 @@ impl<S: Store + Drop> Debugged<S> {
     /// Defines a transaction by its name and that of its program, as the region does.
     ///
     /// The faults are the region's, and so is when each comes. Then all is as before.
-    #[tactic(auto, unfolding(crate::specs::Steps::AppliesBy, crate::specs::Steps::door_of, cx_region::specs::Events::Applies, cx_region::specs::Events::MayTakeMemory, cx_region::specs::Defining::DefinesTransaction, cx_region::specs::Defining::transaction_fault))]
+    #[tactic(auto, unfolding(crate::specs::Steps::EdfApplies, crate::specs::Steps::door_of, cx_region::specs::Events::Applies, cx_region::specs::Events::MayTakeMemory, cx_region::specs::Defining::DefinesTransaction, cx_region::specs::Defining::transaction_fault))]
     pub fn define_transaction(&mut self, name: Name4, program: Name8) -> Result<(), DefineFault>
         ensures defined { let define = edf_event.Plain (event.Transaction name program) in
-            IfOk result (λ done. EdfApplies self.old define (answer.Region (reply.Transaction (Ok done))) self.new) }
+            IfOk result (λ done. let defined = answer.Region (reply.Transaction (Ok done)) in
+            EdfApplies M.make self.old define defined self.new) }
         ensures refused { let define = edf_event.Plain (event.Transaction name program) in
             IfErr result (λ fault. let refusal = answer.Region (reply.Transaction (Err fault)) in
-            fault ≢ DefineFault.Memory → EdfApplies self.old define refusal self.new) }
+            fault ≢ DefineFault.Memory → EdfApplies M.make self.old define refusal self.new) }
         ensures memory { let defined = event.Transaction name program in
             IsErrOf result DefineFault.Memory → MayTakeMemory self.old.region defined }
         ensures err { OnErr result (self.new ≡ self.old) }
@@ -290,13 +294,14 @@ impl<S: Store + Drop> Debugged<S> {
     /// Defines a terminal by its name, as the region does: EDF is Off there.
     ///
     /// The faults are the region's, and so is when each comes. Then all is as before.
-    #[tactic(auto, unfolding(crate::specs::Steps::AppliesBy, crate::specs::Steps::door_of, cx_region::specs::Events::Applies, cx_region::specs::Events::MayTakeMemory, cx_region::specs::Defining::DefinesTerminal, cx_region::specs::Defining::terminal_fault))]
+    #[tactic(auto, unfolding(crate::specs::Steps::EdfApplies, crate::specs::Steps::door_of, cx_region::specs::Events::Applies, cx_region::specs::Events::MayTakeMemory, cx_region::specs::Defining::DefinesTerminal, cx_region::specs::Defining::terminal_fault))]
     pub fn define_terminal(&mut self, name: Name4) -> Result<(), DefineFault>
         ensures defined { let define = edf_event.Plain (event.Terminal name) in
-            IfOk result (λ done. EdfApplies self.old define (answer.Region (reply.Terminal (Ok done))) self.new) }
+            IfOk result (λ done. let defined = answer.Region (reply.Terminal (Ok done)) in
+            EdfApplies M.make self.old define defined self.new) }
         ensures refused { let define = edf_event.Plain (event.Terminal name) in
             IfErr result (λ fault. let refusal = answer.Region (reply.Terminal (Err fault)) in
-            fault ≢ DefineFault.Memory → EdfApplies self.old define refusal self.new) }
+            fault ≢ DefineFault.Memory → EdfApplies M.make self.old define refusal self.new) }
         ensures memory { IsErrOf result DefineFault.Memory → MayTakeMemory self.old.region (event.Terminal name) }
         ensures err { OnErr result (self.new ≡ self.old) }
         ensures sound { IsSound self.new.region }
@@ -306,12 +311,12 @@ impl<S: Store + Drop> Debugged<S> {
 
     /// Sets the clock, for the tasks attached later: the time as hhmmss (at most 999,999) and the date as yyddd (at
     /// most 99,999). It takes no memory.
-    #[tactic(auto, unfolding(crate::specs::Steps::AppliesBy, crate::specs::Steps::door_of, cx_region::specs::Events::Applies))]
+    #[tactic(auto, unfolding(crate::specs::Steps::EdfApplies, crate::specs::Steps::door_of, cx_region::specs::Events::Applies))]
     pub fn set_clock(&mut self, time: u32, date: u32)
         requires time { time ≤ 999999 }
         requires date { date ≤ 99999 }
         ensures applies { let clock_set = edf_event.Plain (event.Clock time date) in
-            EdfApplies self.old clock_set (answer.Region reply.Clock) self.new }
+            EdfApplies M.make self.old clock_set (answer.Region reply.Clock) self.new }
         ensures sound { IsSound self.new.region }
     {
         self.region.set_clock(time, date);

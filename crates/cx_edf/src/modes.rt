@@ -1,6 +1,6 @@
 //! Modes of a terminal under EDF, and what its operator sees.
 
-use cx_edf_display::StopPoint;
+use crate::stops::StopPoint;
 
 /// The mode of a terminal under EDF.
 #[derive(Clone, Copy)]

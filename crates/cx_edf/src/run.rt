@@ -10,6 +10,7 @@ ghost use Rattle.cx_edf.specs.declared.answers.EdfEvent.TheVariants as edf_event
 
 use crate::answers::{AlterAnswer, Answer, EdfEvent, KeyAnswer, TurnAnswer};
 use crate::debugged::Debugged;
+use crate::displays::MakesDisplays;
 use cx_region::{AbendRecord, Event, Reply, RunStop};
 use cx_storage::Store;
 use std::alloc::AllocError;
@@ -44,7 +45,7 @@ fn of_alter(given: AlterAnswer) -> Answer
     }
 }
 
-impl<S: Store + Drop> Debugged<S> {
+impl<S: Store + Drop, M: MakesDisplays> Debugged<S, M> {
     /// Does one event: the call that it names. What that call takes is asked of it: a clock as for `set_clock`, at most
     /// 1,920 bytes of a key, a register as for `alter`. A refusal of the call is its answer.
     ///
@@ -52,7 +53,7 @@ impl<S: Store + Drop> Debugged<S> {
     /// before.
     pub fn apply(&mut self, event: &EdfEvent) -> Result<Answer, AllocError>
         requires { IsAllowedEdf event.now }
-        ensures done { IsDone EdfApplies MayTakeEdf self.old event.now result self.new }
+        ensures done { IsDone (EdfApplies M.make) MayTakeEdf self.old event.now result self.new }
         ensures sound { IsSound self.new.region }
     {
         let (answer, _abend_record) = self.apply_with_cause(event)?;
@@ -70,7 +71,7 @@ impl<S: Store + Drop> Debugged<S> {
         event: &EdfEvent,
     ) -> Result<(Answer, Option<AbendRecord>), AllocError>
         requires { IsAllowedEdf event.now }
-        ensures applies { IfOk result (λ both. EdfApplies self.old event.now both.0 self.new) }
+        ensures applies { IfOk result (λ both. EdfApplies M.make self.old event.now both.0 self.new) }
         ensures abend_record { IfOk result (λ both. EdfHasAbendRecord self.old event.now both.1) }
         ensures memory { OnErr result (MayTakeEdf self.old event.now) }
         ensures err { OnErr result (self.new ≡ self.old) }
@@ -90,10 +91,10 @@ impl<S: Store + Drop> Debugged<S> {
     }
 
     /// Does one event of the region.
-    #[tactic(auto, unfolding(crate::specs::Steps::AppliesBy, crate::specs::Steps::door_of, crate::specs::Steps::EdfHasAbendRecord, crate::specs::Runs::MayTakeEdf))]
+    #[tactic(auto, unfolding(crate::specs::Steps::EdfApplies, crate::specs::Steps::door_of, crate::specs::Steps::EdfHasAbendRecord, crate::specs::Runs::MayTakeEdf))]
     fn plain(&mut self, event: &Event) -> Result<(Answer, Option<AbendRecord>), AllocError>
         requires { IsAllowed event.now }
-        ensures applies { IfOk result (λ both. EdfApplies self.old (edf_event.Plain event.now) both.0 self.new) }
+        ensures applies { IfOk result (λ both. EdfApplies M.make self.old (edf_event.Plain event.now) both.0 self.new) }
         ensures abend_record { IfOk result (λ both. EdfHasAbendRecord self.old (edf_event.Plain event.now) both.1) }
         ensures memory { OnErr result (MayTakeEdf self.old (edf_event.Plain event.now)) }
         ensures err { OnErr result (self.new ≡ self.old) }
@@ -129,8 +130,9 @@ impl<S: Store + Drop> Debugged<S> {
     /// all, else at an event that may take memory. The state is as the events done left it.
     pub fn run(&mut self, events: &[EdfEvent]) -> Result<Vec<Answer>, RunStop>
         requires { AllByRecursion IsAllowedEdf events.now }
-        ensures ok { IfOk result (λ answers. EdfRun self.old events.now answers.items self.new) }
-        ensures stopped { IfErr result (λ stop. RunStopped EdfRun MayTakeEdf self.old events.now stop.done self.new) }
+        ensures ok { IfOk result (λ answers. EdfRun M.make self.old events.now answers.items self.new) }
+        ensures stopped { IfErr result (λ stop.
+            RunStopped (EdfRun M.make) MayTakeEdf self.old events.now stop.done self.new) }
         ensures sound { IsSound self.new.region }
     {
         let alloc = self.alloc;

@@ -1,15 +1,15 @@
 //! Sessions.
 ghost use Rattle.std.specs.Prelude.{◌≡◌, ◌≢◌, ◌<◌, ◌^◌, None, Some, IfOk, IsTrue, is_some, length};
 ghost use Rattle.std.specs.Option.{option_copied, option_map};
-ghost use Rattle.cx_edf_display.specs.Displays.{display_of};
 ghost use Rattle.cx_edf.specs.Sessions.{session_after_change, after_key, after_reply, fresh_session, is_stopped, nth_back, older, shown_of, stop_of, stop_session, takes_in, turned_to};
 
+use crate::displays::{Display, MakesDisplays};
 use crate::modes::{Mode, PageName, View};
 use crate::stop_words::Stops;
+use crate::stops::{Ending, StopPoint};
 use circular_buffer::HeapCircularBuffer;
 use cx_base::{Abend, Condition};
 use cx_ebcdic::{Aid, Name4};
-use cx_edf_display::{Display, Ending, StopPoint};
 use cx_region::{Change, Region, TurnReply};
 use cx_storage::Store;
 use std::alloc::{AllocError, Global};
@@ -118,19 +118,19 @@ impl Session {
     /// What a turn's reply does, where the region is as it was after the turn: at a stop that the session takes, it
     /// stops, with the display of the terminal.
     #[tactic(auto, unfolding(crate::specs::Sessions::after_reply))]
-    pub(crate) fn note<S: Store + Drop>(
+    pub(crate) fn note<S: Store + Drop, M: MakesDisplays>(
         &mut self,
         region: &Region<S>,
         name: Name4,
         reply: &TurnReply,
     )
-        ensures { self.new ≡ after_reply self.old reply.now (display_of region.now name) }
+        ensures { self.new ≡ after_reply self.old reply.now (M.make region.now name) }
     {
         let Some(kind) = stop_of(reply) else {
             return;
         };
         if self.takes(&kind) {
-            let display = Display::take(region, name, &kind);
+            let display = M::take(region, name, &kind);
             self.stop(kind, display);
         }
     }
@@ -138,14 +138,19 @@ impl Session {
     /// What an alteration does, where the region is as it was after it: after `Change::Nop` the task goes on, and after
     /// `Change::Abend` it is stopped over, with the display of the terminal.
     #[tactic(auto, unfolding(crate::specs::Sessions::session_after_change))]
-    pub(crate) fn alter<S: Store + Drop>(&mut self, region: &Region<S>, name: Name4, change: Change)
-        ensures { self.new ≡ session_after_change self.old change (display_of region.now name) }
+    pub(crate) fn alter<S: Store + Drop, M: MakesDisplays>(
+        &mut self,
+        region: &Region<S>,
+        name: Name4,
+        change: Change,
+    )
+        ensures { self.new ≡ session_after_change self.old change (M.make region.now name) }
     {
         match change {
             Change::Nop => self.mode = Mode::Free,
             Change::Abend => {
                 let kind = StopPoint::Over(Ending::Abended(Abend::Xedf.code()));
-                let display = Display::take(region, name, &kind);
+                let display = M::take(region, name, &kind);
                 self.stop(kind, display);
             }
             Change::Register(_, _) => (),

@@ -6,8 +6,8 @@ ghost use Rattle.cx_ebcdic.specs.Characters.{shown_as};
 ghost use Rattle.cx_base.specs.Conditions.{entry_of};
 ghost use Rattle.cx_edf.specs.Stops.{is_shown_as, names, no_stops, stop_word_name, stop_word_of, stops_named, takes, with_part, with_stop};
 
+use crate::stops::{Ending, StopPoint};
 use cx_base::{CONDITIONS, Condition, shown_byte};
-use cx_edf_display::{Ending, StopPoint};
 
 /// A stop condition: what a task stops at under suppression.
 #[derive(Clone, Copy)]

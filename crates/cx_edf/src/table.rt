@@ -4,13 +4,13 @@ ghost use Rattle.std.specs.Option.{option_copied, option_and_then, option_map_or
 ghost use Rattle.std.specs.List.{IsDistinct};
 ghost use Rattle.std.specs.Map.{keys_of};
 ghost use Rattle.indexmap.specs.IndexMap.{insert_entry};
-ghost use Rattle.cx_edf_display.specs.Displays.{display_of};
 ghost use Rattle.cx_ebcdic.specs.Names.{is_name};
 ghost use Rattle.cx_edf.specs.Sessions.{SessionState, session_after_change, after_key, fresh_session, is_stopped, session_in, with_session};
 ghost use Rattle.cx_edf.specs.Steps.{with_session_changed, sessions_after};
 ghost use Rattle.cx_region.specs.declared.replies.Event.TheVariants as event;
 ghost use Rattle.cx_region.specs.declared.replies.Reply.TheVariants as reply;
 
+use crate::displays::MakesDisplays;
 use crate::sessions::Session;
 use cx_ebcdic::{Aid, Name4};
 use cx_region::{AlterReply, Change, Region, TurnReply};
@@ -81,7 +81,7 @@ pub(crate) fn key(sessions: &mut IndexMap<Name4, Session>, name: Name4, aid: Aid
 }
 
 /// A turn's reply at a terminal, where the region is as it was after the turn.
-pub(crate) fn note<S: Store + Drop>(
+pub(crate) fn note<S: Store + Drop, M: MakesDisplays>(
     sessions: &mut IndexMap<Name4, Session>,
     region: &Region<S>,
     name: Name4,
@@ -89,17 +89,17 @@ pub(crate) fn note<S: Store + Drop>(
 )
     ensures { let reported = reply.Turn turn.now in
         sessions.new.entries
-        ≡ sessions_after sessions.old.entries (event.Turn name) reported (display_of region.now) }
+        ≡ sessions_after sessions.old.entries (event.Turn name) reported (M.make region.now) }
 {
     let Some(session) = sessions.get_mut(&name) else {
         return;
     };
-    session.note(region, name, turn);
+    session.note::<S, M>(region, name, turn);
 }
 
 /// An alteration's reply at a terminal, where the region is as it was after the alteration.
 #[tactic(auto, using(crate::proofs::TableLemmas::refused_leaves))]
-pub(crate) fn alter<S: Store + Drop>(
+pub(crate) fn alter<S: Store + Drop, M: MakesDisplays>(
     sessions: &mut IndexMap<Name4, Session>,
     region: &Region<S>,
     name: Name4,
@@ -108,27 +108,27 @@ pub(crate) fn alter<S: Store + Drop>(
 )
     ensures { let altered = event.Alter name change in
         sessions.new.entries
-        ≡ sessions_after sessions.old.entries altered (reply.Alter given) (display_of region.now) }
+        ≡ sessions_after sessions.old.entries altered (reply.Alter given) (M.make region.now) }
 {
     match given {
-        AlterReply::Altered => altered(sessions, region, name, change),
+        AlterReply::Altered => altered::<S, M>(sessions, region, name, change),
         _ => (),
     }
 }
 
 /// An alteration that was done at a terminal, where the region is as it was after it.
-fn altered<S: Store + Drop>(
+fn altered<S: Store + Drop, M: MakesDisplays>(
     sessions: &mut IndexMap<Name4, Session>,
     region: &Region<S>,
     name: Name4,
     change: Change,
 )
-    ensures { let display = display_of region.now name in
+    ensures { let display = M.make region.now name in
         sessions.new.entries
         ≡ with_session_changed sessions.old.entries name (λ it. Some (session_after_change it change display)) }
 {
     let Some(session) = sessions.get_mut(&name) else {
         return;
     };
-    session.alter(region, name, change);
+    session.alter::<S, M>(region, name, change);
 }

@@ -4,7 +4,7 @@ use Rattle.std.proofs.lemmas.List.Sums.{fold-append}
 use Rattle.cx_storage.specs.Storage.{Storage}
 use Rattle.cx_base.specs.Pages.{blank_page}
 use Rattle.cx_edf_display.specs.declared.seen.Seen.{Seen}
-use Rattle.cx_edf_display.specs.declared.stops.StopPoint.{StopPoint}
+use Rattle.cx_edf.specs.declared.stops.StopPoint.{StopPoint}
 use Rattle.cx_edf_display.specs.Texts.{with_page_line, with_page_lines}
 use Rattle.cx_edf_display.specs.Displays.{keys, main_page, outcome, stop_status, task_heading, task_lines}
 

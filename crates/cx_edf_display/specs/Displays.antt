@@ -15,12 +15,13 @@ use Rattle.cx_storage.specs.Word.{halfword_at, word_at}
 use Rattle.cx_base.specs.Digits.{digits}
 use Rattle.cx_base.specs.Pages.{blank_page}
 use Rattle.cx_base.specs.Texts.{shown_text}
-use Rattle.cx_edf_display.specs.declared.displays.Display.{Display}
+use Rattle.cx_edf.specs.declared.displays.Display.{Display}
 use Rattle.cx_edf_display.specs.declared.seen.Seen.{Seen}
-use Rattle.cx_edf_display.specs.declared.stops.Ending.TheVariants as ending
-use Rattle.cx_edf_display.specs.declared.stops.StopPoint.{StopPoint}
-use Rattle.cx_edf_display.specs.declared.stops.StopPoint.TheVariants as kind
-use Rattle.cx_edf_display.specs.Texts.{with_page_line, with_page_lines, hex_at, hex_group, character_group}
+use Rattle.cx_edf.specs.declared.stops.Ending.TheVariants as ending
+use Rattle.cx_edf.specs.declared.stops.StopPoint.{StopPoint}
+use Rattle.cx_edf.specs.declared.stops.StopPoint.TheVariants as kind
+use Rattle.cx_region_bytes.specs.Rows.{character_group, hex_at, hex_group, quarters}
+use Rattle.cx_edf_display.specs.Texts.{with_page_line, with_page_lines}
 
 -- ---- what is seen of a task
 abbrev pub seen_of : TaskState → Seen
@@ -78,10 +79,6 @@ displayed_command storage task kind.Before =
     name_of_function (option_and_then (λ w. halfword_at storage (address_in w)) (word_at storage (list_of_seen task)))
 displayed_command storage task (kind.After condition) = name_of_function (halfword_at storage (field_at task eib.Fn))
 displayed_command storage task other = []
-
--- where the four words of 16 bytes begin, and the four lines of 16 registers
-abbrev pub quarters : List ℕ
-quarters = 0 ∷ 4 ∷ 8 ∷ 12 ∷ []
 
 -- lines 4 to 14: an argument, with 16 bytes
 abbrev pub argument : Storage → ℕ → ℕ → List (List ℕ)

@@ -3,13 +3,9 @@
 
 mod displays;
 mod main_page;
-mod rows;
 mod seen;
-mod stops;
 mod storage_page;
 
-pub use displays::Display;
-pub use rows::{character_group, hex_group};
+pub use displays::EdfDisplays;
 #[doc(hidden)]
 pub use seen::Seen;
-pub use stops::{Ending, StopPoint};

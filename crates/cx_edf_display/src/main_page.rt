@@ -5,15 +5,16 @@ ghost use Rattle.std.specs.Option.{option_and_then};
 ghost use Rattle.cx_storage.specs.Address.{address_in};
 ghost use Rattle.cx_storage.specs.Word.{halfword_at, word_at};
 ghost use Rattle.cx_base.specs.Texts.{shown_text};
+ghost use Rattle.cx_region_bytes.specs.Rows.{quarters};
 ghost use Rattle.cx_edf_display.specs.Texts.{with_page_line, with_page_lines};
-ghost use Rattle.cx_edf_display.specs.Displays.{argument, arguments, arguments_due, displayed_command, eib_line, heading, list_of_seen, main_page, name_of_function, outcome, quarters, registers, state_line, stop_status, task_heading, task_lines};
+ghost use Rattle.cx_edf_display.specs.Displays.{argument, arguments, arguments_due, displayed_command, eib_line, heading, list_of_seen, main_page, name_of_function, outcome, registers, state_line, stop_status, task_heading, task_lines};
 
-use crate::rows::{character_group, hex_at, hex_group};
 use crate::seen::{Seen, halfword, word};
-use crate::stops::{Ending, StopPoint};
 use cx_base::{Command, EibField, Page, decimal, hexadecimal, shown_bytes};
 use cx_ebcdic::Name4;
+use cx_edf::{Ending, StopPoint};
 use cx_region::Region;
+use cx_region_bytes::{character_group, hex_at, hex_group};
 use cx_storage::{Store, address_after, address_in};
 
 /// Line 24.

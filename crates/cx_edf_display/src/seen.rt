@@ -5,9 +5,9 @@ ghost use Rattle.cx_edf_display.specs.Displays.{seen_at, seen_of};
 ghost use Rattle.cx_region.specs.Tables.{task_of};
 ghost use Rattle.cx_storage.specs.Word.{halfword_at, word_at};
 
-use crate::stops::StopPoint;
 use byteorder::{BigEndian, ByteOrder};
 use cx_ebcdic::{Name4, Name8};
+use cx_edf::StopPoint;
 use cx_region::Region;
 use cx_storage::{Store, next_address};
 

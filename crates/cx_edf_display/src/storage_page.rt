@@ -8,11 +8,11 @@ ghost use Rattle.cx_base.specs.Texts.{shown_text};
 ghost use Rattle.cx_edf_display.specs.Texts.{with_page_line};
 ghost use Rattle.cx_edf_display.specs.Displays.{storage_heading, storage_page, with_row};
 
-use crate::rows::{character_group, hex_group};
 use crate::seen::Seen;
 use cx_base::{Page, hexadecimal};
 use cx_ebcdic::Name4;
 use cx_region::Region;
+use cx_region_bytes::{character_group, hex_group};
 use cx_storage::{Store, address_after};
 
 /// The rows of 16 bytes that are shown.

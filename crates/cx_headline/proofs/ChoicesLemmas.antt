@@ -141,12 +141,12 @@ module _ (Holds : KeyLine → Type 0) (choices : List KeyLine) (all : AllByRecur
       of_pressed (key_pressed choices press.choice) (keys_pressed choices presses) (at_choice choices press.choice all) (of_choices presses)
 
 pub lists_lead : PressesAreRuns → ScriptsLeadThere → ScriptsNameTheirTerminals → ChoicesAreAskedByTheirLines → ListsLeadThere
-lists_lead runs scripts named keys state it asked lines presses to are =
-    let names = named state it in
+lists_lead runs scripts named keys make state it asked lines presses to are =
+    let names = named make state it in
     let choices = (choices_block asked lines).choices in
     let run = runs choices state.edf.region to presses names.apart are in
     record {
       run = run;
-      lead = scripts state (keys_pressed choices presses) (steps_of state.edf.region choices presses) (orders.begun to.region) names.spelled
+      lead = scripts make state (keys_pressed choices presses) (steps_of state.edf.region choices presses) (orders.begun to.region) names.spelled
           (of_choices IsAskedByItsLine choices (keys asked lines) presses) run;
     }

@@ -263,6 +263,6 @@ watched_keep turns changes fronts law make old events answers states trace kept 
     (left_so_far fronts law make old events answers states trace n)
 
 pub scripts_keep : DueIsKept → AlterationsKeepLevels → FrontsAreTraces → WhatIsLeftIsARun → ScriptsRunTheirEvents → OfEachScript AlwaysKeepsWhatIsDue
-scripts_keep turns changes fronts whole law calls answer session ending bytes read =
-    let of_script = of_scripts law StillKeepsWhatIsDue (watched_keep turns changes fronts whole) calls answer session ending bytes read in
+scripts_keep turns changes fronts whole law make calls answer session ending bytes read =
+    let of_script = of_scripts law StillKeepsWhatIsDue (watched_keep turns changes fronts whole) make calls answer session ending bytes read in
     (of_script.0, of_script.1 fresh_region_keeps)

@@ -89,5 +89,5 @@ module _ (off : TheRegionIsOff) (runs : StepsAreRuns) (scripts : ScriptsAskForSt
 
 -- ---- the lines that are written
 pub lines_lead : ScriptsLeadThere → ScriptsNameTheirTerminals → KeysAreAskedByTheirLines → LinesLeadThere
-lines_lead scripts named keys state it asked lines steps to run =
-    scripts state (orders_block asked lines).keys steps to (named state it).spelled (keys asked lines) run
+lines_lead scripts named keys make state it asked lines steps to run =
+    scripts make state (orders_block asked lines).keys steps to (named make state it).spelled (keys asked lines) run

@@ -27,7 +27,7 @@ use Rattle.cx_edf.specs.declared.answers.Answer.TheVariants as answer
 use Rattle.cx_edf.specs.declared.answers.EdfEvent.{EdfEvent}
 use Rattle.cx_edf.specs.declared.answers.EdfEvent.TheVariants as edf_event
 use Rattle.cx_edf.specs.State.{EdfState, ends_by_key, holds, stopped_at}
-use Rattle.cx_edf.specs.Steps.{AppliesBy, DisplayMaker, DoorAnswers, Door, PassesOn, door_of}
+use Rattle.cx_edf.specs.Steps.{EdfApplies, DisplayMaker, DoorAnswers, Door, PassesOn, door_of}
 use Rattle.cx_edf.specs.Erasure.{is_own, left_of}
 use Rattle.cx_edf.specs.Runs.{Trace, last_state}
 use Rattle.cx_edf.specs.Laws.Edf.{ErasedEvents, ErasedEventsLeaveTheRegion, OtherEventsArePassed, OwnEventsHaveOwnAnswers, event_ends_task, is_edfs}
@@ -35,7 +35,7 @@ use Rattle.cx_headline.specs.Laws.Runs.{OfEachRun, state_after_first}
 use Rattle.cx_headline.specs.Laws.Rows.{EachIsItsRow, IsHalfTurn, IsItsRow, IsRow, IsTurn}
 
 -- ---- EDF's own
-pub left_none : OwnEventsHaveOwnAnswers → ErasedEvents → (make : DisplayMaker) (old : EdfState) (e : EdfEvent) (given : Answer) (new : EdfState) → AppliesBy make old e given new
+pub left_none : OwnEventsHaveOwnAnswers → ErasedEvents → (make : DisplayMaker) (old : EdfState) (e : EdfEvent) (given : Answer) (new : EdfState) → EdfApplies make old e given new
     → is_own old e ≡ true → event_ends_task old e ≡ false → left_of old e given ≡ []
 left_none answers erased make old e given new h own ends =
     let edfs : is_edfs given ≡ true = sym (answers make old e given new h) ∙ own in
@@ -53,18 +53,18 @@ at_true : (make : DisplayMaker) (old : EdfState) (b : Bool) (x y : Door) (given 
 at_true make old true x y given new is h = h
 at_true make old false x y given new is h = absurd (true≢false (sym is))
 
-ended_row : (make : DisplayMaker) (before : EdfState) (name : List ℕ) (a : Aid) (bytes : List ℕ) (given : Answer) (after : EdfState) → AppliesBy make before (edf_event.Plain (event.Key name a bytes)) given after
+ended_row : (make : DisplayMaker) (before : EdfState) (name : List ℕ) (a : Aid) (bytes : List ℕ) (given : Answer) (after : EdfState) → EdfApplies make before (edf_event.Plain (event.Key name a bytes)) given after
     → ends_by_key before name a ≡ true → Alters before.region name change.Abend alter.Altered after.region
-unfolding AppliesBy door_of
+unfolding EdfApplies door_of
 ended_row make before name a bytes given after h ends =
     let row : PassesOn make before (event.Alter name change.Abend) (Some answer.ToEdf) given after = at_true make before (ends_by_key before name a) _ _ given after ends h in
     let altered = alter_reply before.region name change.Abend row.reply after.region row.applies in
     subst (λ (r : AlterReply). Alters before.region name change.Abend r after.region) (abends_are_done before.region name altered.0 after.region altered.2 (ends_live before name a ends)) altered.2
 
 -- ---- any other event is passed
-pub passed : OtherEventsArePassed → (make : DisplayMaker) (before : EdfState) (x : Event) (given : Answer) (after : EdfState) → AppliesBy make before (edf_event.Plain x) given after
+pub passed : OtherEventsArePassed → (make : DisplayMaker) (before : EdfState) (x : Event) (given : Answer) (after : EdfState) → EdfApplies make before (edf_event.Plain x) given after
     → is_own before (edf_event.Plain x) ≡ false → PassesOn make before x None given after
-unfolding AppliesBy
+unfolding EdfApplies
 passed law make before x given after h own = subst (λ (door : Door). DoorAnswers make before door given after) (law before x own) h
 
 -- ---- a turn
@@ -92,36 +92,36 @@ unfolding Applies TakesTurn
 turned decide old name (reply.Turn r) given new is h = of_terminal decide old name (terminal_of old name) r given new is h
 turned decide old name _ given new is h = absurd h
 
-turn_row : (make : DisplayMaker) → HalfTurnsDecide → OtherEventsArePassed → (before : EdfState) (name : List ℕ) (given : Answer) (after : EdfState) → AppliesBy make before (edf_event.Plain (event.Turn name)) given after
+turn_row : (make : DisplayMaker) → HalfTurnsDecide → OtherEventsArePassed → (before : EdfState) (name : List ℕ) (given : Answer) (after : EdfState) → EdfApplies make before (edf_event.Plain (event.Turn name)) given after
     → is_own before (edf_event.Plain (event.Turn name)) ≡ false → IsTurn before.region name given after.region
 turn_row make decide law before name given after h own =
     let row = passed law make before (event.Turn name) given after h own in
     turned decide before.region name row.reply given after.region row.answers row.applies
 
-other_row : (make : DisplayMaker) → OtherEventsArePassed → (before : EdfState) (plain : Event) (given : Answer) (after : EdfState) → AppliesBy make before (edf_event.Plain plain) given after → is_own before (edf_event.Plain plain) ≡ false
+other_row : (make : DisplayMaker) → OtherEventsArePassed → (before : EdfState) (plain : Event) (given : Answer) (after : EdfState) → EdfApplies make before (edf_event.Plain plain) given after → is_own before (edf_event.Plain plain) ≡ false
     → IsRow before.region plain given after.region
 other_row make law before plain given after h own =
     let row = passed law make before plain given after h own in
     record { reply = row.reply; applies = row.applies; answers = row.answers }
 
 -- ---- each event
-is_row : (make : DisplayMaker) → HalfTurnsDecide → OwnEventsHaveOwnAnswers → ErasedEvents → ErasedEventsLeaveTheRegion → OtherEventsArePassed → (before : EdfState) (e : EdfEvent) (given : Answer) (after : EdfState) → AppliesBy make before e given after → IsItsRow before e given after
+is_row : (make : DisplayMaker) → HalfTurnsDecide → OwnEventsHaveOwnAnswers → ErasedEvents → ErasedEventsLeaveTheRegion → OtherEventsArePassed → (before : EdfState) (e : EdfEvent) (given : Answer) (after : EdfState) → EdfApplies make before e given after → IsItsRow before e given after
 is_row make decide answers erased leave law before e given after h =
     record {
       own = λ own ends. leave make before e given after h (left_none answers erased make before e given after h own ends);
-      ended = λ name a bytes is ends. ended_row make before name a bytes given after (subst (λ (x : EdfEvent). AppliesBy make before x given after) is h) ends;
-      turn = λ name is own. turn_row make decide law before name given after (subst (λ (x : EdfEvent). AppliesBy make before x given after) is h) (subst (λ (x : EdfEvent). is_own before x ≡ false) is own);
-      other = λ plain is own. other_row make law before plain given after (subst (λ (x : EdfEvent). AppliesBy make before x given after) is h) (subst (λ (x : EdfEvent). is_own before x ≡ false) is own);
+      ended = λ name a bytes is ends. ended_row make before name a bytes given after (subst (λ (x : EdfEvent). EdfApplies make before x given after) is h) ends;
+      turn = λ name is own. turn_row make decide law before name given after (subst (λ (x : EdfEvent). EdfApplies make before x given after) is h) (subst (λ (x : EdfEvent). is_own before x ≡ false) is own);
+      other = λ plain is own. other_row make law before plain given after (subst (λ (x : EdfEvent). EdfApplies make before x given after) is h) (subst (λ (x : EdfEvent). is_own before x ≡ false) is own);
     }
 
 -- the event of a trace with this number
 met : (make : DisplayMaker) (old : EdfState) (events : List EdfEvent) (answers : List Answer) (states : List EdfState) (n : ℕ) (e : EdfEvent) → Trace make old events answers states → slice_get events n ≡ Some e
-    → (given : Answer) × (slice_get answers n ≡ Some given) × AppliesBy make (last_state old (take n states)) e given (last_state old (take (suc n) states))
+    → (given : Answer) × (slice_get answers n ≡ Some given) × EdfApplies make (last_state old (take n states)) e given (last_state old (take (suc n) states))
 unfolding Trace last_state
 met make old [] gs ss n e trace is = cc
 met make old (x ∷ es) [] ss n e trace is = absurd trace
 met make old (x ∷ es) (g ∷ gs) [] n e trace is = absurd trace
-met make old (x ∷ es) (g ∷ gs) (s ∷ ss) zero e trace is = let same : x ≡ e = cc in (g, refl, subst (λ (y : EdfEvent). AppliesBy make old y g s) same trace.0)
+met make old (x ∷ es) (g ∷ gs) (s ∷ ss) zero e trace is = let same : x ≡ e = cc in (g, refl, subst (λ (y : EdfEvent). EdfApplies make old y g s) same trace.0)
 met make old (x ∷ es) (g ∷ gs) (s ∷ ss) (suc n) e trace is = met make s es gs ss n e trace.1 is
 
 pub each_is_its_row : HalfTurnsDecide → OwnEventsHaveOwnAnswers → ErasedEvents → ErasedEventsLeaveTheRegion → OtherEventsArePassed → OfEachRun EachIsItsRow

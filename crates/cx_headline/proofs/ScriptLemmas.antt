@@ -4,6 +4,7 @@ use Rattle.std.specs.List.{flat_map}
 use Rattle.cx_edf.specs.declared.answers.Answer.{Answer}
 use Rattle.cx_edf.specs.declared.answers.EdfEvent.{EdfEvent}
 use Rattle.cx_edf.specs.State.{EdfState}
+use Rattle.cx_edf.specs.Steps.{DisplayMaker}
 use Rattle.cx_script_actions.specs.Effects.{Performs, fresh_state}
 use Rattle.cx_script_actions.specs.Language.{Language, edf_language}
 use Rattle.cx_script_blocks.specs.declared.faults.RunFault.{RunFault}
@@ -50,7 +51,7 @@ of_whole performs begin script answer wrote w written =
       runs = w.runs;
     }
 
-done_in : {A S : Type 0} (language : Language A) (performs : S → A → List ℕ → S → Type 0) (begin : S) (ending : Ending) (bytes : List ℕ) (answer : Result Summary RunFault)
+done_in : {A H S : Type 0} (language : Language A H) (performs : S → A → List ℕ → S → Type 0) (begin : S) (ending : Ending) (bytes : List ℕ) (answer : Result Summary RunFault)
     (wrote : List ℕ) → EndsScript language performs begin ending bytes answer wrote → Done performs begin (script_in language ending bytes) answer wrote
 unfolding EndsScript script_in
 done_in language performs begin ending bytes (Ok summary) wrote e = of_whole performs begin (script_in language ending bytes) (Ok summary) wrote e.2 e.2.written
@@ -85,10 +86,10 @@ done_in {A} language performs begin ending bytes (Err Write) wrote e =
       runs = e.1.runs;
     }
 
-done_of : ScriptsRunTheirEvents → (ending : Ending) (bytes : List ℕ) (answer : Result Summary RunFault) (wrote : List ℕ)
-    → EndsScript edf_language Performs fresh_state ending bytes answer wrote → IsDoneOf (script_in edf_language ending bytes) answer wrote
-done_of law ending bytes answer wrote e =
-    let d = done_in edf_language Performs fresh_state ending bytes answer wrote e in
+done_of : (make : DisplayMaker) → ScriptsRunTheirEvents → (ending : Ending) (bytes : List ℕ) (answer : Result Summary RunFault) (wrote : List ℕ)
+    → EndsScript edf_language (Performs make) fresh_state ending bytes answer wrote → IsDoneOf make (script_in edf_language ending bytes) answer wrote
+done_of make law ending bytes answer wrote e =
+    let d = done_in edf_language (Performs make) fresh_state ending bytes answer wrote e in
     record {
       count = d.count;
       actions = d.actions;
@@ -97,20 +98,20 @@ done_of law ending bytes answer wrote e =
       text = d.text;
       was_written = d.written;
       new = d.new;
-      did = law fresh_state d.actions d.text d.new d.runs;
+      did = law make fresh_state d.actions d.text d.new d.runs;
     }
 
 -- what holds of each run holds of what each script did
 pub of_scripts : ScriptsRunTheirEvents → (Holds : EdfState → List EdfEvent → List Answer → List EdfState → Type 0) → OfEachRun Holds → OfEachScript Holds
-of_scripts law Holds each calls answer session ending bytes read =
-    let done = done_of law ending bytes answer (taken calls) (session.ends ending bytes read) in
-    (done, each _ fresh_state (events_of done.actions) done.did.answers done.did.run.states done.did.run.trace)
+of_scripts law Holds each make calls answer session ending bytes read =
+    let done = done_of make law ending bytes answer (taken calls) (session.ends ending bytes read) in
+    (done, each make fresh_state (events_of done.actions) done.did.answers done.did.run.states done.did.run.trace)
 
 -- ---- scripts with looks
 pub looked_over : ScriptsRunTheirEvents → LooksChangeNothing → ScriptsAreLookedOver
-looked_over law change calls answer session ending bytes read =
-    let d = done_in look_language LookPerforms fresh_look_state ending bytes answer (taken calls) (session.ends ending bytes read) in
-    let c = change fresh_look_state d.actions d.text d.new d.runs in
+looked_over law change make calls answer session ending bytes read =
+    let d = done_in look_language (LookPerforms make) fresh_look_state ending bytes answer (taken calls) (session.ends ending bytes read) in
+    let c = change make fresh_look_state d.actions d.text d.new d.runs in
     record {
       count = d.count;
       actions = d.actions;
@@ -120,5 +121,5 @@ looked_over law change calls answer session ending bytes read =
       was_written = d.written;
       new = d.new;
       unchanged = c;
-      did = law fresh_state (flat_map plain_of c.parts) (flat_map written_of c.parts) d.new.edf c.runs;
+      did = law make fresh_state (flat_map plain_of c.parts) (flat_map written_of c.parts) d.new.edf c.runs;
     }

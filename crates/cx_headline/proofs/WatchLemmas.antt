@@ -21,7 +21,7 @@ use Rattle.cx_edf.specs.declared.answers.EdfEvent.{EdfEvent}
 use Rattle.cx_edf.specs.declared.answers.EdfEvent.TheVariants as edf_event
 use Rattle.cx_edf.specs.Sessions.{Sessions}
 use Rattle.cx_edf.specs.State.{EdfState, session_at}
-use Rattle.cx_edf.specs.Steps.{AppliesBy, DisplayMaker, Door, Keeps, door_of}
+use Rattle.cx_edf.specs.Steps.{EdfApplies, DisplayMaker, Door, Keeps, door_of}
 use Rattle.cx_edf.specs.Erasure.{erasure, is_own, is_refused, left_in, left_of, region_replies}
 use Rattle.cx_edf.specs.Runs.{Trace, last_state}
 use Rattle.cx_edf.specs.Laws.Edf.{ErasedEvents, FrontsAreTraces, OffIsTheRegion, OtherEventsArePassed, OwnEventsHaveOwnAnswers, TheRegionIsOff, WhatIsLeftIsARun, event_ends_task, is_alteration, off_at}
@@ -64,7 +64,7 @@ left_switched old name given = (
   left_neither (not (is_some (terminal_of old.region name))) (is_some (session_at old name)) _ _ _ _ _ _ given,
 )
 
-left_answered : OwnEventsHaveOwnAnswers → ErasedEvents → OtherEventsArePassed → (make : DisplayMaker) (old : EdfState) (e : EdfEvent) (given : Answer) (new : EdfState) → AppliesBy make old e given new → event_ends_task old e ≡ false
+left_answered : OwnEventsHaveOwnAnswers → ErasedEvents → OtherEventsArePassed → (make : DisplayMaker) (old : EdfState) (e : EdfEvent) (given : Answer) (new : EdfState) → EdfApplies make old e given new → event_ends_task old e ≡ false
     → (given ≡ answer.Region (reply.Alter alter.Altered) → ⊥) → left_of old e given ≡ answered_of e given
 left_answered answers erases law make old (edf_event.On name) given new h ends never = (left_switched old name given).0
 left_answered answers erases law make old (edf_event.Off name) given new h ends never = (left_switched old name given).1
@@ -157,15 +157,15 @@ same_states laws make old events answers states trace =
     plain = left_so_far laws.fronts laws.whole make old events answers states trace
 
 -- ---- what is shown
-by_fault : (fault : Option ImageFault) (old : EdfState) (name : List ℕ) (image : Image) (text : List ℕ) (new : EdfState) → ByFault fault old name image text new → program_event fault name image ≡ None → new ≡ old
-by_fault None old name image text new does none = cc
-by_fault (Some fault) old name image text new does none = does.1
+by_fault : (make : DisplayMaker) (fault : Option ImageFault) (old : EdfState) (name : List ℕ) (image : Image) (text : List ℕ) (new : EdfState) → ByFault make fault old name image text new → program_event fault name image ≡ None → new ≡ old
+by_fault make None old name image text new does none = cc
+by_fault make (Some fault) old name image text new does none = does.1
 
 pub showing_changes_nothing : ShowingChangesNothing
 unfolding Performs
-showing_changes_nothing old (action.Image name image) text new none h = by_fault (image_fault image) old name image text new h none
-showing_changes_nothing old (action.Source name before image) text new none h = by_fault (image_fault image) old name image h.0 new h.1 none
-showing_changes_nothing old (action.Event event) text new none h = cc
-showing_changes_nothing old (action.Screen name) text new none h = h.1
-showing_changes_nothing old (action.Display name) text new none h = h.1
-showing_changes_nothing old (action.Previous name k) text new none h = h.1
+showing_changes_nothing make old (action.Image name image) text new none h = by_fault make (image_fault image) old name image text new h none
+showing_changes_nothing make old (action.Source name before image) text new none h = by_fault make (image_fault image) old name image h.0 new h.1 none
+showing_changes_nothing make old (action.Event event) text new none h = cc
+showing_changes_nothing make old (action.Screen name) text new none h = h.1
+showing_changes_nothing make old (action.Display name) text new none h = h.1
+showing_changes_nothing make old (action.Previous name k) text new none h = h.1

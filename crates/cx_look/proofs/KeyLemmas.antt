@@ -10,6 +10,7 @@ use Rattle.cx_script_actions.specs.Words.{after_first_blank, word}
 use Rattle.cx_script_actions.specs.declared.actions.Action.{Action}
 use Rattle.cx_script_actions.specs.declared.actions.Line.{Line}
 use Rattle.cx_script_actions.specs.declared.actions.Line.TheVariants as line
+use Rattle.cx_script_actions.specs.declared.actions.NoHeading.{NoHeading}
 use Rattle.cx_look.specs.Orders.{event_in, is_key, key_in, key_line_of}
 
 -- what KEY asks, by what follows it
@@ -52,7 +53,7 @@ line_is text more key =
     ap (λ blank. cond blank (Some line.Blank) (option_and_then (line_asked_for (word text)) (after_first_blank text))) more
     ∙ ap (λ verb. option_and_then (line_asked_for verb) (after_first_blank text)) ((bytes_eq-Decides (word text) (codes "KEY")).0 key)
 
-some_line : (text : List ℕ) (o : Option (Line Action)) → is_some (option_and_then (key_in text) (option_and_then event_in o)) ≡ true → is_some o ≡ true
+some_line : (text : List ℕ) (o : Option (Line Action NoHeading)) → is_some (option_and_then (key_in text) (option_and_then event_in o)) ≡ true → is_some o ≡ true
 some_line text None e = e
 some_line text (Some l) e = refl
 

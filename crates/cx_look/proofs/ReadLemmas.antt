@@ -13,12 +13,13 @@ use Rattle.cx_script_actions.specs.declared.actions.Action.{Action}
 use Rattle.cx_script_actions.specs.declared.actions.Action.TheVariants as action
 use Rattle.cx_script_actions.specs.declared.actions.Line.{Line}
 use Rattle.cx_script_actions.specs.declared.actions.Line.TheVariants as line
-use Rattle.cx_script_actions.specs.declared.actions.ChoicesAsked.{ChoicesAsked}
-use Rattle.cx_script_actions.specs.declared.actions.OrdersAsked.{OrdersAsked}
+use Rattle.cx_script_actions.specs.declared.actions.NoHeading.{NoHeading}
 use Rattle.cx_look.specs.Choices.{choice_of, choices_block, lines_meant}
 use Rattle.cx_look.specs.Parts.{choices_in}
 use Rattle.cx_look.specs.Laws.{IsAskedByItsLine}
 use Rattle.cx_look.specs.Orders.{event_in, is_key, key_in, key_line_of, keys_in, orders_block, orders_line_of, sight_of}
+use Rattle.cx_look.specs.declared.choices.ChoicesAsked.{ChoicesAsked}
+use Rattle.cx_look.specs.declared.orders.OrdersAsked.{OrdersAsked}
 use Rattle.cx_look.specs.declared.orders.OrdersLine.TheVariants as says
 use Rattle.cx_look.specs.declared.orders.Sight.{Sight}
 
@@ -49,7 +50,7 @@ asked_action text (action.Screen name) key asks is = absurd (none-some key is)
 asked_action text (action.Display name) key asks is = absurd (none-some key is)
 asked_action text (action.Previous name k) key asks is = absurd (none-some key is)
 
-asked_line : (text : List ℕ) (asked : Option (Line Action)) (key : KeyLine) → line_of text ≡ asked
+asked_line : (text : List ℕ) (asked : Option (Line Action NoHeading)) (key : KeyLine) → line_of text ≡ asked
     → option_and_then (key_in text) (option_and_then event_in asked) ≡ Some key → IsAskedByItsLine key
 asked_line text None key asks is = absurd (none-some key is)
 asked_line text (Some line.Blank) key asks is = absurd (none-some key is)

@@ -5,10 +5,10 @@ use Rattle.std.specs.Option.{option_and_then, option_map}
 use Rattle.cx_orders.specs.declared.states.KeyLine.{KeyLine}
 use Rattle.cx_script_actions.specs.Actions.{is_blank_or_comment}
 use Rattle.cx_script_actions.specs.Words.{after_first_blank, number_with_digits, word}
-use Rattle.cx_script_actions.specs.declared.actions.ChoicesAsked.{ChoicesAsked}
 use Rattle.cx_look.specs.Looks.{at_most}
 use Rattle.cx_look.specs.Orders.{block_has_room, is_key, key_line_of, orders_line_of, sight_of, sights_in, states_and}
 use Rattle.cx_look.specs.Sets.{texts_meant}
+use Rattle.cx_look.specs.declared.choices.ChoicesAsked.{ChoicesAsked}
 use Rattle.cx_look.specs.declared.choices.ChoicesBlock.{ChoicesBlock}
 
 -- ---- what follows the word

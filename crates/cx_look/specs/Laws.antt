@@ -4,10 +4,10 @@ use Rattle.std.specs.List.{AllByRecursion}
 use Rattle.cx_orders.specs.declared.states.KeyLine.{KeyLine}
 use Rattle.cx_region.specs.declared.replies.Event.TheVariants as event
 use Rattle.cx_script_actions.specs.Actions.{event_line, line_of}
-use Rattle.cx_script_actions.specs.declared.actions.ChoicesAsked.{ChoicesAsked}
-use Rattle.cx_script_actions.specs.declared.actions.OrdersAsked.{OrdersAsked}
 use Rattle.cx_look.specs.Choices.{choices_block}
 use Rattle.cx_look.specs.Orders.{orders_block}
+use Rattle.cx_look.specs.declared.choices.ChoicesAsked.{ChoicesAsked}
+use Rattle.cx_look.specs.declared.orders.OrdersAsked.{OrdersAsked}
 
 -- as a line of a script of `cicsedf` the key's line asks for that key: at its terminal, with its bytes
 abbrev pub IsAskedByItsLine : KeyLine → Type 0

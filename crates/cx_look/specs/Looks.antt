@@ -1,6 +1,6 @@
--- What a line that looks at a region asks (own).
+-- The table of HELP, and what a line that looks at a region asks (own).
 use Rattle.std.specs.Prelude.{ℕ, ◌==◌, ◌&&◌, nat_le, if◌then◌else◌, Option, Some, None, List, [], ◌∷◌, length, codes}
-use Rattle.std.specs.Map.{lookup}
+use Rattle.std.specs.List.{find}
 use Rattle.std.specs.Option.{option_and_then, option_map}
 use Rattle.std.specs.Str.{bytes_eq}
 use Rattle.cx_ebcdic.specs.Names.{padded_name}
@@ -11,22 +11,58 @@ use Rattle.cx_look.specs.declared.look.Look.TheVariants as look
 use Rattle.cx_look.specs.declared.look.Subject.{Subject}
 use Rattle.cx_look.specs.declared.look.Subject.TheVariants as subject
 
--- the word that a look at each subject begins with, and the words that begin other lines of `cicslook`
-abbrev pub subjects : List (List ℕ × Subject)
+-- ---- the table of HELP
+-- the line of a word that begins a look, or another line that a script of `cicsedf` doesn't have: its form, in which
+-- brackets are round what may be left out, and what it does
+abbrev pub help_line : Subject → List ℕ
+help_line subject.Run =
+    codes "RUN term [n] [stop]  at most n turns of the terminal; stop: BEFORE ABEND, TO program line"
+help_line subject.Watch = codes "WATCH aaaaaa n       each change of one of n bytes; also WATCH term name, WATCH OFF"
+help_line subject.Cover =
+    codes "COVER ON             counts from here on how often each instruction is run; also COVER OFF"
+help_line subject.Covered =
+    codes "COVERED [program]    what was run since then, and what never was; also COVERED program LINES"
+help_line subject.Queues = codes "QUEUES               the temporary storage queues"
+help_line subject.Queue = codes "QUEUE name [k]       a queue with its items, or its item k as a whole"
+help_line subject.Programs = codes "PROGRAMS             the programs"
+help_line subject.Tasks = codes "TASKS                each terminal, and what its task is doing"
+help_line subject.Resources = codes "RESOURCES            the resources that are owned, and who waits for them"
+help_line subject.Terminals = codes "TERMINALS            the clock, next transactions, input that is held, EDF"
+help_line subject.Command = codes "COMMAND term         the command that is due at the terminal"
+help_line subject.Ahead =
+    codes "AHEAD term [n]       what the terminal's next turn will do; also AHEAD term AT program line"
+help_line subject.Task = codes "TASK term            the terminal's task, and each of its levels"
+help_line subject.Field = codes "FIELD term name [k]  a field of the current level, or of level k"
+help_line subject.Fields = codes "FIELDS term [k]      all fields of that level"
+help_line subject.Areas = codes "AREAS [term]         all areas of storage, or those of the terminal's task"
+help_line subject.Storage = codes "STORAGE aaaaaa n     n bytes of storage from an address on"
+help_line subject.Where = codes "WHERE aaaaaa         what is at an address, and whose it is"
+help_line subject.Abend =
+    codes "ABEND term           the terminal's last abend; also ABEND term STORAGE, ABEND term FIELDS"
+help_line subject.Symbol = codes "SYMBOL program name  a symbol of the program's source"
+help_line subject.Symbols = codes "SYMBOLS program      all symbols of the program's source"
+help_line subject.Xref = codes "XREF program         which lines use its symbols, literals and base registers"
+help_line subject.Faults = codes "FAULTS name          and the lines of a source, and /*: its faulty lines"
+help_line subject.Orders =
+    codes "ORDERS [n]           and keys and looks, and /*: what every order leads to; also TYPED AHEAD"
+help_line subject.Choices =
+    codes "CHOICES n [states]   and keys and looks, and /*: what every list of n keys leads to; also ONE NUMBER"
+help_line subject.Help = codes "HELP [word]          this table, or the line of a word in it"
+
+-- all of them, in the order of the table
+abbrev pub subjects : List Subject
 subjects =
-    (codes "STORAGE", subject.Storage) ∷ (codes "WHERE", subject.Where) ∷ (codes "AREAS", subject.Areas)
-    ∷ (codes "TASK", subject.Task) ∷ (codes "TASKS", subject.Tasks) ∷ (codes "ABEND", subject.Abend)
-    ∷ (codes "QUEUES", subject.Queues) ∷ (codes "QUEUE", subject.Queue) ∷ (codes "RESOURCES", subject.Resources)
-    ∷ (codes "PROGRAMS", subject.Programs) ∷ (codes "COMMAND", subject.Command) ∷ (codes "AHEAD", subject.Ahead)
-    ∷ (codes "SYMBOL", subject.Symbol) ∷ (codes "SYMBOLS", subject.Symbols) ∷ (codes "XREF", subject.Xref)
-    ∷ (codes "TERMINALS", subject.Terminals) ∷ (codes "FIELD", subject.Field) ∷ (codes "FIELDS", subject.Fields)
-    ∷ (codes "RUN", subject.Run) ∷ (codes "WATCH", subject.Watch) ∷ (codes "COVER", subject.Cover)
-    ∷ (codes "COVERED", subject.Covered) ∷ (codes "FAULTS", subject.Faults) ∷ (codes "ORDERS", subject.Orders)
-    ∷ (codes "CHOICES", subject.Choices) ∷ (codes "HELP", subject.Help) ∷ []
+    subject.Run ∷ subject.Watch ∷ subject.Cover ∷ subject.Covered ∷ subject.Queues ∷ subject.Queue
+    ∷ subject.Programs ∷ subject.Tasks ∷ subject.Resources ∷ subject.Terminals ∷ subject.Command ∷ subject.Ahead
+    ∷ subject.Task ∷ subject.Field ∷ subject.Fields ∷ subject.Areas ∷ subject.Storage ∷ subject.Where
+    ∷ subject.Abend ∷ subject.Symbol ∷ subject.Symbols ∷ subject.Xref ∷ subject.Faults ∷ subject.Orders
+    ∷ subject.Choices ∷ subject.Help ∷ []
 
+-- the one that a word begins, which is the first of its line
 unfoldable pub subject_of : List ℕ → Option Subject
-subject_of text = lookup (λ word. bytes_eq word text) subjects
+subject_of text = find (λ s. bytes_eq (word (help_line s)) text) subjects
 
+-- ---- what a line asks
 -- a number in decimal digits from 1 to a most
 abbrev pub at_most : ℕ → ℕ → Option ℕ
 at_most most n = if nat_le 1 n && nat_le n most then Some n else None

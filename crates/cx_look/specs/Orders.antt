@@ -15,10 +15,11 @@ use Rattle.cx_script_actions.specs.declared.actions.Action.{Action}
 use Rattle.cx_script_actions.specs.declared.actions.Action.TheVariants as action
 use Rattle.cx_script_actions.specs.declared.actions.Line.{Line}
 use Rattle.cx_script_actions.specs.declared.actions.Line.TheVariants as line
-use Rattle.cx_script_actions.specs.declared.actions.OrdersAsked.{OrdersAsked}
+use Rattle.cx_script_actions.specs.declared.actions.NoHeading.{NoHeading}
 use Rattle.cx_look.specs.Looks.{at_most, look_of}
 use Rattle.cx_look.specs.declared.look.Look.{Look}
 use Rattle.cx_look.specs.declared.look.Look.TheVariants as look
+use Rattle.cx_look.specs.declared.orders.OrdersAsked.{OrdersAsked}
 use Rattle.cx_look.specs.declared.orders.OrdersBlock.{OrdersBlock}
 use Rattle.cx_look.specs.declared.orders.OrdersLine.{OrdersLine}
 use Rattle.cx_look.specs.declared.orders.OrdersLine.TheVariants as says
@@ -52,7 +53,7 @@ orders_asked rest =
 abbrev pub is_key : List ℕ → Bool
 is_key text = bytes_eq (word text) (codes "KEY")
 
-abbrev pub event_in : Line Action → Option EdfEvent
+abbrev pub event_in : Line Action NoHeading → Option EdfEvent
 event_in (line.Action (action.Event e)) = Some e
 event_in _ = None
 

@@ -25,7 +25,7 @@ use arrayvec::ArrayVec;
 use cx_base::List;
 use cx_ebcdic::{Aid, to_ebcdic};
 use cx_orders::KeyLine;
-use cx_script_actions::{ChoicesAsked, name4, number, split_word};
+use cx_script_actions::{name4, number, split_word};
 use cx_source::Text;
 use std::alloc::{AllocError, Global};
 
@@ -34,6 +34,17 @@ const MOST_IN_LIST: u32 = 64;
 
 /// The most characters of a key's text.
 const MOST_IN_KEY: usize = 1_920;
+
+/// What CHOICES says of its search.
+#[derive(Clone, Copy)]
+pub struct ChoicesAsked {
+    /// How many keys are pressed, at most: 1 to 64 as a line asks it.
+    pub keys: u32,
+    /// How many states are kept, at most: 1 to 1,000,000 as a line asks it.
+    pub most: u32,
+    /// Whether states that differ in the task counter alone are one.
+    pub one_number: bool,
+}
 
 /// What a block of CHOICES asks: a search of all lists of keys.
 #[derive(Drop)]

@@ -8,8 +8,8 @@ mod look;
 mod orders;
 mod sets;
 
-pub use choices::{ChoicesBlock, choices_asked, choices_block, choices_with};
+pub use choices::{ChoicesAsked, ChoicesBlock, choices_asked, choices_block, choices_with};
 pub use look::{Look, SourceLines, Subject, count_up_to, look_of, subject_of};
 pub use orders::{
-    OrdersBlock, OrdersLine, Sight, orders_asked, orders_block, orders_with, put_upper,
+    OrdersAsked, OrdersBlock, OrdersLine, Sight, orders_asked, orders_block, orders_with, put_upper,
 };

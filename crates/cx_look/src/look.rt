@@ -4,11 +4,10 @@ ghost use Rattle.std.specs.List.{find};
 ghost use Rattle.std.specs.Option.{option_copied};
 ghost use Rattle.std.specs.Str.{bytes_eq};
 ghost use Rattle.cx_script_actions.specs.Words.{hex_bytes};
-ghost use Rattle.cx_look.specs.Looks.{abend_look, ahead_look, count_up_to, covered_look, field_look, level_asked_for, look_of, look_by_word, queue_look, queue_name_of, subject_of};
-ghost use Rattle.cx_look.specs.Parts.{subject_name};
+ghost use Rattle.cx_look.specs.Looks.{abend_look, ahead_look, count_up_to, covered_look, field_look, help_line, level_asked_for, look_of, look_by_word, queue_look, queue_name_of, subject_of};
 ghost use Rattle.cx_look.specs.declared.look.Look.TheVariants as look;
 ghost use Rattle.cx_ebcdic.specs.Names.{padded_name};
-ghost use Rattle.cx_script_actions.specs.Words.{two_words};
+ghost use Rattle.cx_script_actions.specs.Words.{two_words, word};
 ghost use Rattle.cx_look.specs.declared.look.Subject.TheVariants as subject;
 
 use cx_base::List;
@@ -115,42 +114,6 @@ pub enum Look {
 /// A word that begins a look, or another line that a script of `cicsedf` doesn't have: a word of the table of HELP.
 #[derive(Clone, Copy, Debug, PartialEq, Eq)]
 pub enum Subject {
-    /// STORAGE: bytes from an address on.
-    Storage,
-    /// WHERE: what is at an address, and whose it is.
-    Where,
-    /// AREAS: areas of storage.
-    Areas,
-    /// TASK: a terminal's task, and each of its levels.
-    Task,
-    /// TASKS: each terminal, and what its task is doing.
-    Tasks,
-    /// ABEND: a terminal's last abend.
-    Abend,
-    /// QUEUES: the temporary storage queues.
-    Queues,
-    /// QUEUE: one of them with its items, or one item.
-    Queue,
-    /// RESOURCES: the resources that are owned, and who waits for them.
-    Resources,
-    /// PROGRAMS: the programs.
-    Programs,
-    /// COMMAND: the command that is due at a terminal.
-    Command,
-    /// AHEAD: what a terminal's next turn will do.
-    Ahead,
-    /// SYMBOL: a symbol of a program's source.
-    Symbol,
-    /// SYMBOLS: all symbols of a program's source.
-    Symbols,
-    /// XREF: which lines use a source's symbols, literals and base registers.
-    Xref,
-    /// TERMINALS: the clock, and each terminal's next transaction, input and EDF.
-    Terminals,
-    /// FIELD: a field of a level of a terminal's task.
-    Field,
-    /// FIELDS: all fields of such a level.
-    Fields,
     /// RUN: turns of a terminal.
     Run,
     /// WATCH: each change of some bytes.
@@ -159,6 +122,42 @@ pub enum Subject {
     Cover,
     /// COVERED: what was run since then, and what never was.
     Covered,
+    /// QUEUES: the temporary storage queues.
+    Queues,
+    /// QUEUE: one of them with its items, or one item.
+    Queue,
+    /// PROGRAMS: the programs.
+    Programs,
+    /// TASKS: each terminal, and what its task is doing.
+    Tasks,
+    /// RESOURCES: the resources that are owned, and who waits for them.
+    Resources,
+    /// TERMINALS: the clock, and each terminal's next transaction, input and EDF.
+    Terminals,
+    /// COMMAND: the command that is due at a terminal.
+    Command,
+    /// AHEAD: what a terminal's next turn will do.
+    Ahead,
+    /// TASK: a terminal's task, and each of its levels.
+    Task,
+    /// FIELD: a field of a level of a terminal's task.
+    Field,
+    /// FIELDS: all fields of such a level.
+    Fields,
+    /// AREAS: areas of storage.
+    Areas,
+    /// STORAGE: bytes from an address on.
+    Storage,
+    /// WHERE: what is at an address, and whose it is.
+    Where,
+    /// ABEND: a terminal's last abend.
+    Abend,
+    /// SYMBOL: a symbol of a program's source.
+    Symbol,
+    /// SYMBOLS: all symbols of a program's source.
+    Symbols,
+    /// XREF: which lines use a source's symbols, literals and base registers.
+    Xref,
     /// FAULTS: the faulty lines of a source that follows.
     Faults,
     /// ORDERS: what every order of turns and keys leads to.
@@ -169,80 +168,87 @@ pub enum Subject {
     Help,
 }
 
+/// The table of HELP: each subject with its line, which has its form, the word first and brackets round what may be
+/// left out, and what it does. A macro is called with what it is given and the rows.
+macro_rules! subject_rows {
+    ([$then:ident] $($given:tt)*) => {
+        $then! {
+            $($given)*
+            Run b"RUN term [n] [stop]  at most n turns of the terminal; stop: BEFORE ABEND, TO program line",
+            Watch b"WATCH aaaaaa n       each change of one of n bytes; also WATCH term name, WATCH OFF",
+            Cover b"COVER ON             counts from here on how often each instruction is run; also COVER OFF",
+            Covered b"COVERED [program]    what was run since then, and what never was; also COVERED program LINES",
+            Queues b"QUEUES               the temporary storage queues",
+            Queue b"QUEUE name [k]       a queue with its items, or its item k as a whole",
+            Programs b"PROGRAMS             the programs",
+            Tasks b"TASKS                each terminal, and what its task is doing",
+            Resources b"RESOURCES            the resources that are owned, and who waits for them",
+            Terminals b"TERMINALS            the clock, next transactions, input that is held, EDF",
+            Command b"COMMAND term         the command that is due at the terminal",
+            Ahead b"AHEAD term [n]       what the terminal's next turn will do; also AHEAD term AT program line",
+            Task b"TASK term            the terminal's task, and each of its levels",
+            Field b"FIELD term name [k]  a field of the current level, or of level k",
+            Fields b"FIELDS term [k]      all fields of that level",
+            Areas b"AREAS [term]         all areas of storage, or those of the terminal's task",
+            Storage b"STORAGE aaaaaa n     n bytes of storage from an address on",
+            Where b"WHERE aaaaaa         what is at an address, and whose it is",
+            Abend b"ABEND term           the terminal's last abend; also ABEND term STORAGE, ABEND term FIELDS",
+            Symbol b"SYMBOL program name  a symbol of the program's source",
+            Symbols b"SYMBOLS program      all symbols of the program's source",
+            Xref b"XREF program         which lines use its symbols, literals and base registers",
+            Faults b"FAULTS name          and the lines of a source, and /*: its faulty lines",
+            Orders b"ORDERS [n]           and keys and looks, and /*: what every order leads to; also TYPED AHEAD",
+            Choices
+                b"CHOICES n [states]   and keys and looks, and /*: what every list of n keys leads to; also ONE NUMBER",
+            Help b"HELP [word]          this table, or the line of a word in it",
+        }
+    };
+}
+
+/// All subjects of the rows.
+macro_rules! subjects {
+    ($($row:ident $line:literal,)*) => {
+        [$(Subject::$row),*]
+    };
+}
+
+/// The line of a subject.
+macro_rules! line_by_subject {
+    ($subject:tt $($row:ident $line:literal,)*) => {
+        match $subject {
+            $(Subject::$row => $line,)*
+        }
+    };
+}
+
 impl Subject {
-    /// Each of these words once, in the order in which they are declared.
-    pub const ALL: [Subject; 26] = [
-        Subject::Storage,
-        Subject::Where,
-        Subject::Areas,
-        Subject::Task,
-        Subject::Tasks,
-        Subject::Abend,
-        Subject::Queues,
-        Subject::Queue,
-        Subject::Resources,
-        Subject::Programs,
-        Subject::Command,
-        Subject::Ahead,
-        Subject::Symbol,
-        Subject::Symbols,
-        Subject::Xref,
-        Subject::Terminals,
-        Subject::Field,
-        Subject::Fields,
-        Subject::Run,
-        Subject::Watch,
-        Subject::Cover,
-        Subject::Covered,
-        Subject::Faults,
-        Subject::Orders,
-        Subject::Choices,
-        Subject::Help,
-    ];
+    /// Each of these words once, in the order of the table of HELP.
+    pub const ALL: [Subject; 26] = subject_rows!([subjects]);
+
+    /// The word's line in the table of HELP: its form, in which brackets are round what may be left out, and what it
+    /// does.
+    pub fn help_line(self) -> &'static [u8]
+        ensures { result.now ≡ help_line self }
+    {
+        subject_rows!([line_by_subject] self)
+    }
 
     /// The word as it is written.
     fn name(self) -> &'static [u8]
-        ensures { result.now ≡ subject_name self }
+        ensures { result.now ≡ word (help_line self) }
     {
-        match self {
-            Subject::Storage => b"STORAGE",
-            Subject::Where => b"WHERE",
-            Subject::Areas => b"AREAS",
-            Subject::Task => b"TASK",
-            Subject::Tasks => b"TASKS",
-            Subject::Abend => b"ABEND",
-            Subject::Queues => b"QUEUES",
-            Subject::Queue => b"QUEUE",
-            Subject::Resources => b"RESOURCES",
-            Subject::Programs => b"PROGRAMS",
-            Subject::Command => b"COMMAND",
-            Subject::Ahead => b"AHEAD",
-            Subject::Symbol => b"SYMBOL",
-            Subject::Symbols => b"SYMBOLS",
-            Subject::Xref => b"XREF",
-            Subject::Terminals => b"TERMINALS",
-            Subject::Field => b"FIELD",
-            Subject::Fields => b"FIELDS",
-            Subject::Run => b"RUN",
-            Subject::Watch => b"WATCH",
-            Subject::Cover => b"COVER",
-            Subject::Covered => b"COVERED",
-            Subject::Faults => b"FAULTS",
-            Subject::Orders => b"ORDERS",
-            Subject::Choices => b"CHOICES",
-            Subject::Help => b"HELP",
-        }
+        split_word(self.help_line()).0
     }
 }
 
-/// The first of some words that begin a look which is this word.
-fn subject_in(subjects: &[Subject], word: &[u8]) -> Option<Subject>
-    ensures { result ≡ find (λ s. bytes_eq (subject_name s) word.now) subjects.now }
+/// The first of some words that begin a look which is this text.
+fn subject_in(subjects: &[Subject], text: &[u8]) -> Option<Subject>
+    ensures { result ≡ find (λ s. bytes_eq (word (help_line s)) text.now) subjects.now }
 {
     subjects
         .iter()
         .copied()
-        .find(|subject| subject.name() == word)
+        .find(|subject| subject.name() == text)
 }
 
 /// The subject of a word, which is in upper case and whole; None for every other word. It takes no memory.

@@ -20,7 +20,7 @@ use cx_ebcdic::Name4;
 use cx_edf::EdfEvent;
 use cx_orders::KeyLine;
 use cx_region::Event;
-use cx_script_actions::{Action, Line, OrdersAsked, line_of, name4, number, split_word};
+use cx_script_actions::{Action, Line, NoHeading, line_of, name4, number, split_word};
 use cx_source::Text;
 use std::alloc::{AllocError, Global};
 
@@ -35,6 +35,15 @@ const MOST_KEYS: usize = 256;
 
 /// The most lines of a block that say what is to be seen.
 const MOST_SIGHTS: usize = 64;
+
+/// What ORDERS says of its search.
+#[derive(Clone, Copy)]
+pub struct OrdersAsked {
+    /// How many states are looked at, at most: 1 to 1,000,000 as a line asks it.
+    pub most: u32,
+    /// Whether a key may also come while its terminal's task runs, as long as no input is held there.
+    pub typed_ahead: bool,
+}
 
 /// What is to be seen of an outcome.
 #[derive(Drop)]
@@ -140,7 +149,7 @@ pub(crate) fn is_key(text: &[u8]) -> bool
 }
 
 /// The event that a line gives.
-fn event_in(line: Line<Action>) -> Option<EdfEvent>
+fn event_in(line: Line<Action, NoHeading>) -> Option<EdfEvent>
     requires { IsAllowedLine IsAllowedAction line }
     ensures value { result ≡ event_in line }
     ensures allowed { IfSome result IsAllowedEdf }

@@ -5,9 +5,9 @@ use Rattle.std.specs.Option.{option_map}
 use Rattle.cx_storage.specs.Address.{address_in}
 use Rattle.cx_storage.specs.Facts.Spans.{span_length}
 use Rattle.cx_storage.specs.Storage.{span}
-use Rattle.cx_look_levels.specs.FieldTexts.{field_line, typed}
-use Rattle.cx_look_levels.specs.KeptFields.{kept_field, kept_line}
-use Rattle.cx_look_levels.specs.Laws.{KeptFieldsAreOfStorage}
+use Rattle.cx_look_fields.specs.FieldTexts.{field_line, typed}
+use Rattle.cx_look_fields.specs.KeptFields.{kept_field, kept_line}
+use Rattle.cx_look_fields.specs.Laws.{KeptFieldsAreOfStorage}
 use Rattle.cx_look_abend.specs.Dumps.{Dump, dump_in}
 use Rattle.cx_look_abend.specs.Laws.{FieldsAreOfDumps}
 

@@ -17,7 +17,7 @@ use Rattle.cx_region.specs.declared.replies.Reply.{Reply}
 use Rattle.cx_region.specs.declared.replies.Reply.TheVariants as reply
 use Rattle.cx_edf.specs.Laws.Edf.{EdfEventsDecide}
 use Rattle.cx_edf.specs.State.{EdfState, holds}
-use Rattle.cx_edf.specs.Steps.{AppliesBy, DisplayMaker, DoorAnswers, EdfApplies, EdfHasAbendRecord, Keeps, Passes, door_of}
+use Rattle.cx_edf.specs.Steps.{DisplayMaker, DoorAnswers, EdfApplies, EdfHasAbendRecord, Keeps, Passes, door_of}
 use Rattle.cx_edf.specs.declared.answers.Answer.{Answer}
 use Rattle.cx_edf.specs.declared.answers.Answer.TheVariants as answer
 use Rattle.cx_edf.specs.declared.answers.EdfEvent.{EdfEvent}
@@ -53,9 +53,9 @@ passed_explains law old new name given answered abend_record is applies recorded
     turn_explains law old new name given abend_record (subst (λ (r : Reply). Applies old (event.Turn name) r new) (sym is) applies) recorded
 
 event_explains : AbendRecordsExplain → (make : DisplayMaker) (old new : EdfState) (name : List ℕ) (given : TurnReply) (abend_record : Option AbendRecord)
-    → AppliesBy make old (edf_event.Plain (event.Turn name)) (answer.Region (reply.Turn given)) new → EdfHasAbendRecord old (edf_event.Plain (event.Turn name)) abend_record
+    → EdfApplies make old (edf_event.Plain (event.Turn name)) (answer.Region (reply.Turn given)) new → EdfHasAbendRecord old (edf_event.Plain (event.Turn name)) abend_record
     → Explains abend_record given
-unfolding AppliesBy door_of EdfHasAbendRecord
+unfolding EdfApplies door_of EdfHasAbendRecord
 event_explains law make old new name given abend_record applies recorded = by_held (holds old name) applies recorded
   where
     by_held : (b : Bool) → DoorAnswers make old (if b then Keeps answer.Held old.sessions else Passes (event.Turn name) None) (answer.Region (reply.Turn given)) new
@@ -101,9 +101,9 @@ kept_by before old new name turn.Ended dump (Some abend_record) is recorded dump
 
 pub abends_are_kept : AbendRecordsExplain → AbendsAreKept
 unfolding task_before EventHasDump EdfHasAbendRecord
-abends_are_kept law old new before after name given it =
+abends_are_kept law make old new before after name given it =
     rw (it.kept)
-    (kept_by before old.region new.region name given it.dump it.abend_record (event_explains law _ old new name given it.abend_record it.applies it.recorded)
+    (kept_by before old.region new.region name given it.dump it.abend_record (event_explains law make old new name given it.abend_record it.applies it.recorded)
     (recorded_by old.region name it.abend_record (holds old name) it.recorded) it.dumped)
 
 -- ---- what is kept is decided
@@ -145,21 +145,21 @@ same_dump law region e one other None h k = h ∙ sym k
 same_dump law region e one other (Some abend_record) h k = event_dumps_decide law region e one other h k
 
 pub noted_decide : EdfEventsDecide → AbendRecordsDecide → RunsAreDecided → NotedDecide
-noted_decide events law runs old new later before after others e given other h k =
-    let same : (given ≡ other) × (new ≡ later) = events old e given other new later h.applies k.applies in
+noted_decide events law runs make old new later before after others e given other h k =
+    let same : (given ≡ other) × (new ≡ later) = events make old e given other new later h.applies k.applies in
     let abend_record : h.abend_record ≡ k.abend_record = abend_records_decide law old e h.abend_record k.abend_record h.recorded k.recorded in
     let here = subst (λ (r : Option AbendRecord). MatchOption r (h.dump ≡ None) (λ it. EventHasDump old.region e h.dump)) abend_record h.dumped in
     let dump : h.dump ≡ k.dump = same_dump runs old.region e h.dump k.dump k.abend_record here k.dumped in
     (same.0, same.1, h.kept ∙ (rw (same.0, same.1, abend_record, dump) refl) ∙ sym k.kept)
 
 -- ---- what is kept after an event, by what its steps give
-pub noted_by : (old new : EdfState) (before kept after : KeptAbends) (e : EdfEvent) (given : Answer) (ends : Bool) (task : TaskBefore) (source : DumpSource)
+pub noted_by : (make : DisplayMaker) (old new : EdfState) (before kept after : KeptAbends) (e : EdfEvent) (given : Answer) (ends : Bool) (task : TaskBefore) (source : DumpSource)
     (first second third : RegionState) (abend_record : Option AbendRecord) (dump : Option Dump)
     → after ≡ kept_after kept ends task e given dump abend_record third → third ≡ new.region → kept ≡ before → ends ≡ is_ending_key old e
-    → task ≡ task_before first e → first ≡ old.region → EdfApplies old e given new → EdfHasAbendRecord old e abend_record
+    → task ≡ task_before first e → first ≡ old.region → EdfApplies make old e given new → EdfHasAbendRecord old e abend_record
     → MatchOption abend_record (dump ≡ None) (λ it. GivesDump source dump) → IsSourceAt second e source → second ≡ old.region
-    → AppliesWithAbends old before e given new after
-noted_by old new before kept after e given ends task source first second third abend_record dump is third_is same_kept ends_is task_is first_is applies recorded gives of second_is =
+    → AppliesWithAbends make old before e given new after
+noted_by make old new before kept after e given ends task source first second third abend_record dump is third_is same_kept ends_is task_is first_is applies recorded gives of second_is =
     record {
       abend_record = abend_record;
       applies = applies;

@@ -24,7 +24,7 @@ use Rattle.cx_look_abend.specs.declared.abends.KeptTask.{KeptTask}
 use Rattle.cx_look_abend.specs.declared.abends.LastAbend.{LastAbend}
 use Rattle.cx_look_abend.specs.declared.abends.TaskBefore.{TaskBefore}
 use Rattle.cx_look_tasks.specs.Commands.{call_text}
-use Rattle.cx_look_tables.specs.Words.{Lines}
+use Rattle.cx_look_lines.specs.Words.{Lines}
 use Rattle.cx_look_symbols.specs.Places.{place_at_address, spot_before}
 use Rattle.cx_look_symbols.specs.declared.places.Place.{Place}
 

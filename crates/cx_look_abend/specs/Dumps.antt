@@ -14,9 +14,9 @@ use Rattle.cx_region_state.specs.State.{TaskState}
 use Rattle.cx_region_task.specs.Turn.{most_steps}
 use Rattle.cx_look_turn.specs.NextTurn.{task_machine}
 use Rattle.cx_look_turn.specs.Traces.{Leaves}
-use Rattle.cx_look_tables.specs.Words.{hex_groups, look_line, or_none, Lines}
+use Rattle.cx_look_lines.specs.Words.{hex_groups, look_line, or_none, Lines}
 use Rattle.cx_look_symbols.specs.Sources.{Sources, source_lines}
-use Rattle.cx_look_levels.specs.KeptFields.{kept_fields}
+use Rattle.cx_look_fields.specs.KeptFields.{kept_fields}
 
 -- the level's program, the address of the first byte, and the bytes
 pub record Dump : Type 0 where

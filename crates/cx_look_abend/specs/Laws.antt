@@ -17,13 +17,14 @@ use Rattle.cx_region_task.specs.Turn.{abend_record_with}
 use Rattle.cx_region_task.specs.declared.cause.AbendRecord.{AbendRecord}
 use Rattle.cx_region_task.specs.declared.cause.Cause.{Cause}
 use Rattle.cx_edf.specs.State.{EdfState}
+use Rattle.cx_edf.specs.Steps.{DisplayMaker}
 use Rattle.cx_edf.specs.declared.answers.Answer.{Answer}
 use Rattle.cx_edf.specs.declared.answers.Answer.TheVariants as answer
 use Rattle.cx_edf.specs.declared.answers.EdfEvent.{EdfEvent}
 use Rattle.cx_edf.specs.declared.answers.EdfEvent.TheVariants as edf_event
-use Rattle.cx_look_levels.specs.FieldTexts.{field_line, typed}
-use Rattle.cx_look_levels.specs.KeptFields.{kept_field, kept_line}
-use Rattle.cx_look_levels.specs.declared.readings.NamedReading.{NamedReading}
+use Rattle.cx_look_fields.specs.FieldTexts.{field_line, typed}
+use Rattle.cx_look_fields.specs.KeptFields.{kept_field, kept_line}
+use Rattle.cx_look_fields.specs.declared.readings.NamedReading.{NamedReading}
 use Rattle.cx_look_abend.specs.Noting.{KeptAbends, AppliesWithAbends, with_last}
 use Rattle.cx_look_abend.specs.Abends.{before_turn, exit_place, explanation_of, kept_task}
 use Rattle.cx_look_abend.specs.Dumps.{Dump, IsAtAbend, TurnHasDump, dump_in}
@@ -74,12 +75,14 @@ FieldsAreOfDumps = (s : Storage) (level : Level) (dump : Dump) (term name : List
     ≡ field_line s term name (typed readings name (kept_field dump.at offset value))
 
 abbrev pub AbendsAreKept : Type 0
-AbendsAreKept = (old new : EdfState) (before after : KeptAbends) (name : List ℕ) (given : TurnReply)
-    → AppliesWithAbends old before (edf_event.Plain (event.Turn name)) (answer.Region (reply.Turn given)) new after
+AbendsAreKept = (make : DisplayMaker) (old new : EdfState) (before after : KeptAbends) (name : List ℕ)
+    (given : TurnReply)
+    → AppliesWithAbends make old before (edf_event.Plain (event.Turn name)) (answer.Region (reply.Turn given)) new after
     → KeepsTurn before old.region new.region name given after
 
 -- the state and what is kept before an event decide its answer, the state after it, and what is kept then
 abbrev pub NotedDecide : Type 0
-NotedDecide = (old new later : EdfState) (before after others : KeptAbends) (e : EdfEvent) (given other : Answer)
-    → AppliesWithAbends old before e given new after → AppliesWithAbends old before e other later others
+NotedDecide = (make : DisplayMaker) (old new later : EdfState) (before after others : KeptAbends) (e : EdfEvent)
+    (given other : Answer)
+    → AppliesWithAbends make old before e given new after → AppliesWithAbends make old before e other later others
     → (given ≡ other) × (new ≡ later) × (after ≡ others)

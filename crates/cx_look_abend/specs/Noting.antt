@@ -13,7 +13,7 @@ use Rattle.cx_region.specs.declared.replies.Event.TheVariants as event
 use Rattle.cx_region.specs.declared.replies.Reply.TheVariants as reply
 use Rattle.cx_edf.specs.Runs.{MayTakeEdf}
 use Rattle.cx_edf.specs.State.{EdfState, ends_by_key}
-use Rattle.cx_edf.specs.Steps.{EdfApplies, EdfHasAbendRecord}
+use Rattle.cx_edf.specs.Steps.{DisplayMaker, EdfApplies, EdfHasAbendRecord}
 use Rattle.cx_edf.specs.declared.answers.Answer.{Answer}
 use Rattle.cx_edf.specs.declared.answers.Answer.TheVariants as answer
 use Rattle.cx_edf.specs.declared.answers.EdfEvent.{EdfEvent}
@@ -63,11 +63,11 @@ abbrev pub is_ending_key : EdfState → EdfEvent → Bool
 is_ending_key old (edf_event.Plain (event.Key name aid bytes)) = ends_by_key old name aid
 is_ending_key old _ = false
 
--- an event, and what is kept after it; where it leads to an abend, with the DFHEISTG then
-pub record AppliesWithAbends (old : EdfState) (before : KeptAbends) (e : EdfEvent) (given : Answer) (new : EdfState)
-    (after : KeptAbends) : Type 0 where
+-- an event, where displays are made so, and what is kept after it; where it leads to an abend, with the DFHEISTG then
+pub record AppliesWithAbends (make : DisplayMaker) (old : EdfState) (before : KeptAbends) (e : EdfEvent)
+    (given : Answer) (new : EdfState) (after : KeptAbends) : Type 0 where
   pub abend_record : Option AbendRecord
-  pub applies : EdfApplies old e given new
+  pub applies : EdfApplies make old e given new
   pub recorded : EdfHasAbendRecord old e abend_record
   pub dump : Option Dump
   pub dumped : MatchOption abend_record (dump ≡ None) (λ it. EventHasDump old.region e dump)

@@ -14,8 +14,8 @@ use Rattle.cx_region_task.specs.declared.cause.Cause.TheVariants as cause
 use Rattle.cx_ebcdic.specs.Names.{is_name}
 use Rattle.cx_base.specs.Digits.{digits}
 use Rattle.cx_base.specs.Texts.{shown_text, shown_name}
-use Rattle.cx_look_tables.specs.Registers.{register_lines}
-use Rattle.cx_look_tables.specs.Words.{Lines, look_line}
+use Rattle.cx_look_lines.specs.Registers.{register_lines}
+use Rattle.cx_look_lines.specs.Words.{Lines, look_line}
 use Rattle.cx_look_symbols.specs.Places.{address_word, place_at_address, place_word, spot_before}
 use Rattle.cx_look_symbols.specs.Sources.{Sources, led_by, statement_at}
 use Rattle.cx_look_abend.specs.Abends.{is_of_instruction}

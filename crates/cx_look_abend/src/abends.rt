@@ -13,8 +13,9 @@ use crate::dumps::StorageDump;
 use arrayvec::ArrayVec;
 use cx_base::Abend;
 use cx_ebcdic::{Name4, Name8};
+use cx_look_fields::task_of;
+use cx_look_lines::Report;
 use cx_look_symbols::{Place, Spot, place_at_address, spot_before};
-use cx_look_tables::Report;
 use cx_program::{Level, LevelStack};
 use cx_region::{AbendRecord, Cause, Region, TurnReply};
 use cx_storage::{Store, address_in};
@@ -214,8 +215,7 @@ fn callers_of(levels: &LevelStack) -> Callers
 pub(crate) fn kept_task<S: Store + Drop>(region: &Region<S>, name: Name4) -> Option<KeptTask>
     ensures { result ≡ kept_task region.now name }
 {
-    let terminal = region.terminals().get(&name)?;
-    let task = terminal.task()?;
+    let task = task_of(region, name)?;
     Some(KeptTask {
         tran: task.tran,
         number: task.number,
@@ -223,8 +223,8 @@ pub(crate) fn kept_task<S: Store + Drop>(region: &Region<S>, name: Name4) -> Opt
     })
 }
 
-/// The code of an abend, where a turn's reply is one.
-fn abend_code_in(reply: &TurnReply) -> Option<Name4>
+/// The code of an abend, where a turn's reply is one. It takes no memory.
+pub fn abend_code_in(reply: &TurnReply) -> Option<Name4>
     ensures { result ≡ abend_code_in reply.now }
 {
     match reply {
@@ -248,8 +248,7 @@ fn goes_on_at<S: Store + Drop>(region: &Region<S>, name: Name4) -> Option<Place>
     ensures { let programs = region.now.shared.programs in
         result ≡ option_map (λ task. place_at_address programs task.next) (task_of region.now name) }
 {
-    let terminal = region.terminals().get(&name)?;
-    let task = terminal.task()?;
+    let task = task_of(region, name)?;
     Some(place_at_address(&region.shared().programs, task.cpu.next))
 }
 

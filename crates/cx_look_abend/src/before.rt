@@ -1,6 +1,5 @@
 //! What is kept of a terminal's task before an event that may lead to an abend.
 ghost use Rattle.std.specs.Prelude.{◌≡◌, [], IfOk, MatchOption, OnErr, None, is_some, true};
-ghost use Rattle.std.specs.Option.{option_copied};
 ghost use Rattle.cx_region.specs.Tables.{task_of};
 ghost use Rattle.cx_look_abend.specs.Abends.{before_turn, due_arguments, kept_task};
 ghost use Rattle.cx_look_abend.specs.Noting.{takes_room, task_before};
@@ -10,20 +9,13 @@ use crate::abends::{TaskBefore, kept_task};
 use crate::dumps::DumpBefore;
 use cx_ebcdic::Name4;
 use cx_edf::EdfEvent;
-use cx_look_tables::Report;
+use cx_look_fields::task_of;
+use cx_look_lines::Report;
 use cx_look_tasks::call_text;
 use cx_region::{Event, Region};
 use cx_region_state::{Task, read_call};
 use cx_storage::{Store, address_in};
 use std::alloc::{AllocError, Global};
-
-/// The task of a terminal.
-fn task_of<S: Store + Drop>(region: &Region<S>, name: Name4) -> Option<&Task>
-    ensures { option_copied result ≡ task_of region.now name }
-{
-    let terminal = region.terminals().get(&name)?;
-    terminal.task()
-}
 
 /// The arguments of a task's command, where one is due and its list can be read.
 #[tactic(auto, unfolding(crate::specs::Abends::due_arguments))]

@@ -1,5 +1,5 @@
 //! The DFHEISTG of a level as it is at an abend.
-ghost use Rattle.std.specs.Prelude.{◌≡◌, ◌≤◌, ◌+◌, ◌*◌, ◌/◌, ◌<◌, ◌^◌, ◌++◌, IfOk, OnOk, drop, length, take};
+ghost use Rattle.std.specs.Prelude.{◌≡◌, ◌≤◌, ◌+◌, ◌*◌, ◌/◌, ◌<◌, ◌^◌, ◌++◌, IfOk, OnOk, length};
 ghost use Rattle.cx_look_abend.specs.Dumps.{dump_at, dump_in, dump_lines, dump_row, dump_row_line, field_lines};
 ghost use Rattle.cx_look_abend.specs.Parts.Texts.{if_dumped};
 ghost use Rattle.std.specs.List.{flat_map, range_with_len};
@@ -8,9 +8,9 @@ ghost use Rattle.cx_look_turn.specs.NextTurn.{task_machine};
 
 use cx_base::{hexadecimal, in_columns, shown};
 use cx_ebcdic::{Name4, Name8};
-use cx_look_levels::{fields_word, kept_fields};
+use cx_look_fields::{fields_word, kept_fields};
+use cx_look_lines::{Report, bytes_from, first_bytes, hex_group};
 use cx_look_symbols::Sources;
-use cx_look_tables::{Report, hex_group};
 use cx_look_turn::{KeptMachine, TurnMachine};
 use cx_program::Level;
 use cx_region_state::Task;
@@ -214,20 +214,6 @@ impl DumpBefore {
     }
 }
 
-/// The bytes from a place on; none where there are none.
-fn after(bytes: &[u8], place: usize) -> &[u8]
-    ensures { result.now ≡ drop place bytes.now }
-{
-    bytes.split_at(place.min(bytes.len())).1
-}
-
-/// The first `count` bytes, or all where there are fewer.
-fn first_bytes(bytes: &[u8], count: usize) -> &[u8]
-    ensures { result.now ≡ take count bytes.now }
-{
-    bytes.split_at(count.min(bytes.len())).0
-}
-
 /// Adds the line of a row at an address.
 #[tactic(auto, unfolding(crate::specs::Dumps::dump_row_line))]
 fn dump_row_line(report: &mut Report, at: u32, row: &[u8]) -> Result<(), AllocError>
@@ -250,7 +236,7 @@ fn dump_row(report: &mut Report, at: u32, bytes: &[u8], k: u32) -> Result<(), Al
     ensures { OnOk result (report.new ≡ report.old ++ dump_row at bytes.now k) }
 {
     let offset = ROW * k;
-    let row = first_bytes(after(bytes, offset as usize), ROW as usize);
+    let row = first_bytes(bytes_from(bytes, offset as usize), ROW as usize);
     dump_row_line(report, address_after(at, offset), row)
 }
 

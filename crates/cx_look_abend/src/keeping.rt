@@ -19,7 +19,7 @@ use crate::abends::{LastAbend, LastAbends, TaskBefore, by_operator, last_of_turn
 use crate::before::{dump_before, task_before};
 use crate::dumps::{DumpBefore, StorageDump};
 use cx_ebcdic::{Aid, Name4};
-use cx_edf::{Answer, Debugged, EdfEvent};
+use cx_edf::{Answer, Debugged, EdfEvent, MakesDisplays};
 use cx_region::{AbendRecord, AlterReply, Change, Event, Region, Reply, TurnReply};
 use cx_storage::Store;
 use std::alloc::AllocError;
@@ -141,7 +141,11 @@ fn keep<S: Store + Drop>(
 }
 
 /// Whether a key ends the task of a terminal.
-fn ends_by_key<S: Store + Drop>(state: &Debugged<S>, name: Name4, aid: Aid) -> bool
+fn ends_by_key<S: Store + Drop, M: MakesDisplays>(
+    state: &Debugged<S, M>,
+    name: Name4,
+    aid: Aid,
+) -> bool
     ensures { result ≡ ends_by_key state.now name aid }
 {
     match aid {
@@ -151,7 +155,10 @@ fn ends_by_key<S: Store + Drop>(state: &Debugged<S>, name: Name4, aid: Aid) -> b
 }
 
 /// Whether an event is a key that ends the task of its terminal.
-fn is_ending_key<S: Store + Drop>(state: &Debugged<S>, event: &EdfEvent) -> bool
+fn is_ending_key<S: Store + Drop, M: MakesDisplays>(
+    state: &Debugged<S, M>,
+    event: &EdfEvent,
+) -> bool
     ensures { result ≡ is_ending_key state.now event.now }
 {
     match event {
@@ -188,14 +195,14 @@ fn dump_of(source: DumpBefore, abend_record: &Option<AbendRecord>) -> Option<Sto
 ///
 /// An error comes only where an allocation failed: that of a new terminal's room, of what is kept of a task before its
 /// turn, or one that the event may take. Then all is as before.
-pub fn apply_keeping_abends<S: Store + Drop>(
-    state: &mut Debugged<S>,
+pub fn apply_keeping_abends<S: Store + Drop, M: MakesDisplays>(
+    state: &mut Debugged<S, M>,
     abends: &mut LastAbends,
     event: &EdfEvent,
 ) -> Result<Answer, AllocError>
     requires { IsAllowedEdf event.now }
     ensures applies { let before = abends.old.entries in let after = abends.new.entries in
-        IfOk result (λ given. AppliesWithAbends state.old before event.now given state.new after) }
+        IfOk result (λ given. AppliesWithAbends M.make state.old before event.now given state.new after) }
     ensures memory { OnErr result (MayTakeNoted state.old event.now) }
     ensures err { OnErr result ((state.new ≡ state.old) × (abends.new.entries ≡ abends.old.entries)) }
 {

@@ -32,5 +32,5 @@ pub fn dumps_are_of_records()
 pub fn fields_are_of_dumps()
     ensures { FieldsAreOfDumps }
 {
-    cx_look_levels::laws::kept_fields_are_of_storage();
+    cx_look_fields::laws::kept_fields_are_of_storage();
 }

@@ -2,9 +2,8 @@
 ghost use Rattle.std.specs.Prelude.{◌≡◌, ◌++◌, ◌∷◌, [], IfOk, OnOk, codes, if◌then◌else◌, is_some, take, slice_index};
 ghost use Rattle.std.specs.Option.{option_copied, option_map_or};
 ghost use Rattle.std.specs.List.{flat_map, list_all};
-ghost use Rattle.cx_base.specs.Commands.{row_of};
 ghost use Rattle.cx_base.specs.Digits.{digits};
-ghost use Rattle.cx_look_tables.specs.Words.{look_line};
+ghost use Rattle.cx_look_lines.specs.Words.{look_line};
 ghost use Rattle.cx_look_symbols.specs.Places.{address_word, place_at_address, place_word, spot_before};
 ghost use Rattle.cx_look_symbols.specs.Sources.{led_by, statement_at};
 ghost use Rattle.cx_region_task.specs.declared.cause.Cause.TheVariants as causes;
@@ -16,16 +15,17 @@ ghost use Rattle.cx_look_abend.specs.Texts.{abend_command_lines, abend_fields_te
 
 use crate::abends::{Caller, Explanation, KeptTask, LastAbend, LastAbends};
 use crate::dumps::{if_dumped, if_fields};
-use cx_base::{Command, decimal, hexadecimal, shown, shown_name};
+use cx_base::{decimal, hexadecimal, shown, shown_name};
 use cx_code::instruction_length;
 use cx_ebcdic::{Name4, Name8};
 use cx_exec::Interruption;
 use cx_load::Loaded;
+use cx_look_lines::{Report, joined, register_lines};
 use cx_look_symbols::{
     Place, Sources, address_word, place_at_address, place_word, push_led_by, spot_before,
     statement_at,
 };
-use cx_look_tables::{Report, register_lines};
+use cx_look_tasks::command_word;
 use cx_region::{AbendRecord, Cause};
 use cx_storage::address_in;
 use indexmap::IndexMap;
@@ -53,11 +53,7 @@ fn cause_word(alloc: Global, cause: Cause) -> Result<Vec<u8>, AllocError>
         Cause::Interrupted(it) => interruption_word(it).to_vec(alloc),
         Cause::Limit => b"LIMIT".to_vec(alloc),
         Cause::Refused(_abend) => b"REFUSED".to_vec(alloc),
-        Cause::Met(condition) => {
-            let mut text = b"CONDITION ".to_vec(alloc)?;
-            text.extend_from_slice(condition.name().as_bytes())?;
-            Ok(text)
-        }
+        Cause::Met(condition) => { joined(alloc, b"CONDITION ", condition.name().as_bytes()) }
         Cause::Asked => b"ASKED BY PROGRAM".to_vec(alloc),
     }
 }
@@ -137,16 +133,6 @@ fn next_line(report: &mut Report, sources: &Sources, it: &Explanation) -> Result
     report.line(&[b"NEXT", &place, b"INSTRUCTION", &instruction])
 }
 
-/// The name of a command.
-fn abend_command_word(command: &Option<Command>) -> &'static [u8]
-    ensures { result.now ≡ option_map_or (λ command. (row_of command).name) command.now (codes "?") }
-{
-    match command {
-        Some(command) => command.name().as_bytes(),
-        None => b"?",
-    }
-}
-
 /// The address of a command's argument list, and the line of its EXEC with its text.
 fn argument_list_word(
     alloc: Global,
@@ -185,7 +171,7 @@ fn abend_command_lines(
 ) -> Result<(), AllocError>
     ensures { OnOk result (report.new ≡ report.old ++ abend_command_lines sources.now it.now) }
 {
-    let command = abend_command_word(&it.abend_record.command);
+    let command = command_word(it.abend_record.command);
     let list = argument_list_word(report.alloc(), sources, it)?;
     report.line(&[b"COMMAND", command, b"LIST", &list])?;
     argument_lines(report, it)?;

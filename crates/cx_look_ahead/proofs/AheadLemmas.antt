@@ -9,13 +9,13 @@ use Rattle.cx_region_state.specs.declared.replies.TurnReply.{TurnReply}
 use Rattle.cx_region_task.specs.Turn.{most_steps}
 use Rattle.cx_region.specs.State.{RegionState}
 use Rattle.cx_storage.specs.Storage.{Storage}
-use Rattle.cx_look_tables.specs.Words.{Lines}
+use Rattle.cx_look_lines.specs.Words.{Lines}
 use Rattle.cx_look_symbols.specs.Sources.{Sources}
 use Rattle.cx_look_turn.specs.Laws.{TracesDecide}
 use Rattle.cx_look_turn.specs.Traces.{IsTrace}
 use Rattle.cx_look_turn.specs.declared.traces.Trace.{Trace}
 use Rattle.cx_look_turn.specs.declared.traces.Visit.{Visit}
-use Rattle.cx_look_ahead.specs.Ahead.{TurnText, names_ahead, changed_row_line}
+use Rattle.cx_look_ahead.specs.Ahead.{TurnText, fields_ahead, changed_row_line}
 use Rattle.cx_look_ahead.specs.Instructions.{count_line, trace_lines, visit_line}
 use Rattle.cx_look_ahead.specs.Parts.Words.{turn_end_line}
 use Rattle.cx_look_turn.specs.NextTurn.{IsAhead, machine_ahead}
@@ -54,8 +54,8 @@ turn_texts_decide decide sources region name n reply after one other p q =
     let ran = ahead_lines decide sources region name n p.trace q.trace p.ahead q.ahead in
     p.are
     ∙ ap (λ them. turn_end_line name reply ++ trace_lines sources region.shared.programs p.trace
-    ++ flat_map (changed_row_line (names_ahead sources region name) region.shared.storage after) them) rows
-    ∙ ap (λ (them : Lines). turn_end_line name reply ++ them ++ flat_map (changed_row_line (names_ahead sources region name) region.shared.storage after) q.rows) ran
+    ++ flat_map (changed_row_line (fields_ahead sources region name) region.shared.storage after) them) rows
+    ∙ ap (λ (them : Lines). turn_end_line name reply ++ them ++ flat_map (changed_row_line (fields_ahead sources region name) region.shared.storage after) q.rows) ran
     ∙ sym q.are
 
 pub ahead_decides : TurnsDecide → TracesDecide → AheadDecides

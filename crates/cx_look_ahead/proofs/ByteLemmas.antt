@@ -15,10 +15,10 @@ use Rattle.cx_storage.specs.Storage.{Storage, IsSoundStorage, byte_at, span}
 use Rattle.cx_look_ahead.specs.Parts.Seen.{AreBytes}
 use Rattle.cx_look_ahead.specs.Ahead.{bytes_word}
 use Rattle.cx_look_ahead.specs.declared.rows.Row.{Row}
-use Rattle.cx_look_tables.specs.Words.{Lines}
+use Rattle.cx_look_lines.specs.Words.{Lines}
 use Rattle.cx_look_ahead.specs.Laws.Watching.{ChangesAreWritten}
 use Rattle.cx_look_ahead.specs.Watching.{AreOfRange, ActionEffect, IsChange, change_line, kept_in, shown_in}
-use Rattle.cx_look_ahead.specs.Writing.{IsUnchanged}
+use Rattle.cx_look_ahead.specs.Writers.{IsUnchanged}
 use Rattle.cx_look_ahead.specs.declared.watching.Kept.{Kept}
 
 -- ---- a digit

@@ -13,8 +13,8 @@ use Rattle.cx_region.specs.Tables.{terminal_of}
 use Rattle.cx_region.specs.Turn.{TakesTurn, TaskTakesTurn, context_of}
 use Rattle.cx_look_ahead.specs.Laws.Watching.{WorkIsDone, DoesIt, IsWorkDone}
 use Rattle.cx_look_ahead.specs.Watching.{next_work}
-use Rattle.cx_look_ahead.specs.declared.writing.Work.{Work}
-use Rattle.cx_look_ahead.specs.declared.writing.Work.TheVariants as work
+use Rattle.cx_look_ahead.specs.declared.writers.Work.{Work}
+use Rattle.cx_look_ahead.specs.declared.writers.Work.TheVariants as work
 
 half_turn : (region : RegionState) (terminal : TerminalState) (task : TaskState) (reply : TurnReply) (abend_record : Option AbendRecord)
     (reached : TaskContext) (due : Bool)

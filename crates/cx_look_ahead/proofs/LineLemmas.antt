@@ -8,14 +8,14 @@ use Rattle.cx_exec_laws.specs.Laws.Decide.{RunsDecide}
 use Rattle.cx_storage.specs.Storage.{Storage}
 use Rattle.cx_look_turn.specs.Traces.{Leaves}
 use Rattle.cx_region_task.specs.Turn.{most_steps}
-use Rattle.cx_look_tables.specs.Words.{Lines}
+use Rattle.cx_look_lines.specs.Words.{Lines}
 use Rattle.cx_look_ahead.specs.declared.rows.Row.{Row}
 use Rattle.cx_look_ahead.specs.Laws.Watching.{ChangesDecide, WritersDecide}
 use Rattle.cx_look_ahead.specs.Parts.Seen.{IsLastSeen, IsOfChanged, SeenRange, if_changed, run_word, seen_line, statement_lines}
 use Rattle.cx_look_ahead.specs.Watching.{AreOfRange, AreOfRanges, ActionEffect, IsChange, IsOfRun, IsStatement, change_line, command_word, shown_in}
 use Rattle.cx_look_ahead.specs.declared.watching.Kept.{Kept}
-use Rattle.cx_look_ahead.specs.declared.writing.Work.{Work}
-use Rattle.cx_look_ahead.specs.declared.writing.Work.TheVariants as work
+use Rattle.cx_look_ahead.specs.declared.writers.Work.{Work}
+use Rattle.cx_look_ahead.specs.declared.writers.Work.TheVariants as work
 use Rattle.cx_load.specs.declared.program.Loaded.{Loaded}
 use Rattle.cx_look_symbols.specs.Sources.{Sources}
 

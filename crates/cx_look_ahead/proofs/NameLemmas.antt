@@ -2,7 +2,7 @@
 use Rattle.std.proofs.Common.{refl, length}
 use Rattle.std.proofs.lemmas.Bool.{eq-eqb}
 use Rattle.cx_program.specs.Levels.{all_levels}
-use Rattle.cx_look_levels.specs.Fields.{standing_in}
+use Rattle.cx_look_fields.specs.Fields.{standing_in}
 use Rattle.cx_look_ahead.specs.Laws.{NamesAreOfWhere}
 
 pub names_are_of_where : NamesAreOfWhere

@@ -25,7 +25,7 @@ use Rattle.cx_look_ahead.proofs.ByteLemmas.{alike, written_alike}
 use Rattle.cx_look_ahead.specs.Watching.{shown_in}
 use Rattle.cx_look_turn.specs.Facts.Left.{passes_suc}
 use Rattle.cx_look_turn.specs.Facts.Visits.{passes_decide}
-use Rattle.cx_look_ahead.specs.Writing.{IsLastWriter, IsUnchanged, LastWriter, NoneWrites, PerformsAfter}
+use Rattle.cx_look_ahead.specs.Writers.{IsLastWriter, IsUnchanged, LastWriter, NoneWrites, PerformsAfter}
 
 -- ---- the instructions of a run
 -- after an instruction that isn't done there is none

@@ -10,16 +10,17 @@ use Rattle.cx_load.specs.declared.program.Loaded.{Loaded}
 use Rattle.cx_region_task.specs.Turn.{most_steps}
 use Rattle.cx_region.specs.State.{RegionState}
 use Rattle.cx_source.specs.declared.source.Source.{Source}
-use Rattle.cx_look_tables.specs.Registers.{register_lines}
-use Rattle.cx_look_tables.specs.Words.{Lines, look_line}
+use Rattle.cx_look_lines.specs.Registers.{register_lines}
+use Rattle.cx_look_lines.specs.Words.{Lines, look_line}
 use Rattle.cx_look_symbols.specs.Lines.{SourcePlaces}
 use Rattle.cx_look_symbols.specs.Places.{spot_of}
 use Rattle.cx_look_symbols.specs.Sources.{Sources, source_lines}
-use Rattle.cx_look_symbols.specs.Symbols.{translated_in}
+use Rattle.cx_look_symbols.specs.Placed.{placed_in}
 use Rattle.cx_look_symbols.specs.declared.places.Spot.{Spot}
 use Rattle.cx_look_symbols.specs.declared.statements.StatementPlace.{StatementPlace}
 use Rattle.cx_look_xref.specs.References.{references_of}
-use Rattle.cx_look_levels.specs.Chosen.{chosen_fields}
+use Rattle.cx_look_fields.specs.Fields.{fields_in}
+use Rattle.cx_look_fields.specs.FieldTexts.{fields_lines}
 use Rattle.cx_look_ahead.specs.Arrivals.{is_among_statements, statements_on}
 use Rattle.cx_look_ahead.specs.Instructions.{visit_line}
 use Rattle.cx_look_turn.specs.NextTurn.{IsAhead, machine_ahead}
@@ -62,10 +63,13 @@ at_line name line word =
 abbrev pub names_on : ℕ → Source → List (List ℕ)
 names_on line source = map (λ r. r.name) (filter (λ r. r.line == line) (references_of source))
 
+abbrev pub fields_on : Machine → List ℕ → SourceLine → ℕ → Source → Lines
+fields_on m name line offset source =
+    option_map_or (fields_lines (Some (names_on line.line source)) m.storage name) (fields_in m.regs offset source) []
+
 abbrev pub fields_at_line : Sources → Machine → List ℕ → SourceLine → Spot → Lines
 fields_at_line sources m name line spot =
-    option_map_or (λ source. chosen_fields (names_on line.line source) m.storage name m.regs spot.offset source)
-    (translated_in (source_lines sources line.program)) []
+    option_map_or (fields_on m name line spot.offset) (placed_in (source_lines sources line.program)) []
 
 unfoldable pub there_lines : Sources → List (List ℕ × Loaded) → List ℕ → SourceLine → Machine → Lines
 there_lines sources programs name line m =

@@ -9,12 +9,11 @@ use Rattle.cx_region_state.specs.declared.replies.TurnReply.{TurnReply}
 use Rattle.cx_region.specs.State.{RegionState}
 use Rattle.cx_region.specs.Tables.{task_of}
 use Rattle.cx_region.specs.Turn.{TakesTurn}
-use Rattle.cx_look_tables.specs.Words.{Lines}
+use Rattle.cx_look_lines.specs.Words.{Lines}
 use Rattle.cx_look_symbols.specs.Sources.{Sources}
 use Rattle.cx_look_ahead.specs.Rows.{AreRows, has_byte}
-use Rattle.cx_look_ahead.specs.Ahead.{AheadText, TurnText, names_ahead}
-use Rattle.cx_look_levels.specs.Names.{nearest_by}
-use Rattle.cx_look_levels.specs.Wheres.{level_field_line, level_lines_at}
+use Rattle.cx_look_ahead.specs.Ahead.{AheadText, TurnText, fields_ahead}
+use Rattle.cx_look_fields.specs.Addresses.{level_field_line, level_lines_at, nearest_by}
 use Rattle.cx_look_ahead.specs.declared.rows.Row.{Row}
 pub mod Arrivals
 pub mod Watching
@@ -50,5 +49,5 @@ NamesAreOfWhere =
     (sources : Sources) (region : RegionState) (name : List ℕ) (task : TaskState) (address : ℕ)
     → task_of region name ≡ Some task
     → option_map_or (level_field_line name (length (all_levels task.levels)))
-    (option_and_then (nearest_by address) (names_ahead sources region name)) []
+    (option_and_then (nearest_by address) (fields_ahead sources region name)) []
     ≡ level_lines_at region.shared.programs sources address name task (length (all_levels task.levels))

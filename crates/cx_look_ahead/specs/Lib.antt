@@ -6,10 +6,10 @@ pub mod Instructions
 pub mod Ahead
 pub mod Arrivals
 pub mod At
-pub use Rattle.cx_look_tables.specs.Words
+pub use Rattle.cx_look_lines.specs.Words
 pub use Rattle.cx_look_turn.specs.Traces
 pub use Rattle.cx_look_turn.specs.NextTurn
-pub mod Writing
+pub mod Writers
 pub mod Watching
 pub mod Facts
 pub use Rattle.cx_look_ahead.specs.Rows

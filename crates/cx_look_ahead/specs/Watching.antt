@@ -13,20 +13,20 @@ use Rattle.cx_region_state.specs.State.{TaskState}
 use Rattle.cx_region_task.specs.Turn.{most_steps}
 use Rattle.cx_region.specs.State.{RegionState}
 use Rattle.cx_region.specs.Tables.{task_of}
-use Rattle.cx_look_tables.specs.Words.{Lines, look_line}
+use Rattle.cx_look_lines.specs.Words.{Lines, look_line}
 use Rattle.cx_look_symbols.specs.Places.{address_word, place_at_address, spot_before}
 use Rattle.cx_look_symbols.specs.Sources.{Sources, statement_at}
 use Rattle.cx_look_symbols.specs.declared.places.Place.{Place}
 use Rattle.cx_look_turn.specs.NextTurn.{task_machine}
 use Rattle.cx_look_turn.specs.Traces.{Leaves}
 use Rattle.cx_look_ahead.specs.Ahead.{bytes_word}
-use Rattle.cx_look_ahead.specs.Writing.{LastWriter}
+use Rattle.cx_look_ahead.specs.Writers.{LastWriter}
 use Rattle.cx_look_ahead.specs.declared.rows.Row.{Row}
 use Rattle.cx_look_ahead.specs.declared.watching.Cause.{Cause}
 use Rattle.cx_look_ahead.specs.declared.watching.Cause.TheVariants as cause
 use Rattle.cx_look_ahead.specs.declared.watching.Kept.{Kept}
-use Rattle.cx_look_ahead.specs.declared.writing.Work.{Work}
-use Rattle.cx_look_ahead.specs.declared.writing.Work.TheVariants as work
+use Rattle.cx_look_ahead.specs.declared.writers.Work.{Work}
+use Rattle.cx_look_ahead.specs.declared.writers.Work.TheVariants as work
 
 -- ---- a change
 -- what is done, in the words of its line

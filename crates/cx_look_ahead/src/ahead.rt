@@ -1,8 +1,8 @@
 //! AHEAD.
 ghost use Rattle.std.specs.Prelude.{◌≡◌, [], ◌∷◌, ◌++◌, codes, IfOk, OnOk};
 ghost use Rattle.std.specs.List.{flat_map};
-ghost use Rattle.cx_look_tables.specs.Words.{look_line};
-ghost use Rattle.cx_look_ahead.specs.Ahead.{AheadText, TurnText, names_ahead, changed_row_line};
+ghost use Rattle.cx_look_lines.specs.Words.{look_line};
+ghost use Rattle.cx_look_ahead.specs.Ahead.{AheadText, TurnText, changed_row_line, fields_ahead};
 ghost use Rattle.cx_look_ahead.specs.Parts.Words.{turn_end_line};
 
 use crate::bytes::changed_row_line;
@@ -10,9 +10,9 @@ use crate::instructions::trace_lines;
 use crate::rows::{Row, rows_between};
 use cx_base::{shown, shown_name};
 use cx_ebcdic::Name4;
-use cx_look_levels::{LevelNames, level_names, standing_at};
+use cx_look_fields::{LevelFields, standing_at};
+use cx_look_lines::Report;
 use cx_look_symbols::Sources;
-use cx_look_tables::Report;
 use cx_look_turn::trace_ahead;
 use cx_region::{Region, TurnReply};
 use cx_region_snapshot::turn_apart;
@@ -58,16 +58,16 @@ fn turn_end_line(report: &mut Report, name: Name4, reply: &TurnReply) -> Result<
 }
 
 /// What the fields of the current level of a terminal's task are found by.
-fn names_ahead<S: Store + Drop>(
+fn fields_ahead<S: Store + Drop>(
     alloc: Global,
     sources: &Sources,
     region: &Region<S>,
     name: Name4,
-) -> Result<Option<LevelNames>, AllocError>
-    ensures { IfOk result (λ names. names ≡ names_ahead sources.now region.now name) }
+) -> Result<Option<LevelFields>, AllocError>
+    ensures { IfOk result (λ fields. fields ≡ fields_ahead sources.now region.now name) }
 {
     match standing_at(region, name, None) {
-        Some(standing) => level_names(alloc, sources.source_lines(standing.program), &standing),
+        Some(standing) => LevelFields::at(alloc, sources.source_lines(standing.program), &standing),
         None => Ok(None),
     }
 }
@@ -75,16 +75,16 @@ fn names_ahead<S: Store + Drop>(
 /// Adds the lines of rows.
 fn row_lines<S: Store + Drop>(
     report: &mut Report,
-    names: &Option<LevelNames>,
+    fields: &Option<LevelFields>,
     before: &Region<S>,
     after: &Region<S>,
     rows: &[Row],
 ) -> Result<(), AllocError>
-    ensures { let line = changed_row_line names.now before.now.shared.storage after.now.shared.storage in
+    ensures { let line = changed_row_line fields.now before.now.shared.storage after.now.shared.storage in
         OnOk result (report.new ≡ report.old ++ flat_map line rows.now) }
 {
     for row in rows {
-        changed_row_line(report, names, before, after, *row)?;
+        changed_row_line(report, fields, before, after, *row)?;
     }
     Ok(())
 }
@@ -113,8 +113,8 @@ impl<'a, S: Store + Drop> TurnDone<'a, S> {
             &self.before.shared().store,
             &self.after.shared().store,
         )?;
-        let names = names_ahead(alloc, sources, self.before, self.name)?;
-        row_lines(&mut report, &names, self.before, self.after, &rows)?;
+        let fields = fields_ahead(alloc, sources, self.before, self.name)?;
+        row_lines(&mut report, &fields, self.before, self.after, &rows)?;
         Ok(report)
     }
 }

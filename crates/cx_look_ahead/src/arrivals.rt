@@ -7,6 +7,7 @@ ghost use Rattle.cx_look_ahead.specs.Arrivals.{ComesTo, are_among, does_some, ha
 
 use cx_ebcdic::{Name4, Name8};
 use cx_load::Loaded;
+use cx_look_fields::task_of;
 use cx_look_symbols::{
     SourcePlaces, Sources, Spot, StatementPlace, has_offset, place_at_address, spot_before,
 };
@@ -106,10 +107,7 @@ fn is_command_among<S: Store + Drop>(
     ensures { let task = task_of region.now name in
         result ≡ is_command_among region.now.shared.programs program statements.now task }
 {
-    let Some(terminal) = region.terminals().get(&name) else {
-        return false;
-    };
-    let Some(task) = terminal.task() else {
+    let Some(task) = task_of(region, name) else {
         return false;
     };
     let back = address_in(task.cpu.regs[14]);

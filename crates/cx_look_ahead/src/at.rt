@@ -1,19 +1,21 @@
 //! AHEAD AT.
-ghost use Rattle.std.specs.Prelude.{◌≡◌, ◌<◌, ◌++◌, [], IfOk, IfSome, OnOk, codes, length};
+ghost use Rattle.std.specs.Prelude.{◌≡◌, ◌<◌, ◌++◌, [], IfOk, IfSome, OnOk, Some, codes, length};
 ghost use Rattle.std.specs.Option.{option_map_or};
 ghost use Rattle.cx_exec.specs.Machine.{machine};
-ghost use Rattle.cx_look_ahead.specs.At.{ArrivesAt, AtText, at_line, fields_at_line, first_among, names_on, there_lines};
-ghost use Rattle.cx_look_levels.specs.Chosen.{chosen_fields};
+ghost use Rattle.cx_look_fields.specs.FieldTexts.{fields_lines};
+ghost use Rattle.cx_look_ahead.specs.At.{ArrivesAt, AtText, at_line, fields_at_line, fields_on, first_among, names_on, there_lines};
 
 use crate::arrivals::{SourceLine, is_among_statements, statements_on};
 use crate::instructions::visit_line;
-use cx_base::{decimal, shown_name};
+use cx_base::{List, decimal, shown_name};
 use cx_ebcdic::{Name4, Name8};
 use cx_exec::Cpu;
 use cx_load::Loaded;
-use cx_look_levels::{LevelFields, SourcePoint};
-use cx_look_symbols::{Sources, Spot, StatementPlace, place_at_address, translated_in};
-use cx_look_tables::{Report, register_lines};
+use cx_look_fields::{FieldWriter, LevelFields};
+use cx_look_lines::{Report, register_lines};
+use cx_look_symbols::{
+    PlacedSource, Sources, Spot, StatementPlace, place_at_address, translated_in,
+};
 use cx_look_turn::{MOST_STEPS, Trace, TurnMachine, instruction_at, machine_ahead, trace_ahead};
 use cx_look_xref::references_of;
 use cx_region::Region;
@@ -103,23 +105,41 @@ struct TaskThere<'a, S: Store> {
 }
 
 impl<'a, S: Store> TaskThere<'a, S> {
-    /// Adds the lines of the fields that the line of a source names.
-    fn fields_on(&self, report: &mut Report, offset: u32, source: &Source) -> Result<(), AllocError>
-        ensures { let m = machine self.now.cpu.now (S.storage self.now.store.now) in
-            let names = names_on self.now.line.now.line source.now in
-            let lines = chosen_fields names m.storage self.now.name m.regs offset source.now in
+    /// Adds the lines of the fields of these names.
+    fn named_fields(
+        &self,
+        report: &mut Report,
+        fields: &LevelFields,
+        names: Vec<Name8>,
+    ) -> Result<(), AllocError>
+        ensures { let lines = fields_lines (Some names.items) (S.storage self.now.store.now) self.now.name fields.now in
             OnOk result (report.new ≡ report.old ++ lines) }
     {
-        let wanted = names_on(report.alloc(), self.line.line as usize, source)?;
-        let level = LevelFields {
+        let writer = FieldWriter {
             store: self.store,
             term: self.name,
-            at: SourcePoint {
-                regs: &self.cpu.regs,
-                offset,
-            },
+            wanted: &Some(List::from_vec(names)),
         };
-        level.chosen_fields(report, wanted.as_slice(), source)
+        writer.fields_lines(report, fields)
+    }
+
+    /// Adds the lines of the fields that the line of a source names.
+    fn fields_on(
+        &self,
+        report: &mut Report,
+        offset: u32,
+        placed: &PlacedSource<'_>,
+    ) -> Result<(), AllocError>
+        ensures { let m = machine self.now.cpu.now (S.storage self.now.store.now) in
+            let lines = fields_on m self.now.name self.now.line.now offset placed.now in
+            OnOk result (report.new ≡ report.old ++ lines) }
+    {
+        let alloc = report.alloc();
+        let Some(fields) = LevelFields::of(alloc, placed, &self.cpu.regs, offset)? else {
+            return Ok(());
+        };
+        let names = names_on(alloc, self.line.line as usize, placed.source())?;
+        self.named_fields(report, &fields, names)
     }
 
     /// Adds the lines of the fields that the line names, where a source defined the program.
@@ -134,8 +154,9 @@ impl<'a, S: Store> TaskThere<'a, S> {
             OnOk result (report.new ≡ report.old ++ lines) }
     {
         let lines = sources.source_lines(self.line.program);
-        match translated_in(report.alloc(), lines)? {
-            Some(source) => self.fields_on(report, spot.offset, &source),
+        let source = translated_in(report.alloc(), lines)?;
+        match PlacedSource::of(report.alloc(), &source)? {
+            Some(placed) => self.fields_on(report, spot.offset, &placed),
             None => Ok(()),
         }
     }

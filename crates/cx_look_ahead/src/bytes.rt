@@ -9,9 +9,9 @@ ghost use Rattle.cx_look_ahead.specs.Parts.Words.{field_word};
 
 use crate::rows::Row;
 use cx_base::{List, hexadecimal};
-use cx_look_levels::{LevelNames, near_word};
+use cx_look_fields::{LevelFields, near_word};
+use cx_look_lines::{Report, decimal};
 use cx_look_symbols::push_led_by;
-use cx_look_tables::{Report, decimal};
 use cx_region::Region;
 use cx_storage::{Store, address_after};
 use std::alloc::{AllocError, Global};
@@ -52,15 +52,15 @@ pub fn bytes_word<S: Store>(
 /// The field that has the byte at an address, and how far after its first that is.
 fn field_word(
     alloc: Global,
-    names: &Option<LevelNames>,
+    fields: &Option<LevelFields>,
     address: u32,
 ) -> Result<Option<List<u8>>, AllocError>
-    ensures { IfOk result (λ word. word ≡ field_word names.now address) }
+    ensures { IfOk result (λ word. word ≡ field_word fields.now address) }
 {
-    let Some(names) = names else {
+    let Some(fields) = fields else {
         return Ok(None);
     };
-    let Some(near) = names.nearest(alloc, address)? else {
+    let Some(near) = fields.nearest(alloc, address)? else {
         return Ok(None);
     };
     Ok(Some(List::from_vec(near_word(alloc, near)?)))
@@ -70,12 +70,12 @@ fn field_word(
 #[tactic(auto, unfolding(crate::specs::Ahead::changed_row_line))]
 pub(crate) fn changed_row_line<S: Store + Drop>(
     report: &mut Report,
-    names: &Option<LevelNames>,
+    fields: &Option<LevelFields>,
     before: &Region<S>,
     after: &Region<S>,
     row: Row,
 ) -> Result<(), AllocError>
-    ensures { let line = changed_row_line names.now before.now.shared.storage after.now.shared.storage row in
+    ensures { let line = changed_row_line fields.now before.now.shared.storage after.now.shared.storage row in
         OnOk result (report.new ≡ report.old ++ line) }
 {
     let shown = row.length.min(MOST_SHOWN);
@@ -86,7 +86,7 @@ pub(crate) fn changed_row_line<S: Store + Drop>(
     push_led_by(
         &mut to,
         b" FIELD ",
-        &field_word(report.alloc(), names, row.at)?,
+        &field_word(report.alloc(), fields, row.at)?,
     )?;
     report.line(&[b"CHANGES", &at, &length, b"FROM", &from, b"TO", &to])
 }

@@ -8,8 +8,8 @@ ghost use Rattle.cx_look_ahead.specs.Parts.Words.{visit_word};
 
 use cx_ebcdic::Name8;
 use cx_load::Loaded;
+use cx_look_lines::{Report, decimal, spelled};
 use cx_look_symbols::{Place, Sources, address_word, place_at_address, push_led_by, statement_at};
-use cx_look_tables::{Report, decimal, spelled};
 use cx_look_turn::{Code, Trace, Visit};
 use indexmap::IndexMap;
 use std::alloc::{AllocError, Global};

@@ -1,5 +1,4 @@
-//! AHEAD: what the next turn of a terminal will do.
-//! WATCH: ranges of bytes of which each change is written.
+//! Looks at a terminal's next turn: what it will do, AHEAD, and which instruction changed watched bytes last, WATCH.
 #![tactic(auto)]
 
 mod ahead;
@@ -10,7 +9,7 @@ mod instructions;
 pub mod laws;
 mod rows;
 mod watching;
-mod writing;
+mod writers;
 
 pub use ahead::ahead_text;
 pub use arrivals::{SourceLine, comes_to, has_statement};
@@ -18,4 +17,4 @@ pub use at::at_text;
 pub use bytes::bytes_word;
 pub use rows::{Row, rows_between};
 pub use watching::{Cause, Done, Kept, Watches, change_lines};
-pub use writing::{Work, work_of};
+pub use writers::{Work, work_of};

@@ -6,15 +6,15 @@ ghost use Rattle.std.specs.Str.{bytes_eq};
 ghost use Rattle.cx_look_ahead.specs.Watching.{AreOfRanges, begun_watch, cause_word, change_line, command_word, instruction_word, is_full, kept_in, line_or, with_range};
 ghost use Rattle.cx_look_ahead.specs.Parts.Words.{begun_line, refused_line};
 ghost use Rattle.cx_look_ahead.specs.Parts.Seen.{IsOfChanged, if_changed, run_word, seen_line, statement_lines};
-ghost use Rattle.cx_look_ahead.specs.declared.writing.Work.TheVariants as work;
+ghost use Rattle.cx_look_ahead.specs.declared.writers.Work.TheVariants as work;
 
-use crate::writing::{Seen, last_writers};
+use crate::writers::{Seen, last_writers};
 use crate::{Row, Work, bytes_word};
 use cx_base::{List, hexadecimal, shown_name};
 use cx_ebcdic::{Name4, Name8};
 use cx_load::Loaded;
+use cx_look_lines::{Report, decimal, joined};
 use cx_look_symbols::{Place, Sources, address_word, place_at_address, spot_before, statement_at};
-use cx_look_tables::{Report, decimal};
 use cx_look_turn::KeptMachine;
 use cx_storage::Store;
 use indexmap::IndexMap;
@@ -61,24 +61,15 @@ impl Model for Watches {
     ghost view = { λ watches. watches.ranges.items };
 }
 
-/// A word before a name.
-fn named(alloc: Global, word: &[u8], name: &[u8]) -> Result<Vec<u8>, AllocError>
-    ensures { IfOk result (λ text. text.items ≡ word.now ++ name.now) }
-{
-    let mut text = word.to_vec(alloc)?;
-    text.extend_from_slice(name)?;
-    Ok(text)
-}
-
 /// What was done, in the words of its line.
 fn cause_word(alloc: Global, cause: &Cause) -> Result<Vec<u8>, AllocError>
     ensures { IfOk result (λ text. text.items ≡ cause_word cause.now) }
 {
     match cause {
-        Cause::Turn(name) => named(alloc, b"TURN ", &shown_name(alloc, *name)?),
-        Cause::Key(name) => named(alloc, b"KEY ", &shown_name(alloc, *name)?),
-        Cause::Alter(name) => named(alloc, b"ALTER ", &shown_name(alloc, *name)?),
-        Cause::Program(name) => named(alloc, b"PROGRAM ", &shown_name(alloc, *name)?),
+        Cause::Turn(name) => joined(alloc, b"TURN ", &shown_name(alloc, *name)?),
+        Cause::Key(name) => joined(alloc, b"KEY ", &shown_name(alloc, *name)?),
+        Cause::Alter(name) => joined(alloc, b"ALTER ", &shown_name(alloc, *name)?),
+        Cause::Program(name) => joined(alloc, b"PROGRAM ", &shown_name(alloc, *name)?),
         Cause::Other => b"ANOTHER LINE".to_vec(alloc),
     }
 }
@@ -140,8 +131,8 @@ fn line_or(
     ensures { IfOk result (λ word. word.items ≡ line_or statement.now words.now place.now) }
 {
     match statement {
-        Some(statement) => named(alloc, b" LINE ", statement.as_slice()),
-        None => named(alloc, words, &address_word(alloc, place)?),
+        Some(statement) => joined(alloc, b" LINE ", statement.as_slice()),
+        None => joined(alloc, words, &address_word(alloc, place)?),
     }
 }
 

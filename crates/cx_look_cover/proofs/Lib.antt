@@ -4,4 +4,3 @@ pub mod ExecuteLemmas
 mod BranchLemmas
 mod RangeLemmas
 pub mod CountLemmas
-pub mod StatementLemmas

@@ -1,5 +1,5 @@
 -- The instructions of a source's lines (own).
-use Rattle.std.specs.Prelude.{ℕ, ◌==◌, Bool, true, false, if◌then◌else◌, Option, Some, None, is_none, List, [], ◌∷◌}
+use Rattle.std.specs.Prelude.{ℕ, ◌==◌, Bool, true, false, if◌then◌else◌, Option, Some, None, List, [], ◌∷◌}
 use Rattle.std.specs.List.{filter_map}
 use Rattle.std.specs.Option.{option_map_or}
 use Rattle.cx_source.specs.declared.source.Source.{Source}
@@ -9,7 +9,7 @@ use Rattle.cx_asm_pass1.specs.declared.roles.Role.{Role}
 use Rattle.cx_asm_pass1.specs.declared.roles.Role.TheVariants.{Instruction}
 use Rattle.cx_asm_pass2.specs.Statements.{PlacedStatement, statements_of}
 use Rattle.cx_look_symbols.specs.Statements.{statement_place_of}
-use Rattle.cx_look_symbols.specs.Symbols.{translated_in}
+use Rattle.cx_look_symbols.specs.Placed.{placed_in}
 use Rattle.cx_look_symbols.specs.declared.statements.StatementPlace.{StatementPlace}
 
 abbrev pub is_instruction : Role → Bool
@@ -29,13 +29,11 @@ first_on_lines line [] = []
 first_on_lines line (place ∷ places) =
     if is_on line place then first_on_lines line places else place ∷ first_on_lines (Some place.line) places
 
--- those of a source in its order, where the first pass finds no fault
+-- those of a source in its order
 abbrev pub instructions_in : Source → List StatementPlace
 instructions_in source =
-    if is_none (final_state source).fault
-    then first_on_lines None (filter_map (instruction_place_of (final_state source).control) (statements_of source))
-    else []
+    first_on_lines None (filter_map (instruction_place_of (final_state source).control) (statements_of source))
 
 -- those of lines; none where these aren't a source without a fault
 unfoldable pub instruction_places : List (List ℕ) → List StatementPlace
-instruction_places lines = option_map_or instructions_in (translated_in lines) []
+instruction_places lines = option_map_or instructions_in (placed_in lines) []

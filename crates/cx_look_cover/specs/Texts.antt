@@ -1,5 +1,5 @@
 -- What looks write of what was run (own).
-use Rattle.std.specs.Prelude.{ℕ, ◌-◌, ◌==◌, if◌then◌else◌, Option, Some, None, not, unwrap_or, List, [], ◌∷◌, ◌++◌, codes, length, map, replicate, slice_get}
+use Rattle.std.specs.Prelude.{ℕ, ◌-◌, ◌==◌, if◌then◌else◌, Option, Some, None, not, List, [], ◌∷◌, ◌++◌, codes, length, map, replicate}
 use Rattle.std.specs.Fmt.{decimal}
 use Rattle.std.specs.List.{count_by, filter, flat_map}
 use Rattle.std.specs.Option.{option_map_or}
@@ -9,7 +9,7 @@ use Rattle.cx_base.specs.Texts.{shown_name}
 use Rattle.cx_load.specs.declared.program.Loaded.{Loaded}
 use Rattle.cx_region.specs.State.{RegionState}
 use Rattle.cx_look_lines.specs.Words.{Lines, look_line, none_line, or_none}
-use Rattle.cx_look_symbols.specs.Sources.{Sources, source_lines, statement_text}
+use Rattle.cx_look_symbols.specs.Sources.{Sources, source_lines, text_on}
 use Rattle.cx_look_cover.specs.Counts.{counted_program, counted_with, goes_both_ways, is_branch, one_way, was_run}
 use Rattle.cx_look_cover.specs.Ranges.{ranges_of}
 use Rattle.cx_look_cover.specs.declared.counts.Counted.{Counted}
@@ -20,10 +20,6 @@ use Rattle.cx_exec.specs.declared.tallied.Tally.{Tally}
 -- a line's number in five digits, as in the listing
 abbrev pub line_word : ℕ → List ℕ
 line_word line = digits 10 5 line
-
--- the text of a line, counted from 1
-unfoldable pub text_on : List (List ℕ) → ℕ → List ℕ
-text_on lines line = statement_text (unwrap_or (slice_get lines (line - 1)) [])
 
 -- a number in decimal digits, with blanks in front to five places at least; hyphens for zero
 unfoldable pub count_word : ℕ → List ℕ

@@ -13,7 +13,7 @@ use cx_base::shown_name;
 use cx_ebcdic::Name8;
 use cx_exec::Tally;
 use cx_load::Loaded;
-use cx_look_lines::Report;
+use cx_look_lines::{Report, joined};
 use cx_look_symbols::Sources;
 use cx_region::Region;
 use cx_storage::Store;
@@ -32,10 +32,7 @@ fn off_line(alloc: Global) -> Result<Report, AllocError>
 fn covered_word(alloc: Global, name: Name8) -> Result<Vec<u8>, AllocError>
     ensures { IfOk result (λ text. text.items ≡ covered_word name) }
 {
-    let name = shown_name(alloc, name)?;
-    let mut text = b"COVERED ".to_vec(alloc)?;
-    text.extend_from_slice(&name)?;
-    Ok(text)
+    joined(alloc, b"COVERED ", &shown_name(alloc, name)?)
 }
 
 /// Looks at what was run of a program: a line with how many of its statements were run, and how many of its conditional

@@ -1,16 +1,14 @@
 //! The instructions of a source.
 ghost use Rattle.std.specs.Prelude.{◌≡◌, IfOk, None};
 ghost use Rattle.std.specs.List.{filter_map};
-ghost use Rattle.cx_asm_pass1.specs.Locations.{IsPlaced, final_state};
-ghost use Rattle.cx_asm_pass2.specs.Whole.{whole_by};
-ghost use Rattle.cx_look_cover.specs.Statements.{first_on_lines, instruction_place_of, instruction_places, instructions_in, is_instruction, is_on};
+ghost use Rattle.cx_look_cover.specs.Statements.{first_on_lines, instruction_place_of, instruction_places, is_instruction, is_on};
 
-use cx_asm_pass1::{Places, Role, place_all};
-use cx_asm_pass2::{Statement, control_name, placed_lines, stated};
+use cx_asm_pass1::Role;
+use cx_asm_pass2::Statement;
 use cx_base::List;
 use cx_ebcdic::Name8;
-use cx_look_symbols::{StatementPlace, statement_place, translated_in};
-use cx_source::{Source, Text};
+use cx_look_symbols::{PlacedSource, StatementPlace, statement_place, translated_in};
+use cx_source::Text;
 use std::alloc::{AllocError, Global};
 
 /// Whether a role is that of an instruction.
@@ -47,19 +45,20 @@ fn is_on(line: Option<usize>, place: StatementPlace) -> bool
     }
 }
 
-/// Where the instructions among statements are; of those on one line the first.
+/// Where the instructions among statements are in the control section, whose name is `control`; of those on one line
+/// the first.
 fn instructions_among(
     alloc: Global,
-    places: &Places<'_>,
+    control: &Option<Name8>,
     statements: &[Statement<'_>],
 ) -> Result<List<StatementPlace>, AllocError>
-    ensures { let all = filter_map (instruction_place_of (whole_by places.now).control) statements.now in
+    ensures { let all = filter_map (instruction_place_of control.now) statements.now in
         IfOk result (λ found. found ≡ first_on_lines None all) }
 {
     let mut found = Vec::new(alloc);
     let mut line = None;
     for statement in statements {
-        let Some(place) = instruction_place(alloc, control_name(places), statement)? else {
+        let Some(place) = instruction_place(alloc, *control, statement)? else {
             continue;
         };
         if is_on(line, place) {
@@ -71,32 +70,6 @@ fn instructions_among(
     Ok(List::from_vec(found))
 }
 
-/// Where the instructions of a source are, whose first pass has no fault.
-#[tactic(auto, using(crate::proofs::StatementLemmas::control_is))]
-fn instructions_with(
-    alloc: Global,
-    source: &Source,
-    places: &Places<'_>,
-) -> Result<List<StatementPlace>, AllocError>
-    requires fault { (final_state source.now).fault ≡ None }
-    requires placed { IsPlaced (final_state source.now) places.now }
-    ensures { IfOk result (λ found. found ≡ instructions_in source.now) }
-{
-    let placed = placed_lines(alloc, source, places.statements.as_slice())?;
-    let statements = stated(alloc, placed.as_slice())?;
-    instructions_among(alloc, places, statements.as_slice())
-}
-
-/// Where the instructions of a source are.
-fn instructions_in(alloc: Global, source: &Source) -> Result<List<StatementPlace>, AllocError>
-    ensures { IfOk result (λ found. found ≡ instructions_in source.now) }
-{
-    match place_all(alloc, source)? {
-        Ok(places) => instructions_with(alloc, source, &places),
-        Err(_) => Ok(List::from_vec(Vec::new(alloc))),
-    }
-}
-
 /// Where a program's instructions are, by the lines of its source: those of the control section, in their order, of
 /// those that one line makes (an EXEC, a macro) the first; none where the lines are no source without a fault up to the
 /// assembler's first pass.
@@ -106,8 +79,10 @@ fn instructions_in(alloc: Global, source: &Source) -> Result<List<StatementPlace
 pub fn instruction_places(alloc: Global, lines: &[Text]) -> Result<List<StatementPlace>, AllocError>
     ensures { IfOk result (λ places. places ≡ instruction_places lines.now) }
 {
-    match translated_in(alloc, lines)? {
-        Some(source) => instructions_in(alloc, &source),
-        None => Ok(List::from_vec(Vec::new(alloc))),
-    }
+    let source = translated_in(alloc, lines)?;
+    let Some(placed) = PlacedSource::of(alloc, &source)? else {
+        return Ok(List::from_vec(Vec::new(alloc)));
+    };
+    let statements = placed.statements(alloc)?;
+    instructions_among(alloc, &placed.control(), statements.as_slice())
 }

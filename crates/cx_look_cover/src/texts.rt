@@ -1,76 +1,31 @@
 //! What looks write of what was run.
-ghost use Rattle.std.specs.Prelude.{◌≡◌, ◌+◌, ◌-◌, ◌++◌, [], IfOk, OnOk, map, not, slice_get, take, unwrap_or};
+ghost use Rattle.std.specs.Prelude.{◌≡◌, ◌++◌, IfOk, OnOk, map};
 ghost use Rattle.std.specs.List.{count_by, flat_map};
 ghost use Rattle.cx_look_lines.specs.Words.{with_blanks};
-ghost use Rattle.cx_look_symbols.specs.Sources.{shown_character, statement_text};
+ghost use Rattle.cx_look_symbols.specs.Sources.{text_on};
 ghost use Rattle.cx_look_cover.specs.Counts.{goes_both_ways, is_branch, was_run};
-ghost use Rattle.cx_look_cover.specs.Texts.{branch_line, count_line, count_word, line_word, lines_never_run, never_line, program_line, program_lines, range_word, text_on, way_line};
+ghost use Rattle.cx_look_cover.specs.Texts.{branch_line, count_line, count_word, lines_never_run, never_line, program_line, program_lines, range_word, way_line};
 
 use crate::counts::{Counted, goes_both_ways, is_branch, one_way, was_run};
 use crate::ranges::{LineRange, ranges_of};
 use cx_base::shown_name;
-use cx_ebcdic::{Name8, to_ebcdic};
+use cx_ebcdic::Name8;
 use cx_exec::Tally;
 use cx_look_lines::{Report, decimal, push_word};
-use cx_source::{Text, skip_blanks, trim_blanks};
+use cx_look_symbols::{five_digits, push_text_on};
+use cx_source::Text;
 use std::alloc::{AllocError, Global};
-
-/// The last column of a statement's entries; the next one marks that it goes on.
-const LAST_COLUMN: usize = 71;
 
 /// The fewest places of a count.
 const COUNT_PLACES: usize = 5;
 
-/// A line's number in five decimal digits.
-#[tactic(auto, using(crate::proofs::CountLemmas::last_five))]
-fn line_word(line: usize) -> [u8; 5]
-    ensures { result ≡ line_word line }
-{
-    cx_base::decimal::<5>((line % 100_000) as u32)
-}
-
-/// A byte of a line as it is shown: a period where it has no character.
-fn shown_character(c: u8) -> u8
-    ensures { result ≡ shown_character c }
-{
-    if to_ebcdic(char::from(c)).is_some() {
-        c
-    } else {
-        b'.'
-    }
-}
-
-/// Bytes as they are shown.
-fn shown_bytes(alloc: Global, bytes: &[u8]) -> Result<Vec<u8>, AllocError>
-    ensures { IfOk result (λ text. text.items ≡ map shown_character bytes.now) }
-{
-    bytes.iter().map(|c| shown_character(*c)).collect(alloc)
-}
-
-/// The first `count` columns of a line, or all where it has fewer.
-fn first_columns(line: &[u8], count: usize) -> &[u8]
-    ensures { result.now ≡ take count line.now }
-{
-    line.split_at(count.min(line.len())).0
-}
-
-/// A source's line of a number, counted from 1; an empty one where there is none.
-fn line_numbered(lines: &[Text], n: usize) -> &[u8]
-    ensures { result.now ≡ unwrap_or (slice_get lines.now (n - 1)) [] }
-{
-    match lines.get(n.saturating_sub(1)) {
-        Some(line) => line.as_slice(),
-        None => &[],
-    }
-}
-
 /// The text of a line, counted from 1.
-#[tactic(auto, unfolding(crate::specs::Texts::text_on, cx_look_symbols::specs::Sources::statement_text))]
 fn text_on(alloc: Global, lines: &[Text], line: usize) -> Result<Vec<u8>, AllocError>
     ensures { IfOk result (λ text. text.items ≡ text_on lines.now line) }
 {
-    let columns = first_columns(line_numbered(lines, line), LAST_COLUMN);
-    shown_bytes(alloc, trim_blanks(skip_blanks(columns)))
+    let mut text = Vec::new(alloc);
+    push_text_on(&mut text, lines, line)?;
+    Ok(text)
 }
 
 /// A number in decimal digits, with blanks in front to five places at least; hyphens for zero.
@@ -92,10 +47,10 @@ fn count_word(alloc: Global, n: u64) -> Result<Vec<u8>, AllocError>
 fn range_word(alloc: Global, range: &LineRange) -> Result<Vec<u8>, AllocError>
     ensures { IfOk result (λ word. word.items ≡ range_word range.now) }
 {
-    let mut word = line_word(range.first).to_vec(alloc)?;
+    let mut word = five_digits(range.first).to_vec(alloc)?;
     if range.first != range.last {
         word.push(b'-')?;
-        word.extend_from_slice(&line_word(range.last))?;
+        word.extend_from_slice(&five_digits(range.last))?;
     }
     Ok(word)
 }
@@ -206,7 +161,7 @@ fn way_line(
     let alloc = report.alloc();
     let runs = decimal(alloc, tally.runs as usize)?;
     let text = text_on(alloc, lines, line)?;
-    report.line(&[b"BRANCH", &line_word(line), way, &runs, &text])
+    report.line(&[b"BRANCH", &five_digits(line), way, &runs, &text])
 }
 
 /// Adds the line of a statement, where it is a conditional branch that went one way only.
@@ -252,7 +207,7 @@ fn count_line(report: &mut Report, lines: &[Text], it: &Counted) -> Result<(), A
     let alloc = report.alloc();
     let count = count_word(alloc, it.runs)?;
     let text = text_on(alloc, lines, it.line)?;
-    report.line(&[&line_word(it.line), &count, &text])
+    report.line(&[&five_digits(it.line), &count, &text])
 }
 
 /// Adds the lines of statements, with how often they were run.

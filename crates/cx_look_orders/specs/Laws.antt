@@ -34,8 +34,8 @@ ReportsDecide Shows tells keys = (region : RegionState) (edf : List (List ℕ)) 
 -- no text stands twice among outcomes
 abbrev pub TextsStandOnce : (RegionState → Lines → Type 0) → Telling → Keys → Type 0
 TextsStandOnce Shows tells keys = (start : OrdersState) (cut : Option ℕ) (outcomes : List Outcome)
-    → AreOutcomes Shows tells keys start cut outcomes → (j k : ℕ) (one other : Outcome) → slice_get outcomes j ≡ Some one
-    → slice_get outcomes k ≡ Some other → one.text ≡ other.text → j ≡ k
+    → AreOutcomes Shows tells keys start cut outcomes → (j k : ℕ) (one other : Outcome)
+    → slice_get outcomes j ≡ Some one → slice_get outcomes k ≡ Some other → one.text ≡ other.text → j ≡ k
 
 -- the event of a terminal: a turn, or its key before which so many of its keys came
 abbrev pub event_at : List KeyLine → List ℕ → Option ℕ → Option Event
@@ -71,7 +71,8 @@ StepsAreRuns =
 pub record LoopsAreEndless (tells : Telling) (keys : Keys) : Type 0 where
   pub endless : (start : OrdersState) (steps : List Step) → MayLoop tells keys start (Some steps) → (least : ℕ)
       → IsLong (Moves keys) start least
-  pub bounded : (start : OrdersState) → MayLoop tells keys start None → ((least : ℕ) → IsLong (Moves keys) start least) → ⊥
+  pub bounded : (start : OrdersState) → MayLoop tells keys start None
+      → ((least : ℕ) → IsLong (Moves keys) start least) → ⊥
 
 -- ---- the lines of a script
 -- a line asks for a step, and others in a row with it, with what is told of them

@@ -25,6 +25,7 @@ use Rattle.cx_script_actions.specs.declared.actions.Action.{Action}
 use Rattle.cx_script_actions.specs.declared.actions.Action.TheVariants as edf_action
 use Rattle.cx_script_actions.specs.declared.actions.Line.{Line}
 use Rattle.cx_script_actions.specs.declared.actions.Line.TheVariants as line
+use Rattle.cx_script_actions.specs.declared.actions.NoHeading.{NoHeading}
 use Rattle.cx_orders.specs.Facts.Keys.{is_of_terminal, of_terminal}
 use Rattle.cx_orders.specs.Moves.{keys_of}
 use Rattle.cx_orders.specs.declared.states.KeyLine.{KeyLine}
@@ -39,6 +40,7 @@ use Rattle.cx_look_orders.specs.declared.steps.Step.{Step}
 use Rattle.cx_look_script.specs.Laws.Orders.{AskForEvents, HasSpelling, ScriptsAskForEvents, asked_events, asking_lines}
 use Rattle.cx_look_script.specs.Reading.{line_by, line_of_subject, look_line_of, own_line, run_of, run_with, turns_of}
 use Rattle.cx_look_script.specs.Runs.{turn_of}
+use Rattle.cx_look_script.specs.declared.action.Heading.{Heading}
 use Rattle.cx_look_script.specs.declared.action.LookAction.{LookAction}
 use Rattle.cx_look_script.specs.declared.action.LookAction.TheVariants as action
 use Rattle.cx_look_script.specs.declared.action.Stop.TheVariants as stop
@@ -103,7 +105,7 @@ run_line number name text digits n spells it all few is =
     ∙ ap (λ b. cond b (option_and_then (line_of_subject number whole) (subject_of (word whole))) None) (run_short text digits it.few few)
     ∙ from_subject
   where
-    line_of_run : ℕ → Option LookAction → Option (Line LookAction)
+    line_of_run : ℕ → Option LookAction → Option (Line LookAction Heading)
     line_of_run number asked = Some (line.Action (unwrap_or asked (action.BadLook number subject.Run)))
 
 -- RUN of a name and a number, as it is written, is read as that
@@ -147,11 +149,11 @@ unfolding look_line_of
 key_read number key is = ap (λ o. line_by o (own_line number key.line)) is
 
 -- which is no comment
-abbrev is_blank : Option (Line Action) → Bool
+abbrev is_blank : Option (Line Action NoHeading) → Bool
 is_blank (Some line.Blank) = true
 is_blank asked = false
 
-asking_by : (b : Bool) (asked : Option (Line Action)) (a : Action) → (if b then Some line.Blank else asked) ≡ Some (line.Action a) → b ≡ false
+asking_by : (b : Bool) (asked : Option (Line Action NoHeading)) (a : Action) → (if b then Some line.Blank else asked) ≡ Some (line.Action a) → b ≡ false
 asking_by false asked a is = refl
 asking_by true asked a is = absurd (true≢false (ap is_blank is))
 

@@ -21,14 +21,13 @@ use Rattle.cx_region.specs.declared.replies.Event.TheVariants as event
 use Rattle.cx_region.specs.declared.replies.Reply.{Reply}
 use Rattle.cx_region.specs.declared.replies.Reply.TheVariants as reply
 use Rattle.cx_region_laws.specs.Laws.Regions.{EventsDecide}
-use Rattle.cx_edf_display.specs.Displays.{display_of}
-use Rattle.cx_edf_display.specs.declared.displays.Display.{Display}
-use Rattle.cx_edf_display.specs.declared.stops.StopPoint.{StopPoint}
+use Rattle.cx_edf.specs.declared.displays.Display.{Display}
+use Rattle.cx_edf.specs.declared.stops.StopPoint.{StopPoint}
 use Rattle.cx_edf.specs.Erasure.{is_own}
 use Rattle.cx_edf.specs.Laws.Edf.{OtherEventsArePassed, OtherSessionsStay, SessionsAreSet}
 use Rattle.cx_edf.specs.Sessions.{SessionState, Sessions, after_reply, is_stopped, session_in, with_session}
 use Rattle.cx_edf.specs.State.{EdfState, session_at, stopped_at}
-use Rattle.cx_edf.specs.Steps.{AppliesBy, Door, DoorAnswers, EdfApplies, Keeps, PassesOn, door_of, sessions_after}
+use Rattle.cx_edf.specs.Steps.{DisplayMaker, Door, DoorAnswers, EdfApplies, Keeps, PassesOn, door_of, sessions_after}
 use Rattle.cx_edf.specs.declared.answers.Answer.{Answer}
 use Rattle.cx_edf.specs.declared.answers.Answer.TheVariants as answer
 use Rattle.cx_edf.specs.declared.answers.EdfEvent.{EdfEvent}
@@ -69,9 +68,9 @@ abbrev KeepsOn : EdfEvent → Answer → EdfState → List EdfEvent → Type 0
 KeepsOn (edf_event.Plain (event.Turn name)) given new (edf_event.Plain (event.Turn other) ∷ events) = name ≡ other → turn_goes_on new (turn_of name) given ≡ true
 KeepsOn e given new events = ⊤
 
-abbrev Way : EdfState → List EdfEvent → RegionState → Type 0
-Way old [] region = old.region ≡ region
-Way old (e ∷ events) region = (given : Answer) (new : EdfState) → EdfApplies old e given new → KeepsOn e given new events × Way new events region
+abbrev Way : (make : DisplayMaker) → EdfState → List EdfEvent → RegionState → Type 0
+Way make old [] region = old.region ≡ region
+Way make old (e ∷ events) region = (given : Answer) (new : EdfState) → EdfApplies make old e given new → KeepsOn e given new events × Way make new events region
 
 -- ---- actions that ask for them
 record Led (old : LookState) (region : RegionState) (new : LookState) : Type 0 where
@@ -79,15 +78,15 @@ record Led (old : LookState) (region : RegionState) (new : LookState) : Type 0 w
   sources : new.sources ≡ old.sources
 
 -- a turn of RUN that is done
-record Turned (old : LookState) (name : List ℕ) (between : LookState) : Type 0 where
+record Turned (make : DisplayMaker) (old : LookState) (name : List ℕ) (between : LookState) : Type 0 where
   given : Answer
-  applied : AppliesAtLooks old (turn_of name) given between
+  applied : AppliesAtLooks make old (turn_of name) given between
 
-turned_by : (old between : LookState) (name own : List ℕ) (line : Option (List ℕ)) → line ≡ None
-    → MatchOption line (NotedPerforms old (turn_action name) own between) (λ l. (own ≡ l) × (between ≡ run_over old)) → Turned old name between
+turned_by : (make : DisplayMaker) (old between : LookState) (name own : List ℕ) (line : Option (List ℕ)) → line ≡ None
+    → MatchOption line (NotedPerforms make old (turn_action name) own between) (λ l. (own ≡ l) × (between ≡ run_over old)) → Turned make old name between
 unfolding NotedPerforms
-turned_by old between name own None e p = record { given = p.0; applied = p.1 }
-turned_by old between name own (Some l) e p = absurd (none-some l (sym e))
+turned_by make old between name own None e p = record { given = p.0; applied = p.1 }
+turned_by make old between name own (Some l) e p = absurd (none-some l (sym e))
 
 never : (old : LookState) (name : List ℕ) (line : Option (List ℕ)) → StopsWith stop.Never old.sources old.edf name line → line ≡ None
 unfolding StopsWith
@@ -98,13 +97,13 @@ record Same (old between : LookState) : Type 0 where
   edf : between.edf ≡ old.edf
   sources : between.sources ≡ old.sources
 
-last : (old between : LookState) (name own : List ℕ) (on : Bool) → MatchBool on (TakesOneMore old name zero stop.Never own between) ((own ≡ []) × (between ≡ old))
+last : (make : DisplayMaker) (old between : LookState) (name own : List ℕ) (on : Bool) → MatchBool on (TakesOneMore make old name zero stop.Never own between) ((own ≡ []) × (between ≡ old))
     → Same old between
-last old between name own true p = record { edf = ap (λ (s : LookState). s.edf) p.1; sources = ap (λ (s : LookState). s.sources) p.1 }
-last old between name own false p = record { edf = ap (λ (s : LookState). s.edf) p.1; sources = ap (λ (s : LookState). s.sources) p.1 }
+last make old between name own true p = record { edf = ap (λ (s : LookState). s.edf) p.1; sources = ap (λ (s : LookState). s.sources) p.1 }
+last make old between name own false p = record { edf = ap (λ (s : LookState). s.edf) p.1; sources = ap (λ (s : LookState). s.sources) p.1 }
 
-module _ (name : List ℕ) (others : List LookAction) (events : List EdfEvent) (region : RegionState) (new : LookState)
-    (rest : (mid : LookState) (text : List ℕ) → PerformsAll LookPerforms mid others text new → Way mid.edf events region → Led mid region new) where
+module _ (make : DisplayMaker) (name : List ℕ) (others : List LookAction) (events : List EdfEvent) (region : RegionState) (new : LookState)
+    (rest : (mid : LookState) (text : List ℕ) → PerformsAll (LookPerforms make) mid others text new → Way make mid.edf events region → Led mid region new) where
   abbrev Ready : ℕ → LookState → Type 0
   Ready zero old = ⊤
   Ready (suc m) old = old.goes_on ≡ true
@@ -112,63 +111,63 @@ module _ (name : List ℕ) (others : List LookAction) (events : List EdfEvent) (
   abbrev turns_and : ℕ → List EdfEvent
   turns_and m = replicate m (turn_of name) ++ events
 
-  ready : (m : ℕ) (given : Answer) (old between : LookState) → AppliesAtLooks old (turn_of name) given between
+  ready : (m : ℕ) (given : Answer) (old between : LookState) → AppliesAtLooks make old (turn_of name) given between
       → KeepsOn (turn_of name) given between.edf (turns_and m) → Ready m between
   ready zero given old between applied keep = tt
   ready (suc m) given old between applied keep = applied.goes_on ∙ keep refl
 
   after_turn : (m : ℕ) (old between : LookState) (text : List ℕ)
-      → ((t : List ℕ) → PerformsAll LookPerforms between (turns_left name stop.Never m ++ others) t new → Ready m between → Way between.edf (turns_and m) region → Led between region new)
-      → Turned old name between → PerformsAll LookPerforms between (turns_left name stop.Never m ++ others) text new → Way old.edf (turns_and (suc m)) region → Led old region new
+      → ((t : List ℕ) → PerformsAll (LookPerforms make) between (turns_left name stop.Never m ++ others) t new → Ready m between → Way make between.edf (turns_and m) region → Led between region new)
+      → Turned make old name between → PerformsAll (LookPerforms make) between (turns_left name stop.Never m ++ others) text new → Way make old.edf (turns_and (suc m)) region → Led old region new
   after_turn m old between text more t p way =
       let on = way t.given between.edf t.applied.noted.applies in
       let led = more text p (ready m t.given old between t.applied on.0) on.1 in
       record { is = led.is; sources = led.sources ∙ t.applied.sources }
 
-  turns : (m : ℕ) (old : LookState) (text : List ℕ) → PerformsAll LookPerforms old (turns_left name stop.Never m ++ others) text new → Ready m old
-      → Way old.edf (turns_and m) region → Led old region new
+  turns : (m : ℕ) (old : LookState) (text : List ℕ) → PerformsAll (LookPerforms make) old (turns_left name stop.Never m ++ others) text new → Ready m old
+      → Way make old.edf (turns_and m) region → Led old region new
   unfolding PerformsAll turns_left Acts
   turns zero old text p on way =
-      let same = last old p.0 name p.3.own old.goes_on p.3.acts in
-      let led = rest p.0 p.2 p.4 (subst (λ (s : EdfState). Way s events region) (sym same.edf) way) in
+      let same = last make old p.0 name p.3.own old.goes_on p.3.acts in
+      let led = rest p.0 p.2 p.4 (subst (λ (s : EdfState). Way make s events region) (sym same.edf) way) in
       record { is = led.is; sources = led.sources ∙ same.sources }
   turns (suc m) old text p on way =
       let turn = by_bool old.goes_on _ _ p.3.acts on in
-      after_turn m old p.0 p.2 (λ t q r w. turns m p.0 t q r w) (turned_by old p.0 name p.3.own turn.line (never old name turn.line turn.stops) turn.does) p.4 way
+      after_turn m old p.0 p.2 (λ t q r w. turns m p.0 t q r w) (turned_by make old p.0 name p.3.own turn.line (never old name turn.line turn.stops) turn.does) p.4 way
 
-leads : (actions : List LookAction) (old new : LookState) (text : List ℕ) (region : RegionState) → AllByRecursion IsAsking actions
-    → PerformsAll LookPerforms old (flat_map look_actions_of actions) text new → Way old.edf (flat_map asked_events actions) region → Led old region new
+leads : (make : DisplayMaker) (actions : List LookAction) (old new : LookState) (text : List ℕ) (region : RegionState) → AllByRecursion IsAsking actions
+    → PerformsAll (LookPerforms make) old (flat_map look_actions_of actions) text new → Way make old.edf (flat_map asked_events actions) region → Led old region new
 unfolding PerformsAll Acts NotedPerforms
-leads [] old new text region all p way = record { is = ap (λ (s : LookState). s.edf.region) p.1 ∙ way; sources = ap (λ (s : LookState). s.sources) p.1 }
-leads (action.Script (edf_action.Event e) ∷ actions) old new text region all p way =
+leads make [] old new text region all p way = record { is = ap (λ (s : LookState). s.edf.region) p.1 ∙ way; sources = ap (λ (s : LookState). s.sources) p.1 }
+leads make (action.Script (edf_action.Event e) ∷ actions) old new text region all p way =
     let acts = p.3.acts in
     let on = way acts.0 p.0.edf acts.1.noted.applies in
-    let led = leads actions p.0 new p.2 region all.1 p.4 on.1 in
+    let led = leads make actions p.0 new p.2 region all.1 p.4 on.1 in
     record { is = led.is; sources = led.sources ∙ acts.1.sources }
-leads (action.Script (edf_action.Image name image) ∷ actions) old new text region all p way = absurd all.0
-leads (action.Script (edf_action.Source name before image) ∷ actions) old new text region all p way = absurd all.0
-leads (action.Script (edf_action.Screen name) ∷ actions) old new text region all p way = absurd all.0
-leads (action.Script (edf_action.Display name) ∷ actions) old new text region all p way = absurd all.0
-leads (action.Script (edf_action.Previous name k) ∷ actions) old new text region all p way = absurd all.0
-leads (action.Source name lines a ∷ actions) old new text region all p way = absurd all.0
-leads (action.Run name zero stop.Never ∷ actions) old new text region all p way = absurd (omega (arith, all.0))
-leads (action.Run name (suc m) stop.Never ∷ actions) old new text region all p way =
+leads make (action.Script (edf_action.Image name image) ∷ actions) old new text region all p way = absurd all.0
+leads make (action.Script (edf_action.Source name before image) ∷ actions) old new text region all p way = absurd all.0
+leads make (action.Script (edf_action.Screen name) ∷ actions) old new text region all p way = absurd all.0
+leads make (action.Script (edf_action.Display name) ∷ actions) old new text region all p way = absurd all.0
+leads make (action.Script (edf_action.Previous name k) ∷ actions) old new text region all p way = absurd all.0
+leads make (action.Source name lines a ∷ actions) old new text region all p way = absurd all.0
+leads make (action.Run name zero stop.Never ∷ actions) old new text region all p way = absurd (omega (arith, all.0))
+leads make (action.Run name (suc m) stop.Never ∷ actions) old new text region all p way =
     let same : suc m - 1 ≡ m = omega arith in
-    let left = subst (λ (k : ℕ). PerformsAll LookPerforms p.0 (turns_left name stop.Never k ++ flat_map look_actions_of actions) p.2 new) same p.4 in
+    let left = subst (λ (k : ℕ). PerformsAll (LookPerforms make) p.0 (turns_left name stop.Never k ++ flat_map look_actions_of actions) p.2 new) same p.4 in
     let turn = p.3.acts in
-    let more = λ (mid : LookState) (t : List ℕ). leads actions mid new t region all.1 in
-    after_turn name (flat_map look_actions_of actions) (flat_map asked_events actions) region new more m old p.0 p.2
-    (turns name (flat_map look_actions_of actions) (flat_map asked_events actions) region new more m p.0)
-    (turned_by old p.0 name p.3.own turn.line (never old name turn.line turn.stops) turn.does) left way
-leads (action.Run name n stop.BeforeAbend ∷ actions) old new text region all p way = absurd all.0
-leads (action.Run name n (stop.BeforeLine to) ∷ actions) old new text region all p way = absurd all.0
-leads (action.RunOn name n s ∷ actions) old new text region all p way = absurd all.0
-leads (action.Watch w ∷ actions) old new text region all p way = absurd all.0
-leads (action.Cover on ∷ actions) old new text region all p way = absurd all.0
-leads (action.Look l ∷ actions) old new text region all p way = absurd all.0
-leads (action.Orders block ∷ actions) old new text region all p way = absurd all.0
-leads (action.Choices block ∷ actions) old new text region all p way = absurd all.0
-leads (action.BadLook number s ∷ actions) old new text region all p way = absurd all.0
+    let more = λ (mid : LookState) (t : List ℕ). leads make actions mid new t region all.1 in
+    after_turn make name (flat_map look_actions_of actions) (flat_map asked_events actions) region new more m old p.0 p.2
+    (turns make name (flat_map look_actions_of actions) (flat_map asked_events actions) region new more m p.0)
+    (turned_by make old p.0 name p.3.own turn.line (never old name turn.line turn.stops) turn.does) left way
+leads make (action.Run name n stop.BeforeAbend ∷ actions) old new text region all p way = absurd all.0
+leads make (action.Run name n (stop.BeforeLine to) ∷ actions) old new text region all p way = absurd all.0
+leads make (action.RunOn name n s ∷ actions) old new text region all p way = absurd all.0
+leads make (action.Watch w ∷ actions) old new text region all p way = absurd all.0
+leads make (action.Cover on ∷ actions) old new text region all p way = absurd all.0
+leads make (action.Look l ∷ actions) old new text region all p way = absurd all.0
+leads make (action.Orders block ∷ actions) old new text region all p way = absurd all.0
+leads make (action.Choices block ∷ actions) old new text region all p way = absurd all.0
+leads make (action.BadLook number s ∷ actions) old new text region all p way = absurd all.0
 
 -- ---- EDF OFF
 abbrev Silent : EdfState → List ℕ → Type 0
@@ -186,44 +185,44 @@ module _ (set : SessionsAreSet) (stay : OtherSessionsStay) where
       let is : name ≡ q = (is_name-decides name q).0 same in
       subst (λ (n : List ℕ). session_in (with_session old.sessions name None) n ≡ None) is (set old.sessions name None)
 
-  off_session : (old new : EdfState) (name : List ℕ) (given : Answer) (on : Option SessionState) → session_at old name ≡ on
-      → DoorAnswers display_of old (if is_some on then Keeps (answer.Edf edf.Closed) (with_session old.sessions name None) else Keeps (answer.Edf edf.NotOn) old.sessions) given new
+  off_session : (make : DisplayMaker) (old new : EdfState) (name : List ℕ) (given : Answer) (on : Option SessionState) → session_at old name ≡ on
+      → DoorAnswers make old (if is_some on then Keeps (answer.Edf edf.Closed) (with_session old.sessions name None) else Keeps (answer.Edf edf.NotOn) old.sessions) given new
       → IsOff old name new
-  off_session old new name given None silent row =
+  off_session make old new name given None silent row =
       record {
         same = ap (λ (s : EdfState). s.region) row.1;
         gone = ap (λ (s : EdfState). session_at s name) row.1 ∙ silent;
         quiet = λ q none. ap (λ (s : EdfState). session_at s q) row.1 ∙ none;
       }
-  off_session old new name given (Some session) is row =
+  off_session make old new name given (Some session) is row =
       record {
         same = ap (λ (s : EdfState). s.region) row.1;
         gone = ap (λ (s : EdfState). session_at s name) row.1 ∙ set old.sessions name None;
         quiet = λ q none. ap (λ (s : EdfState). session_at s q) row.1 ∙ quiet_after old name q (is_name name q) refl none;
       }
 
-  off_there : (old new : EdfState) (name : List ℕ) (given : Answer) (b : Bool) → b ≡ true
-      → DoorAnswers display_of old
+  off_there : (make : DisplayMaker) (old new : EdfState) (name : List ℕ) (given : Answer) (b : Bool) → b ≡ true
+      → DoorAnswers make old
       (if not b then Keeps (answer.Edf edf.NoSuchTerminal) old.sessions
       else if is_some (session_at old name) then Keeps (answer.Edf edf.Closed) (with_session old.sessions name None)
       else Keeps (answer.Edf edf.NotOn) old.sessions) given new
       → IsOff old name new
-  off_there old new name given true e row = off_session old new name given (session_at old name) refl row
-  off_there old new name given false e row = absurd (true≢false (sym e))
+  off_there make old new name given true e row = off_session make old new name given (session_at old name) refl row
+  off_there make old new name given false e row = absurd (true≢false (sym e))
 
-  off_done : (old new : EdfState) (name : List ℕ) (given : Answer) → is_some (terminal_of old.region name) ≡ true → EdfApplies old (edf_event.Off name) given new
+  off_done : (make : DisplayMaker) (old new : EdfState) (name : List ℕ) (given : Answer) → is_some (terminal_of old.region name) ≡ true → EdfApplies make old (edf_event.Off name) given new
       → IsOff old name new
-  unfolding AppliesBy door_of
-  off_done old new name given there applied = off_there old new name given (is_some (terminal_of old.region name)) there applied
+  unfolding EdfApplies door_of
+  off_done make old new name given there applied = off_there make old new name given (is_some (terminal_of old.region name)) there applied
 
-  offs_way : (edf : List (List ℕ)) (old : EdfState) (rest : List EdfEvent) (region : RegionState) → AllByRecursion (λ n. is_some (terminal_of old.region n) ≡ true) edf
-      → ((new : EdfState) → new.region ≡ old.region → ((q : List ℕ) → Silent old q → Silent new q) → AllByRecursion (λ q. Silent new q) edf → Way new rest region)
-      → Way old (map edf_event.Off edf ++ rest) region
-  offs_way [] old rest region there next = next old refl (λ q none. none) tt
-  offs_way (name ∷ edf) old rest region there next = λ given new applied.
-      let off = off_done old new name given there.0 applied in (
+  offs_way : (make : DisplayMaker) (edf : List (List ℕ)) (old : EdfState) (rest : List EdfEvent) (region : RegionState) → AllByRecursion (λ n. is_some (terminal_of old.region n) ≡ true) edf
+      → ((new : EdfState) → new.region ≡ old.region → ((q : List ℕ) → Silent old q → Silent new q) → AllByRecursion (λ q. Silent new q) edf → Way make new rest region)
+      → Way make old (map edf_event.Off edf ++ rest) region
+  offs_way make [] old rest region there next = next old refl (λ q none. none) tt
+  offs_way make (name ∷ edf) old rest region there next = λ given new applied.
+      let off = off_done make old new name given there.0 applied in (
         tt,
-        offs_way edf new rest region (subst (λ (r : RegionState). AllByRecursion (λ n. is_some (terminal_of r n) ≡ true) edf) (sym off.same) there.1)
+        offs_way make edf new rest region (subst (λ (r : RegionState). AllByRecursion (λ n. is_some (terminal_of r n) ≡ true) edf) (sym off.same) there.1)
             (λ later same quiet gone. next later (same ∙ off.same) (λ q none. quiet q (off.quiet q none)) (quiet name off.gone, gone)),
       )
 
@@ -269,16 +268,16 @@ unmoved sessions (event.Terminal name) r at order none = absurd order
 unmoved sessions (event.Clock time date) r at order none = absurd order
 unmoved sessions (event.Alter name change) r at order none = absurd order
 
-is_passed : OtherEventsArePassed → (old new : EdfState) (e : Event) (given : Answer) → IsOrder e → Silent old (event_name e) → EdfApplies old (edf_event.Plain e) given new
+is_passed : (make : DisplayMaker) → OtherEventsArePassed → (old new : EdfState) (e : Event) (given : Answer) → IsOrder e → Silent old (event_name e) → EdfApplies make old (edf_event.Plain e) given new
     → IsPassed old e given new
-unfolding AppliesBy
-is_passed law old new e given order none applied =
-    let row : PassesOn display_of old e None given new =
-    subst (λ (d : Door). DoorAnswers display_of old d given new) (law old e (not_own old e order none)) applied in
+unfolding EdfApplies
+is_passed make law old new e given order none applied =
+    let row : PassesOn make old e None given new =
+    subst (λ (d : Door). DoorAnswers make old d given new) (law old e (not_own old e order none)) applied in
     record {
       passed = row.reply;
       applies = row.applies;
-      same = row.table ∙ unmoved old.sessions e row.reply (display_of new.region) order none;
+      same = row.table ∙ unmoved old.sessions e row.reply (make new.region) order none;
       answers = row.answers;
     }
 
@@ -371,21 +370,21 @@ keeps_on old new (event.Terminal name) given r events replies region none answer
 keeps_on old new (event.Clock time date) given r events replies region none answers move moves one run = tt
 keeps_on old new (event.Alter name change) given r events replies region none answers move moves one run = tt
 
-steps_way : EventsDecide → OtherEventsArePassed → (events : List Event) (replies : List Reply) (old : EdfState) (region : RegionState)
+steps_way : (make : DisplayMaker) → EventsDecide → OtherEventsArePassed → (events : List Event) (replies : List Reply) (old : EdfState) (region : RegionState)
     → AllByRecursion IsOrder events → AllByRecursion IsMoveReply replies → AllByRecursion (λ e. Silent old (event_name e)) events → Run old.region events replies region
-    → Way old (map edf_event.Plain events) region
+    → Way make old (map edf_event.Plain events) region
 unfolding Run
-steps_way decide pass [] [] old region orders moves silent run = sym run
-steps_way decide pass [] (r ∷ replies) old region orders moves silent run = absurd run
-steps_way decide pass (e ∷ events) [] old region orders moves silent run = absurd run
-steps_way decide pass (e ∷ events) (r ∷ replies) old region orders moves silent run = λ given new applied.
-    let it = is_passed pass old new e given orders.0 silent.0 applied in
+steps_way make decide pass [] [] old region orders moves silent run = sym run
+steps_way make decide pass [] (r ∷ replies) old region orders moves silent run = absurd run
+steps_way make decide pass (e ∷ events) [] old region orders moves silent run = absurd run
+steps_way make decide pass (e ∷ events) (r ∷ replies) old region orders moves silent run = λ given new applied.
+    let it = is_passed make pass old new e given orders.0 silent.0 applied in
     let same = decide old.region e it.passed r new.region run.0 it.applies run.1 in
     let quiet = subst (λ (ss : Sessions). AllByRecursion (λ x. session_in ss (event_name x) ≡ None) (e ∷ events)) (sym it.same) silent in
     let one = subst (λ (x : RegionState). Applies old.region e r x) (sym same.1) run.1 in
     let left = subst (λ (x : RegionState). Run x events replies region) (sym same.1) run.2 in (
       keeps_on old.region new e given r events replies region quiet.0 (it.answers ∙ ap (λ (x : Reply). answer.Region x) same.0) moves.0 moves.1 one left,
-      steps_way decide pass events replies new region orders.1 moves.1 quiet.1 left,
+      steps_way make decide pass events replies new region orders.1 moves.1 quiet.1 left,
     )
 
 -- ---- the terminals of steps
@@ -485,23 +484,23 @@ all_seen state new region (s ∷ sights) lines there sources is shown =
 
 -- ---- the whole
 pub scripts_lead : ShownAsItself → ScriptsAskForSteps → EventsDecide → OtherEventsArePassed → SessionsAreSet → OtherSessionsStay → ScriptsLeadThere
-scripts_lead itself scripts decide pass set stay state keys steps to spelled read run =
+scripts_lead itself scripts decide pass set stay make state keys steps to spelled read run =
     let old : EdfState = state.edf in
     let terminals : Terminals = old.region.terminals in
     let off : List (List ℕ) = names_with_edf old in
     let is_on : List ℕ → Bool = λ name. is_some (session_at old name) in
     let asks = scripts_asks itself scripts old.region keys off steps run.events spelled (filtered HasSpelling is_on (names_of terminals) spelled) read run.are in
-    let way : Way old (map edf_event.Off off ++ map edf_event.Plain run.events) to.region =
-    offs_way set stay off old (map edf_event.Plain run.events) to.region
+    let way : Way make old (map edf_event.Off off ++ map edf_event.Plain run.events) to.region =
+    offs_way set stay make off old (map edf_event.Plain run.events) to.region
     (filtered (λ n. IsDefined terminals n) is_on (names_of terminals) (all_defined terminals))
     (λ mid same quiet gone.
-    steps_way decide pass run.events run.replies mid to.region run.orders run.moves
+    steps_way make decide pass run.events run.replies mid to.region run.orders run.moves
     (of_steps (λ q. Silent mid q) (names_of terminals) keys (all_silent old mid (names_of terminals) quiet gone) steps run.events run.are)
     (subst (λ (r : RegionState). Run r run.events run.replies to.region) (sym same) run.run)) in
     record {
       asked = asks.asked;
       lead = λ text new p.
-          let led = leads asks.asked.actions state new text to.region asks.each p (subst (λ (es : List EdfEvent). Way old es to.region) (sym asks.asked.ask) way) in
+          let led = leads make asks.asked.actions state new text to.region asks.each p (subst (λ (es : List EdfEvent). Way make old es to.region) (sym asks.asked.ask) way) in
           record {
             is = led.is;
             seen = λ sights lines is shown. all_seen state new to.region sights lines led.is led.sources is shown;

@@ -7,7 +7,6 @@ mod LawLemmas
 mod MarkLemmas
 mod NoteLemmas
 mod OrdersLemmas
-mod PlainLemmas
 mod SameLemmas
 mod SpotLemmas
 mod SpellingLemmas

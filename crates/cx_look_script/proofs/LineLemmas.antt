@@ -13,6 +13,7 @@ use Rattle.cx_script_actions.specs.declared.actions.Action.{Action}
 use Rattle.cx_script_actions.specs.declared.actions.Action.TheVariants as action
 use Rattle.cx_script_actions.specs.declared.actions.Line.{Line}
 use Rattle.cx_script_actions.specs.declared.actions.Line.TheVariants as line
+use Rattle.cx_script_actions.specs.declared.actions.NoHeading.{NoHeading}
 use Rattle.cx_script_actions.specs.declared.actions.Wanted.{Wanted}
 use Rattle.cx_look_script.proofs.NameLemmas.{MayAct}
 
@@ -22,29 +23,29 @@ NoName name = ⊥
 
 -- so it is of each kind of line: an empty one or a comment, those that begin a block, one that defines a terminal, whose
 -- name is spelled in it, and any other
-pub record IsOfLines (Is : Line Action → Type 0) : Type 0 where
+pub record IsOfLines (Is : Line Action NoHeading → Type 0) : Type 0 where
   pub blank : Is line.Blank
   pub image : (name : List ℕ) (length : ℕ) → Is (line.Image name length)
   pub source : (name : List ℕ) (wanted : Wanted) → Is (line.Source name wanted)
   pub terminal : (name text : List ℕ) → padded_name 4 text ≡ Some name → Is (event_line (event.Terminal name))
   pub other : (a : Action) → MayAct NoName a → Is (line.Action a)
 
-module _ (Is : Line Action → Type 0) (of : IsOfLines Is) where
-  mapped : {B : Type 0} (f : B → Line Action) (o : Option B) → ((b : B) → Is (f b)) → IfSome (option_map f o) Is
+module _ (Is : Line Action NoHeading → Type 0) (of : IsOfLines Is) where
+  mapped : {B : Type 0} (f : B → Line Action NoHeading) (o : Option B) → ((b : B) → Is (f b)) → IfSome (option_map f o) Is
   mapped f None h = tt
   mapped f (Some b) h = h b
 
-  chained : {B : Type 0} (f : B → Option (Line Action)) (o : Option B) → ((b : B) → IfSome (f b) Is) → IfSome (option_and_then f o) Is
+  chained : {B : Type 0} (f : B → Option (Line Action NoHeading)) (o : Option B) → ((b : B) → IfSome (f b) Is) → IfSome (option_and_then f o) Is
   chained f None h = tt
   chained f (Some b) h = h b
 
-  paired : {A B : Type 0} (make : A → B → Line Action) (first : List ℕ → Option A) (second : List ℕ → Option B) (text : List ℕ)
+  paired : {A B : Type 0} (make : A → B → Line Action NoHeading) (first : List ℕ → Option A) (second : List ℕ → Option B) (text : List ℕ)
       → ((a : A) (b : B) → Is (make a b)) → IfSome (two_words make first second text) Is
   paired make first second text h =
       chained (λ a. option_map (make a) (option_and_then second (after_first_blank text))) (first (word text))
       (λ a. mapped (make a) (option_and_then second (after_first_blank text)) (h a))
 
-  either : (b : Bool) (one other : Option (Line Action)) → IfSome one Is → IfSome other Is → IfSome (if b then one else other) Is
+  either : (b : Bool) (one other : Option (Line Action NoHeading)) → IfSome one Is → IfSome other Is → IfSome (if b then one else other) Is
   either true one other h more = h
   either false one other h more = more
 

@@ -21,37 +21,15 @@ orders_are_marked block state text it = subst IsOfLooks (sym it.is) (marked_is_o
 pub choices_are_marked : ChoicesAreMarked
 choices_are_marked block state text it = subst IsOfLooks (sym it.is) (marked_is_of_looks it.lines)
 
+-- of four looks a relation says what is written, of all others an equation
 pub same_lines : TasksTextsDecide → ResourcesTextsDecide → AheadDecides → AtDecides → (look : Look) (state : LookState) (one other : Lines) → AreLookLines look state one → AreLookLines look state other → one ≡ other
 unfolding AreLookLines
-same_lines tasks resources ahead at look.Queues state one other p q = p ∙ sym q
-same_lines tasks resources ahead at (look.Queue name) state one other p q = p ∙ sym q
-same_lines tasks resources ahead at (look.Item name n) state one other p q = p ∙ sym q
-same_lines tasks resources ahead at look.Programs state one other p q = p ∙ sym q
 same_lines tasks resources ahead at look.Tasks state one other p q = tasks state.edf.region one other p q
 same_lines tasks resources ahead at look.Resources state one other p q = resources state.edf.region one other p q
-same_lines tasks resources ahead at (look.Command name) state one other p q = p ∙ sym q
 same_lines tasks resources ahead at (look.Ahead name n) state one other p q = ahead state.sources state.edf.region name n one other p q
 same_lines tasks resources ahead at (look.AheadAt name program line) state one other p q =
     at state.sources state.edf.region name (record { program = program; line = line }) one other p q
-same_lines tasks resources ahead at (look.Storage address n) state one other p q = p ∙ sym q
-same_lines tasks resources ahead at (look.Where address) state one other p q = p ∙ sym q
-same_lines tasks resources ahead at look.Areas state one other p q = p ∙ sym q
-same_lines tasks resources ahead at (look.AreasOf name) state one other p q = p ∙ sym q
-same_lines tasks resources ahead at (look.Task name) state one other p q = p ∙ sym q
-same_lines tasks resources ahead at (look.Abend name) state one other p q = p ∙ sym q
-same_lines tasks resources ahead at (look.AbendStorage name) state one other p q = p ∙ sym q
-same_lines tasks resources ahead at (look.AbendFields name) state one other p q = p ∙ sym q
-same_lines tasks resources ahead at (look.Faults source) state one other p q = p ∙ sym q
-same_lines tasks resources ahead at (look.Symbol program name) state one other p q = p ∙ sym q
-same_lines tasks resources ahead at (look.Symbols program) state one other p q = p ∙ sym q
-same_lines tasks resources ahead at (look.Xref program) state one other p q = p ∙ sym q
-same_lines tasks resources ahead at look.Terminals state one other p q = p ∙ sym q
-same_lines tasks resources ahead at (look.Field term name k) state one other p q = p ∙ sym q
-same_lines tasks resources ahead at (look.Fields term k) state one other p q = p ∙ sym q
-same_lines tasks resources ahead at (look.Help word) state one other p q = p ∙ sym q
-same_lines tasks resources ahead at look.CoveredAll state one other p q = p ∙ sym q
-same_lines tasks resources ahead at (look.Covered program) state one other p q = p ∙ sym q
-same_lines tasks resources ahead at (look.CoveredLines program) state one other p q = p ∙ sym q
+same_lines tasks resources ahead at l state one other p q = p ∙ sym q
 
 pub looks_are_reported_once : TasksTextsDecide → ResourcesTextsDecide → AheadDecides → AtDecides → LooksAreReportedOnce
 looks_are_reported_once tasks resources ahead at look state one other p q =

@@ -25,9 +25,8 @@ use Rattle.cx_region.specs.declared.replies.Reply.{Reply}
 use Rattle.cx_region.specs.declared.replies.Reply.TheVariants as reply
 use Rattle.cx_region_laws.specs.Laws.Alterations.{AlterationsKeepToTheirTask}
 use Rattle.cx_region_laws.specs.Laws.Regions.{KeysKeepToTheirTerminal, TurnsKeepToTheirTask}
-use Rattle.cx_edf_display.specs.Displays.{display_of}
 use Rattle.cx_edf.specs.State.{EdfState, ends_by_key, holds, session_at, stopped_at}
-use Rattle.cx_edf.specs.Steps.{AppliesBy, Door, DoorAnswers, EdfApplies, Keeps, Passes, door_of}
+use Rattle.cx_edf.specs.Steps.{DisplayMaker, Door, DoorAnswers, EdfApplies, Keeps, Passes, door_of}
 use Rattle.cx_edf.specs.declared.answers.Answer.{Answer}
 use Rattle.cx_edf.specs.declared.answers.EdfEvent.{EdfEvent}
 use Rattle.cx_edf.specs.declared.answers.EdfEvent.TheVariants as edf_event
@@ -190,75 +189,75 @@ module _ (P : List (List ℕ) → Type 0) (May : List ℕ → Type 0)
   may_pass old (edf_event.Plain (event.Terminal name)) may = may
   may_pass old (edf_event.Plain (event.Clock time date)) may = tt
 
-  door_kept : (old new : EdfState) (door : Door) (given : Answer) → MayPass door → DoorAnswers display_of old door given new
+  door_kept : (make : DisplayMaker) (old new : EdfState) (door : Door) (given : Answer) → MayPass door → DoorAnswers make old door given new
       → P (names_of old.region.terminals) → P (names_of new.region.terminals)
-  door_kept old new (Keeps own sessions) given may h held = same_names old.region new.region (ap (λ (s : EdfState). names_of s.region.terminals) h.1) held
-  door_kept old new (Passes e own) given may h held = region_kept old.region new.region e h.reply may h.applies held
+  door_kept make old new (Keeps own sessions) given may h held = same_names old.region new.region (ap (λ (s : EdfState). names_of s.region.terminals) h.1) held
+  door_kept make old new (Passes e own) given may h held = region_kept old.region new.region e h.reply may h.applies held
 
-  edf_kept : (old new : EdfState) (e : EdfEvent) (given : Answer) → MayDoEdf May e → EdfApplies old e given new
+  edf_kept : (make : DisplayMaker) (old new : EdfState) (e : EdfEvent) (given : Answer) → MayDoEdf May e → EdfApplies make old e given new
       → P (names_of old.region.terminals) → P (names_of new.region.terminals)
-  unfolding AppliesBy
-  edf_kept old new e given may h held = door_kept old new (door_of old e) given (may_pass old e may) h held
+  unfolding EdfApplies
+  edf_kept make old new e given may h held = door_kept make old new (door_of old e) given (may_pass old e may) h held
 
   -- actions of `cicsedf`
-  image_kept : (fault : Option ImageFault) (old new : EdfState) (name : List ℕ) (image : Image) (text : List ℕ) → ByFault fault old name image text new
+  image_kept : (make : DisplayMaker) (fault : Option ImageFault) (old new : EdfState) (name : List ℕ) (image : Image) (text : List ℕ) → ByFault make fault old name image text new
       → P (names_of old.region.terminals) → P (names_of new.region.terminals)
   unfolding Replies
-  image_kept None old new name image text h held = edf_kept old new (edf_event.Plain (event.Program name image)) h.0 tt h.1 held
-  image_kept (Some fault) old new name image text h held = same_state old new h.1 held
+  image_kept make None old new name image text h held = edf_kept make old new (edf_event.Plain (event.Program name image)) h.0 tt h.1 held
+  image_kept make (Some fault) old new name image text h held = same_state old new h.1 held
 
-  action_kept : (old new : EdfState) (a : Action) (text : List ℕ) → MayAct May a → Performs old a text new
+  action_kept : (make : DisplayMaker) (old new : EdfState) (a : Action) (text : List ℕ) → MayAct May a → Performs make old a text new
       → P (names_of old.region.terminals) → P (names_of new.region.terminals)
   unfolding Performs Replies
-  action_kept old new (edf_action.Image name image) text may h held = image_kept (image_fault image) old new name image text h held
-  action_kept old new (edf_action.Source name before image) text may h held = image_kept (image_fault image) old new name image h.0 h.1 held
-  action_kept old new (edf_action.Event e) text may h held = edf_kept old new e h.0 may h.1 held
-  action_kept old new (edf_action.Screen name) text may h held = same_state old new h.1 held
-  action_kept old new (edf_action.Display name) text may h held = same_state old new h.1 held
-  action_kept old new (edf_action.Previous name k) text may h held = same_state old new h.1 held
+  action_kept make old new (edf_action.Image name image) text may h held = image_kept make (image_fault image) old new name image text h held
+  action_kept make old new (edf_action.Source name before image) text may h held = image_kept make (image_fault image) old new name image h.0 h.1 held
+  action_kept make old new (edf_action.Event e) text may h held = edf_kept make old new e h.0 may h.1 held
+  action_kept make old new (edf_action.Screen name) text may h held = same_state old new h.1 held
+  action_kept make old new (edf_action.Display name) text may h held = same_state old new h.1 held
+  action_kept make old new (edf_action.Previous name k) text may h held = same_state old new h.1 held
 
   -- actions with looks
-  noted_kept : (old new : LookState) (a : Action) (text : List ℕ) → MayAct May a → NotedPerforms old a text new
+  noted_kept : (make : DisplayMaker) (old new : LookState) (a : Action) (text : List ℕ) → MayAct May a → NotedPerforms make old a text new
       → P (names_of old.edf.region.terminals) → P (names_of new.edf.region.terminals)
-  noted_kept old new a text may h held = action_kept old.edf new.edf a text may (performs old a text new h) held
+  noted_kept make old new a text may h held = action_kept make old.edf new.edf a text may (performs make old a text new h) held
 
-  turn_kept : (old new : LookState) (name text : List ℕ) (line : Option (List ℕ))
-      → MatchOption line (NotedPerforms old (turn_action name) text new) (λ l. (text ≡ l) × (new ≡ run_over old))
+  turn_kept : (make : DisplayMaker) (old new : LookState) (name text : List ℕ) (line : Option (List ℕ))
+      → MatchOption line (NotedPerforms make old (turn_action name) text new) (λ l. (text ≡ l) × (new ≡ run_over old))
       → P (names_of old.edf.region.terminals) → P (names_of new.edf.region.terminals)
-  turn_kept old new name text None h held = noted_kept old new (turn_action name) text tt h held
-  turn_kept old new name text (Some l) h held = same_look (run_over old) new h.1 held
+  turn_kept make old new name text None h held = noted_kept make old new (turn_action name) text tt h held
+  turn_kept make old new name text (Some l) h held = same_look (run_over old) new h.1 held
 
-  more_kept : (old new : LookState) (name : List ℕ) (n : ℕ) (s : Stop) (text : List ℕ) (on : Bool)
-      → MatchBool on (TakesOneMore old name n s text new) ((text ≡ []) × (new ≡ old))
+  more_kept : (make : DisplayMaker) (old new : LookState) (name : List ℕ) (n : ℕ) (s : Stop) (text : List ℕ) (on : Bool)
+      → MatchBool on (TakesOneMore make old name n s text new) ((text ≡ []) × (new ≡ old))
       → P (names_of old.edf.region.terminals) → P (names_of new.edf.region.terminals)
-  more_kept old new name zero s text true h held = same_look (run_over old) new h.1 held
-  more_kept old new name (suc n) s text true h held = turn_kept old new name text h.line h.does held
-  more_kept old new name n s text false h held = same_look old new h.1 held
+  more_kept make old new name zero s text true h held = same_look (run_over old) new h.1 held
+  more_kept make old new name (suc n) s text true h held = turn_kept make old new name text h.line h.does held
+  more_kept make old new name n s text false h held = same_look old new h.1 held
 
-  acts_kept : (old new : LookState) (a : LookAction) (own : List ℕ) → MayAsk May a → Acts old a own new
+  acts_kept : (make : DisplayMaker) (old new : LookState) (a : LookAction) (own : List ℕ) → MayAsk May a → Acts make old a own new
       → P (names_of old.edf.region.terminals) → P (names_of new.edf.region.terminals)
   unfolding Acts
-  acts_kept old new (action.Script a) own may h held = noted_kept old new a own may h held
-  acts_kept old new (action.Source name lines a) own may h held =
-      same_names h.done.edf.region new.edf.region (ap (λ (s : LookState). names_of s.edf.region.terminals) h.keeps) (noted_kept old h.done a own may h.performs held)
-  acts_kept old new (action.Run name n s) own may h held = turn_kept old new name own h.line h.does held
-  acts_kept old new (action.RunOn name n s) own may h held = more_kept old new name n s own old.goes_on h held
-  acts_kept old new (action.Watch w) own may h held = same_names old.edf.region new.edf.region (ap (λ (s : LookState). names_of s.edf.region.terminals) h.1) held
-  acts_kept old new (action.Cover on) own may h held = same_names old.edf.region new.edf.region (ap (λ (s : LookState). names_of s.edf.region.terminals) h.1) held
-  acts_kept old new (action.Look l) own may h held = same_look old new h.1 held
-  acts_kept old new (action.Orders block) own may h held = same_look old new h.1 held
-  acts_kept old new (action.Choices block) own may h held = same_look old new h.1 held
-  acts_kept old new (action.BadLook number s) own may h held = same_look old new h.1 held
+  acts_kept make old new (action.Script a) own may h held = noted_kept make old new a own may h held
+  acts_kept make old new (action.Source name lines a) own may h held =
+      same_names h.done.edf.region new.edf.region (ap (λ (s : LookState). names_of s.edf.region.terminals) h.keeps) (noted_kept make old h.done a own may h.performs held)
+  acts_kept make old new (action.Run name n s) own may h held = turn_kept make old new name own h.line h.does held
+  acts_kept make old new (action.RunOn name n s) own may h held = more_kept make old new name n s own old.goes_on h held
+  acts_kept make old new (action.Watch w) own may h held = same_names old.edf.region new.edf.region (ap (λ (s : LookState). names_of s.edf.region.terminals) h.1) held
+  acts_kept make old new (action.Cover on) own may h held = same_names old.edf.region new.edf.region (ap (λ (s : LookState). names_of s.edf.region.terminals) h.1) held
+  acts_kept make old new (action.Look l) own may h held = same_look old new h.1 held
+  acts_kept make old new (action.Orders block) own may h held = same_look old new h.1 held
+  acts_kept make old new (action.Choices block) own may h held = same_look old new h.1 held
+  acts_kept make old new (action.BadLook number s) own may h held = same_look old new h.1 held
 
-  pub one_kept : (old new : LookState) (a : LookAction) (text : List ℕ) → MayAsk May a → LookPerforms old a text new
+  pub one_kept : (make : DisplayMaker) (old new : LookState) (a : LookAction) (text : List ℕ) → MayAsk May a → LookPerforms make old a text new
       → P (names_of old.edf.region.terminals) → P (names_of new.edf.region.terminals)
-  one_kept old new a text may h held = acts_kept old new a h.own may h.acts held
+  one_kept make old new a text may h held = acts_kept make old new a h.own may h.acts held
 
-  pub all_kept : (old new : LookState) (actions : List LookAction) (text : List ℕ) → AllByRecursion (λ a. MayAsk May a) actions → PerformsAll LookPerforms old actions text new
+  pub all_kept : (make : DisplayMaker) (old new : LookState) (actions : List LookAction) (text : List ℕ) → AllByRecursion (λ a. MayAsk May a) actions → PerformsAll (LookPerforms make) old actions text new
       → P (names_of old.edf.region.terminals) → P (names_of new.edf.region.terminals)
   unfolding PerformsAll
-  all_kept old new [] text may h held = same_look old new h.1 held
-  all_kept old new (a ∷ actions) text may h held = all_kept h.0 new actions h.2 may.1 h.4 (one_kept old h.0 a h.1 may.0 h.3 held)
+  all_kept make old new [] text may h held = same_look old new h.1 held
+  all_kept make old new (a ∷ actions) text may h held = all_kept make h.0 new actions h.2 may.1 h.4 (one_kept make old h.0 a h.1 may.0 h.3 held)
 
 -- ---- no two names are the same
 abbrev pub AnyName : List ℕ → Type 0

@@ -25,10 +25,9 @@ use Rattle.cx_script_actions.specs.Actions.{line_of}
 use Rattle.cx_script_actions.specs.Words.{after_first_blank, word}
 use Rattle.cx_script_actions.specs.declared.actions.Action.{Action}
 use Rattle.cx_script_actions.specs.declared.actions.Action.TheVariants as edf_action
-use Rattle.cx_script_actions.specs.declared.actions.Heading.{Heading}
-use Rattle.cx_script_actions.specs.declared.actions.Heading.TheVariants as heading
 use Rattle.cx_script_actions.specs.declared.actions.Line.{Line}
 use Rattle.cx_script_actions.specs.declared.actions.Line.TheVariants as line
+use Rattle.cx_script_actions.specs.declared.actions.NoHeading.{NoHeading}
 use Rattle.cx_script_blocks.specs.Blocks.{action_step, block_end, block_step, fault_of_line, step_at, step_in, step_of, with_line}
 use Rattle.cx_script_blocks.specs.declared.blocks.Block.{Block}
 use Rattle.cx_script_blocks.specs.declared.blocks.Body.{Body}
@@ -43,6 +42,8 @@ use Rattle.cx_look_script.specs.Laws.Outcomes.{ScriptsNameTheirTerminals}
 use Rattle.cx_look_script.specs.Reading.{as_look_line, asked_by, block_asks, cover_of, line_by, line_of_subject, look_language, look_line_of, own_line, run_of, run_with, stop_asked_for, turns_of, watch_of}
 use Rattle.cx_look_script.specs.Runs.{look_actions_of, turns_left}
 use Rattle.cx_look_script.specs.State.{fresh_look_state}
+use Rattle.cx_look_script.specs.declared.action.Heading.{Heading}
+use Rattle.cx_look_script.specs.declared.action.Heading.TheVariants as heading
 use Rattle.cx_look_script.specs.declared.action.LookAction.{LookAction}
 use Rattle.cx_look_script.specs.declared.action.LookAction.TheVariants as action
 use Rattle.cx_look_script.specs.declared.action.Stop.{Stop}
@@ -54,12 +55,12 @@ use Rattle.cx_look_script.proofs.NameLemmas.{AnyName, MayAct, MayAsk, act_too, a
 abbrev Names : LookAction → Type 0
 Names a = MayAsk HasSpelling a
 
-abbrev LineNames : Line LookAction → Type 0
+abbrev LineNames : Line LookAction Heading → Type 0
 LineNames (line.Action a) = Names a
 LineNames _ = ⊤
 
 -- one of `cicsedf`
-abbrev EdfLineNames : Line Action → Type 0
+abbrev EdfLineNames : Line Action NoHeading → Type 0
 EdfLineNames (line.Action a) = MayAct HasSpelling a
 EdfLineNames _ = ⊤
 
@@ -78,11 +79,11 @@ edf_names text =
     })
     text
 
-as_names : (l : Line Action) → EdfLineNames l → LineNames (as_look_line l)
+as_names : (l : Line Action NoHeading) → EdfLineNames l → LineNames (as_look_line l)
 as_names line.Blank h = tt
 as_names (line.Image name stg_len) h = tt
 as_names (line.Source name wanted) h = tt
-as_names (line.Lines heading) h = tt
+as_names (line.Lines heading) h = elim heading [ ]
 as_names (line.Action a) h = h
 
 -- one of `cicslook` asks for a look, for RUN or for WATCH
@@ -113,31 +114,11 @@ look_names : (o : Option Look) (number : ℕ) (s : Subject) → LineNames (line.
 look_names None number s = tt
 look_names (Some l) number s = tt
 
-lines_names : {B : Type 0} (f : B → Line LookAction) (o : Option B) → ((b : B) → LineNames (f b)) → IfSome (option_map f o) LineNames
+lines_names : {B : Type 0} (f : B → Line LookAction Heading) (o : Option B) → ((b : B) → LineNames (f b)) → IfSome (option_map f o) LineNames
 lines_names f None h = tt
 lines_names f (Some b) h = h b
 
 subject_names : (number : ℕ) (read : List ℕ) (s : Subject) → IfSome (line_of_subject number read s) LineNames
-subject_names number read subject.Storage = look_names (look_of read) number subject.Storage
-subject_names number read subject.Where = look_names (look_of read) number subject.Where
-subject_names number read subject.Areas = look_names (look_of read) number subject.Areas
-subject_names number read subject.Task = look_names (look_of read) number subject.Task
-subject_names number read subject.Tasks = look_names (look_of read) number subject.Tasks
-subject_names number read subject.Abend = look_names (look_of read) number subject.Abend
-subject_names number read subject.Queues = look_names (look_of read) number subject.Queues
-subject_names number read subject.Queue = look_names (look_of read) number subject.Queue
-subject_names number read subject.Resources = look_names (look_of read) number subject.Resources
-subject_names number read subject.Programs = look_names (look_of read) number subject.Programs
-subject_names number read subject.Command = look_names (look_of read) number subject.Command
-subject_names number read subject.Ahead = look_names (look_of read) number subject.Ahead
-subject_names number read subject.Symbol = look_names (look_of read) number subject.Symbol
-subject_names number read subject.Symbols = look_names (look_of read) number subject.Symbols
-subject_names number read subject.Xref = look_names (look_of read) number subject.Xref
-subject_names number read subject.Terminals = look_names (look_of read) number subject.Terminals
-subject_names number read subject.Field = look_names (look_of read) number subject.Field
-subject_names number read subject.Fields = look_names (look_of read) number subject.Fields
-subject_names number read subject.Covered = look_names (look_of read) number subject.Covered
-subject_names number read subject.Help = look_names (look_of read) number subject.Help
 subject_names number read subject.Run =
     asked_names (asked_by subject.Run read) number subject.Run
     (chained run_of (after_first_blank read) (λ rest. chained (λ name. turns_of name (after_first_blank rest)) (padded_name 4 (word rest)) (λ name. turns_names name (after_first_blank rest))))
@@ -150,6 +131,7 @@ subject_names number read subject.Cover =
 subject_names number read subject.Faults = lines_names (λ name. line.Lines (heading.Faults name)) (option_and_then (padded_name 8) (after_first_blank read)) (λ name. tt)
 subject_names number read subject.Orders = lines_names (λ asked. line.Lines (heading.Orders asked)) (orders_asked (after_first_blank read)) (λ asked. tt)
 subject_names number read subject.Choices = lines_names (λ asked. line.Lines (heading.Choices asked)) (choices_asked (after_first_blank read)) (λ asked. tt)
+subject_names number read s = look_names (look_of read) number s
 
 own_names : (number : ℕ) (text : List ℕ) → IfSome (own_line number text) LineNames
 unfolding own_line
@@ -166,7 +148,7 @@ own_names number text = by (nat_le (length text) 4096)
     by true = of_subject (subject_of (word read))
     by false = tt
 
-by_names : (l : Option (Line Action)) (own : Option (Line LookAction)) → IfSome l EdfLineNames → IfSome own LineNames → IfSome (line_by l own) LineNames
+by_names : (l : Option (Line Action NoHeading)) (own : Option (Line LookAction Heading)) → IfSome l EdfLineNames → IfSome own LineNames → IfSome (line_by l own) LineNames
 by_names None own h k = k
 by_names (Some l) own h k = as_names l h
 
@@ -175,11 +157,11 @@ unfolding look_line_of
 line_names number text = by_names (line_of text) (own_line number text) (edf_names text) (own_names number text)
 
 -- ---- what a line leads to
-abbrev StepNames : Result (LineStep LookAction) RunFault → Type 0
+abbrev StepNames : Result (LineStep LookAction Heading) RunFault → Type 0
 StepNames (Ok step) = IfSome step.action Names
 StepNames (Err fault) = ⊤
 
-outside : (number : ℕ) (l : Option (Line LookAction)) → IfSome l LineNames → StepNames (ok_or (option_map (step_of number) l) (BadLine number))
+outside : (number : ℕ) (l : Option (Line LookAction Heading)) → IfSome l LineNames → StepNames (ok_or (option_map (step_of number) l) (BadLine number))
 outside number None h = tt
 outside number (Some line.Blank) h = tt
 outside number (Some (line.Image name stg_len)) h = tt
@@ -205,16 +187,16 @@ block_names first (heading.Choices asked) lines = by (nat_le 1 asked.keys && nat
     by true = tt
     by false = tt
 
-end_names : (first : ℕ) (has : Body) → StepNames (block_end look_language first has)
+end_names : (first : ℕ) (has : Body Heading) → StepNames (block_end look_language first has)
 end_names first (kind.Image name stg_len text) = tt
 end_names first (kind.Source name wanted lines) = source_names name lines first (prepared_of wanted.listing wanted.disassembly lines)
 end_names first (kind.Lines h lines) = block_names first h lines
 
-more_names : (number : ℕ) (next : Option Block) → StepNames (ok_or (option_map block_step next) (BadLine number))
+more_names : (number : ℕ) (next : Option (Block Heading)) → StepNames (ok_or (option_map block_step next) (BadLine number))
 more_names number None = tt
 more_names number (Some block) = tt
 
-in_names : (number : ℕ) (block : Option Block) (text : List ℕ) → StepNames (step_in look_language number block text)
+in_names : (number : ℕ) (block : Option (Block Heading)) (text : List ℕ) → StepNames (step_in look_language number block text)
 in_names number None text = outside number (look_line_of number text) (line_names number text)
 in_names number (Some block) text = by (bytes_eq text (codes "/*"))
   where
@@ -222,7 +204,7 @@ in_names number (Some block) text = by (bytes_eq text (codes "/*"))
     by true = end_names block.line block.body
     by false = more_names number (with_line look_language block text)
 
-step_names : (number : ℕ) (block : Option Block) (text : List ℕ) → StepNames (step_at look_language number block text)
+step_names : (number : ℕ) (block : Option (Block Heading)) (text : List ℕ) → StepNames (step_at look_language number block text)
 unfolding step_at
 step_names number block text = by (is_too_long text)
   where
@@ -256,15 +238,15 @@ both : (one other : List LookAction) → AllByRecursion Names one → AllByRecur
 both [] other h k = k
 both (a ∷ one) other h k = (h.0, both one other h.1 k)
 
-led_names : (number : ℕ) (place : Place) (due : Result (LineStep LookAction) RunFault) (next : Place → Script LookAction) → StepNames due
-    → ((p : Place) → AllByRecursion Names (next p).actions)
+led_names : (number : ℕ) (place : Place Heading) (due : Result (LineStep LookAction Heading) RunFault) (next : Place Heading → Script LookAction) → StepNames due
+    → ((p : Place Heading) → AllByRecursion Names (next p).actions)
     → AllByRecursion Names (led_to (result_map_both (stepped look_language number place) (λ (fault : RunFault). fault) due) next).actions
 led_names number place (Err fault) next h more = tt
 led_names number place (Ok step) next h more =
     both (actions_of look_language step.action) (next (stepped look_language number place step).place).actions (asked_all step.action h)
     (more (stepped look_language number place step).place)
 
-from_names : (ending : Ending) (number : ℕ) (place : Place) (lines : List (List ℕ)) → AllByRecursion Names (script_from look_language ending number place lines).actions
+from_names : (ending : Ending) (number : ℕ) (place : Place Heading) (lines : List (List ℕ)) → AllByRecursion Names (script_from look_language ending number place lines).actions
 unfolding script_from step_from
 from_names ending number place [] = tt
 from_names ending number place (l ∷ lines) =
@@ -290,10 +272,10 @@ unfolding IsDistinct
 none_apart = tt
 
 pub scripts_name : TurnsKeepToTheirTask → KeysKeepToTheirTerminal → AlterationsKeepToTheirTask → ScriptsNameTheirTerminals
-scripts_name turned keyed altered state it =
+scripts_name turned keyed altered make state it =
     let actions : List LookAction = take it.count (script_in look_language it.ending it.bytes).actions in
     record {
-      spelled = all_kept (λ names. AllByRecursion HasSpelling names) HasSpelling spelled_added turned keyed altered fresh_look_state state actions it.text
+      spelled = all_kept (λ names. AllByRecursion HasSpelling names) HasSpelling spelled_added turned keyed altered make fresh_look_state state actions it.text
           (first_names it.count (script_in look_language it.ending it.bytes).actions (script_names it.ending it.bytes)) it.led tt;
-      apart = all_kept (λ names. IsDistinct is_name names) AnyName distinct_added turned keyed altered fresh_look_state state actions it.text (any_all actions) it.led none_apart;
+      apart = all_kept (λ names. IsDistinct is_name names) AnyName distinct_added turned keyed altered make fresh_look_state state actions it.text (any_all actions) it.led none_apart;
     }

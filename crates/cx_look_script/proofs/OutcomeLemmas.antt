@@ -13,6 +13,7 @@ use Rattle.cx_look_cover.specs.Tallies.{programs_end, reaching}
 use Rattle.cx_look_script.specs.Covered.{Covers, machine_run}
 use Rattle.cx_edf.specs.declared.answers.Answer.{Answer}
 use Rattle.cx_edf.specs.declared.answers.EdfEvent.{EdfEvent}
+use Rattle.cx_edf.specs.Steps.{DisplayMaker}
 use Rattle.cx_region_laws.specs.Laws.Alterations.{AlterationsKeepToTheirTask}
 use Rattle.cx_region_laws.specs.Laws.Regions.{KeysKeepToTheirTerminal, TurnsKeepToTheirTask}
 use Rattle.cx_script_actions.specs.Effects.{Performs}
@@ -64,13 +65,13 @@ covers_once law (Some m) end (Some tallies) new other p q =
 abbrev Twice : List ℕ → List ℕ → LookState → LookState → Type 0
 Twice text other new another = (text ≡ other) × (new ≡ another)
 
-module _ (noted : NotedDecide) (edf_actions : (old : EdfState) (a : Action) (text other : List ℕ) (new another : EdfState) → Performs old a text new → Performs old a other another → (text ≡ other) × (new ≡ another))
+module _ (noted : NotedDecide) (edf_actions : (make : DisplayMaker) (old : EdfState) (a : Action) (text other : List ℕ) (new another : EdfState) → Performs make old a text new → Performs make old a other another → (text ≡ other) × (new ≡ another))
     (stops : StopsDecide) (looks : LooksAreReportedOnce) (orders : OrdersAreReportedOnce) (choices : ChoicesAreReportedOnce) (watched : WatchedTextsDecide) (tallies : TalliesDecide) where
   -- an event
-  applies_once : (old new another : LookState) (e : EdfEvent) (given other : Answer) → AppliesAtLooks old e given new → AppliesAtLooks old e other another
+  applies_once : (make : DisplayMaker) (old new another : LookState) (e : EdfEvent) (given other : Answer) → AppliesAtLooks make old e given new → AppliesAtLooks make old e other another
       → (given ≡ other) × (new ≡ another)
-  applies_once old new another e given other p q =
-      let same = noted old.edf new.edf another.edf old.abends new.abends another.abends e given other p.noted q.noted in
+  applies_once make old new another e given other p q =
+      let same = noted make old.edf new.edf another.edf old.abends new.abends another.abends e given other p.noted q.noted in
       let on : turn_goes_on new.edf e given ≡ turn_goes_on another.edf e other =
       ap (λ (s : EdfState). turn_goes_on s e given) same.1 ∙ ap (λ (g : Answer). turn_goes_on another.edf e g) same.0 in (
         same.0,
@@ -79,128 +80,128 @@ module _ (noted : NotedDecide) (edf_actions : (old : EdfState) (a : Action) (tex
       )
 
   -- any other action of `cicsedf`
-  plain_once : (old new another : LookState) (a : Action) (text other : List ℕ) → Performs old.edf a text new.edf → Performs old.edf a other another.edf
+  plain_once : (make : DisplayMaker) (old new another : LookState) (a : Action) (text other : List ℕ) → Performs make old.edf a text new.edf → Performs make old.edf a other another.edf
       → new.abends ≡ another.abends → new.sources ≡ another.sources → new.watched ≡ another.watched → new.covered ≡ another.covered → new.goes_on ≡ another.goes_on → Twice text other new another
-  plain_once old new another a text other p q abends sources ranges counts on =
-      let same = edf_actions old.edf a text other new.edf another.edf p q in
+  plain_once make old new another a text other p q abends sources ranges counts on =
+      let same = edf_actions make old.edf a text other new.edf another.edf p q in
       (same.0, same_state new another same.1 abends sources ranges counts on)
 
-  noted_once : (old new another : LookState) (a : Action) (text other : List ℕ) → NotedPerforms old a text new → NotedPerforms old a other another → Twice text other new another
+  noted_once : (make : DisplayMaker) (old new another : LookState) (a : Action) (text other : List ℕ) → NotedPerforms make old a text new → NotedPerforms make old a other another → Twice text other new another
   unfolding NotedPerforms
-  noted_once old new another (edf_action.Event e) text other p q =
-      let same = applies_once old new another e p.0 q.0 p.1 q.1 in
+  noted_once make old new another (edf_action.Event e) text other p q =
+      let same = applies_once make old new another e p.0 q.0 p.1 q.1 in
       (p.2 ∙ ap (λ (g : Answer). answer_text e g) same.0 ∙ sym q.2, same.1)
-  noted_once old new another (edf_action.Image name image) text other p q =
-      plain_once old new another (edf_action.Image name image) text other p.0 q.0 (p.1 ∙ sym q.1) (p.2 ∙ sym q.2) (p.3 ∙ sym q.3) (p.4 ∙ sym q.4) (p.5 ∙ sym q.5)
-  noted_once old new another (edf_action.Source name before image) text other p q =
-      plain_once old new another (edf_action.Source name before image) text other p.0 q.0 (p.1 ∙ sym q.1) (p.2 ∙ sym q.2) (p.3 ∙ sym q.3) (p.4 ∙ sym q.4) (p.5 ∙ sym q.5)
-  noted_once old new another (edf_action.Screen name) text other p q =
-      plain_once old new another (edf_action.Screen name) text other p.0 q.0 (p.1 ∙ sym q.1) (p.2 ∙ sym q.2) (p.3 ∙ sym q.3) (p.4 ∙ sym q.4) (p.5 ∙ sym q.5)
-  noted_once old new another (edf_action.Display name) text other p q =
-      plain_once old new another (edf_action.Display name) text other p.0 q.0 (p.1 ∙ sym q.1) (p.2 ∙ sym q.2) (p.3 ∙ sym q.3) (p.4 ∙ sym q.4) (p.5 ∙ sym q.5)
-  noted_once old new another (edf_action.Previous name k) text other p q =
-      plain_once old new another (edf_action.Previous name k) text other p.0 q.0 (p.1 ∙ sym q.1) (p.2 ∙ sym q.2) (p.3 ∙ sym q.3) (p.4 ∙ sym q.4) (p.5 ∙ sym q.5)
+  noted_once make old new another (edf_action.Image name image) text other p q =
+      plain_once make old new another (edf_action.Image name image) text other p.0 q.0 (p.1 ∙ sym q.1) (p.2 ∙ sym q.2) (p.3 ∙ sym q.3) (p.4 ∙ sym q.4) (p.5 ∙ sym q.5)
+  noted_once make old new another (edf_action.Source name before image) text other p q =
+      plain_once make old new another (edf_action.Source name before image) text other p.0 q.0 (p.1 ∙ sym q.1) (p.2 ∙ sym q.2) (p.3 ∙ sym q.3) (p.4 ∙ sym q.4) (p.5 ∙ sym q.5)
+  noted_once make old new another (edf_action.Screen name) text other p q =
+      plain_once make old new another (edf_action.Screen name) text other p.0 q.0 (p.1 ∙ sym q.1) (p.2 ∙ sym q.2) (p.3 ∙ sym q.3) (p.4 ∙ sym q.4) (p.5 ∙ sym q.5)
+  noted_once make old new another (edf_action.Display name) text other p q =
+      plain_once make old new another (edf_action.Display name) text other p.0 q.0 (p.1 ∙ sym q.1) (p.2 ∙ sym q.2) (p.3 ∙ sym q.3) (p.4 ∙ sym q.4) (p.5 ∙ sym q.5)
+  noted_once make old new another (edf_action.Previous name k) text other p q =
+      plain_once make old new another (edf_action.Previous name k) text other p.0 q.0 (p.1 ∙ sym q.1) (p.2 ∙ sym q.2) (p.3 ∙ sym q.3) (p.4 ∙ sym q.4) (p.5 ∙ sym q.5)
 
   -- a turn of RUN, or the line in its place
-  turn_by : (old new another : LookState) (name text other : List ℕ) (line : Option (List ℕ))
-      → MatchOption line (NotedPerforms old (turn_action name) text new) (λ l. (text ≡ l) × (new ≡ run_over old))
-      → MatchOption line (NotedPerforms old (turn_action name) other another) (λ l. (other ≡ l) × (another ≡ run_over old))
+  turn_by : (make : DisplayMaker) (old new another : LookState) (name text other : List ℕ) (line : Option (List ℕ))
+      → MatchOption line (NotedPerforms make old (turn_action name) text new) (λ l. (text ≡ l) × (new ≡ run_over old))
+      → MatchOption line (NotedPerforms make old (turn_action name) other another) (λ l. (other ≡ l) × (another ≡ run_over old))
       → Twice text other new another
-  turn_by old new another name text other None p q = noted_once old new another (turn_action name) text other p q
-  turn_by old new another name text other (Some l) p q = (p.0 ∙ sym q.0, p.1 ∙ sym q.1)
+  turn_by make old new another name text other None p q = noted_once make old new another (turn_action name) text other p q
+  turn_by make old new another name text other (Some l) p q = (p.0 ∙ sym q.0, p.1 ∙ sym q.1)
 
-  turn_once : (old new another : LookState) (name : List ℕ) (s : Stop) (text other : List ℕ) → RunsTurn old name s text new → RunsTurn old name s other another
+  turn_once : (make : DisplayMaker) (old new another : LookState) (name : List ℕ) (s : Stop) (text other : List ℕ) → RunsTurn make old name s text new → RunsTurn make old name s other another
       → Twice text other new another
-  turn_once old new another name s text other p q =
+  turn_once make old new another name s text other p q =
       let same = stops s old.sources old.edf name q.line p.line q.stops p.stops in
-      turn_by old new another name text other p.line p.does
-      (subst (λ (line : Option (List ℕ)). MatchOption line (NotedPerforms old (turn_action name) other another) (λ l. (other ≡ l) × (another ≡ run_over old))) same q.does)
+      turn_by make old new another name text other p.line p.does
+      (subst (λ (line : Option (List ℕ)). MatchOption line (NotedPerforms make old (turn_action name) other another) (λ l. (other ≡ l) × (another ≡ run_over old))) same q.does)
 
-  more_once : (old new another : LookState) (name : List ℕ) (n : ℕ) (s : Stop) (text other : List ℕ) (on : Bool)
-      → MatchBool on (TakesOneMore old name n s text new) ((text ≡ []) × (new ≡ old))
-      → MatchBool on (TakesOneMore old name n s other another) ((other ≡ []) × (another ≡ old)) → Twice text other new another
-  more_once old new another name zero s text other true p q = (p.0 ∙ sym q.0, p.1 ∙ sym q.1)
-  more_once old new another name (suc n) s text other true p q = turn_once old new another name s text other p q
-  more_once old new another name n s text other false p q = (p.0 ∙ sym q.0, p.1 ∙ sym q.1)
+  more_once : (make : DisplayMaker) (old new another : LookState) (name : List ℕ) (n : ℕ) (s : Stop) (text other : List ℕ) (on : Bool)
+      → MatchBool on (TakesOneMore make old name n s text new) ((text ≡ []) × (new ≡ old))
+      → MatchBool on (TakesOneMore make old name n s other another) ((other ≡ []) × (another ≡ old)) → Twice text other new another
+  more_once make old new another name zero s text other true p q = (p.0 ∙ sym q.0, p.1 ∙ sym q.1)
+  more_once make old new another name (suc n) s text other true p q = turn_once make old new another name s text other p q
+  more_once make old new another name n s text other false p q = (p.0 ∙ sym q.0, p.1 ∙ sym q.1)
 
-  acts_once : (old new another : LookState) (a : LookAction) (text other : List ℕ) → HasApartNames old.edf.region → Acts old a text new → Acts old a other another
+  acts_once : (make : DisplayMaker) (old new another : LookState) (a : LookAction) (text other : List ℕ) → HasApartNames old.edf.region → Acts make old a text new → Acts make old a other another
       → Twice text other new another
   unfolding Acts
-  acts_once old new another (action.Script a) text other apart p q = noted_once old new another a text other p q
-  acts_once old new another (action.Source name lines a) text other apart p q =
-      let same = noted_once old p.done q.done a text other p.performs q.performs in
+  acts_once make old new another (action.Script a) text other apart p q = noted_once make old new another a text other p q
+  acts_once make old new another (action.Source name lines a) text other apart p q =
+      let same = noted_once make old p.done q.done a text other p.performs q.performs in
       (same.0, p.keeps ∙ ap (λ (s : LookState). with_source old name lines s) same.1 ∙ sym q.keeps)
-  acts_once old new another (action.Run name n s) text other apart p q = turn_once old new another name s text other p q
-  acts_once old new another (action.RunOn name n s) text other apart p q = more_once old new another name n s text other old.goes_on p q
-  acts_once old new another (action.Watch w) text other apart p q = (p.0 ∙ sym q.0, p.1 ∙ sym q.1)
-  acts_once old new another (action.Cover on) text other apart p q = (p.0 ∙ sym q.0, p.1 ∙ sym q.1)
-  acts_once old new another (action.Look l) text other apart p q = (looks l old text other p.0 q.0, p.1 ∙ sym q.1)
-  acts_once old new another (action.Orders block) text other apart p q = (orders block old text other apart p.0 q.0, p.1 ∙ sym q.1)
-  acts_once old new another (action.Choices block) text other apart p q = (choices block old text other p.0 q.0, p.1 ∙ sym q.1)
-  acts_once old new another (action.BadLook number s) text other apart p q = (p.0 ∙ sym q.0, p.1 ∙ sym q.1)
+  acts_once make old new another (action.Run name n s) text other apart p q = turn_once make old new another name s text other p q
+  acts_once make old new another (action.RunOn name n s) text other apart p q = more_once make old new another name n s text other old.goes_on p q
+  acts_once make old new another (action.Watch w) text other apart p q = (p.0 ∙ sym q.0, p.1 ∙ sym q.1)
+  acts_once make old new another (action.Cover on) text other apart p q = (p.0 ∙ sym q.0, p.1 ∙ sym q.1)
+  acts_once make old new another (action.Look l) text other apart p q = (looks l old text other p.0 q.0, p.1 ∙ sym q.1)
+  acts_once make old new another (action.Orders block) text other apart p q = (orders block old text other apart p.0 q.0, p.1 ∙ sym q.1)
+  acts_once make old new another (action.Choices block) text other apart p q = (choices block old text other p.0 q.0, p.1 ∙ sym q.1)
+  acts_once make old new another (action.BadLook number s) text other apart p q = (p.0 ∙ sym q.0, p.1 ∙ sym q.1)
 
   pub actions_decide : LookActionsDecide
-  actions_decide old a text other new another apart p q =
-      let same = acts_once old new another a p.own q.own apart p.acts q.acts in
+  actions_decide make old a text other new another apart p q =
+      let same = acts_once make old new another a p.own q.own apart p.acts q.acts in
       let shown = watched old another (cause_of a) p.watched q.watched
       (subst (λ (s : LookState). IsWatchedText old (cause_of a) s p.watched) same.1 p.shown) q.shown in
       (p.is ∙ ap (λ l. l ++ p.watched) same.0 ∙ ap (λ l. q.own ++ l) shown ∙ sym q.is, same.1)
 
 -- ---- one after another
 module _ (decide : LookActionsDecide) (turned : TurnsKeepToTheirTask) (keyed : KeysKeepToTheirTerminal) (altered : AlterationsKeepToTheirTask) where
-  apart_kept : (old new : LookState) (a : LookAction) (text : List ℕ) → LookPerforms old a text new → HasApartNames old.edf.region → HasApartNames new.edf.region
-  apart_kept old new a text p apart =
-      one_kept (λ names. IsDistinct is_name names) AnyName distinct_added turned keyed altered old new a text (any_asked a) p apart
+  apart_kept : (make : DisplayMaker) (old new : LookState) (a : LookAction) (text : List ℕ) → LookPerforms make old a text new → HasApartNames old.edf.region → HasApartNames new.edf.region
+  apart_kept make old new a text p apart =
+      one_kept (λ names. IsDistinct is_name names) AnyName distinct_added turned keyed altered make old new a text (any_asked a) p apart
 
   pub transcripts_decide : LookTranscriptsDecide
   unfolding PerformsAll
-  transcripts_decide old [] text other new another apart p q = (p.0 ∙ sym q.0, p.1 ∙ sym q.1)
-  transcripts_decide old (a ∷ actions) text other new another apart p q =
-      let head = decide old a p.1 q.1 p.0 q.0 apart p.3 q.3 in
-      let moved = subst (λ (s : LookState). PerformsAll LookPerforms s actions p.2 new) head.1 p.4 in
-      let rest = transcripts_decide q.0 actions p.2 q.2 new another (apart_kept old q.0 a q.1 q.3 apart) moved q.4 in
+  transcripts_decide make old [] text other new another apart p q = (p.0 ∙ sym q.0, p.1 ∙ sym q.1)
+  transcripts_decide make old (a ∷ actions) text other new another apart p q =
+      let head = decide make old a p.1 q.1 p.0 q.0 apart p.3 q.3 in
+      let moved = subst (λ (s : LookState). PerformsAll (LookPerforms make) s actions p.2 new) head.1 p.4 in
+      let rest = transcripts_decide make q.0 actions p.2 q.2 new another (apart_kept make old q.0 a q.1 q.3 apart) moved q.4 in
       (p.5 ∙ ap (λ l. l ++ p.2) head.0 ∙ ap (λ l. q.1 ++ l) rest.0 ∙ sym q.5, rest.1)
 
 -- ---- a script
 -- the fault of a run that was not stopped, and what it wrote
-record Reported (ending : Ending) (bytes : List ℕ) (answer : Result Summary RunFault) (written : List ℕ) : Type 0 where
+record Reported (make : DisplayMaker) (ending : Ending) (bytes : List ℕ) (answer : Result Summary RunFault) (written : List ℕ) : Type 0 where
   fault : result_err answer ≡ (script_in look_language ending bytes).fault
-  wrote : Wrote (◌≡◌ written) LookPerforms fresh_look_state (script_in look_language ending bytes).actions
+  wrote : Wrote (◌≡◌ written) (LookPerforms make) fresh_look_state (script_in look_language ending bytes).actions
 
-reported : (ending : Ending) (bytes : List ℕ) (answer : Result Summary RunFault) (written : List ℕ) → was_stopped answer ≡ false
-    → EndsScript look_language LookPerforms fresh_look_state ending bytes answer written → Reported ending bytes answer written
+reported : (make : DisplayMaker) (ending : Ending) (bytes : List ℕ) (answer : Result Summary RunFault) (written : List ℕ) → was_stopped answer ≡ false
+    → EndsScript look_language (LookPerforms make) fresh_look_state ending bytes answer written → Reported make ending bytes answer written
 unfolding EndsScript
-reported ending bytes (Ok summary) written e s = record { fault = sym s.0; wrote = s.2 }
-reported ending bytes (Err (BadLine n)) written e s = record { fault = sym s.0; wrote = s.1 }
-reported ending bytes (Err (BadLook n)) written e s = record { fault = sym s.0; wrote = s.1 }
-reported ending bytes (Err (Source n which)) written e s = record { fault = sym s.0; wrote = s.1 }
-reported ending bytes (Err Read) written e s = record { fault = sym s.0; wrote = s.1 }
-reported ending bytes (Err ReadBound) written e s = record { fault = sym s.0; wrote = s.1 }
-reported ending bytes (Err Write) written e s = cc
-reported ending bytes (Err Memory) written e s = cc
+reported make ending bytes (Ok summary) written e s = record { fault = sym s.0; wrote = s.2 }
+reported make ending bytes (Err (BadLine n)) written e s = record { fault = sym s.0; wrote = s.1 }
+reported make ending bytes (Err (BadLook n)) written e s = record { fault = sym s.0; wrote = s.1 }
+reported make ending bytes (Err (Source n which)) written e s = record { fault = sym s.0; wrote = s.1 }
+reported make ending bytes (Err Read) written e s = record { fault = sym s.0; wrote = s.1 }
+reported make ending bytes (Err ReadBound) written e s = record { fault = sym s.0; wrote = s.1 }
+reported make ending bytes (Err Write) written e s = cc
+reported make ending bytes (Err Memory) written e s = cc
 
 -- where both have the script's fault, the answers are the same
-same_answer : (ending : Ending) (bytes : List ℕ) (answer other : Result Summary RunFault) (written later : List ℕ)
-    → EndsScript look_language LookPerforms fresh_look_state ending bytes answer written → EndsScript look_language LookPerforms fresh_look_state ending bytes other later
+same_answer : (make : DisplayMaker) (ending : Ending) (bytes : List ℕ) (answer other : Result Summary RunFault) (written later : List ℕ)
+    → EndsScript look_language (LookPerforms make) fresh_look_state ending bytes answer written → EndsScript look_language (LookPerforms make) fresh_look_state ending bytes other later
     → result_err answer ≡ result_err other → answer ≡ other
 unfolding EndsScript
-same_answer ending bytes (Ok s) (Ok t) written later p q e = ap (λ (n : ℕ). let s : Summary = record { lines = n } in let r : Result Summary RunFault = Ok s in r) (p.1 ∙ sym q.1)
-same_answer ending bytes (Ok s) (Err g) written later p q e = cc
-same_answer ending bytes (Err f) (Ok t) written later p q e = cc
-same_answer ending bytes (Err f) (Err g) written later p q e = let same : f ≡ g = cc in ap Err same
+same_answer make ending bytes (Ok s) (Ok t) written later p q e = ap (λ (n : ℕ). let s : Summary = record { lines = n } in let r : Result Summary RunFault = Ok s in r) (p.1 ∙ sym q.1)
+same_answer make ending bytes (Ok s) (Err g) written later p q e = cc
+same_answer make ending bytes (Err f) (Ok t) written later p q e = cc
+same_answer make ending bytes (Err f) (Err g) written later p q e = let same : f ≡ g = cc in ap Err same
 
 fresh_apart : HasApartNames fresh_look_state.edf.region
 unfolding IsDistinct
 fresh_apart = tt
 
 pub inputs_decide : LookTranscriptsDecide → LookInputsDecide
-inputs_decide law ending bytes calls others answer other s t r q e f =
+inputs_decide law make ending bytes calls others answer other s t r q e f =
     let first = s.ends ending bytes r in
     let second = t.ends ending bytes q in
-    let one = reported ending bytes answer (taken calls) e first in
-    let two = reported ending bytes other (taken others) f second in
+    let one = reported make ending bytes answer (taken calls) e first in
+    let two = reported make ending bytes other (taken others) f second in
     let actions = (script_in look_language ending bytes).actions in
-    let same = law fresh_look_state actions one.wrote.text two.wrote.text one.wrote.new two.wrote.new fresh_apart one.wrote.runs two.wrote.runs in (
-      same_answer ending bytes answer other (taken calls) (taken others) first second (one.fault ∙ sym two.fault),
+    let same = law make fresh_look_state actions one.wrote.text two.wrote.text one.wrote.new two.wrote.new fresh_apart one.wrote.runs two.wrote.runs in (
+      same_answer make ending bytes answer other (taken calls) (taken others) first second (one.fault ∙ sym two.fault),
       one.wrote.written ∙ same.0 ∙ sym two.wrote.written,
     )

@@ -1,7 +1,6 @@
 -- Where RUN ends in front of a turn.
 use Rattle.std.proofs.Common.{◌≡◌, if◌then◌else◌, Bool, true, false, MatchBool, ℕ, Option, Some, None, List, refl, sym, subst, ap, ◌∙◌}
 use Rattle.std.specs.Option.{option_map}
-use Rattle.cx_edf_display.specs.Displays.{display_of}
 use Rattle.cx_region.specs.Events.{Applies}
 use Rattle.cx_region.specs.State.{RegionState}
 use Rattle.cx_region.specs.declared.replies.Event.TheVariants as event
@@ -9,7 +8,7 @@ use Rattle.cx_region.specs.declared.replies.Reply.{Reply}
 use Rattle.cx_region.specs.declared.replies.Reply.TheVariants as reply
 use Rattle.cx_region_laws.specs.Laws.Regions.{TurnsDecide}
 use Rattle.cx_edf.specs.State.{EdfState, holds}
-use Rattle.cx_edf.specs.Steps.{AppliesBy, DoorAnswers, Keeps, Passes, door_of}
+use Rattle.cx_edf.specs.Steps.{DisplayMaker, DoorAnswers, EdfApplies, Keeps, Passes, door_of}
 use Rattle.cx_edf.specs.declared.answers.Answer.{Answer}
 use Rattle.cx_edf.specs.declared.answers.Answer.TheVariants as answer
 use Rattle.cx_look_symbols.specs.Sources.{Sources}
@@ -35,16 +34,16 @@ of_reply decide region new name code reply.Clock next turns = absurd turns
 of_reply decide region new name code (reply.Key _) next turns = absurd turns
 of_reply decide region new name code (reply.Alter given) next turns = absurd turns
 
-at_door : TurnsDecide → (old new : EdfState) (name : List ℕ) (code : Option (List ℕ)) (given : Answer) (held : Bool) → MatchBool held (code ≡ None) (IsNextAbend old.region name code)
-    → DoorAnswers display_of old (if held then Keeps answer.Held old.sessions else Passes (event.Turn name) None) given new → code ≡ abend_in given
-at_door decide old new name code given true ahead row = ahead ∙ sym (ap abend_in row.0)
-at_door decide old new name code given false ahead row =
+at_door : (make : DisplayMaker) → TurnsDecide → (old new : EdfState) (name : List ℕ) (code : Option (List ℕ)) (given : Answer) (held : Bool) → MatchBool held (code ≡ None) (IsNextAbend old.region name code)
+    → DoorAnswers make old (if held then Keeps answer.Held old.sessions else Passes (event.Turn name) None) given new → code ≡ abend_in given
+at_door make decide old new name code given true ahead row = ahead ∙ sym (ap abend_in row.0)
+at_door make decide old new name code given false ahead row =
     of_reply decide old.region new.region name code row.reply ahead row.applies ∙ sym (ap abend_in row.answers)
 
 pub runs_end_before_abends : TurnsDecide → RunsEndBeforeAbends
-unfolding StopsWith IsAbendAhead AppliesBy door_of
-runs_end_before_abends decide old new name line given stops applied =
-    stops.is ∙ ap (option_map (stopped_before name)) (at_door decide old.edf new.edf name stops.code given (holds old.edf name) stops.ahead applied.noted.applies)
+unfolding StopsWith IsAbendAhead EdfApplies door_of
+runs_end_before_abends decide make old new name line given stops applied =
+    stops.is ∙ ap (option_map (stopped_before name)) (at_door make decide old.edf new.edf name stops.code given (holds old.edf name) stops.ahead applied.noted.applies)
 
 -- ---- the turn does so
 region_does : TurnsDoSome → (old : LookState) (name : List ℕ) (to : SourceLine) (comes : Bool) (given : Reply) (new : RegionState)
@@ -65,32 +64,32 @@ region_does law old name to comes reply.Clock new next turns = absurd turns
 region_does law old name to comes (reply.Key _) new next turns = absurd turns
 region_does law old name to comes (reply.Alter given) new next turns = absurd turns
 
-does_at_door : TurnsDoSome → (old : LookState) (new : EdfState) (name : List ℕ) (to : SourceLine) (comes : Bool) (given : Answer) (held : Bool)
+does_at_door : (make : DisplayMaker) → TurnsDoSome → (old : LookState) (new : EdfState) (name : List ℕ) (to : SourceLine) (comes : Bool) (given : Answer) (held : Bool)
     → MatchBool held (comes ≡ false) (ComesTo old.sources.places old.edf.region name to comes)
-    → DoorAnswers display_of old.edf (if held then Keeps answer.Held old.edf.sessions else Passes (event.Turn name) None) given new
+    → DoorAnswers make old.edf (if held then Keeps answer.Held old.edf.sessions else Passes (event.Turn name) None) given new
     → MatchBool held ((given ≡ answer.Held) × (comes ≡ false)) (RegionDoes old name to comes given new.region)
-does_at_door law old new name to comes given true ahead row = (row.0, ahead)
-does_at_door law old new name to comes given false ahead row =
+does_at_door make law old new name to comes given true ahead row = (row.0, ahead)
+does_at_door make law old new name to comes given false ahead row =
     subst (λ (a : Answer). RegionDoes old name to comes a new.region) (sym row.answers)
     (region_does law old name to comes row.reply new.region ahead row.applies)
 
-ends_before_line : TurnsDoSome → (old new : LookState) (name : List ℕ) (to : SourceLine) (line : Option (List ℕ)) (given : Answer) (has : Bool)
+ends_before_line : (make : DisplayMaker) → TurnsDoSome → (old new : LookState) (name : List ℕ) (to : SourceLine) (line : Option (List ℕ)) (given : Answer) (has : Bool)
     → MatchBool has (StopsBeforeLine old.sources old.edf name to line) (line ≡ Some (no_line name to))
-    → AppliesAtLooks old (turn_of name) given new
+    → AppliesAtLooks make old (turn_of name) given new
     → MatchBool has (EndsBeforeLine old name to line given new) (line ≡ Some (no_line name to))
-unfolding IsLineAhead AppliesBy door_of
-ends_before_line law old new name to line given true stops applied =
+unfolding IsLineAhead EdfApplies door_of
+ends_before_line make law old new name to line given true stops applied =
     record {
       does = stops.comes;
-      done = does_at_door law old new.edf name to stops.comes given (holds old.edf name) stops.ahead applied.noted.applies;
+      done = does_at_door make law old new.edf name to stops.comes given (holds old.edf name) stops.ahead applied.noted.applies;
       is = stops.is;
     }
-ends_before_line law old new name to line given false none applied = none
+ends_before_line make law old new name to line given false none applied = none
 
 pub runs_end_before_lines : TurnsDoSome → RunsEndBeforeLines
 unfolding StopsWith
-runs_end_before_lines law old new name to line given stops applied =
-    ends_before_line law old new name to line given (has_statement old.sources.places to) stops applied
+runs_end_before_lines law make old new name to line given stops applied =
+    ends_before_line make law old new name to line given (has_statement old.sources.places to) stops applied
 
 -- ---- there is one line
 codes_decide : TurnsDecide → (state : EdfState) (name : List ℕ) (one other : Option (List ℕ)) (held : Bool) → MatchBool held (one ≡ None) (IsNextAbend state.region name one)

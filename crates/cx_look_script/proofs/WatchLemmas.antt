@@ -1,6 +1,7 @@
 -- What isn't changed isn't written, and what is written is decided.
 use Rattle.std.proofs.Common.{◌≡◌, ℕ, List, [], ◌∷◌, ◌++◌, length, map, refl, sym, subst, ap, ◌∙◌, append-nil}
 use Rattle.cx_edf.specs.State.{EdfState}
+use Rattle.cx_edf.specs.Steps.{DisplayMaker}
 use Rattle.cx_look_ahead.specs.declared.rows.Row.{Row}
 use Rattle.cx_look_tables.specs.Words.{marked}
 use Rattle.cx_look_ahead.specs.Facts.Unchanged.{no_changes}
@@ -8,7 +9,7 @@ use Rattle.cx_look_ahead.specs.Laws.Watching.{ChangesDecide}
 use Rattle.cx_look_ahead.specs.Watching.{AreChanges, AreOfRanges, ActionEffect, kept_in, work_of}
 use Rattle.cx_look_ahead.specs.declared.watching.Cause.{Cause}
 use Rattle.cx_look_ahead.specs.declared.watching.Kept.{Kept}
-use Rattle.cx_look_ahead.specs.declared.writing.Work.{Work}
+use Rattle.cx_look_ahead.specs.declared.writers.Work.{Work}
 use Rattle.cx_look_script.specs.Looking.{Acts, LookPerforms}
 use Rattle.cx_look_script.specs.declared.action.LookAction.{LookAction}
 use Rattle.cx_look_script.specs.Laws.Watches.{WatchedTextsDecide}
@@ -49,10 +50,10 @@ none_of : (ranges : List Row) → length ranges ≡ 0 → ranges ≡ []
 none_of [] e = refl
 none_of (range ∷ ranges) e = cc
 
-pub not_watched : (old : LookState) (a : LookAction) (own : List ℕ) (new : LookState) → Acts old a own new → length old.watched ≡ 0
-    → LookPerforms old a own new
+pub not_watched : (make : DisplayMaker) (old : LookState) (a : LookAction) (own : List ℕ) (new : LookState) → Acts make old a own new → length old.watched ≡ 0
+    → LookPerforms make old a own new
 unfolding AreOfRanges
-not_watched old a own new acts none =
+not_watched make old a own new acts none =
     record {
       own = own;
       acts = acts;
@@ -69,10 +70,10 @@ abbrev pub effect_with : Cause → Work → LookState → ActionEffect
 effect_with by work new =
     record { by = by; done = work; sources = new.sources; programs = new.edf.region.shared.programs; storage = new.edf.region.shared.storage }
 
-pub is_watched : (old : LookState) (a : LookAction) (own watched text : List ℕ) (new : LookState) (by : Cause) (work : Work) (kept : List Kept)
-    → Acts old a own new → by ≡ cause_of a → work ≡ work_of old.edf.region by → kept ≡ map (kept_in old.edf.region.shared.storage) old.watched
-    → ShowsChanges (effect_with by work new) kept watched → text ≡ own ++ watched → LookPerforms old a text new
-is_watched old a own watched text new by work kept acts named worked were shown is =
+pub is_watched : (make : DisplayMaker) (old : LookState) (a : LookAction) (own watched text : List ℕ) (new : LookState) (by : Cause) (work : Work) (kept : List Kept)
+    → Acts make old a own new → by ≡ cause_of a → work ≡ work_of old.edf.region by → kept ≡ map (kept_in old.edf.region.shared.storage) old.watched
+    → ShowsChanges (effect_with by work new) kept watched → text ≡ own ++ watched → LookPerforms make old a text new
+is_watched make old a own watched text new by work kept acts named worked were shown is =
     let ranges : List Kept = map (kept_in old.edf.region.shared.storage) old.watched in
     let here = subst (λ (k : List Kept). ShowsChanges (effect_with by work new) k watched) were shown in
     let done = subst (λ (w : Work). ShowsChanges (effect_with by w new) ranges watched) worked here in

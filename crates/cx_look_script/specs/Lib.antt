@@ -33,10 +33,10 @@ pub use Rattle.cx_look_tables.specs.Terminals
 pub use Rattle.cx_look_storage.specs.Uses
 pub use Rattle.cx_look_storage.specs.Areas
 pub use Rattle.cx_look_storage.specs.Bytes
-pub use Rattle.cx_look_levels.specs.Levels
-pub use Rattle.cx_look_levels.specs.Tasks as TasksLookedAt
-pub use Rattle.cx_look_levels.specs.Fields
-pub use Rattle.cx_look_levels.specs.FieldTexts
+pub use Rattle.cx_look_fields.specs.Levels
+pub use Rattle.cx_look_fields.specs.Tasks as TasksLookedAt
+pub use Rattle.cx_look_fields.specs.Fields
+pub use Rattle.cx_look_fields.specs.FieldTexts
 pub use Rattle.cx_look_tasks.specs.Commands
 pub use Rattle.cx_look_tasks.specs.Looks as LooksAtCommands
 pub use Rattle.cx_look_symbols.specs.Symbols
@@ -45,7 +45,7 @@ pub use Rattle.cx_look_symbols.specs.Places
 pub use Rattle.cx_look_symbols.specs.Sources as SourcesKept
 pub use Rattle.cx_look_ahead.specs.Rows
 pub use Rattle.cx_look_ahead.specs.Ahead
-pub use Rattle.cx_look_ahead.specs.Writing
+pub use Rattle.cx_look_ahead.specs.Writers
 pub use Rattle.cx_look_ahead.specs.At
 pub use Rattle.cx_look_ahead.specs.Watching
 pub use Rattle.cx_look_tasks.specs.Activities

@@ -9,10 +9,9 @@ use Rattle.cx_script_actions.specs.Words.{after_first_blank, two_words, word}
 use Rattle.cx_script_actions.specs.Actions.{line_of}
 use Rattle.cx_script_actions.specs.Language.{Language}
 use Rattle.cx_script_actions.specs.declared.actions.Action.{Action}
-use Rattle.cx_script_actions.specs.declared.actions.Heading.{Heading}
-use Rattle.cx_script_actions.specs.declared.actions.Heading.TheVariants as heading
 use Rattle.cx_script_actions.specs.declared.actions.Line.{Line}
 use Rattle.cx_script_actions.specs.declared.actions.Line.TheVariants as line
+use Rattle.cx_script_actions.specs.declared.actions.NoHeading.{NoHeading}
 use Rattle.cx_script_blocks.specs.Blocks.{kept_lines}
 use Rattle.cx_look.specs.Choices.{choices_asked, choices_block, choices_with}
 use Rattle.cx_look.specs.Orders.{orders_asked, orders_block, orders_with}
@@ -22,6 +21,8 @@ use Rattle.cx_look.specs.declared.look.Subject.{Subject}
 use Rattle.cx_look.specs.declared.look.Subject.TheVariants as subject
 use Rattle.cx_look_ahead.specs.declared.arrivals.SourceLine.{SourceLine}
 use Rattle.cx_look_script.specs.Runs.{look_actions_of}
+use Rattle.cx_look_script.specs.declared.action.Heading.{Heading}
+use Rattle.cx_look_script.specs.declared.action.Heading.TheVariants as heading
 use Rattle.cx_look_script.specs.declared.action.LookAction.{LookAction}
 use Rattle.cx_look_script.specs.declared.action.LookAction.TheVariants as action
 use Rattle.cx_look_script.specs.declared.action.Stop.{Stop}
@@ -82,21 +83,21 @@ asked_by subject.Cover text = option_map (λ on. action.Cover on) (option_and_th
 asked_by _ text = option_map (λ l. action.Look l) (look_of text)
 
 -- the line that begins a block of FAULTS
-abbrev pub faults_line : List ℕ → Option (Line LookAction)
+abbrev pub faults_line : List ℕ → Option (Line LookAction Heading)
 faults_line text =
     option_map (λ name. line.Lines (heading.Faults name)) (option_and_then (padded_name 8) (after_first_blank text))
 
 -- the line that begins a block of ORDERS
-abbrev pub orders_line : List ℕ → Option (Line LookAction)
+abbrev pub orders_line : List ℕ → Option (Line LookAction Heading)
 orders_line text = option_map (λ asked. line.Lines (heading.Orders asked)) (orders_asked (after_first_blank text))
 
 -- and one of CHOICES
-abbrev pub choices_line : List ℕ → Option (Line LookAction)
+abbrev pub choices_line : List ℕ → Option (Line LookAction Heading)
 choices_line text =
     option_map (λ asked. line.Lines (heading.Choices asked)) (choices_asked (after_first_blank text))
 
 -- Such a line; RUN or a look; or a bad look, which is reported.
-abbrev pub line_of_subject : ℕ → List ℕ → Subject → Option (Line LookAction)
+abbrev pub line_of_subject : ℕ → List ℕ → Subject → Option (Line LookAction Heading)
 line_of_subject number text subject.Faults = faults_line text
 line_of_subject number text subject.Orders = orders_line text
 line_of_subject number text subject.Choices = choices_line text
@@ -104,25 +105,26 @@ line_of_subject number text s = Some (line.Action (unwrap_or (asked_by s text) (
 
 -- What a line asks that begins with one of the words that no script of `cicsedf` has. Lower case is taken as upper
 -- case. A line of more than 4,096 bytes is a bad line.
-unfoldable pub own_line : ℕ → List ℕ → Option (Line LookAction)
+unfoldable pub own_line : ℕ → List ℕ → Option (Line LookAction Heading)
 own_line number text =
     let read = map to_ascii_uppercase text in
     if nat_le (length text) 4096 then option_and_then (line_of_subject number read) (subject_of (word read)) else None
 
 -- a line of `cicsedf`'s scripts as one of these
-abbrev pub as_look_line : Line Action → Line LookAction
+abbrev pub as_look_line : Line Action NoHeading → Line LookAction Heading
 as_look_line line.Blank = line.Blank
 as_look_line (line.Image name stg_len) = line.Image name stg_len
 as_look_line (line.Source name wanted) = line.Source name wanted
-as_look_line (line.Lines h) = line.Lines h
+as_look_line (line.Lines heading) = elim heading [ ]
 as_look_line (line.Action a) = line.Action (action.Script a)
 
-abbrev pub line_by : Option (Line Action) → Option (Line LookAction) → Option (Line LookAction)
+abbrev pub line_by : Option (Line Action NoHeading) → Option (Line LookAction Heading)
+    → Option (Line LookAction Heading)
 line_by (Some l) own = Some (as_look_line l)
 line_by None own = own
 
 -- A line asks what it asks in a script of `cicsedf`; where it is a bad line there, it may be RUN, FAULTS or a look.
-unfoldable pub look_line_of : ℕ → List ℕ → Option (Line LookAction)
+unfoldable pub look_line_of : ℕ → List ℕ → Option (Line LookAction Heading)
 look_line_of number text = line_by (line_of text) (own_line number text)
 
 -- the lines of a block with one more: one of FAULTS may have any, of which the first 10,001 are kept
@@ -140,12 +142,13 @@ block_asks first (heading.Orders asked) lines =
 block_asks first (heading.Choices asked) lines =
     if nat_le 1 asked.keys && nat_le 1 asked.most then Some (action.Choices (choices_block asked lines)) else None
 
-abbrev pub is_bad_look : LookAction → Bool
-is_bad_look (action.BadLook number s) = true
-is_bad_look _ = false
+-- a bad look is a fault, with which a script goes on
+abbrev pub is_deferred_fault : LookAction → Bool
+is_deferred_fault (action.BadLook number s) = true
+is_deferred_fault _ = false
 
 -- the language of `cicslook`
-abbrev pub look_language : Language LookAction
+abbrev pub look_language : Language LookAction Heading
 look_language = record {
   line_of = look_line_of;
   of_block = λ a. action.Script a;
@@ -153,5 +156,5 @@ look_language = record {
   with_line = block_with;
   of_lines = block_asks;
   actions_of = look_actions_of;
-  is_bad_look = is_bad_look;
+  is_deferred_fault = is_deferred_fault;
 }

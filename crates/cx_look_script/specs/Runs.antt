@@ -14,6 +14,7 @@ use Rattle.cx_edf.specs.declared.answers.Answer.TheVariants as answer
 use Rattle.cx_edf.specs.declared.answers.EdfEvent.{EdfEvent}
 use Rattle.cx_edf.specs.declared.answers.EdfEvent.TheVariants as edf_event
 use Rattle.cx_edf.specs.State.{EdfState, holds, stopped_at}
+use Rattle.cx_edf.specs.Steps.{DisplayMaker}
 use Rattle.cx_look_tables.specs.Words.{look_line, marked}
 use Rattle.cx_look_symbols.specs.Sources.{Sources}
 use Rattle.cx_look_ahead.specs.Arrivals.{ComesTo, has_statement}
@@ -50,10 +51,11 @@ turn_of name = edf_event.Plain (event.Turn name)
 abbrev pub still_running : List ℕ → List ℕ
 still_running name = marked (look_line (codes "RUN" ∷ shown_name name ∷ codes "STILL" ∷ codes "RUNNING" ∷ []))
 
--- an event at a region that is looked at: its answer, the region after it, the last abends that are kept, and what is
--- counted of the instructions that it runs
-pub record AppliesAtLooks (old : LookState) (e : EdfEvent) (given : Answer) (new : LookState) : Type 0 where
-  pub noted : AppliesWithAbends old.edf old.abends e given new.edf new.abends
+-- an event at a region that is looked at, where displays are made so: its answer, the region after it, the last abends
+-- that are kept, and what is counted of the instructions that it runs
+pub record AppliesAtLooks (make : DisplayMaker) (old : LookState) (e : EdfEvent) (given : Answer) (new : LookState)
+    : Type 0 where
+  pub noted : AppliesWithAbends make old.edf old.abends e given new.edf new.abends
   pub sources : new.sources ≡ old.sources
   pub watched : new.watched ≡ old.watched
   pub covered :

@@ -3,7 +3,7 @@ use Rattle.std.specs.Prelude.{ℕ, Bool, ◌&&◌, not, is_some, if◌then◌els
 use Rattle.std.specs.Option.{option_map_or}
 use Rattle.cx_region.specs.State.{RegionState}
 use Rattle.cx_region.specs.Tables.{program_of}
-use Rattle.cx_look_levels.specs.FieldTexts.{level_program}
+use Rattle.cx_look_fields.specs.FieldTexts.{level_program}
 use Rattle.cx_look_symbols.specs.Sources.{source_lines, with_source_lines}
 use Rattle.cx_look_script.specs.State.{LookState}
 

@@ -21,7 +21,7 @@ use Rattle.cx_look_tables.specs.Words.{joined_line}
 use Rattle.cx_look_symbols.specs.Lines.{line_in}
 use Rattle.cx_look_symbols.specs.Places.{spot_before}
 use Rattle.cx_look_symbols.specs.Sources.{Sources}
-use Rattle.cx_look_levels.specs.Tasks.{called_name}
+use Rattle.cx_look_fields.specs.Tasks.{called_name}
 
 -- what the turn of a task performs: the command that is due, or instructions of the program alone
 abbrev pub work_word : Storage → TaskState → List ℕ

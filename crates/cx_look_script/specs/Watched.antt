@@ -9,8 +9,8 @@ use Rattle.cx_script_actions.specs.declared.actions.Action.{Action}
 use Rattle.cx_script_actions.specs.declared.actions.Action.TheVariants as edf_action
 use Rattle.cx_look_tables.specs.Words.{Lines, look_line, marked, written_name}
 use Rattle.cx_look_ahead.specs.declared.rows.Row.{Row}
-use Rattle.cx_look_levels.specs.FieldTexts.{field_there, standing_at}
-use Rattle.cx_look_levels.specs.declared.fields.Field.{Field}
+use Rattle.cx_look_fields.specs.FieldTexts.{field_there, standing_at}
+use Rattle.cx_look_fields.specs.declared.fields.Field.{Field}
 use Rattle.cx_look_ahead.specs.Watching.{AreOfRanges, ActionEffect, work_of, begun_watch, kept_in, with_range}
 use Rattle.cx_look_ahead.specs.declared.watching.Cause.{Cause}
 use Rattle.cx_look_ahead.specs.declared.watching.Cause.TheVariants as cause

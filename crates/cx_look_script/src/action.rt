@@ -1,5 +1,5 @@
 //! What a line of a script with looks asks.
-ghost use Rattle.std.specs.Prelude.{◌≡◌, ◌≤◌, IfOk, IfSome, OnErr, is_some, length, map, true};
+ghost use Rattle.std.specs.Prelude.{◌≡◌, ◌≤◌, IfOk, IfSome, OnErr, is_some, length, map, option_and_then, true};
 ghost use Rattle.std.specs.Char.{to_ascii_uppercase};
 ghost use Rattle.std.specs.Option.{option_copied, option_map_or};
 ghost use Rattle.cx_script_actions.specs.Allowed.{IsAllowedAction, IsAllowedLine};
@@ -11,12 +11,13 @@ ghost use Rattle.cx_look_script.specs.Runs.{look_actions_of};
 use cx_base::List;
 use cx_ebcdic::{Name4, Name8};
 use cx_look::{
-    ChoicesBlock, Look, OrdersBlock, SourceLines, Subject, choices_asked, choices_block,
-    choices_with, look_of, orders_asked, orders_block, orders_with, subject_of,
+    ChoicesAsked, ChoicesBlock, Look, OrdersAsked, OrdersBlock, SourceLines, Subject,
+    choices_asked, choices_block, choices_with, look_of, orders_asked, orders_block, orders_with,
+    subject_of,
 };
 use cx_look_ahead::SourceLine;
 use cx_script_actions::{
-    Action, Heading, Line, ScriptAction, hex_address, line_of, name4, name8, number, split_word,
+    Action, Line, NoHeading, ScriptAction, hex_address, line_of, name4, name8, number, split_word,
 };
 use cx_script_blocks::with_text;
 use cx_source::Text;
@@ -81,6 +82,17 @@ pub enum LookAction {
     Choices(ChoicesBlock),
     /// The report of a bad look: the number of its line, and the word that it begins with.
     BadLook(usize, Subject),
+}
+
+/// What begins a block of lines that are handed over.
+#[derive(Clone, Copy)]
+pub enum Heading {
+    /// FAULTS, with a program's name.
+    Faults(Name8),
+    /// ORDERS, with what it says of its search.
+    Orders(OrdersAsked),
+    /// CHOICES, with what it says of its search.
+    Choices(ChoicesAsked),
 }
 
 /// The most bytes of a line.
@@ -237,7 +249,7 @@ fn asked_by(subject: Subject, text: &[u8]) -> Option<LookAction>
 }
 
 /// The line that begins a block of FAULTS.
-fn faults_line(text: &[u8]) -> Option<Line<LookAction>>
+fn faults_line(text: &[u8]) -> Option<Line<LookAction, Heading>>
     ensures value { result ≡ faults_line text.now }
     ensures allowed { IfSome result (IsAllowedLine IsAllowedLook) }
 {
@@ -247,7 +259,7 @@ fn faults_line(text: &[u8]) -> Option<Line<LookAction>>
 }
 
 /// The line that begins a block of ORDERS.
-fn orders_line(text: &[u8]) -> Option<Line<LookAction>>
+fn orders_line(text: &[u8]) -> Option<Line<LookAction, Heading>>
     ensures value { result ≡ orders_line text.now }
     ensures allowed { IfSome result (IsAllowedLine IsAllowedLook) }
 {
@@ -257,7 +269,7 @@ fn orders_line(text: &[u8]) -> Option<Line<LookAction>>
 }
 
 /// The line that begins a block of CHOICES.
-fn choices_line(text: &[u8]) -> Option<Line<LookAction>>
+fn choices_line(text: &[u8]) -> Option<Line<LookAction, Heading>>
     ensures value { result ≡ choices_line text.now }
     ensures allowed { IfSome result (IsAllowedLine IsAllowedLook) }
 {
@@ -267,7 +279,11 @@ fn choices_line(text: &[u8]) -> Option<Line<LookAction>>
 }
 
 /// What a line asks that begins with one of these words.
-fn line_of_subject(number: usize, text: &[u8], subject: Subject) -> Option<Line<LookAction>>
+fn line_of_subject(
+    number: usize,
+    text: &[u8],
+    subject: Subject,
+) -> Option<Line<LookAction, Heading>>
     ensures value { result ≡ line_of_subject number text.now subject }
     ensures allowed { IfSome result (IsAllowedLine IsAllowedLook) }
 {
@@ -297,7 +313,7 @@ fn put_upper(text: &[u8], out: &mut [u8])
 
 /// What a line asks that begins with one of the words that no script of `cicsedf` has. It takes no memory.
 #[tactic(auto, unfolding(crate::specs::Reading::own_line))]
-fn own_line(number: usize, text: &[u8]) -> Option<Line<LookAction>>
+fn own_line(number: usize, text: &[u8]) -> Option<Line<LookAction, Heading>>
     ensures value { result ≡ own_line number text.now }
     ensures allowed { IfSome result (IsAllowedLine IsAllowedLook) }
 {
@@ -313,7 +329,7 @@ fn own_line(number: usize, text: &[u8]) -> Option<Line<LookAction>>
 }
 
 /// A line of `cicsedf`'s scripts as one of these.
-fn scripted(line: Line<Action>) -> Line<LookAction>
+fn scripted(line: Line<Action, NoHeading>) -> Line<LookAction, Heading>
     requires { IsAllowedLine IsAllowedAction line }
     ensures value { result ≡ as_look_line line }
     ensures allowed { IsAllowedLine IsAllowedLook result }
@@ -322,7 +338,6 @@ fn scripted(line: Line<Action>) -> Line<LookAction>
         Line::Blank => Line::Blank,
         Line::Image(name, length) => Line::Image(name, length),
         Line::Source(name, wanted) => Line::Source(name, wanted),
-        Line::Lines(heading) => Line::Lines(heading),
         Line::Action(action) => Line::Action(LookAction::Script(action)),
     }
 }
@@ -334,7 +349,7 @@ fn look_line_of(
     alloc: Global,
     number: usize,
     text: &[u8],
-) -> Result<Option<Line<LookAction>>, AllocError>
+) -> Result<Option<Line<LookAction, Heading>>, AllocError>
     ensures value { IfOk result (λ line. line ≡ look_line_of number text.now) }
     ensures memory { OnErr result (is_some (look_line_of number text.now) ≡ true) }
     ensures allowed { IfOk result (λ line. IfSome line (IsAllowedLine IsAllowedLook)) }
@@ -346,6 +361,8 @@ fn look_line_of(
 }
 
 impl ScriptAction for LookAction {
+    type Heading = Heading;
+
     ghost language = { look_language };
 
     ghost allowed = { IsAllowedLook };
@@ -360,10 +377,18 @@ impl ScriptAction for LookAction {
 
     fn with_line(
         alloc: Global,
-        heading: Heading,
+        heading: Option<Heading>,
         lines: List<Text>,
         text: &[u8],
-    ) -> Result<Option<List<Text>>, AllocError> {
+    ) -> Result<Option<List<Text>>, AllocError>
+        ensures value { IfOk result (λ more. more
+            ≡ option_and_then (λ it. look_language.with_line it lines text.now) heading) }
+        ensures memory { OnErr result (is_some
+            (option_and_then (λ it. look_language.with_line it lines text.now) heading) ≡ true) }
+    {
+        let Some(heading) = heading else {
+            return Ok(None);
+        };
         match heading {
             Heading::Faults(_) => Ok(Some(with_text(alloc, lines, text)?)),
             Heading::Orders(_) => orders_with(alloc, lines, text),
@@ -374,9 +399,16 @@ impl ScriptAction for LookAction {
     fn of_lines(
         alloc: Global,
         first: usize,
-        heading: Heading,
+        heading: Option<Heading>,
         lines: List<Text>,
-    ) -> Result<Option<LookAction>, AllocError> {
+    ) -> Result<Option<LookAction>, AllocError>
+        ensures value { IfOk result (λ action. action
+            ≡ option_and_then (λ it. look_language.of_lines first it lines) heading) }
+        ensures allowed { IfOk result (λ action. IfSome action IsAllowedLook) }
+    {
+        let Some(heading) = heading else {
+            return Ok(None);
+        };
         match heading {
             Heading::Faults(name) => {
                 let look = Look::Faults(SourceLines { first, name, lines });
@@ -412,7 +444,7 @@ impl ScriptAction for LookAction {
         }
     }
 
-    fn is_bad_look(&self) -> bool {
+    fn is_deferred_fault(&self) -> bool {
         matches!(self, LookAction::BadLook(_, _))
     }
 
@@ -420,7 +452,7 @@ impl ScriptAction for LookAction {
         alloc: Global,
         number: usize,
         text: &[u8],
-    ) -> Result<Option<Line<LookAction>>, AllocError> {
+    ) -> Result<Option<Line<LookAction, Heading>>, AllocError> {
         look_line_of(alloc, number, text)
     }
 }

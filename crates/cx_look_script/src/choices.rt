@@ -8,6 +8,7 @@ ghost use Rattle.cx_orders.specs.Moves.{IsFew};
 use crate::orders::{Sights, names_with_edf, sights_of};
 use crate::performer::LookedRegion;
 use cx_choices::Choices;
+use cx_edf::MakesDisplays;
 use cx_look::ChoicesBlock;
 use cx_look_choices::choices_text;
 use cx_region::Region;
@@ -28,9 +29,9 @@ fn number_of<S: Store + Drop>(block: &ChoicesBlock, region: &Region<S>) -> Optio
 }
 
 /// What is written for a block of CHOICES.
-pub(crate) fn choices_written<S: Store + Drop>(
+pub(crate) fn choices_written<S: Store + Drop, M: MakesDisplays>(
     alloc: Global,
-    looking: &LookedRegion<S>,
+    looking: &LookedRegion<S, M>,
     block: ChoicesBlock,
 ) -> Result<Vec<u8>, AllocError>
     requires keys { 1 ≤ block.asked.keys }

@@ -4,9 +4,9 @@ ghost use Rattle.cx_look_cover.specs.Tallies.{programs_end};
 ghost use Rattle.cx_look_script.specs.Covered.{IsTalliedBy, cover_lines, machine_run};
 
 use crate::turns::is_held;
-use cx_edf::{Debugged, EdfEvent};
+use cx_edf::{Debugged, EdfEvent, MakesDisplays};
 use cx_look_cover::{Tallies, programs_end};
-use cx_look_tables::Report;
+use cx_look_lines::Report;
 use cx_look_turn::{TurnMachine, machine_ahead};
 use cx_region::Event;
 use cx_storage::Store;
@@ -27,9 +27,9 @@ pub(crate) fn cover_line(alloc: Global, on: bool) -> Result<Report, AllocError>
 }
 
 /// The machine whose instructions an event runs, over a store of its own; None where it runs none.
-fn machine_run<S: Store + Drop>(
+fn machine_run<S: Store + Drop, M: MakesDisplays>(
     alloc: Global,
-    state: &Debugged<S>,
+    state: &Debugged<S, M>,
     event: &EdfEvent,
 ) -> Result<Option<TurnMachine<S>>, AllocError>
     ensures { IfOk result (λ machine. machine ≡ machine_run state.now event.now) }
@@ -44,9 +44,9 @@ fn machine_run<S: Store + Drop>(
 }
 
 /// Counts the instructions that an event is going to run, of those that are in programs.
-pub(crate) fn tally<S: Store + Drop>(
+pub(crate) fn tally<S: Store + Drop, M: MakesDisplays>(
     alloc: Global,
-    state: &Debugged<S>,
+    state: &Debugged<S, M>,
     event: &EdfEvent,
     tallies: &mut Tallies,
 ) -> Result<(), AllocError>

@@ -7,7 +7,7 @@ ghost use Rattle.cx_look_script.specs.Faults.{mark_line, fault_lines, fault_word
 use cx_base::shown_name;
 use cx_look::SourceLines;
 use cx_look_faults::{Findings, Mark, Note, Spot, findings_of};
-use cx_look_tables::{Report, decimal};
+use cx_look_lines::{Report, decimal};
 use cx_script_blocks::printable_byte;
 use cx_source::Text;
 use std::alloc::{AllocError, Global};

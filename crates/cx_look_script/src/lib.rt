@@ -15,5 +15,5 @@ mod telling;
 mod turns;
 mod watched;
 
-pub use action::{LookAction, Stop, WatchLine};
+pub use action::{Heading, LookAction, Stop, WatchLine};
 pub use performer::{LookPerformer, LookedRegion, look_performer};

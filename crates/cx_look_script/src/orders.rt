@@ -15,10 +15,10 @@ use crate::performer::LookedRegion;
 use crate::telling::turn_told;
 use cx_base::List;
 use cx_ebcdic::Name4;
-use cx_edf::Debugged;
+use cx_edf::{Debugged, MakesDisplays};
 use cx_look::{OrdersBlock, Sight};
+use cx_look_lines::Report;
 use cx_look_orders::{Seen, orders_text};
-use cx_look_tables::Report;
 use cx_orders::{Keys, Orders};
 use cx_region::{Region, TurnReply};
 use cx_script_actions::screen_text;
@@ -73,9 +73,9 @@ fn screen_lines<S: Store + Drop>(
 
 /// One thing to be seen of a region, in place of the one that is looked at.
 #[tactic(auto, unfolding(crate::specs::Orders::IsSeen))]
-fn sight_lines<S: Store + Drop>(
+fn sight_lines<S: Store + Drop, M: MakesDisplays>(
     alloc: Global,
-    looking: &LookedRegion<S>,
+    looking: &LookedRegion<S, M>,
     region: &Region<S>,
     sight: &Sight,
 ) -> Result<Report, AllocError>
@@ -90,9 +90,9 @@ fn sight_lines<S: Store + Drop>(
 
 /// One after the other.
 #[tactic(auto, using(crate::proofs::OrdersLemmas::seen_all, crate::proofs::OrdersLemmas::seen_before_all, crate::proofs::OrdersLemmas::seen_one_more))]
-fn sights_lines<S: Store + Drop>(
+fn sights_lines<S: Store + Drop, M: MakesDisplays>(
     alloc: Global,
-    looking: &LookedRegion<S>,
+    looking: &LookedRegion<S, M>,
     region: &Region<S>,
     sights: &[Sight],
 ) -> Result<Report, AllocError>
@@ -111,12 +111,12 @@ fn sights_lines<S: Store + Drop>(
 
 /// What is to be seen of a region in place of the one that is looked at.
 #[derive(Drop)]
-pub(crate) struct Sights<'a, S: Store + Drop> {
-    pub looking: &'a LookedRegion<S>,
+pub(crate) struct Sights<'a, S: Store + Drop, M: MakesDisplays> {
+    pub looking: &'a LookedRegion<S, M>,
     pub sights: &'a [Sight],
 }
 
-impl<'a, S: Store + Drop> Seen<S> for Sights<'a, S> {
+impl<'a, S: Store + Drop, M: MakesDisplays> Seen<S> for Sights<'a, S, M> {
     ghost shows = { λ it region. AreSeen (λ l. AreLookLines l (at_region it.looking.now region)) region it.sights.now };
 
     ghost tells = { λ it. turn_told it.looking.now.sources };
@@ -144,9 +144,9 @@ impl<'a, S: Store + Drop> Seen<S> for Sights<'a, S> {
 }
 
 /// The terminals that have EDF on, in the order of their definition.
-pub(crate) fn names_with_edf<S: Store + Drop>(
+pub(crate) fn names_with_edf<S: Store + Drop, M: MakesDisplays>(
     alloc: Global,
-    state: &Debugged<S>,
+    state: &Debugged<S, M>,
 ) -> Result<Vec<Name4>, AllocError>
     ensures { IfOk result (λ names. names.items ≡ names_with_edf state.now) }
 {
@@ -188,9 +188,9 @@ pub(crate) fn sights_of<S: Store + Drop>(
 }
 
 /// What is written for a block of ORDERS.
-pub(crate) fn orders_written<S: Store + Drop>(
+pub(crate) fn orders_written<S: Store + Drop, M: MakesDisplays>(
     alloc: Global,
-    looking: &LookedRegion<S>,
+    looking: &LookedRegion<S, M>,
     block: OrdersBlock,
 ) -> Result<Vec<u8>, AllocError>
     requires most { 1 ≤ block.most }

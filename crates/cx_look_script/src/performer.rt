@@ -25,12 +25,12 @@ use crate::turns::{still_running, stop_line, turn_goes_on};
 use crate::watched::{cause_of, field_range, no_range, off};
 use cx_base::List;
 use cx_ebcdic::{Name4, Name8};
-use cx_edf::{Answer, Debugged, EdfEvent};
+use cx_edf::{Answer, Debugged, EdfEvent, MakesDisplays};
 use cx_look_abend::{LastAbends, apply_keeping_abends};
 use cx_look_ahead::{Cause, Done, Kept, Row, Watches, Work, change_lines, work_of};
 use cx_look_cover::Tallies;
+use cx_look_lines::Report;
 use cx_look_symbols::{Sources, statement_places};
-use cx_look_tables::Report;
 use cx_region::Event;
 use cx_script::edf_performer;
 use cx_script_actions::{Action, Performer, answer_text};
@@ -43,10 +43,10 @@ use std::marker::Model;
 
 /// A region under EDF that is looked at, with each terminal's last abend, what is kept of the sources that defined
 /// programs, the ranges of bytes that are watched, how often instructions were run since COVER ON, while it is on, and
-/// whether the last event was a turn that one more turn follows.
+/// whether the last event was a turn that one more turn follows. `M` makes its displays.
 #[derive(Drop)]
-pub struct LookedRegion<S: Store + Drop> {
-    pub(crate) state: Debugged<S>,
+pub struct LookedRegion<S: Store + Drop, M: MakesDisplays> {
+    pub(crate) state: Debugged<S, M>,
     pub(crate) abends: LastAbends,
     pub(crate) sources: Sources,
     pub(crate) watches: Watches,
@@ -54,7 +54,7 @@ pub struct LookedRegion<S: Store + Drop> {
     pub(crate) goes_on: bool,
 }
 
-impl<S: Store + Drop> Model for LookedRegion<S> {
+impl<S: Store + Drop, M: MakesDisplays> Model for LookedRegion<S, M> {
     ghost use Rattle.cx_look_script.specs.State.{LookState};
 
     ghost Value = { LookState };
@@ -70,9 +70,9 @@ impl<S: Store + Drop> Model for LookedRegion<S> {
         } };
 }
 
-impl<S: Store + Drop> LookedRegion<S> {
+impl<S: Store + Drop, M: MakesDisplays> LookedRegion<S, M> {
     /// A region under EDF without a terminal and without a program, to be looked at. It takes no memory.
-    pub fn new(alloc: Global, state: Debugged<S>) -> LookedRegion<S>
+    pub fn new(alloc: Global, state: Debugged<S, M>) -> LookedRegion<S, M>
         ensures { result
             ≡ record {
               edf = state;
@@ -112,7 +112,7 @@ impl<S: Store + Drop> LookedRegion<S> {
     /// counted, while COVER is on.
     pub(crate) fn apply(&mut self, event: &EdfEvent) -> Result<Answer, AllocError>
         requires { IsAllowedEdf event.now }
-        ensures { IfOk result (λ given. AppliesAtLooks self.old event.now given self.new) }
+        ensures { IfOk result (λ given. AppliesAtLooks M.make self.old event.now given self.new) }
     {
         self.cover(event)?;
         let answer = apply_keeping_abends(&mut self.state, &mut self.abends, event)?;
@@ -124,7 +124,7 @@ impl<S: Store + Drop> LookedRegion<S> {
     #[tactic(auto, unfolding(crate::specs::Looking::NotedPerforms))]
     fn do_event(&mut self, alloc: Global, event: &EdfEvent) -> Result<Vec<u8>, AllocError>
         requires { IsAllowedEdf event.now }
-        ensures { IfOk result (λ text. NotedPerforms self.old (edf_action.Event event.now) text.items self.new) }
+        ensures { IfOk result (λ text. NotedPerforms M.make self.old (edf_action.Event event.now) text.items self.new) }
     {
         let answer = self.apply(event)?;
         answer_text(alloc, event, answer)
@@ -132,7 +132,7 @@ impl<S: Store + Drop> LookedRegion<S> {
 
     /// Does a turn of a terminal.
     fn do_turn(&mut self, alloc: Global, name: Name4) -> Result<Vec<u8>, AllocError>
-        ensures { IfOk result (λ text. TakesNotedTurn self.old name text.items self.new) }
+        ensures { IfOk result (λ text. TakesNotedTurn M.make self.old name text.items self.new) }
     {
         self.do_event(alloc, &EdfEvent::Plain(Event::Turn(name)))
     }
@@ -146,7 +146,7 @@ impl<S: Store + Drop> LookedRegion<S> {
 
     /// Does a turn of RUN, or writes the line with which RUN ends in front of it.
     fn run_turn(&mut self, alloc: Global, name: Name4, stop: Stop) -> Result<Vec<u8>, AllocError>
-        ensures { IfOk result (λ text. RunsTurn self.old name stop text.items self.new) }
+        ensures { IfOk result (λ text. RunsTurn M.make self.old name stop text.items self.new) }
     {
         match stop_line(alloc, &self.sources, &self.state, name, stop)? {
             Some(line) => {
@@ -167,7 +167,7 @@ impl<S: Store + Drop> LookedRegion<S> {
         stop: Stop,
     ) -> Result<Vec<u8>, AllocError>
         ensures { IfOk result (λ text.
-            MatchBool self.old.goes_on (TakesOneMore self.old name n stop text.items self.new)
+            MatchBool self.old.goes_on (TakesOneMore M.make self.old name n stop text.items self.new)
             ((text.items ≡ []) × (self.new ≡ self.old))) }
     {
         if !self.goes_on {
@@ -184,7 +184,7 @@ impl<S: Store + Drop> LookedRegion<S> {
     #[tactic(auto, unfolding(crate::specs::Looking::NotedPerforms))]
     fn do_action(&mut self, alloc: Global, action: Action) -> Result<Vec<u8>, AllocError>
         requires { IsAllowedAction action }
-        ensures { IfOk result (λ text. NotedPerforms self.old action text.items self.new) }
+        ensures { IfOk result (λ text. NotedPerforms M.make self.old action text.items self.new) }
     {
         if let Action::Event(event) = &action {
             return self.do_event(alloc, event);
@@ -202,7 +202,7 @@ impl<S: Store + Drop> LookedRegion<S> {
         action: Action,
     ) -> Result<Vec<u8>, AllocError>
         requires { IsAllowedAction action }
-        ensures { IfOk result (λ text. SourcePerforms self.old name lines action text.items self.new) }
+        ensures { IfOk result (λ text. SourcePerforms M.make self.old name lines action text.items self.new) }
     {
         let was_there = has_program(self.state.region(), name);
         let places = statement_places(alloc, lines.as_slice())?;
@@ -301,7 +301,7 @@ impl<S: Store + Drop> LookedRegion<S> {
     #[tactic(auto, unfolding(crate::specs::Looking::Acts))]
     fn act(&mut self, alloc: Global, action: LookAction) -> Result<Vec<u8>, AllocError>
         requires { IsAllowedLook action }
-        ensures { IfOk result (λ text. Acts self.old action text.items self.new) }
+        ensures { IfOk result (λ text. Acts M.make self.old action text.items self.new) }
     {
         match action {
             LookAction::Script(action) => self.do_action(alloc, action),
@@ -322,7 +322,7 @@ impl<S: Store + Drop> LookedRegion<S> {
     fn act_unwatched(&mut self, alloc: Global, action: LookAction) -> Result<Vec<u8>, AllocError>
         requires allowed { IsAllowedLook action }
         requires unwatched { length self.old.watched ≡ 0 }
-        ensures { IfOk result (λ text. LookPerforms self.old action text.items self.new) }
+        ensures { IfOk result (λ text. LookPerforms M.make self.old action text.items self.new) }
     {
         let text = self.act(alloc, action)?;
         Ok(text)
@@ -333,7 +333,7 @@ impl<S: Store + Drop> LookedRegion<S> {
     #[tactic(auto, using(crate::proofs::WatchLemmas::is_watched))]
     fn act_watched(&mut self, alloc: Global, action: LookAction) -> Result<Vec<u8>, AllocError>
         requires { IsAllowedLook action }
-        ensures { IfOk result (λ text. LookPerforms self.old action text.items self.new) }
+        ensures { IfOk result (λ text. LookPerforms M.make self.old action text.items self.new) }
     {
         let cause = cause_of(&action);
         let kept = self
@@ -346,22 +346,22 @@ impl<S: Store + Drop> LookedRegion<S> {
     }
 }
 
-/// What a script of `cicslook` is performed on.
-pub type LookPerformer = LookedRegion<KeepingStore<PagedStore>>;
+/// What a script of `cicslook` is performed on. `M` makes its displays.
+pub type LookPerformer<M> = LookedRegion<KeepingStore<PagedStore>, M>;
 
 /// The performer of a script of `cicslook` at its beginning: a fresh region, with EDF Off at each terminal.
 ///
 /// An error comes only where an allocation failed.
-pub fn look_performer(alloc: Global) -> Result<LookPerformer, AllocError>
+pub fn look_performer<M: MakesDisplays>(alloc: Global) -> Result<LookPerformer<M>, AllocError>
     ensures { IfOk result (λ performer. performer ≡ fresh_look_state) }
 {
     Ok(LookedRegion::new(alloc, edf_performer(alloc)?))
 }
 
-impl<S: Store + Drop> Performer for LookedRegion<S> {
+impl<S: Store + Drop, M: MakesDisplays> Performer for LookedRegion<S, M> {
     type Action = LookAction;
 
-    ghost performs = { LookPerforms };
+    ghost performs = { LookPerforms M.make };
 
     ghost refused = { λ _ _ _. Unit {0} };
 

@@ -1,20 +1,18 @@
 //! What ORDERS tells of a turn.
-ghost use Rattle.std.specs.Prelude.{◌≡◌, ◌∷◌, ◌++◌, [], IfOk, OnOk, option_and_then};
+ghost use Rattle.std.specs.Prelude.{◌≡◌, ◌∷◌, ◌++◌, [], IfOk, OnOk};
 ghost use Rattle.std.specs.Fmt.{decimal};
-ghost use Rattle.std.specs.Option.{option_copied, option_map_or};
+ghost use Rattle.std.specs.Option.{option_map_or};
 ghost use Rattle.cx_base.specs.Texts.{shown_name};
 ghost use Rattle.cx_look_lines.specs.Words.{with_blanks};
 ghost use Rattle.cx_look_script.specs.Telling.{due_line, end_words, is_told, task_told, turn_told, work_word};
-ghost use Rattle.cx_look_symbols.specs.Lines.{line_at, line_in};
-ghost use Rattle.cx_region.specs.Tables.{task_of};
 
 use cx_base::{List, shown, shown_name};
 use cx_ebcdic::{Name4, Name8};
 use cx_load::Loaded;
-use cx_look_lines::{push_word, push_words};
-use cx_look_symbols::{SourcePlaces, Sources, Spot, StatementPlace, has_offset, spot_before};
-use cx_look_tables::decimal;
-use cx_region::{Region, Shared, Task, TurnReply, read_call};
+use cx_look_fields::task_of;
+use cx_look_lines::{decimal, push_words};
+use cx_look_symbols::{Sources, line_of, spot_before};
+use cx_region::{Region, Task, TurnReply, read_call};
 use cx_storage::{Store, address_in};
 use indexmap::IndexMap;
 use std::alloc::{AllocError, Global};
@@ -32,23 +30,6 @@ fn work_word<S: Store>(store: &S, task: &Task) -> &'static [u8]
     }
 }
 
-/// The line of the first statement whose bytes hold an offset.
-fn line_at(places: &[StatementPlace], offset: u32) -> Option<usize>
-    ensures { result ≡ line_at places.now offset }
-{
-    let place = places.iter().find(|place| has_offset(place, offset))?;
-    Some(place.line)
-}
-
-/// The line of the statement that has a byte.
-fn line_of(sources: &SourcePlaces, spot: Option<Spot>) -> Option<usize>
-    ensures { result ≡ option_and_then (λ it. line_in sources.now.entries it.program it.offset) spot }
-{
-    let spot = spot?;
-    let places = sources.get(&spot.program)?;
-    line_at(places.as_slice(), spot.offset)
-}
-
 /// The line of a due command's EXEC.
 fn due_line(sources: &Sources, programs: &IndexMap<Name8, Loaded>, task: &Task) -> Option<usize>
     ensures { result ≡ due_line sources.now programs.now.entries task.now }
@@ -57,7 +38,7 @@ fn due_line(sources: &Sources, programs: &IndexMap<Name8, Loaded>, task: &Task) 
         return None;
     }
     let back = address_in(task.cpu.regs[14]);
-    line_of(sources.places(), spot_before(programs, back))
+    line_of(sources.places(), &spot_before(programs, back))
 }
 
 /// Adds how a turn ends.
@@ -121,14 +102,6 @@ fn is_told(reply: &TurnReply) -> bool
         reply,
         TurnReply::AtCommand | TurnReply::Idle | TurnReply::NoSuchTerminal | TurnReply::Waiting
     )
-}
-
-/// The task of a terminal.
-fn task_of<S: Store + Drop>(region: &Region<S>, name: Name4) -> Option<&Task>
-    ensures { option_copied result ≡ task_of region.now name }
-{
-    let terminal = region.terminals().get(&name)?;
-    terminal.task()
 }
 
 /// What is told of a turn of a terminal, by the region before it and the reply: the command that it performs, or

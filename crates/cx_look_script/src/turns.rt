@@ -2,17 +2,17 @@
 ghost use Rattle.std.specs.Prelude.{◌≡◌, [], IfOk, MatchBool, Some};
 ghost use Rattle.std.specs.Option.{option_map};
 ghost use Rattle.cx_edf.specs.State.{holds};
-ghost use Rattle.cx_look_abend.specs.Abends.{abend_code_in};
 ghost use Rattle.cx_look_ahead.specs.Arrivals.{has_statement};
 ghost use Rattle.cx_look_script.specs.Runs.{IsAbendAhead, IsLineAhead, IsNextAbend, StopsBeforeAbend, StopsBeforeLine, StopsWith, turn_goes_on, is_midway, no_line, still_running, stopped_before, stopped_before_line};
 
 use crate::action::Stop;
 use cx_base::{decimal, shown, shown_name};
 use cx_ebcdic::Name4;
-use cx_edf::{Answer, Debugged, EdfEvent};
+use cx_edf::{Answer, Debugged, EdfEvent, MakesDisplays};
+use cx_look_abend::abend_code_in;
 use cx_look_ahead::{SourceLine, comes_to, has_statement};
+use cx_look_lines::Report;
 use cx_look_symbols::Sources;
-use cx_look_tables::Report;
 use cx_region::{Event, Region, Reply, TurnReply};
 use cx_region_snapshot::turn_apart;
 use cx_storage::Store;
@@ -36,8 +36,8 @@ fn is_midway(answer: &Answer) -> bool
 }
 
 /// Whether an event was a turn that one more turn follows.
-pub(crate) fn turn_goes_on<S: Store + Drop>(
-    region: &Debugged<S>,
+pub(crate) fn turn_goes_on<S: Store + Drop, M: MakesDisplays>(
+    region: &Debugged<S, M>,
     event: &EdfEvent,
     answer: &Answer,
 ) -> bool
@@ -61,16 +61,6 @@ pub(crate) fn still_running(alloc: Global, name: Name4) -> Result<Vec<u8>, Alloc
     report.marked()
 }
 
-/// The code of the abend as which a turn is answered, where it is.
-fn abend_code_in(reply: TurnReply) -> Option<Name4>
-    ensures { result ≡ abend_code_in reply }
-{
-    match reply {
-        TurnReply::TookExit(code) | TurnReply::Abended(code) => Some(code),
-        _ => None,
-    }
-}
-
 /// The code of the abend as which a region's next turn of a terminal would be answered, where it would be. The turn is
 /// done in a region like this one.
 fn next_abend<S: Store + Drop>(
@@ -81,11 +71,14 @@ fn next_abend<S: Store + Drop>(
     ensures { IfOk result (λ code. IsNextAbend region.now name code) }
 {
     let (reply, _after) = turn_apart(alloc, region, name)?;
-    Ok(abend_code_in(reply))
+    Ok(abend_code_in(&reply))
 }
 
 /// Whether EDF holds the turns of a terminal.
-pub(crate) fn is_held<S: Store + Drop>(state: &Debugged<S>, name: Name4) -> bool
+pub(crate) fn is_held<S: Store + Drop, M: MakesDisplays>(
+    state: &Debugged<S, M>,
+    name: Name4,
+) -> bool
     ensures { result ≡ holds state.now name }
 {
     state.display(name).is_some() && state.task(name).is_some()
@@ -93,9 +86,9 @@ pub(crate) fn is_held<S: Store + Drop>(state: &Debugged<S>, name: Name4) -> bool
 
 /// The same under EDF, which may hold the turn.
 #[tactic(auto, unfolding(crate::specs::Runs::IsAbendAhead))]
-fn abend_ahead<S: Store + Drop>(
+fn abend_ahead<S: Store + Drop, M: MakesDisplays>(
     alloc: Global,
-    state: &Debugged<S>,
+    state: &Debugged<S, M>,
     name: Name4,
 ) -> Result<Option<Name4>, AllocError>
     ensures { IfOk result (λ code. IsAbendAhead state.now name code) }
@@ -118,9 +111,9 @@ fn stopped_before(alloc: Global, name: Name4, code: Name4) -> Result<Vec<u8>, Al
 }
 
 /// The line with which a RUN ends in front of an abend; None where the terminal's next turn is none.
-fn stop_before_abend<S: Store + Drop>(
+fn stop_before_abend<S: Store + Drop, M: MakesDisplays>(
     alloc: Global,
-    state: &Debugged<S>,
+    state: &Debugged<S, M>,
     name: Name4,
 ) -> Result<Option<Vec<u8>>, AllocError>
     ensures { IfOk result (λ line. StopsBeforeAbend state.now name (option_map (λ text. text.items) line)) }
@@ -133,10 +126,10 @@ fn stop_before_abend<S: Store + Drop>(
 
 /// Whether the terminal's next turn would do something of a line of a source, under EDF, which may hold the turn.
 #[tactic(auto, unfolding(crate::specs::Runs::IsLineAhead))]
-fn is_line_ahead<S: Store + Drop>(
+fn is_line_ahead<S: Store + Drop, M: MakesDisplays>(
     alloc: Global,
     sources: &Sources,
-    state: &Debugged<S>,
+    state: &Debugged<S, M>,
     name: Name4,
     to: SourceLine,
 ) -> Result<bool, AllocError>
@@ -176,10 +169,10 @@ fn no_line(alloc: Global, name: Name4, to: SourceLine) -> Result<Vec<u8>, AllocE
 
 /// The line with which a RUN ends in front of a line of a source; None where the terminal's next turn does nothing of
 /// it.
-fn stop_before_line<S: Store + Drop>(
+fn stop_before_line<S: Store + Drop, M: MakesDisplays>(
     alloc: Global,
     sources: &Sources,
-    state: &Debugged<S>,
+    state: &Debugged<S, M>,
     name: Name4,
     to: SourceLine,
 ) -> Result<Option<Vec<u8>>, AllocError>
@@ -194,10 +187,10 @@ fn stop_before_line<S: Store + Drop>(
 }
 
 /// The same, or the line that says that no statement is there.
-fn stop_at_line<S: Store + Drop>(
+fn stop_at_line<S: Store + Drop, M: MakesDisplays>(
     alloc: Global,
     sources: &Sources,
-    state: &Debugged<S>,
+    state: &Debugged<S, M>,
     name: Name4,
     to: SourceLine,
 ) -> Result<Option<Vec<u8>>, AllocError>
@@ -214,10 +207,10 @@ fn stop_at_line<S: Store + Drop>(
 
 /// The line with which a RUN ends in front of the terminal's next turn; None where it does the turn.
 #[tactic(auto, unfolding(crate::specs::Runs::StopsWith))]
-pub(crate) fn stop_line<S: Store + Drop>(
+pub(crate) fn stop_line<S: Store + Drop, M: MakesDisplays>(
     alloc: Global,
     sources: &Sources,
-    state: &Debugged<S>,
+    state: &Debugged<S, M>,
     name: Name4,
     stop: Stop,
 ) -> Result<Option<Vec<u8>>, AllocError>

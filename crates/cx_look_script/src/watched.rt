@@ -8,10 +8,10 @@ use crate::looks::level_lines;
 use crate::performer::LookedRegion;
 use cx_base::shown_name;
 use cx_ebcdic::{Name4, Name8};
-use cx_edf::EdfEvent;
+use cx_edf::{EdfEvent, MakesDisplays};
 use cx_look_ahead::{Cause, Row};
-use cx_look_levels::{Field, field_at, standing_at};
-use cx_look_tables::{Report, written_name};
+use cx_look_fields::{Field, field_at, standing_at};
+use cx_look_lines::{Report, written_name};
 use cx_region::Event;
 use cx_script_actions::Action;
 use cx_storage::Store;
@@ -31,9 +31,9 @@ fn range_of(field: Field) -> Row
 }
 
 /// The first bytes of a field of the current level of a terminal's task; None where there is no such field.
-pub(crate) fn field_range<S: Store + Drop>(
+pub(crate) fn field_range<S: Store + Drop, M: MakesDisplays>(
     alloc: Global,
-    looking: &LookedRegion<S>,
+    looking: &LookedRegion<S, M>,
     term: Name4,
     name: Name8,
 ) -> Result<Option<Row>, AllocError>

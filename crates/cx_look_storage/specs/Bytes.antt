@@ -5,8 +5,7 @@ use Rattle.cx_storage.specs.Address.{address_after}
 use Rattle.cx_storage.specs.Storage.{Storage, areas_of}
 use Rattle.cx_base.specs.Digits.{digits}
 use Rattle.cx_base.specs.Texts.{in_columns, join}
-use Rattle.cx_edf_display.specs.Displays.{quarters}
-use Rattle.cx_edf_display.specs.Texts.{character_group, hex_group}
+use Rattle.cx_region_bytes.specs.Rows.{character_group, hex_group, quarters}
 use Rattle.cx_region.specs.State.{RegionState}
 use Rattle.cx_look_lines.specs.Words.{look_line, Lines}
 use Rattle.cx_look_storage.specs.Uses.{is_met, met_line}

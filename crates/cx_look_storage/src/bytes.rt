@@ -9,9 +9,9 @@ ghost use Rattle.cx_look_storage.specs.Uses.{is_met, met_line};
 use crate::areas::all_areas;
 use crate::uses::{is_met, met_line};
 use cx_base::{hexadecimal, in_columns};
-use cx_edf_display::{character_group, hex_group};
 use cx_look_lines::Report;
 use cx_region::Region;
+use cx_region_bytes::{character_group, hex_group};
 use cx_storage::{Area, Store, address_after};
 use std::alloc::{AllocError, Global};
 

@@ -1,12 +1,11 @@
 -- The table of values and the lines give the symbols that the statements define.
 use Rattle.std.proofs.Common.{◌≡◌, ℕ, Bool, true, false, cond, Option, Some, None, Result, Ok, Err, List, [], ◌∷◌, ◌++◌, map, refl, sym, subst, ◌∙◌, ap, append_assoc}
-use Rattle.std.specs.Prelude.{pos, ◌||◌, ◌&&◌, ◌==◌, not, length, reverse, codes, if◌then◌else◌, is_none, is_some, option_map, unwrap_or}
+use Rattle.std.specs.Prelude.{pos, ◌||◌, ◌&&◌, ◌==◌, not, length, reverse, codes, if◌then◌else◌, is_some, option_map, unwrap_or}
 use Rattle.std.specs.List.{AllByRecursion, IsDistinct, cons_option}
 use Rattle.std.specs.Map.{keys_of, lookup}
 use Rattle.std.specs.Option.{option_map_or, option_or}
 use Rattle.std.specs.Result.{result_err, result_ok}
 use Rattle.std.specs.Str.{bytes_eq}
-use Rattle.std.proofs.lemmas.Option.{same_Some}
 use Rattle.std.proofs.lemmas.Map.Keys.{IsDistinct-head, IsDistinct-tail}
 use Rattle.indexmap.specs.IndexMap.{insert_entry}
 use Rattle.cx_ebcdic.specs.Facts.Names.{is_name-laws, is_name-decides}
@@ -27,15 +26,14 @@ use Rattle.cx_asm_pass1.specs.Facts.StatementExtents.{lower_none}
 use Rattle.cx_asm_pass1.specs.Given.{aid_rows, definitions, is_any_known, is_in_range, value_in_range, location_counter, symbol_entry, register_rows, resumes, row_symbols, value_given}
 use Rattle.cx_asm_pass1.specs.PassState.{PassState, next_state, after_line, named_control, definitions_in, duplicate_in, statement_fault_in, first_fault_after, given_in, state_after, extent_in, line_fault, literal_fault, name_fault, name_in, operation_fault, own_fault, parts_in, role_in, section_fault}
 use Rattle.cx_asm_pass1.specs.Laws.Definitions.{definitions_at, definitions_after}
-use Rattle.cx_asm_pass1.specs.Locations.{IsPlaced, last_pool_extent, final_state}
-use Rattle.cx_asm_pass1.specs.declared.place.ControlSection.{ControlSection}
+use Rattle.cx_asm_pass1.specs.Locations.{IsPlaced, final_state}
 use Rattle.cx_asm_pass1.specs.declared.place.LineFault.{LineFault}
 use Rattle.cx_asm_pass1.specs.declared.places.Places.{Places}
 use Rattle.cx_asm_pass1.specs.declared.roles.Role.{Role}
 use Rattle.cx_asm_pass1.specs.declared.roles.Role.TheVariants.{Unknown, Instruction, Control, Dummy, Equate, Storage, Pool, Registers, Member, Nothing}
 use Rattle.cx_look_symbols.specs.Parts.Rows.{names_among, names_given, table_after, with_name, with_names, with_stmt}
-use Rattle.cx_look_symbols.specs.Laws.{AreLookedUp, SymbolsAreLookedUp}
-use Rattle.cx_look_symbols.specs.Symbols.{Rows, SourceSymbols, named_of, rows_after, rows_on, symbol_of}
+use Rattle.cx_look_symbols.specs.Laws.{SymbolsAreLookedUp}
+use Rattle.cx_look_symbols.specs.Symbols.{Rows, rows_after, rows_on, symbol_of}
 use Rattle.cx_look_symbols.specs.declared.rows.Symbol.{Symbol}
 
 -- ---- which names are there
@@ -414,20 +412,10 @@ rows_are find items e same =
     (found_by find (find_in (definitions_after items)) (λ name. same name ∙ first_value items name) (definitions_after items)
     (all_found (definitions_after items) (defined_once_after items e)))
 
-pub control_reported : (control : Option (List ℕ)) (length : ℕ) → option_map (λ (c : ControlSection). c.name) (option_map (λ name. record { name = name; length = length }) control) ≡ control
-control_reported None length = refl
-control_reported (Some name) length = refl
-
--- the names of a source without a fault
-pub named_is : (source : Source) (places : Places) (control : Option (List ℕ)) (rows : Rows) → (final_state source).fault ≡ None → IsPlaced (final_state source) places
-    → control ≡ option_map (λ (c : ControlSection). c.name) places.control → rows ≡ table_after (find_in places.symbols) (reverse source.items)
-    → Some (record { control = control; rows = rows }) ≡ named_of source
-named_is source places control rows e placed c r =
-    let state = final_state source in
-    let same_control : control ≡ state.control =
-    c ∙ ap (λ (o : Option ControlSection). option_map (λ (c : ControlSection). c.name) o) placed.control ∙ control_reported state.control (last_pool_extent state).end in
-    let same_rows : rows ≡ rows_after (reverse source.items) = r ∙ rows_are (find_in places.symbols) (reverse source.items) e placed.symbols in
-    rw (e, same_control, same_rows) refl
+-- the rows of a source without a fault
+pub rows_placed : (source : Source) (places : Places) → (final_state source).fault ≡ None → IsPlaced (final_state source) places
+    → table_after (find_in places.symbols) (reverse source.items) ≡ rows_after (reverse source.items)
+rows_placed source places e placed = rows_are (find_in places.symbols) (reverse source.items) e placed.symbols
 
 -- ---- the symbols are those that are looked up
 joined : {X : Type 0} (P : X → Type 0) (one other : List X) → AllByRecursion P one → AllByRecursion P other → AllByRecursion P (one ++ other)
@@ -457,14 +445,26 @@ all_looked_up items e =
     (found_by (state_after items).symbols (find_in (definitions_after items)) (λ name. first_value items name) (definitions_after items)
     (all_found (definitions_after items) (defined_once_after items e)))
 
-pub symbols_are_looked_up : SymbolsAreLookedUp
-symbols_are_looked_up source named e = go (final_state source).fault refl e
+-- what is looked up among rows with these values, of which each name with a value is one
+value_looked_up : (find : List ℕ → Option Value) (name : List ℕ) (rows : Rows) → AllByRecursion (λ row. find row.0 ≡ Some row.1.value) rows
+    → (value : Option Value) → find name ≡ value → has name rows ≡ is_some value → option_map (λ (s : Symbol). s.value) (lookup (is_same name) rows) ≡ value
+value_looked_up find name [] all None is has_it = refl
+value_looked_up find name [] all (Some value) is has_it = absurd (cc)
+value_looked_up find name (row ∷ rows) all value is has_it = go (is_same name row.0) refl (λ there. value_looked_up find name rows all.1 value is there) has_it
   where
-    all : SourceSymbols
-    all = record { control = (final_state source).control; rows = rows_after (reverse source.items) }
+    go : (b : Bool) → is_same name row.0 ≡ b
+        → (has name rows ≡ is_some value → option_map (λ (s : Symbol). s.value) (lookup (is_same name) rows) ≡ value)
+        → is_some (cond b (Some row.1) (lookup (is_same name) rows)) ≡ is_some value
+        → option_map (λ (s : Symbol). s.value) (cond b (Some row.1) (lookup (is_same name) rows)) ≡ value
+    go true same rest there = sym all.0 ∙ ap find (sym ((is_name-decides name row.0).0 same)) ∙ is
+    go false same rest there = rest there
 
-    go : (fault : Option LineFault) → (final_state source).fault ≡ fault → (if is_none fault then Some all else None) ≡ Some named → AreLookedUp source named
-    go (Some fault) none is = absurd (cc)
-    go None none is =
-        subst (AreLookedUp source) (same_Some _ _ is)
-        (record { values = all_looked_up (reverse source.items) none; names = λ name. has_known name (reverse source.items) })
+pub symbols_are_looked_up : SymbolsAreLookedUp
+symbols_are_looked_up source none =
+    let find = (final_state source).symbols in
+    let values = all_looked_up (reverse source.items) none in
+    record {
+      values = values;
+      found =
+          λ name. value_looked_up find name (rows_after (reverse source.items)) values (find name) refl (has_known name (reverse source.items));
+    }

@@ -1,25 +1,14 @@
--- The control section's name, as the first pass keeps it; the bytes of a statement, as they are listed.
+-- The bytes of a statement, as they are listed.
 use Rattle.std.proofs.Common.{◌≡◌, ◌≤◌, ℕ, ◌+◌, ◌-◌, Bool, true, false, Option, Some, None, List, [], ◌∷◌, ◌++◌, length, take, drop, refl, sym, ap, ◌∙◌, arith, append_assoc, append-nil}
-use Rattle.std.specs.Prelude.{option_map, min, nat_lt, ◌&&◌, if◌then◌else◌}
+use Rattle.std.specs.Prelude.{min, nat_lt, ◌&&◌, if◌then◌else◌}
 use Rattle.std.specs.List.{cons_option}
 use Rattle.std.proofs.lemmas.List.{drop_min, length-drop, take_min}
 use Rattle.std.proofs.lemmas.Bool.Decides.{nat_tests}
-use Rattle.cx_source.specs.declared.source.Source.{Source}
 use Rattle.cx_asm_expressions.specs.Digits.{bound}
 use Rattle.cx_asm_pools.specs.Pools.{cap}
 use Rattle.cx_asm_pass1.specs.PassState.{is_control, role_in}
-use Rattle.cx_asm_pass1.specs.Locations.{IsPlaced, last_pool_extent, final_state}
-use Rattle.cx_asm_pass1.specs.declared.place.ControlSection.{ControlSection}
-use Rattle.cx_asm_pass1.specs.declared.places.Places.{Places}
-use Rattle.cx_asm_pass2.specs.Whole.{whole_by}
 use Rattle.cx_asm.specs.Listing.{object_length}
 use Rattle.cx_look_symbols.specs.Laws.{ListedThere, text_bytes_at}
-use Rattle.cx_look_symbols.proofs.RowLemmas.{control_reported}
-
-pub control_is : (source : Source) (places : Places) → IsPlaced (final_state source) places → (whole_by places).control ≡ (final_state source).control
-control_is source places placed =
-    ap (λ (o : Option ControlSection). option_map (λ (c : ControlSection). c.name) o) placed.control
-    ∙ control_reported (final_state source).control (last_pool_extent (final_state source)).end
 
 -- ---- one more
 pub added_before : {A : Type 0} (found rest : List A) (one : Option A) → (found ++ cons_option one []) ++ rest ≡ found ++ cons_option one rest

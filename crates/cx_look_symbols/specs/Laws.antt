@@ -1,5 +1,5 @@
 -- What is beside a statement in the listing; which line a command has; which symbols are reported.
-use Rattle.std.specs.Prelude.{◌≡◌, ◌≤◌, ◌<◌, ℕ, ◌+◌, ◌-◌, Option, Some, List, [], Contains, is_some, length, option_and_then, take, drop}
+use Rattle.std.specs.Prelude.{◌≡◌, ◌≤◌, ◌<◌, ℕ, ◌+◌, ◌-◌, Option, Some, None, List, [], Contains, length, option_and_then, option_map, take, drop}
 use Rattle.std.specs.List.{AllByRecursion}
 use Rattle.std.specs.Map.{lookup}
 use Rattle.std.specs.Option.{option_map_or}
@@ -14,7 +14,7 @@ use Rattle.cx_asm.specs.Listing.{object_of}
 use Rattle.cx_look_symbols.specs.Lines.{SourcePlaces, line_in}
 use Rattle.cx_look_symbols.specs.Places.{spot_before}
 use Rattle.cx_look_symbols.specs.Statements.{statement_place_of}
-use Rattle.cx_look_symbols.specs.Symbols.{SourceSymbols, named_of}
+use Rattle.cx_look_symbols.specs.Symbols.{SourceSymbols, symbols_of}
 use Rattle.cx_look_symbols.specs.declared.statements.StatementPlace.{StatementPlace}
 
 -- the bytes of a section's text at a place; none without one
@@ -48,10 +48,13 @@ LinesAreInSources = (sources : SourcePlaces) (programs : List (List ℕ × Loade
     → option_and_then (λ it. line_in sources it.program it.offset) (spot_before programs address) ≡ Some line
     → IsBeforeInSource sources programs address line
 
--- Each symbol of a source has the value by which the assembler looks its name up, and each name with a value is one.
+-- Each symbol of a source has the value by which the assembler looks its name up, and a name that is looked up among
+-- them has the assembler's value, or none.
 pub record AreLookedUp (source : Source) (named : SourceSymbols) : Type 0 where
   pub values : AllByRecursion (λ row. (final_state source).symbols row.0 ≡ Some row.1.value) named.rows
-  pub names : (name : List ℕ) → is_some (lookup (is_same name) named.rows) ≡ is_some ((final_state source).symbols name)
+  pub found : (name : List ℕ)
+      → option_map (λ symbol. symbol.value) (lookup (is_same name) named.rows) ≡ (final_state source).symbols name
 
 abbrev pub SymbolsAreLookedUp : Type 0
-SymbolsAreLookedUp = (source : Source) (named : SourceSymbols) → named_of source ≡ Some named → AreLookedUp source named
+SymbolsAreLookedUp =
+    (source : Source) → (final_state source).fault ≡ None → AreLookedUp source (symbols_of source)

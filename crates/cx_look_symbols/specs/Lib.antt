@@ -1,4 +1,5 @@
 -- The definitions, in reading order.
+pub mod Placed
 pub mod Symbols
 pub mod Names
 pub mod Texts

@@ -36,9 +36,13 @@ shown_character c = if is_some (code_of c) then c else byte "."
 unfoldable pub statement_text : List ℕ → List ℕ
 statement_text line = map shown_character (trim_blanks (skip_blanks (take 71 line)))
 
--- the line of a number, counted from 1: its number in five digits, as in the listing, and its text
+-- the text of the line of a number, counted from 1
+abbrev pub text_on : List (List ℕ) → ℕ → List ℕ
+text_on lines n = statement_text (unwrap_or (slice_get lines (n - 1)) [])
+
+-- the line's number in five digits, as in the listing, and its text
 abbrev pub numbered_line : List (List ℕ) → ℕ → List ℕ
-numbered_line lines n = digits 10 5 n ++ codes " " ++ statement_text (unwrap_or (slice_get lines (n - 1)) [])
+numbered_line lines n = digits 10 5 n ++ codes " " ++ text_on lines n
 
 -- that of the statement that has a byte; of a statement on several lines, and of those made from an EXEC, the first
 -- line

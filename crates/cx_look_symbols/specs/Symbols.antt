@@ -1,14 +1,12 @@
 -- The symbols of a source's lines (GC33-4010, "Symbols").
-use Rattle.std.specs.Prelude.{ℕ, Option, Some, None, option_and_then, if◌then◌else◌, is_none, List, [], ◌∷◌, ◌++◌, map, reverse}
-use Rattle.std.specs.Result.{result_ok}
-use Rattle.cx_source.specs.Faults.{source_in}
+use Rattle.std.specs.Prelude.{ℕ, Option, Some, None, option_map, List, [], ◌∷◌, ◌++◌, map, reverse}
 use Rattle.cx_source.specs.declared.source.Item.{Item}
 use Rattle.cx_source.specs.declared.source.Source.{Source}
 use Rattle.cx_source.specs.declared.source.Stmt.{Stmt}
-use Rattle.cx_translate.specs.Translation.{translation_of}
 use Rattle.cx_asm_expressions.specs.declared.values.Value.{Value}
 use Rattle.cx_asm_pass1.specs.PassState.{PassState, definitions_in, state_after}
 use Rattle.cx_asm_pass1.specs.Locations.{final_state}
+use Rattle.cx_look_symbols.specs.Placed.{placed_in}
 use Rattle.cx_look_symbols.specs.declared.rows.Symbol.{Symbol}
 
 abbrev pub Rows : Type 0
@@ -32,17 +30,9 @@ pub record SourceSymbols : Type 0 where
   pub control : Option (List ℕ)
   pub rows : Rows
 
--- where the first pass finds no fault
-abbrev pub named_of : Source → Option SourceSymbols
-named_of source =
-    if is_none (final_state source).fault
-    then Some (record { control = (final_state source).control; rows = rows_after (reverse source.items) })
-    else None
+abbrev pub symbols_of : Source → SourceSymbols
+symbols_of source = record { control = (final_state source).control; rows = rows_after (reverse source.items) }
 
--- the source that lines make, translated; None where it has a fault
-abbrev pub translated_in : List (List ℕ) → Option Source
-translated_in lines = option_and_then (λ source. result_ok (translation_of source)) (result_ok (source_in lines))
-
--- the names of lines; None where these aren't a source without a fault
+-- those of lines; None where these aren't a source without a fault
 unfoldable pub named_in : List (List ℕ) → Option SourceSymbols
-named_in lines = option_and_then named_of (translated_in lines)
+named_in lines = option_map symbols_of (placed_in lines)

@@ -35,9 +35,9 @@ pub(crate) fn line_in(sources: &SourcePlaces, program: Name8, offset: u32) -> Op
     line_at(places.as_slice(), offset)
 }
 
-/// A line's number in five decimal digits.
+/// A line's number in five decimal digits, its last ones where it has more. It takes no memory.
 #[tactic(auto, using(crate::proofs::LineLemmas::last_five))]
-pub(crate) fn five_digits(line: usize) -> [u8; 5]
+pub fn five_digits(line: usize) -> [u8; 5]
     ensures { result ≡ digits 10 5 line }
 {
     decimal::<5>((line % 100_000) as u32)

@@ -1,10 +1,9 @@
 //! Looks at the names of a program's source.
-ghost use Rattle.std.specs.Prelude.{◌≡◌, ◌++◌, IfOk, OnOk, None, Some, codes};
+ghost use Rattle.std.specs.Prelude.{◌≡◌, ◌++◌, IfOk, OnOk, None, Some};
 ghost use Rattle.cx_region.specs.Tables.{program_of};
 ghost use Rattle.cx_look_symbols.specs.Texts.{symbol_found, symbol_text, symbols_text};
 ghost use Rattle.std.specs.Map.{lookup};
 ghost use Rattle.cx_asm_expressions.specs.Names.{is_same};
-ghost use Rattle.cx_look_lines.specs.Words.{written_name};
 ghost use Rattle.cx_look_symbols.specs.Names.{symbols_named};
 
 use crate::all::symbols_among;
@@ -12,7 +11,7 @@ use crate::symbols::{Names, names_in};
 use crate::texts::symbol_line;
 use cx_ebcdic::Name8;
 use cx_load::Loaded;
-use cx_look_lines::{Report, written_name};
+use cx_look_lines::{Report, joined, written_name};
 use cx_region::Region;
 use cx_source::Text;
 use cx_storage::Store;
@@ -73,16 +72,6 @@ pub fn symbol_text<S: Store + Drop>(
     Ok(report)
 }
 
-/// The words that a look at all symbols begins with.
-fn symbols_word(alloc: Global, program: Name8) -> Result<Vec<u8>, AllocError>
-    ensures { IfOk result (λ text. text.items ≡ codes "SYMBOLS " ++ written_name program) }
-{
-    let name = written_name(alloc, &program.bytes())?;
-    let mut text = b"SYMBOLS ".to_vec(alloc)?;
-    text.extend_from_slice(&name)?;
-    Ok(text)
-}
-
 /// Looks at all symbols of a program, whose source has these lines: a line each, as `symbol_text` has it, in the order
 /// of their names, letters before digits; NONE where there is no symbol, or the lines are no source without a fault.
 ///
@@ -97,6 +86,6 @@ pub fn symbols_text<S: Store + Drop>(
     ensures { IfOk result (λ report. report ≡ symbols_text (program_of region.now program) program lines.now) }
 {
     let report = symbols_among(alloc, program_of(region, program), lines)?;
-    let word = symbols_word(alloc, program)?;
+    let word = joined(alloc, b"SYMBOLS ", &written_name(alloc, &program.bytes())?)?;
     report.or_none(&word)
 }

@@ -12,6 +12,7 @@ use crate::lines::{SourcePlaces, five_digits, line_in};
 use cx_base::{hexadecimal, shown_name};
 use cx_ebcdic::Name8;
 use cx_load::Loaded;
+use cx_look_lines::joined;
 use indexmap::IndexMap;
 use std::alloc::{AllocError, Global};
 
@@ -89,8 +90,9 @@ fn spot_word(alloc: Global, spot: &Option<Spot>) -> Result<Vec<u8>, AllocError>
     Ok(word)
 }
 
-/// The line of the statement that has a byte.
-fn line_of(sources: &SourcePlaces, spot: &Option<Spot>) -> Option<usize>
+/// The number of the line of the statement that has a byte; None where no source defined the program, or no statement
+/// has the byte. It takes no memory.
+pub fn line_of(sources: &SourcePlaces, spot: &Option<Spot>) -> Option<usize>
     ensures { result ≡ option_and_then (λ it. line_in sources.now.entries it.program it.offset) spot.now }
 {
     let spot = (*spot)?;
@@ -113,9 +115,7 @@ pub fn line_word(
     let Some(line) = line_of(sources, spot) else {
         return Ok(Vec::new(alloc));
     };
-    let mut text = words.to_vec(alloc)?;
-    text.extend_from_slice(&five_digits(line))?;
-    Ok(text)
+    joined(alloc, words, &five_digits(line))
 }
 
 /// An address and where it is, `aaaaaa NAME+oooooo`; hyphens after it where no program has it.

@@ -1,6 +1,6 @@
 //! A statement as it is shown by its line.
-ghost use Rattle.std.specs.Prelude.{◌≡◌, ◌++◌, IfOk, OnOk, map, take, slice_get, unwrap_or, [], ◌-◌, option_map, ◌≤◌};
-ghost use Rattle.cx_look_symbols.specs.Sources.{led_by, numbered_line, shown_character, source_lines, statement_at, statement_text};
+ghost use Rattle.std.specs.Prelude.{◌≡◌, ◌++◌, IfOk, OnOk, map, slice_get, unwrap_or, [], ◌-◌, option_map, ◌≤◌};
+ghost use Rattle.cx_look_symbols.specs.Sources.{led_by, numbered_line, shown_character, source_lines, statement_at, statement_text, text_on};
 ghost use Rattle.cx_look_symbols.specs.Lines.{line_in};
 
 use crate::lines::{five_digits, line_in};
@@ -8,6 +8,7 @@ use crate::places::Spot;
 use crate::sources::Sources;
 use cx_base::List;
 use cx_ebcdic::to_ebcdic;
+use cx_look_lines::first_bytes;
 use cx_source::{Text, skip_blanks, trim_blanks};
 use std::alloc::{AllocError, Global};
 
@@ -35,19 +36,12 @@ fn push_shown(text: &mut Vec<u8>, bytes: &[u8]) -> Result<(), AllocError>
     Ok(())
 }
 
-/// The first `count` columns of a line, or all where it has fewer.
-fn first_columns(line: &[u8], count: usize) -> &[u8]
-    ensures { result.now ≡ take count line.now }
-{
-    line.split_at(count.min(line.len())).0
-}
-
 /// Adds the text of a line.
 #[tactic(auto, unfolding(crate::specs::Sources::statement_text))]
 fn push_statement(text: &mut Vec<u8>, line: &[u8]) -> Result<(), AllocError>
     ensures { OnOk result (text.new.items ≡ text.old.items ++ statement_text line.now) }
 {
-    let columns = first_columns(line, LAST_COLUMN);
+    let columns = first_bytes(line, LAST_COLUMN);
     push_shown(text, trim_blanks(skip_blanks(columns)))
 }
 
@@ -61,13 +55,23 @@ fn line_numbered(lines: &[Text], n: usize) -> &[u8]
     }
 }
 
+/// Adds the text of a source's line of a number, counted from 1: columns 1 to 71 without blanks at either end, a period
+/// for a byte that has no character; nothing where there is no such line.
+///
+/// An error comes only where memory for it was refused; then some of it may be there.
+pub fn push_text_on(text: &mut Vec<u8>, lines: &[Text], n: usize) -> Result<(), AllocError>
+    ensures { OnOk result (text.new.items ≡ text.old.items ++ text_on lines.now n) }
+{
+    push_statement(text, line_numbered(lines, n))
+}
+
 /// A line's number and its text.
 fn numbered_line(alloc: Global, lines: &[Text], n: usize) -> Result<List<u8>, AllocError>
     ensures { IfOk result (λ word. word ≡ numbered_line lines.now n) }
 {
     let mut word = five_digits(n).to_vec(alloc)?;
     word.push(b' ')?;
-    push_statement(&mut word, line_numbered(lines, n))?;
+    push_text_on(&mut word, lines, n)?;
     Ok(List::from_vec(word))
 }
 

@@ -1,20 +1,16 @@
 //! The statements of a source that have bytes.
-ghost use Rattle.std.specs.Prelude.{◌≡◌, ◌++◌, [], IfOk, OnOk, None};
+ghost use Rattle.std.specs.Prelude.{◌≡◌, ◌++◌, [], IfOk, OnOk};
 ghost use Rattle.std.specs.List.{cons_option, filter_map};
-ghost use Rattle.cx_asm_pass2.specs.Statements.{statements_of};
-ghost use Rattle.cx_asm_pass2.specs.Whole.{whole_by};
-ghost use Rattle.cx_asm_pass1.specs.Locations.{IsPlaced, final_state};
-ghost use Rattle.cx_look_symbols.specs.Statements.{statement_place_of, places_in, statement_places};
+ghost use Rattle.cx_look_symbols.specs.Statements.{statement_place_of, statement_places};
 
-use crate::reading::translated_in;
+use crate::placed::{PlacedSource, translated_in};
 use crate::texts::is_control;
 use cx_asm::object_length;
-use cx_asm_pass1::{Places, place_all};
-use cx_asm_pass2::{Statement, control_name, placed_lines, stated};
+use cx_asm_pass2::Statement;
 use cx_asm_pools::capped;
 use cx_base::List;
 use cx_ebcdic::Name8;
-use cx_source::{Source, Text};
+use cx_source::Text;
 use std::alloc::{AllocError, Global};
 
 /// Where a statement's bytes are in the control section, and the line that it is on.
@@ -58,60 +54,33 @@ pub fn statement_place(
 fn push_place(
     alloc: Global,
     found: &mut Vec<StatementPlace>,
-    places: &Places<'_>,
+    control: Option<Name8>,
     statement: &Statement<'_>,
 ) -> Result<(), AllocError>
-    ensures { let more = cons_option (statement_place_of (whole_by places.now).control statement.now) [] in
+    ensures { let more = cons_option (statement_place_of control statement.now) [] in
         OnOk result (found.new.items ≡ found.old.items ++ more) }
 {
-    let Some(place) = statement_place(alloc, control_name(places), statement)? else {
+    let Some(place) = statement_place(alloc, control, statement)? else {
         return Ok(());
     };
     found.push(place)?;
     Ok(())
 }
 
-/// Where the bytes of statements are.
+/// Where the bytes of statements are in the control section, whose name is `control`.
 #[tactic(auto, using(crate::proofs::StatementLemmas::added_before))]
 fn places_among(
     alloc: Global,
-    places: &Places<'_>,
+    control: &Option<Name8>,
     statements: &[Statement<'_>],
 ) -> Result<List<StatementPlace>, AllocError>
-    ensures { IfOk result (λ found.
-        found ≡ filter_map (statement_place_of (whole_by places.now).control) statements.now) }
+    ensures { IfOk result (λ found. found ≡ filter_map (statement_place_of control.now) statements.now) }
 {
     let mut found = Vec::new(alloc);
     for statement in statements {
-        push_place(alloc, &mut found, places, statement)?;
+        push_place(alloc, &mut found, *control, statement)?;
     }
     Ok(List::from_vec(found))
-}
-
-/// Where the bytes of a source's statements are, if its first pass has no fault.
-#[tactic(auto, using(crate::proofs::StatementLemmas::control_is))]
-fn places_with(
-    alloc: Global,
-    source: &Source,
-    places: &Places<'_>,
-) -> Result<List<StatementPlace>, AllocError>
-    requires fault { (final_state source.now).fault ≡ None }
-    requires placed { IsPlaced (final_state source.now) places.now }
-    ensures { IfOk result (λ found. found ≡ places_in source.now) }
-{
-    let placed = placed_lines(alloc, source, places.statements.as_slice())?;
-    let statements = stated(alloc, placed.as_slice())?;
-    places_among(alloc, places, statements.as_slice())
-}
-
-/// Where the bytes of a source's statements are.
-fn places_in(alloc: Global, source: &Source) -> Result<List<StatementPlace>, AllocError>
-    ensures { IfOk result (λ found. found ≡ places_in source.now) }
-{
-    match place_all(alloc, source)? {
-        Ok(places) => places_with(alloc, source, &places),
-        Err(_) => Ok(List::from_vec(Vec::new(alloc))),
-    }
 }
 
 /// Where the bytes of a program's statements are, by the lines of its source: of each instruction and DC of the
@@ -123,8 +92,10 @@ fn places_in(alloc: Global, source: &Source) -> Result<List<StatementPlace>, All
 pub fn statement_places(alloc: Global, lines: &[Text]) -> Result<List<StatementPlace>, AllocError>
     ensures { IfOk result (λ places. places ≡ statement_places lines.now) }
 {
-    match translated_in(alloc, lines)? {
-        Some(source) => places_in(alloc, &source),
-        None => Ok(List::from_vec(Vec::new(alloc))),
-    }
+    let source = translated_in(alloc, lines)?;
+    let Some(placed) = PlacedSource::of(alloc, &source)? else {
+        return Ok(List::from_vec(Vec::new(alloc)));
+    };
+    let statements = placed.statements(alloc)?;
+    places_among(alloc, &placed.control(), statements.as_slice())
 }

@@ -11,7 +11,7 @@ use cx_asm_expressions::Value;
 use cx_base::hexadecimal;
 use cx_ebcdic::Name8;
 use cx_load::Loaded;
-use cx_look_lines::{Report, decimal, written_name};
+use cx_look_lines::{Report, decimal, joined, written_name};
 use std::alloc::{AllocError, Global};
 
 /// A value in hexadecimal digits.
@@ -35,10 +35,7 @@ fn section_word(alloc: Global, section: Option<Name8>) -> Result<Vec<u8>, AllocE
     let Some(name) = section else {
         return b"ABSOLUTE".to_vec(alloc);
     };
-    let name = written_name(alloc, &name.bytes())?;
-    let mut text = b"SECTION ".to_vec(alloc)?;
-    text.extend_from_slice(&name)?;
-    Ok(text)
+    joined(alloc, b"SECTION ", &written_name(alloc, &name.bytes())?)
 }
 
 /// A length attribute in decimal digits.

@@ -9,7 +9,7 @@ ghost use Rattle.cx_look_lines.specs.Words.{look_line};
 
 use cx_base::{Condition, shown_name};
 use cx_ebcdic::Name4;
-use cx_edf::{Debugged, Mode, Session, Stops};
+use cx_edf::{Debugged, MakesDisplays, Mode, Session, Stops};
 use cx_look_lines::{Report, decimal, first_bytes, push_word, written_bytes, written_name};
 use cx_region::{Region, Terminal};
 use cx_region_state::{Input, NextTransaction};
@@ -142,9 +142,9 @@ fn edf_word(alloc: Global, session: Option<&Session>) -> Result<Vec<u8>, AllocEr
 
 /// Adds the line of a terminal.
 #[tactic(auto, unfolding(crate::specs::Terminals::terminal_line))]
-fn terminal_line<S: Store + Drop>(
+fn terminal_line<S: Store + Drop, M: MakesDisplays>(
     report: &mut Report,
-    state: &Debugged<S>,
+    state: &Debugged<S, M>,
     name: Name4,
     terminal: &Terminal,
 ) -> Result<(), AllocError>
@@ -170,10 +170,10 @@ fn terminal_line<S: Store + Drop>(
 }
 
 /// Adds the line of each terminal.
-fn terminal_lines<S: Store + Drop>(
+fn terminal_lines<S: Store + Drop, M: MakesDisplays>(
     report: &mut Report,
     region: &Region<S>,
-    state: &Debugged<S>,
+    state: &Debugged<S, M>,
 ) -> Result<(), AllocError>
     ensures { let more = flat_map (terminal_line state.now.sessions) region.now.terminals in
         OnOk result (report.new ≡ report.old ++ more) }
@@ -200,10 +200,10 @@ fn clock_line<S: Store + Drop>(report: &mut Report, region: &Region<S>) -> Resul
 ///
 /// An error comes only where memory for the report was refused.
 #[tactic(auto, unfolding(crate::specs::Terminals::terminals_text))]
-pub fn terminals_text<S: Store + Drop>(
+pub fn terminals_text<S: Store + Drop, M: MakesDisplays>(
     alloc: Global,
     region: &Region<S>,
-    state: &Debugged<S>,
+    state: &Debugged<S, M>,
 ) -> Result<Report, AllocError>
     ensures { let shown : EdfState = record { region = region.now; sessions = state.now.sessions } in
         IfOk result (λ report. report ≡ terminals_text shown) }

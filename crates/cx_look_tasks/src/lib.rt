@@ -1,5 +1,4 @@
-//! Looks at the commands that are due.
-//! Looks at what tasks are doing, and at the resources that they own.
+//! Looks at what tasks are doing: the commands that are due, what they wait for, and the resources that they own.
 #![tactic(auto)]
 
 mod activities;

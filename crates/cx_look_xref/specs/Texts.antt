@@ -11,9 +11,10 @@ use Rattle.cx_asm_pools.specs.declared.closed.Literal.{Literal}
 use Rattle.cx_asm_pass1.specs.PassState.{parts_in}
 use Rattle.cx_asm_pass2.specs.Statements.{PlacedStatement, operation_of, statements_of}
 use Rattle.cx_asm_pass2.specs.Whole.{Whole, whole_of}
-use Rattle.cx_asm.specs.Assembly.{AssemblyParts, assembly_of, last_line}
+use Rattle.cx_asm.specs.Assembly.{assembly_of, last_line}
 use Rattle.cx_look_lines.specs.Words.{look_line, or_none, with_blanks, written_name, Lines}
-use Rattle.cx_look_symbols.specs.Symbols.{SourceSymbols, named_of, translated_in}
+use Rattle.cx_look_symbols.specs.Placed.{placed_in}
+use Rattle.cx_look_symbols.specs.Symbols.{symbols_of}
 use Rattle.cx_look_symbols.specs.Texts.{in_order}
 use Rattle.cx_look_symbols.specs.declared.rows.Symbol.{Symbol}
 use Rattle.cx_look_xref.specs.References.{lines_using, references_of, stores_of}
@@ -70,20 +71,19 @@ usings_from whole last (s ∷ after) =
     flat_map (using_line whole last s after) (base_registers whole s (operation_of s)) ++ usings_from whole last after
 
 -- ---- all
--- A source with these names, whose control section has this text: its symbols in the order of their names, its
--- literals, and its base registers.
-abbrev pub xref_made : Source → List ℕ → SourceSymbols → Lines
-xref_made source section named =
+-- A source whose control section has this text: its symbols in the order of their names, its literals, and its base
+-- registers.
+abbrev pub xref_made : Source → List ℕ → Lines
+xref_made source section =
     flat_map (name_line (lines_using (stores_of source)) (lines_using (references_of source)) (lines_given source))
-    (in_order named.rows)
+    (in_order (symbols_of source).rows)
     ++ literals_from section (lines_with (statements_of source)) 0 (whole_of source).pools
     ++ usings_from (whole_of source) (last_line source) (statements_of source)
 
-abbrev pub xref_assembled : Source → AssemblyParts → Lines
-xref_assembled source made = option_map_or (xref_made source made.section.image.text) (named_of source) []
+abbrev pub xref_of : Source → Lines
+xref_of source =
+    option_map_or (λ made. xref_made source made.section.image.text) (result_ok (assembly_of source)) []
 
 unfoldable pub xref_text : List ℕ → List (List ℕ) → Lines
 xref_text program lines =
-    or_none (codes "XREF " ++ written_name program)
-    (option_map_or (λ source. option_map_or (xref_assembled source) (result_ok (assembly_of source)) [])
-    (translated_in lines) [])
+    or_none (codes "XREF " ++ written_name program) (option_map_or xref_of (placed_in lines) [])

@@ -1,5 +1,5 @@
 //! What is written of literals.
-ghost use Rattle.std.specs.Prelude.{◌≡◌, ◌++◌, ◌==◌, ◌&&◌, IfOk, List, OnOk, [], codes, drop, false, map, slice_get, take, ℕ};
+ghost use Rattle.std.specs.Prelude.{◌≡◌, ◌++◌, ◌==◌, ◌&&◌, IfOk, List, OnOk, [], drop, false, map, slice_get, take, ℕ};
 ghost use Rattle.std.specs.List.{flat_map};
 ghost use Rattle.std.specs.Option.{option_map_or};
 ghost use Rattle.std.specs.Str.{bytes_eq};
@@ -15,7 +15,7 @@ use cx_asm_pass1::Role;
 use cx_asm_pass2::Statement;
 use cx_asm_pools::{Literal, Pool, literal_text};
 use cx_base::hexadecimal;
-use cx_look_lines::{Report, spelled};
+use cx_look_lines::{Report, joined, spelled};
 use cx_source::{Delimiter, cut};
 use indexmap::IndexMap;
 use std::alloc::{AllocError, Global};
@@ -141,15 +141,6 @@ fn literal_bytes_word(alloc: Global, bytes: &[u8]) -> Result<Vec<u8>, AllocError
     spelled(alloc, bytes)
 }
 
-/// A literal as it is written.
-fn literal_word(alloc: Global, text: &[u8]) -> Result<Vec<u8>, AllocError>
-    ensures { IfOk result (λ word. word.items ≡ codes "=" ++ text.now) }
-{
-    let mut word = b"=".to_vec(alloc)?;
-    word.extend_from_slice(text)?;
-    Ok(word)
-}
-
 /// What the literals of the pool of a number are written by: the control section's text, and the lines that use each
 /// literal.
 #[derive(Drop)]
@@ -175,7 +166,7 @@ impl<'a, 't> PoolLiterals<'a, 't> {
         let lines = lines_for(alloc, self.used, &PoolText { pool, text })?;
         let used = used_word(alloc, &[], lines.as_slice())?;
         let bytes = literal_bytes_word(alloc, literal_bytes(self.section, text, literal))?;
-        let word = literal_word(alloc, text)?;
+        let word = joined(alloc, b"=", text)?;
         let offset = hexadecimal::<6>((literal.offset % 0x100_0000) as u32);
         report.line(&[b"XREF", b"LITERAL", &offset, &word, &bytes, &used])
     }

@@ -1,23 +1,12 @@
 //! A look at the cross-reference of a program's source.
-ghost use Rattle.std.specs.Prelude.{◌≡◌, ◌++◌, IfOk, codes};
-ghost use Rattle.cx_look_lines.specs.Words.{written_name};
+ghost use Rattle.std.specs.Prelude.{◌≡◌, IfOk};
 ghost use Rattle.cx_look_xref.specs.Texts.{xref_text};
 
 use crate::all::xref_among;
 use cx_ebcdic::Name8;
-use cx_look_lines::{Report, written_name};
+use cx_look_lines::{Report, joined, written_name};
 use cx_source::Text;
 use std::alloc::{AllocError, Global};
-
-/// The words that the look begins with where it finds nothing.
-fn xref_word(alloc: Global, program: Name8) -> Result<Vec<u8>, AllocError>
-    ensures { IfOk result (λ text. text.items ≡ codes "XREF " ++ written_name program) }
-{
-    let name = written_name(alloc, &program.bytes())?;
-    let mut text = b"XREF ".to_vec(alloc)?;
-    text.extend_from_slice(&name)?;
-    Ok(text)
-}
 
 /// Looks at the cross-reference of a program, whose source has these lines: a line for each symbol, in the order of
 /// their names, letters before digits, with the number of the line that defines it, from 1, and the numbers of the
@@ -32,6 +21,6 @@ pub fn xref_text(alloc: Global, program: Name8, lines: &[Text]) -> Result<Report
     ensures { IfOk result (λ report. report ≡ xref_text program lines.now) }
 {
     let report = xref_among(alloc, lines)?;
-    let word = xref_word(alloc, program)?;
+    let word = joined(alloc, b"XREF ", &written_name(alloc, &program.bytes())?)?;
     report.or_none(&word)
 }

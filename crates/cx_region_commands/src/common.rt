@@ -1,16 +1,14 @@
 //! What the rows have in common.
 ghost use Rattle.std.specs.Prelude.{◌≡◌, ◌<◌, ◌≤◌, ◌+◌, ◌^◌, IfSome};
-ghost use Rattle.cx_storage.specs.Storage.{Storage};
 ghost use Rattle.cx_region_state.specs.Areas.{IsSoundProgram, IsTaskPlace, first_of_tasks};
-ghost use Rattle.cx_region_state.specs.Inputs.{halfword_of};
 ghost use Rattle.cx_region_commands.specs.Common.{AreSoundPrograms, commarea_of, does, name_at, named_program, new_level, condition_alone, piece_at, place_at, program_named};
 
 use cx_base::{Condition, OptionName};
 use cx_ebcdic::Name8;
 use cx_load::Loaded;
 use cx_region_state::{
-    Call, FIRST_OF_TASKS, LAST_OF_TASKS, NewLevel, Outputs, StorageSpan, TaskChange, Verdict,
-    name8, piece_of,
+    Call, CallInputs, FIRST_OF_TASKS, LAST_OF_TASKS, NewLevel, Outputs, StorageSpan, TaskChange,
+    Verdict, name8,
 };
 use cx_storage::Store;
 use indexmap::IndexMap;
@@ -26,20 +24,20 @@ pub(crate) fn place_at(call: &Call, option: OptionName) -> u32
 
 /// The name at an argument that the command always has; zeros where it isn't there.
 #[tactic(auto, unfolding(crate::specs::Common::name_at))]
-pub(crate) fn name_at<S: Store>(store: &S, call: &Call, option: OptionName) -> Name8
-    ensures { result ≡ name_at (S.storage store.now) call.now option }
+pub(crate) fn name_at<S: Store>(inputs: &CallInputs<S>, option: OptionName) -> Name8
+    ensures { result ≡ name_at inputs.now.storage inputs.now.call option }
 {
-    name8(store, call, option).unwrap_or(Name8::from_bytes([0; 8]))
+    name8(inputs.store(), inputs.call(), option).unwrap_or(Name8::from_bytes([0; 8]))
 }
 
-/// The bytes that LENGTH, with the halfword `length`, measures at an argument that the command always has; none where
-/// it isn't there.
+/// The bytes that LENGTH measures at an argument that the command always has; none where it isn't there.
 #[tactic(auto, unfolding(crate::specs::Common::piece_at))]
-pub(crate) fn piece_at(call: &Call, length: Option<u16>, option: OptionName) -> StorageSpan
-    ensures { (storage : Storage) → length ≡ halfword_of storage call.now OptionName.Length
-        → result ≡ piece_at storage call.now option }
+pub(crate) fn piece_at<S: Store>(inputs: &CallInputs<S>, option: OptionName) -> StorageSpan
+    ensures { result ≡ piece_at inputs.now.storage inputs.now.call option }
 {
-    piece_of(call, length, option).unwrap_or(StorageSpan { place: 0, len: 0 })
+    inputs
+        .piece(option)
+        .unwrap_or(StorageSpan { place: 0, len: 0 })
 }
 
 /// A condition alone: no output, no change.
@@ -84,15 +82,14 @@ fn program_named(programs: &IndexMap<Name8, Loaded>, name: Name8) -> Option<Load
 /// The program that PROGRAM names, where there is one.
 #[tactic(auto, using(crate::specs::Facts::Programs::program_sound), unfolding(crate::specs::Common::named_program))]
 pub(crate) fn named_program<S: Store>(
-    store: &S,
-    call: &Call,
+    inputs: &CallInputs<S>,
     programs: &IndexMap<Name8, Loaded>,
 ) -> Option<Called>
     requires { AreSoundPrograms programs.now.entries }
-    ensures value { result ≡ named_program (S.storage store.now) call.now programs.now.entries }
+    ensures value { result ≡ named_program inputs.now.storage inputs.now.call programs.now.entries }
     ensures sound { IfSome result (λ called. IsSoundProgram called.loaded) }
 {
-    let name = name_at(store, call, OptionName::Program);
+    let name = name_at(inputs, OptionName::Program);
     let loaded = program_named(programs, name)?;
     Some(Called { name, loaded })
 }
@@ -109,14 +106,13 @@ pub(crate) fn new_level(called: Called, commarea: Option<StorageSpan>, stg: u32)
     }
 }
 
-/// The COMMAREA that a call passes on, where it has bytes, by LENGTH's halfword `length`.
+/// The COMMAREA that a call passes on, where it has bytes.
 #[tactic(auto, unfolding(crate::specs::Common::commarea_of))]
-pub(crate) fn commarea_of(call: &Call, length: Option<u16>) -> Option<StorageSpan>
-    ensures value { (storage : Storage) → length ≡ halfword_of storage call.now OptionName.Length
-        → result ≡ commarea_of storage call.now }
+pub(crate) fn commarea_of<S: Store>(inputs: &CallInputs<S>) -> Option<StorageSpan>
+    ensures value { result ≡ commarea_of inputs.now.storage inputs.now.call }
     ensures nonempty { IfSome result (λ piece. 0 < piece.len) }
 {
-    let piece = piece_of(call, length, OptionName::Commarea)?;
+    let piece = inputs.piece(OptionName::Commarea)?;
     if piece.len == 0 {
         return None;
     }

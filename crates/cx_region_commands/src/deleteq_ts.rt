@@ -4,7 +4,7 @@ ghost use Rattle.cx_region_commands.specs.DeleteqTs.{deleteq_row};
 
 use crate::common::{condition_alone, does, name_at};
 use cx_base::{Condition, OptionName};
-use cx_region_state::{AfterOutputs, Call, TaskChange, Verdict};
+use cx_region_state::{AfterOutputs, CallInputs, TaskChange, Verdict};
 use cx_service::Queues;
 use cx_storage::Store;
 
@@ -12,10 +12,10 @@ use cx_storage::Store;
 ///
 /// Application Programmer's Reference Manual, SC33-0077, "Temporary Storage Control".
 #[tactic(auto, unfolding(crate::specs::DeleteqTs::deleteq_row))]
-pub(crate) fn judge_deleteq_ts<S: Store>(store: &S, queues: &Queues, call: &Call) -> Verdict
-    ensures { result ≡ deleteq_row (S.storage store.now) queues.now call.now }
+pub(crate) fn judge_deleteq_ts<S: Store>(inputs: &CallInputs<S>, queues: &Queues) -> Verdict
+    ensures { result ≡ deleteq_row inputs.now.storage queues.now inputs.now.call }
 {
-    let name = name_at(store, call, OptionName::Queue);
+    let name = name_at(inputs, OptionName::Queue);
     if queues.items(name).is_none() {
         return condition_alone(Condition::Qiderr);
     }

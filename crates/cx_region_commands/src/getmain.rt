@@ -1,12 +1,13 @@
 //! GETMAIN.
 ghost use Rattle.std.specs.Prelude.{◌≡◌, ◌≤◌};
-ghost use Rattle.cx_region_state.specs.Inputs.{halfword_of};
 ghost use Rattle.cx_region_commands.specs.Common.{AtPlace};
 ghost use Rattle.cx_region_commands.specs.Getmain.{GetmainRow, fill_byte, gets, is_area_length};
 
 use crate::common::{condition_alone, task_place};
 use cx_base::{Condition, OptionName};
-use cx_region_state::{Call, Fill, Got, OutputValue, Outputs, TaskChange, Verdict, read_argument};
+use cx_region_state::{
+    CallInputs, Fill, Got, OutputValue, Outputs, TaskChange, Verdict, read_argument,
+};
 use cx_storage::Store;
 
 /// The most bytes of an area.
@@ -14,11 +15,16 @@ const MOST_BYTES: u16 = 65_520;
 
 /// INITIMG's byte, or zero without it.
 #[tactic(auto, unfolding(crate::specs::Getmain::fill_byte))]
-fn fill_byte<S: Store>(store: &S, call: &Call) -> u8
-    ensures { result ≡ fill_byte (S.storage store.now) call.now }
+fn fill_byte<S: Store>(inputs: &CallInputs<S>) -> u8
+    ensures { result ≡ fill_byte inputs.now.storage inputs.now.call }
 {
     let mut byte = [0];
-    if read_argument(store, call, OptionName::Initimg, &mut byte) {
+    if read_argument(
+        inputs.store(),
+        inputs.call(),
+        OptionName::Initimg,
+        &mut byte,
+    ) {
         byte[0]
     } else {
         0
@@ -46,14 +52,13 @@ fn gets(len: u16, byte: u8, place: Option<u32>) -> Verdict
 ///
 /// Application Programmer's Reference Manual, SC33-0077, "Storage Control".
 #[tactic(auto, unfolding(crate::specs::Getmain::GetmainRow))]
-pub(crate) fn judge_getmain<S: Store>(store: &S, call: &Call, length: Option<u16>) -> Verdict
-    requires length { length ≡ halfword_of (S.storage store.now) call.now OptionName.Length }
-    ensures { GetmainRow (S.storage store.now) call.now result }
+pub(crate) fn judge_getmain<S: Store>(inputs: &CallInputs<S>) -> Verdict
+    ensures { GetmainRow inputs.now.storage inputs.now.call result }
 {
-    let len = length.unwrap_or(0);
+    let len = inputs.length_halfword().unwrap_or(0);
     if len == 0 || len > MOST_BYTES {
         return condition_alone(Condition::Lengerr);
     }
-    let place = task_place(store, u32::from(len));
-    gets(len, fill_byte(store, call), place)
+    let place = task_place(inputs.store(), u32::from(len));
+    gets(len, fill_byte(inputs), place)
 }

@@ -1,6 +1,5 @@
 //! How a call is judged, by the row of its command.
 ghost use Rattle.std.specs.Prelude.{◌≡◌};
-ghost use Rattle.cx_region_state.specs.Inputs.{halfword_of};
 ghost use Rattle.cx_region_state.specs.State.{context};
 ghost use Rattle.cx_region_commands.specs.Common.{AreSoundPrograms};
 ghost use Rattle.cx_region_commands.specs.CommandVerdicts.{HasVerdict};
@@ -22,27 +21,26 @@ use crate::send_text::judge_send_text;
 use crate::suspend::judge_suspend;
 use crate::writeq_ts::judge_writeq_ts;
 use crate::xctl::judge_xctl;
-use cx_base::{Command, OptionName};
-use cx_region_state::{Call, Shared, Task, TerminalEntry, Verdict, length_option};
+use cx_base::Command;
+use cx_region_state::{CallInputs, Shared, Task, TerminalEntry, Verdict};
 use cx_storage::Store;
 
 /// The verdict on a call, by the rule of its command, before anything changes: it is refused, it waits, or it meets a
-/// condition, with its outputs and its change. It takes no memory. `length` is the halfword at LENGTH's argument, or
-/// None where it or one of its bytes isn't there. Each program must be sound: 80 to 65,520 bytes of working storage,
-/// and an entry below 2^24.
-#[tactic(auto, unfolding(crate::specs::CommandVerdicts::HasVerdict, cx_region_state::specs::Inputs::length_option))]
+/// condition, with its outputs and its change. It takes no memory. The inputs must be those in the shared store. Each
+/// program must be sound: 80 to 65,520 bytes of working storage, and an entry below 2^24.
+#[tactic(auto, unfolding(crate::specs::CommandVerdicts::HasVerdict))]
 pub fn judge<S: Store + Drop>(
-    call: &Call,
-    length: Option<u16>,
+    inputs: &CallInputs<S>,
     shared: &Shared<S>,
     terminal_entry: &TerminalEntry,
     task: &Task,
 ) -> Verdict
-    requires length { length ≡ halfword_of shared.now.storage call.now OptionName.Length }
+    requires storage { inputs.now.storage ≡ shared.now.storage }
     requires programs { AreSoundPrograms shared.now.programs }
-    ensures { HasVerdict call.now (context shared.now terminal_entry.now task.now) result }
+    ensures { HasVerdict inputs.now.call (context shared.now terminal_entry.now task.now) result }
 {
-    let store = &shared.store;
+    let call = inputs.call();
+    let slot = terminal_entry.slot;
     let level = task.levels.current();
     match call.command() {
         Command::Address => judge_address(),
@@ -50,20 +48,20 @@ pub fn judge<S: Store + Drop>(
         Command::IgnoreCondition => judge_ignore(call),
         Command::PushHandle => judge_push(&level.handles),
         Command::PopHandle => judge_pop(&level.handles),
-        Command::Receive => judge_receive(&terminal_entry.input, length_option(length)),
-        Command::WriteqTs => judge_writeq_ts(store, &shared.queues, call, length),
-        Command::ReadqTs => judge_readq_ts(store, &shared.queues, call, length),
-        Command::DeleteqTs => judge_deleteq_ts(store, &shared.queues, call),
-        Command::Getmain => judge_getmain(store, call, length),
-        Command::Freemain => judge_freemain(store, terminal_entry.slot, call),
-        Command::Link => judge_link(store, &shared.programs, &task.levels, call, length),
-        Command::Xctl => judge_xctl(store, &shared.programs, call, length),
-        Command::Return => judge_return(store, &task.levels, call, length),
-        Command::Abend => judge_abend(store, call),
+        Command::Receive => judge_receive(&terminal_entry.input, inputs.length()),
+        Command::WriteqTs => judge_writeq_ts(inputs, &shared.queues),
+        Command::ReadqTs => judge_readq_ts(inputs, &shared.queues),
+        Command::DeleteqTs => judge_deleteq_ts(inputs, &shared.queues),
+        Command::Getmain => judge_getmain(inputs),
+        Command::Freemain => judge_freemain(inputs, slot),
+        Command::Link => judge_link(inputs, &shared.programs, &task.levels),
+        Command::Xctl => judge_xctl(inputs, &shared.programs),
+        Command::Return => judge_return(inputs, &task.levels),
+        Command::Abend => judge_abend(inputs),
         Command::HandleAbend => judge_handle_abend(call),
-        Command::Enq => judge_enq(store, &shared.enqueues, terminal_entry.slot, call, length),
-        Command::Deq => judge_deq(store, call, length),
+        Command::Enq => judge_enq(inputs, &shared.enqueues, slot),
+        Command::Deq => judge_deq(inputs),
         Command::Suspend => judge_suspend(),
-        Command::SendText => judge_send_text(call, length),
+        Command::SendText => judge_send_text(inputs),
     }
 }

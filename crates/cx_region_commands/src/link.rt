@@ -1,7 +1,6 @@
 //! LINK.
 ghost use Rattle.std.specs.Prelude.{◌≡◌};
 ghost use Rattle.cx_region_state.specs.Areas.{IsSoundProgram};
-ghost use Rattle.cx_region_state.specs.Inputs.{halfword_of};
 ghost use Rattle.cx_region_commands.specs.Common.{AreSoundPrograms, AtPlace};
 ghost use Rattle.cx_region_commands.specs.Link.{LinkRow, Links, enters};
 
@@ -12,7 +11,7 @@ use cx_base::{Abend, Condition, OptionName};
 use cx_ebcdic::Name8;
 use cx_load::Loaded;
 use cx_program::LevelStack;
-use cx_region_state::{Call, StorageSpan, TaskChange, Verdict, is_length_negative};
+use cx_region_state::{CallInputs, StorageSpan, TaskChange, Verdict};
 use cx_storage::Store;
 use indexmap::IndexMap;
 
@@ -28,22 +27,15 @@ fn enters(called: Called, commarea: Option<StorageSpan>, stg: Option<u32>) -> Ve
 
 /// A LINK to a program that there is.
 #[tactic(auto, unfolding(crate::specs::Link::Links))]
-fn link_to<S: Store>(
-    store: &S,
-    call: &Call,
-    length: Option<u16>,
-    levels: &LevelStack,
-    called: Called,
-) -> Verdict
-    requires length { length ≡ halfword_of (S.storage store.now) call.now OptionName.Length }
+fn link_to<S: Store>(inputs: &CallInputs<S>, levels: &LevelStack, called: Called) -> Verdict
     requires sound { IsSoundProgram called.loaded }
-    ensures { Links (S.storage store.now) call.now levels.now called result }
+    ensures { Links inputs.now.storage inputs.now.call levels.now called result }
 {
     if levels.len() >= 16 {
         return Verdict::Refuses(Abend::Xlvl);
     }
-    let commarea = commarea_of(call, length);
-    let stg = task_place(store, called.loaded.stg_len);
+    let commarea = commarea_of(inputs);
+    let stg = task_place(inputs.store(), called.loaded.stg_len);
     enters(called, commarea, stg)
 }
 
@@ -52,23 +44,20 @@ fn link_to<S: Store>(
 /// and a level of the program begins, with the COMMAREA where it is.
 ///
 /// Application Programmer's Reference Manual, SC33-0077, "Program Control".
-#[tactic(auto, unfolding(crate::specs::Link::LinkRow, cx_region_state::specs::Inputs::is_length_negative))]
+#[tactic(auto, unfolding(crate::specs::Link::LinkRow))]
 pub(crate) fn judge_link<S: Store>(
-    store: &S,
+    inputs: &CallInputs<S>,
     programs: &IndexMap<Name8, Loaded>,
     levels: &LevelStack,
-    call: &Call,
-    length: Option<u16>,
 ) -> Verdict
-    requires length { length ≡ halfword_of (S.storage store.now) call.now OptionName.Length }
     requires programs { AreSoundPrograms programs.now.entries }
-    ensures { LinkRow (S.storage store.now) programs.now.entries levels.now call.now result }
+    ensures { LinkRow inputs.now.storage programs.now.entries levels.now inputs.now.call result }
 {
-    if is_length_negative(length) {
+    if inputs.is_length_negative() {
         return condition_alone(Condition::Lengerr);
     }
-    match named_program(store, call, programs) {
-        Some(called) => link_to(store, call, length, levels, called),
+    match named_program(inputs, programs) {
+        Some(called) => link_to(inputs, levels, called),
         None => condition_alone(Condition::Pgmiderr),
     }
 }

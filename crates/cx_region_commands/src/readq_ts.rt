@@ -8,8 +8,7 @@ use crate::common::{condition_alone, name_at, task_place};
 use cx_base::{Condition, OptionName};
 use cx_ebcdic::Name8;
 use cx_region_state::{
-    AfterOutputs, Call, Fill, Got, OutputValue, Outputs, TaskChange, Verdict, halfword,
-    is_length_negative, length_option,
+    AfterOutputs, CallInputs, Fill, Got, OutputValue, Outputs, TaskChange, Verdict, halfword,
 };
 use cx_service::{Queues, Reading, ServiceFault};
 use cx_storage::Store;
@@ -31,23 +30,16 @@ fn reads_into(room: u16, name: Name8, reading: Reading) -> Verdict
     Verdict::Meets(condition, outputs, change)
 }
 
-/// An item that there is, where LENGTH has the halfword `length`.
-#[tactic(auto, unfolding(crate::specs::ReadqTs::ReadsQueueItem, cx_region_state::specs::Inputs::length_option))]
-fn reads<S: Store>(
-    store: &S,
-    call: &Call,
-    length: Option<u16>,
-    name: Name8,
-    reading: Reading,
-) -> Verdict
-    requires length { length ≡ halfword_of (S.storage store.now) call.now OptionName.Length }
+/// An item that there is.
+#[tactic(auto, unfolding(crate::specs::ReadqTs::ReadsQueueItem))]
+fn reads<S: Store>(inputs: &CallInputs<S>, name: Name8, reading: Reading) -> Verdict
     requires nonempty { 1 ≤ reading.len }
-    ensures { ReadsQueueItem (S.storage store.now) call.now name reading result }
+    ensures { ReadsQueueItem inputs.now.storage inputs.now.call name reading result }
 {
-    if !call.has(OptionName::Set) {
-        return reads_into(length_option(length), name, reading);
+    if !inputs.call().has(OptionName::Set) {
+        return reads_into(inputs.length(), name, reading);
     }
-    let Some(place) = task_place(store, u32::from(reading.len)) else {
+    let Some(place) = task_place(inputs.store(), u32::from(reading.len)) else {
         return condition_alone(Condition::Nostg);
     };
     let outputs = Outputs::none()
@@ -63,25 +55,18 @@ fn reads<S: Store>(
 }
 
 /// The number of the item that ITEM asks for.
-fn item_asked<S: Store>(store: &S, call: &Call) -> Option<usize>
-    ensures { result ≡ halfword_of (S.storage store.now) call.now OptionName.Item }
+fn item_asked<S: Store>(inputs: &CallInputs<S>) -> Option<usize>
+    ensures { result ≡ halfword_of inputs.now.storage inputs.now.call OptionName.Item }
 {
-    halfword(store, call, OptionName::Item).map(|n| usize::from(n))
+    halfword(inputs.store(), inputs.call(), OptionName::Item).map(|n| usize::from(n))
 }
 
-/// The queue of that name, where LENGTH has the halfword `length`.
-fn reads_queue<S: Store>(
-    store: &S,
-    queues: &Queues,
-    call: &Call,
-    length: Option<u16>,
-    name: Name8,
-) -> Verdict
-    requires length { length ≡ halfword_of (S.storage store.now) call.now OptionName.Length }
-    ensures { ReadsQueue (S.storage store.now) queues.now call.now name result }
+/// The queue of that name.
+fn reads_queue<S: Store>(inputs: &CallInputs<S>, queues: &Queues, name: Name8) -> Verdict
+    ensures { ReadsQueue inputs.now.storage queues.now inputs.now.call name result }
 {
-    match queues.reading(name, item_asked(store, call)) {
-        Ok(reading) => reads(store, call, length, name, reading),
+    match queues.reading(name, item_asked(inputs)) {
+        Ok(reading) => reads(inputs, name, reading),
         Err(fault) if fault == ServiceFault::Qiderr => condition_alone(Condition::Qiderr),
         Err(_no_item) => condition_alone(Condition::Itemerr),
     }
@@ -93,19 +78,13 @@ fn reads_queue<S: Store>(
 /// same; else NORMAL.
 ///
 /// Application Programmer's Reference Manual, SC33-0077, "Temporary Storage Control".
-#[tactic(auto, unfolding(crate::specs::ReadqTs::ReadqRow, cx_region_state::specs::Inputs::is_length_negative))]
-pub(crate) fn judge_readq_ts<S: Store>(
-    store: &S,
-    queues: &Queues,
-    call: &Call,
-    length: Option<u16>,
-) -> Verdict
-    requires length { length ≡ halfword_of (S.storage store.now) call.now OptionName.Length }
-    ensures { ReadqRow (S.storage store.now) queues.now call.now result }
+#[tactic(auto, unfolding(crate::specs::ReadqTs::ReadqRow))]
+pub(crate) fn judge_readq_ts<S: Store>(inputs: &CallInputs<S>, queues: &Queues) -> Verdict
+    ensures { ReadqRow inputs.now.storage queues.now inputs.now.call result }
 {
-    if call.has(OptionName::Into) && is_length_negative(length) {
+    if inputs.call().has(OptionName::Into) && inputs.is_length_negative() {
         return condition_alone(Condition::Lengerr);
     }
-    let name = name_at(store, call, OptionName::Queue);
-    reads_queue(store, queues, call, length, name)
+    let name = name_at(inputs, OptionName::Queue);
+    reads_queue(inputs, queues, name)
 }

@@ -1,23 +1,21 @@
 //! RETURN.
 ghost use Rattle.std.specs.Prelude.{◌≡◌, ◌||◌, if◌then◌else◌};
-ghost use Rattle.cx_region_state.specs.Inputs.{halfword_of};
 ghost use Rattle.cx_region_commands.specs.Return.{highest_return, next_of, return_row};
 ghost use Rattle.cx_region_commands.specs.Common.{does, has, condition_alone};
 
 use crate::common::{commarea_of, condition_alone, does};
 use cx_base::{Condition, OptionName};
 use cx_program::LevelStack;
-use cx_region_state::{Call, RequestedTransaction, TaskChange, Verdict, is_length_negative, name4};
+use cx_region_state::{Call, CallInputs, RequestedTransaction, TaskChange, Verdict, name4};
 use cx_storage::Store;
 
 /// What the terminal's next key attaches.
 #[tactic(auto, unfolding(crate::specs::Return::next_of))]
-fn next_of<S: Store>(store: &S, call: &Call, length: Option<u16>) -> Option<RequestedTransaction>
-    requires length { length ≡ halfword_of (S.storage store.now) call.now OptionName.Length }
-    ensures { result ≡ next_of (S.storage store.now) call.now }
+fn next_of<S: Store>(inputs: &CallInputs<S>) -> Option<RequestedTransaction>
+    ensures { result ≡ next_of inputs.now.storage inputs.now.call }
 {
-    let tran = name4(store, call, OptionName::Transid)?;
-    let commarea = commarea_of(call, length);
+    let tran = name4(inputs.store(), inputs.call(), OptionName::Transid)?;
+    let commarea = commarea_of(inputs);
     Some(RequestedTransaction { tran, commarea })
 }
 
@@ -34,19 +32,18 @@ fn lower_return(call: &Call) -> Verdict
 }
 
 /// At the highest level.
-#[tactic(auto, unfolding(cx_region_state::specs::Inputs::is_length_negative))]
-fn highest_return<S: Store>(store: &S, call: &Call, length: Option<u16>) -> Verdict
-    requires length { length ≡ halfword_of (S.storage store.now) call.now OptionName.Length }
-    ensures { result ≡ highest_return (S.storage store.now) call.now }
+fn highest_return<S: Store>(inputs: &CallInputs<S>) -> Verdict
+    ensures { result ≡ highest_return inputs.now.storage inputs.now.call }
 {
+    let call = inputs.call();
     let lacks_transid = call.has(OptionName::Commarea) && !call.has(OptionName::Transid);
     if lacks_transid {
         return condition_alone(Condition::Invreq);
     }
-    if is_length_negative(length) {
+    if inputs.is_length_negative() {
         return condition_alone(Condition::Lengerr);
     }
-    does(TaskChange::TaskEnds(next_of(store, call, length)))
+    does(TaskChange::TaskEnds(next_of(inputs)))
 }
 
 /// How a RETURN is judged. Below the highest level: INVREQ where TRANSID or COMMAREA is there, else the level ends. At
@@ -55,18 +52,12 @@ fn highest_return<S: Store>(store: &S, call: &Call, length: Option<u16>) -> Verd
 ///
 /// Application Programmer's Reference Manual, SC33-0077, "Program Control".
 #[tactic(auto, unfolding(crate::specs::Return::return_row))]
-pub(crate) fn judge_return<S: Store>(
-    store: &S,
-    levels: &LevelStack,
-    call: &Call,
-    length: Option<u16>,
-) -> Verdict
-    requires length { length ≡ halfword_of (S.storage store.now) call.now OptionName.Length }
-    ensures { result ≡ return_row (S.storage store.now) levels.now.callers call.now }
+pub(crate) fn judge_return<S: Store>(inputs: &CallInputs<S>, levels: &LevelStack) -> Verdict
+    ensures { result ≡ return_row inputs.now.storage levels.now.callers inputs.now.call }
 {
     if levels.len() == 1 {
-        highest_return(store, call, length)
+        highest_return(inputs)
     } else {
-        lower_return(call)
+        lower_return(inputs.call())
     }
 }

@@ -1,6 +1,5 @@
 //! WRITEQ TS.
 ghost use Rattle.std.specs.Prelude.{◌≡◌, ◌+◌, [], ◌∷◌, unwrap_or};
-ghost use Rattle.cx_region_state.specs.Inputs.{halfword_of};
 ghost use Rattle.cx_region_commands.specs.WriteqTs.{item_named, writeq_row};
 ghost use Rattle.cx_region_commands.specs.Services.{fault_or_verdict};
 ghost use Rattle.cx_region_commands.specs.Common.{does, output};
@@ -11,7 +10,7 @@ use crate::services::fault_or_verdict;
 use cx_base::{Condition, OptionName};
 use cx_ebcdic::Name8;
 use cx_region_state::{
-    BeforeOutputs, Call, OutputValue, Outputs, StorageSpan, TaskChange, Verdict, halfword,
+    BeforeOutputs, CallInputs, OutputValue, Outputs, StorageSpan, TaskChange, Verdict, halfword,
 };
 use cx_service::Queues;
 use cx_storage::Store;
@@ -47,10 +46,10 @@ fn rewrites(queues: &Queues, name: Name8, n: u16, piece: StorageSpan) -> Verdict
 }
 
 /// The item that REWRITE names.
-fn item_named<S: Store>(store: &S, call: &Call) -> u16
-    ensures { result ≡ item_named (S.storage store.now) call.now }
+fn item_named<S: Store>(inputs: &CallInputs<S>) -> u16
+    ensures { result ≡ item_named inputs.now.storage inputs.now.call }
 {
-    halfword(store, call, OptionName::Item).unwrap_or(0)
+    halfword(inputs.store(), inputs.call(), OptionName::Item).unwrap_or(0)
 }
 
 /// How a WRITEQ TS is judged. LENGERR where LENGTH is below 1; then with REWRITE QIDERR where there is no such queue,
@@ -60,19 +59,13 @@ fn item_named<S: Store>(store: &S, call: &Call) -> u16
 ///
 /// Application Programmer's Reference Manual, SC33-0077, "Temporary Storage Control".
 #[tactic(auto, unfolding(crate::specs::WriteqTs::writeq_row))]
-pub(crate) fn judge_writeq_ts<S: Store>(
-    store: &S,
-    queues: &Queues,
-    call: &Call,
-    length: Option<u16>,
-) -> Verdict
-    requires length { length ≡ halfword_of (S.storage store.now) call.now OptionName.Length }
-    ensures { result ≡ writeq_row (S.storage store.now) queues.now call.now }
+pub(crate) fn judge_writeq_ts<S: Store>(inputs: &CallInputs<S>, queues: &Queues) -> Verdict
+    ensures { result ≡ writeq_row inputs.now.storage queues.now inputs.now.call }
 {
-    let name = name_at(store, call, OptionName::Queue);
-    let piece = piece_at(call, length, OptionName::From);
-    if call.has(OptionName::Rewrite) {
-        rewrites(queues, name, item_named(store, call), piece)
+    let name = name_at(inputs, OptionName::Queue);
+    let piece = piece_at(inputs, OptionName::From);
+    if inputs.call().has(OptionName::Rewrite) {
+        rewrites(queues, name, item_named(inputs), piece)
     } else {
         writes(queues, name, piece)
     }

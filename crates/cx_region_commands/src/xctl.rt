@@ -1,7 +1,6 @@
 //! XCTL.
 ghost use Rattle.std.specs.Prelude.{◌≡◌, ◌<◌, ◌≤◌, ◌+◌, ◌^◌, ℕ, Some, option_map};
 ghost use Rattle.cx_region_state.specs.Areas.{IsSoundProgram, IsTaskPlace, first_of_tasks, with_copy_area};
-ghost use Rattle.cx_region_state.specs.Inputs.{halfword_of};
 ghost use Rattle.cx_region_commands.specs.Common.{AreSoundPrograms, AtPlace};
 ghost use Rattle.cx_region_commands.specs.Xctl.{Copies, Transfers, XctlRow, XctlTo, replaces};
 
@@ -11,9 +10,7 @@ use crate::common::{
 use cx_base::{Abend, Condition, OptionName};
 use cx_ebcdic::Name8;
 use cx_load::Loaded;
-use cx_region_state::{
-    Call, Copying, LAST_OF_TASKS, StorageSpan, TaskChange, Verdict, is_length_negative,
-};
+use cx_region_state::{CallInputs, Copying, LAST_OF_TASKS, StorageSpan, TaskChange, Verdict};
 use cx_storage::Store;
 use indexmap::IndexMap;
 
@@ -77,12 +74,12 @@ fn copy_to<S: Store>(store: &S, called: Called, piece: StorageSpan) -> Verdict
 
 /// An XCTL to a program that there is.
 #[tactic(auto, unfolding(crate::specs::Xctl::XctlTo, cx_region_state::specs::Areas::with_copy_area))]
-fn xctl_to<S: Store>(store: &S, call: &Call, length: Option<u16>, called: Called) -> Verdict
-    requires length { length ≡ halfword_of (S.storage store.now) call.now OptionName.Length }
+fn xctl_to<S: Store>(inputs: &CallInputs<S>, called: Called) -> Verdict
     requires sound { IsSoundProgram called.loaded }
-    ensures { (slot : ℕ) → XctlTo (S.storage store.now) slot call.now called result }
+    ensures { (slot : ℕ) → XctlTo inputs.now.storage slot inputs.now.call called result }
 {
-    match commarea_of(call, length) {
+    let store = inputs.store();
+    match commarea_of(inputs) {
         Some(piece) => copy_to(store, called, piece),
         None => {
             let stg = task_place(store, called.loaded.stg_len);
@@ -96,22 +93,19 @@ fn xctl_to<S: Store>(store: &S, call: &Call, length: Option<u16>, called: Called
 /// still there; else it meets NORMAL, and a level of the program begins in place of the current one.
 ///
 /// Application Programmer's Reference Manual, SC33-0077, "Program Control".
-#[tactic(auto, unfolding(crate::specs::Xctl::XctlRow, cx_region_state::specs::Inputs::is_length_negative))]
+#[tactic(auto, unfolding(crate::specs::Xctl::XctlRow))]
 pub(crate) fn judge_xctl<S: Store>(
-    store: &S,
+    inputs: &CallInputs<S>,
     programs: &IndexMap<Name8, Loaded>,
-    call: &Call,
-    length: Option<u16>,
 ) -> Verdict
-    requires length { length ≡ halfword_of (S.storage store.now) call.now OptionName.Length }
     requires programs { AreSoundPrograms programs.now.entries }
-    ensures { (slot : ℕ) → XctlRow (S.storage store.now) slot programs.now.entries call.now result }
+    ensures { (slot : ℕ) → XctlRow inputs.now.storage slot programs.now.entries inputs.now.call result }
 {
-    if is_length_negative(length) {
+    if inputs.is_length_negative() {
         return condition_alone(Condition::Lengerr);
     }
-    match named_program(store, call, programs) {
-        Some(called) => xctl_to(store, call, length, called),
+    match named_program(inputs, programs) {
+        Some(called) => xctl_to(inputs, called),
         None => condition_alone(Condition::Pgmiderr),
     }
 }

@@ -13,6 +13,11 @@ use Rattle.cx_storage.specs.Word.{halfword_at}
 use Rattle.cx_region_state.specs.Call.{Call, place_of, resp_place}
 use Rattle.cx_region_state.specs.declared.inputs.StorageSpan.{StorageSpan}
 
+-- a call, and storage as it finds it
+pub record CallInputs : Type 0 where
+  pub storage : Storage
+  pub call : Call
+
 -- the n bytes at an option's argument, where the option is there and they are in storage
 unfoldable pub bytes_of : Storage → Call → OptionName → ℕ → Option (List ℕ)
 bytes_of s call name n = option_and_then (λ place. span s place n) (place_of call name)

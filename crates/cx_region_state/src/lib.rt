@@ -16,10 +16,7 @@ mod state;
 mod verdict;
 
 pub use call::{Call, CallFault, read_call};
-pub use inputs::{
-    StorageSpan, are_inputs_there, halfword, is_length_negative, length_option, name4, name8,
-    piece_of, read_argument, signed_halfword,
-};
+pub use inputs::{CallInputs, StorageSpan, halfword, name4, name8, read_argument};
 pub use listed::{Listed, ListedConditions};
 pub use outputs::{Output, OutputValue, Outputs, have_room, put_outputs};
 pub use replies::TurnReply;

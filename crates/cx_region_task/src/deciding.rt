@@ -1,8 +1,8 @@
 //! The command that is due: what it will do.
-ghost use Rattle.std.specs.Prelude.{◌≡◌, IsTrue};
+ghost use Rattle.std.specs.Prelude.{◌≡◌, MatchBool, Some};
 ghost use Rattle.cx_region_commands.specs.Common.{AreSoundPrograms};
 ghost use Rattle.cx_service.specs.Queues.{AreSoundQueues};
-ghost use Rattle.cx_region_state.specs.Inputs.{are_inputs_there, halfword_of};
+ghost use Rattle.cx_region_state.specs.Inputs.{are_inputs_there};
 ghost use Rattle.cx_region_state.specs.State.{context};
 ghost use Rattle.cx_region_state.specs.Parts.Fits.{FitsChange};
 ghost use Rattle.cx_region_task.specs.Decisions.{continuation_at, decision_by, resource_waited, wait_for};
@@ -14,8 +14,7 @@ use crate::outputs::has_room;
 use cx_base::{Abend, Condition, OptionName};
 use cx_region_commands::{is_wrong_length, judge, resource_named};
 use cx_region_state::{
-    Call, CallFault, Shared, Task, TerminalEntry, Verdict, are_inputs_there, halfword, name8,
-    read_call,
+    Call, CallFault, CallInputs, Shared, Task, TerminalEntry, Verdict, name8, read_call,
 };
 use cx_service::ResourceName;
 use cx_storage::{Store, address_in};
@@ -30,25 +29,25 @@ fn fault_abend(fault: CallFault) -> Abend
     }
 }
 
-/// The resource that a command names, whose LENGTH has the halfword `length`.
-fn resource_waited<S: Store>(store: &S, call: &Call, length: Option<u16>) -> Option<ResourceName>
-    requires length { length ≡ halfword_of (S.storage store.now) call.now OptionName.Length }
-    ensures { result ≡ resource_waited (S.storage store.now) call.now }
+/// The resource that a command names.
+fn resource_waited<S: Store>(inputs: &CallInputs<S>) -> Option<ResourceName>
+    ensures { result ≡ resource_waited inputs.now.storage inputs.now.call }
 {
-    if is_wrong_length(call, length) {
+    if is_wrong_length(inputs) {
         return None;
     }
-    resource_named(store, call, length)
+    resource_named(inputs)
 }
 
 /// What a command that meets a condition waits for.
-fn wait_for<S: Store>(condition: Condition, store: &S, call: &Call, length: Option<u16>) -> Wait
-    requires length { length ≡ halfword_of (S.storage store.now) call.now OptionName.Length }
-    ensures { result ≡ wait_for condition (S.storage store.now) call.now }
+fn wait_for<S: Store>(condition: Condition, inputs: &CallInputs<S>) -> Wait
+    ensures { result ≡ wait_for condition inputs.now.storage inputs.now.call }
 {
     match condition {
-        Condition::Enqbusy => Wait::Resource(resource_waited(store, call, length)),
-        Condition::Nospace => Wait::Room(name8(store, call, OptionName::Queue)),
+        Condition::Enqbusy => Wait::Resource(resource_waited(inputs)),
+        Condition::Nospace => {
+            Wait::Room(name8(inputs.store(), inputs.call(), OptionName::Queue))
+        }
         _ => Wait::Storage,
     }
 }
@@ -57,12 +56,10 @@ fn wait_for<S: Store>(condition: Condition, store: &S, call: &Call, length: Opti
 #[tactic(auto, unfolding(crate::specs::Decisions::decision_by))]
 fn decide_act<S: Store + Drop>(
     act: Act,
-    length: Option<u16>,
     shared: &Shared<S>,
     terminal_entry: &TerminalEntry,
     task: &Task,
 ) -> Decision
-    requires length { length ≡ halfword_of shared.now.storage act.call OptionName.Length }
     requires fits { FitsChange act.change (context shared.now terminal_entry.now task.now) }
     requires continuation { act.continuation ≡ continuation_at act.call act.condition act.change
         (context shared.now terminal_entry.now task.now) }
@@ -73,29 +70,32 @@ fn decide_act<S: Store + Drop>(
         return Decision::Refuse(Some(act.call), Abend::Xarg);
     }
     if is_wait(&act.continuation) {
-        let wait = wait_for(act.condition, &shared.store, &act.call, length);
+        let wait = wait_for(act.condition, &CallInputs::read(&shared.store, &act.call));
         return Decision::Wait(act.call, wait);
     }
     Decision::Act(act)
 }
 
-/// What is decided of a call whose inputs are in storage: its row judges it, and its outputs are tested.
+/// What is decided of a call: its inputs are tested, its row judges it, and its outputs are tested.
 #[tactic(auto, unfolding(crate::specs::Decisions::decision_by), using(cx_region_commands::specs::Facts::Fits::judged_fits))]
 fn decide_call<S: Store + Drop>(
     call: Call,
-    length: Option<u16>,
     shared: &Shared<S>,
     terminal_entry: &TerminalEntry,
     task: &Task,
 ) -> Decision
-    requires length { length ≡ halfword_of shared.now.storage call OptionName.Length }
-    requires inputs { IsTrue (are_inputs_there shared.now.storage call) }
     requires programs { AreSoundPrograms shared.now.programs }
     requires queues { AreSoundQueues shared.now.queues }
-    ensures { DecidesCall call (context shared.now terminal_entry.now task.now) result }
+    ensures { MatchBool (are_inputs_there shared.now.storage call)
+        (DecidesCall call (context shared.now terminal_entry.now task.now) result)
+        (result ≡ Decision.Refuse (Some call) Abend.Xarg) }
 {
     call.addresses_are_below();
-    match judge(&call, length, shared, terminal_entry, task) {
+    let inputs = CallInputs::read(&shared.store, &call);
+    if !inputs.are_there() {
+        return Decision::Refuse(Some(call), Abend::Xarg);
+    }
+    match judge(&inputs, shared, terminal_entry, task) {
         Verdict::Refuses(abend) => Decision::Refuse(Some(call), abend),
         Verdict::Waits => Decision::Wait(call, Wait::Input),
         Verdict::Meets(condition, outputs, change) => {
@@ -107,7 +107,7 @@ fn decide_call<S: Store + Drop>(
                 change,
                 continuation,
             };
-            decide_act(act, length, shared, terminal_entry, task)
+            decide_act(act, shared, terminal_entry, task)
         }
     }
 }
@@ -127,13 +127,8 @@ pub fn decide<S: Store + Drop>(
 {
     // A look at the queues says that they are within their limits.
     shared.queues.all();
-    let call = match read_call(&shared.store, address_in(task.cpu.regs[1])) {
-        Ok(call) => call,
-        Err(fault) => return Decision::Refuse(None, fault_abend(fault)),
-    };
-    let length = halfword(&shared.store, &call, OptionName::Length);
-    if !are_inputs_there(&shared.store, &call, length) {
-        return Decision::Refuse(Some(call), Abend::Xarg);
+    match read_call(&shared.store, address_in(task.cpu.regs[1])) {
+        Ok(call) => decide_call(call, shared, terminal_entry, task),
+        Err(fault) => Decision::Refuse(None, fault_abend(fault)),
     }
-    decide_call(call, length, shared, terminal_entry, task)
 }

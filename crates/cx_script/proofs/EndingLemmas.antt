@@ -73,7 +73,7 @@ abbrev pub is_past : Ending → Bool
 is_past PastBound = true
 is_past _ = false
 
-module _ {A S : Type 0} (language : Language A) (performs : S → A → List ℕ → S → Type 0) (start : S) (calls : List DeviceCall) (t : InTime language performs start calls) where
+module _ {A H S : Type 0} (language : Language A H) (performs : S → A → List ℕ → S → Type 0) (start : S) (calls : List DeviceCall) (t : InTime language performs start calls) where
   -- a read that gave none, or failed, added nothing
   within : (bytes : Option (List ℕ)) (l : LastRead calls bytes) (b : Bool) → nat_lt most_bytes (length (given calls)) ≡ b → given calls ≡ given l.before → length (given calls) ≤ most_bytes
   within bytes l false b same = ltb-false most_bytes (length (given calls)) b

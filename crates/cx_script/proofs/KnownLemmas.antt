@@ -18,6 +18,7 @@ use Rattle.cx_script.specs.Laws.Inputs.{InputsDecide}
 use Rattle.cx_script.specs.Laws.KnownBytes.{AreCallsOver, KnownBytesAreRead, KnownBytesDecide, ending_of}
 use Rattle.cx_script.proofs.EndingLemmas.{ended_within}
 use Rattle.cx_script.proofs.InputLemmas.{unfailed}
+use Rattle.cx_edf.specs.Steps.{DisplayMaker}
 
 -- ---- known bytes of which some were read
 left_known : (a b : Option (List ℕ)) (first bytes : List ℕ) → a ≡ Some bytes → Consumes a b first → (rest : List ℕ) × (b ≡ Some rest) × (bytes ≡ first ++ rest)
@@ -36,7 +37,7 @@ nothing : (k : ℕ) (rest : List ℕ) → rest ≡ [] → take k rest ≡ []
 nothing k rest none = ap (take k) none ∙ take-nil k
 
 -- ---- the script of these bytes
-module _ {A S : Type 0} (language : Language A) (performs : S → A → List ℕ → S → Type 0) (start : S) (calls : List DeviceCall) (answer : Result Summary RunFault)
+module _ {A H S : Type 0} (language : Language A H) (performs : S → A → List ℕ → S → Type 0) (start : S) (calls : List DeviceCall) (answer : Result Summary RunFault)
     (s : IsSession language performs start calls answer) (bytes rest : List ℕ) (split : bytes ≡ given calls ++ rest)
     (ended : last_read calls ≡ Some (Some []) → rest ≡ []) (whole : IsEnding calls Failed → ⊥) where
   sum : length bytes ≡ length (given calls) + length rest
@@ -79,17 +80,17 @@ module _ {A S : Type 0} (language : Language A) (performs : S → A → List ℕ
   read_by false e = few_read (ltb-false most_bytes (length (given calls)) e)
 
 module _ {D : Type 0} (reads writes : D → Option (List ℕ) → D → Type 0) (left written : D → Option (List ℕ)) (moves : CallsMoveKnown reads writes left written) where
-  pub known_bytes_are_read : {A S : Type 0} (language : Language A) (performs : S → A → List ℕ → S → Type 0) → KnownBytesAreRead language performs (AreCallsOver reads writes left)
+  pub known_bytes_are_read : {A H S : Type 0} (language : Language A H) (performs : S → A → List ℕ → S → Type 0) → KnownBytesAreRead language performs (AreCallsOver reads writes left)
   known_bytes_are_read language performs start calls answer bytes s over whole =
       let m = moves over.before over.after calls over.made in
       let l = left_known (left over.before) (left over.after) (given calls) bytes over.had m.read in
       read_by language performs start calls answer s bytes l.0 l.2 (λ e. none_left (left over.after) l.0 l.1 (m.ended e)) whole
       (nat_lt most_bytes (length (given calls))) refl
 
-pub known_bytes_decide : (AreOver AreOverToo : List ℕ → List DeviceCall → Type 0) → InputsDecide
-    → ((calls : List DeviceCall) (answer : Result Summary RunFault) (bytes : List ℕ) → IsScriptSession calls answer → AreOver bytes calls → (IsEnding calls Failed → ⊥) → IsReadOf calls (ending_of bytes) (take most_bytes bytes))
-    → ((calls : List DeviceCall) (answer : Result Summary RunFault) (bytes : List ℕ) → IsScriptSession calls answer → AreOverToo bytes calls → (IsEnding calls Failed → ⊥) → IsReadOf calls (ending_of bytes) (take most_bytes bytes))
-    → KnownBytesDecide AreOver AreOverToo
-known_bytes_decide AreOver AreOverToo decide first second calls others answer other bytes s t over over_too e f r q =
-    decide (ending_of bytes) (take most_bytes bytes) calls others answer other s t
-    (first calls answer bytes s over (unfailed calls answer s e r)) (second others other bytes t over_too (unfailed others other t f q)) e f
+pub known_bytes_decide : (make : DisplayMaker) (AreOver AreOverToo : List ℕ → List DeviceCall → Type 0) → InputsDecide
+    → ((calls : List DeviceCall) (answer : Result Summary RunFault) (bytes : List ℕ) → IsScriptSession make calls answer → AreOver bytes calls → (IsEnding calls Failed → ⊥) → IsReadOf calls (ending_of bytes) (take most_bytes bytes))
+    → ((calls : List DeviceCall) (answer : Result Summary RunFault) (bytes : List ℕ) → IsScriptSession make calls answer → AreOverToo bytes calls → (IsEnding calls Failed → ⊥) → IsReadOf calls (ending_of bytes) (take most_bytes bytes))
+    → KnownBytesDecide make AreOver AreOverToo
+known_bytes_decide make AreOver AreOverToo decide first second calls others answer other bytes s t over over_too e f r q =
+    decide make (ending_of bytes) (take most_bytes bytes) calls others answer other s t
+    (first calls answer bytes s over (unfailed make calls answer s e r)) (second others other bytes t over_too (unfailed make others other t f q)) e f

@@ -21,27 +21,27 @@ after_append : {A : Type 0} (a b : List A) (s : Script A) → with_actions_first
 after_append {A} a b s = ap (λ (l : List A). let r : Script A = record { actions = l; fault = s.fault } in r) (sym (append_assoc a b s.actions))
 
 -- where a line leads to a step, or to a fault
-led : {A : Type 0} (due : Result (Step A) RunFault) (step : Step A) (next : Place → Script A) → due ≡ Ok step → led_to due next ≡ with_actions_first step.actions (next step.place)
+led : {A H : Type 0} (due : Result (Step A H) RunFault) (step : Step A H) (next : Place H → Script A) → due ≡ Ok step → led_to due next ≡ with_actions_first step.actions (next step.place)
 led due step next e = ap (λ d. led_to d next) e
 
-not_led : {A : Type 0} (due : Result (Step A) RunFault) (fault : RunFault) (next : Place → Script A) → due ≡ Err fault → led_to due next ≡ record { actions = []; fault = Some fault }
+not_led : {A H : Type 0} (due : Result (Step A H) RunFault) (fault : RunFault) (next : Place H → Script A) → due ≡ Err fault → led_to due next ≡ record { actions = []; fault = Some fault }
 not_led due fault next e = ap (λ d. led_to d next) e
 
 -- a bad line before and after which there is no fault
-only_bad : {A : Type 0} (number : ℕ) (due : Result (Step A) RunFault) (next : Place → Script A) → ((block : Place) → (next block).fault ≡ Some Read) → (led_to due next).fault ≡ Some (BadLine number)
+only_bad : {A H : Type 0} (number : ℕ) (due : Result (Step A H) RunFault) (next : Place H → Script A) → ((block : Place H) → (next block).fault ≡ Some Read) → (led_to due next).fault ≡ Some (BadLine number)
     → due ≡ Err (BadLine number)
 only_bad number (Err fault) next h e = let same : fault ≡ BadLine number = cc in ap Err same
 only_bad number (Ok step) next h e =
     let read : Some Read ≡ Some (BadLine number) = sym (h step.place) ∙ sym (fault_before step.actions (next step.place)) ∙ e in cc
 
 -- a line's own actions are the first of those that it leads to
-begins : {A : Type 0} (due : Result (Step A) RunFault) (next : Place → Script A) → (rest : List A) × ((led_to due next).actions ≡ actions_due due ++ rest)
+begins : {A H : Type 0} (due : Result (Step A H) RunFault) (next : Place H → Script A) → (rest : List A) × ((led_to due next).actions ≡ actions_due due ++ rest)
 begins (Err fault) next = ([], refl)
 begins (Ok step) next = ((next step.place).actions, refl)
 
-own_actions : {A : Type 0} (due : Result (Step A) RunFault) (next : Place → Script A) → ((place : Place) → (next place).actions ≡ []) → (led_to due next).actions ≡ actions_due due
+own_actions : {A H : Type 0} (due : Result (Step A H) RunFault) (next : Place H → Script A) → ((place : Place H) → (next place).actions ≡ []) → (led_to due next).actions ≡ actions_due due
 own_actions (Err fault) next h = refl
-own_actions {A} (Ok step) next h = ap (λ (l : List A). step.actions ++ l) (h step.place) ∙ append-nil step.actions
+own_actions {A} {H} (Ok step) next h = ap (λ (l : List A). step.actions ++ l) (h step.place) ∙ append-nil step.actions
 
 -- what is done is a front of the script's actions
 pub front : {A : Type 0} (script : Script A) (done : List A) (left : Script A) → script ≡ with_actions_first done left → take (length done) script.actions ≡ done
@@ -50,7 +50,7 @@ front {A} script done left e = ap (λ (s : Script A). take (length done) s.actio
 more_of : {A : Type 0} (script left : Script A) (done : List A) (k : ℕ) → script ≡ with_actions_first done left → done ++ take k left.actions ≡ take (length done + k) script.actions
 more_of {A} script left done k e = sym (take-append-add done left.actions k) ∙ ap (λ (s : Script A). take (length done + k) s.actions) (sym e)
 
-module _ {A S : Type 0} (language : Language A) (performs : S → A → List ℕ → S → Type 0) where
+module _ {A H S : Type 0} (language : Language A H) (performs : S → A → List ℕ → S → Type 0) where
   pub runs_one : (old : S) (action : A) (text : List ℕ) (new : S) → performs old action text new → PerformsAll performs old (action ∷ []) text new
   unfolding PerformsAll
   runs_one old action text new p = (new, text, [], p, (refl, refl), sym (append-nil text))
@@ -70,11 +70,11 @@ module _ {A S : Type 0} (language : Language A) (performs : S → A → List ℕ
       (record { text = []; new = old; runs = subst (λ (l : List A). PerformsAll performs old l [] old) (sym e) (refl, refl); written = sends_nil logs before })
 
   -- ---- lines that are done
-  pub took_none : (old : S) (n : ℕ) (block : Place) (w : DeviceOutput (List ℕ)) → Took language performs old n block [] w old n block w
+  pub took_none : (old : S) (n : ℕ) (block : Place H) (w : DeviceOutput (List ℕ)) → Took language performs old n block [] w old n block w
   unfolding PerformsAll
   took_none old n block w = record { done = []; text = []; runs = (refl, refl); written = sends_nil logs w; asks = λ ending more. refl; count = omega arith }
 
-  pub took_line : (old new : S) (n : ℕ) (block next : Place) (line : List ℕ) (before after : DeviceOutput (List ℕ))
+  pub took_line : (old new : S) (n : ℕ) (block next : Place H) (line : List ℕ) (before after : DeviceOutput (List ℕ))
       → TakesLine performs (n + 1) (step_from language (n + 1) block line) old before (Ok tt) new after next → Took language performs old n block (line ∷ []) before new (n + 1) next after
   unfolding TakesLine script_from
   took_line old new n block next line before after t =
@@ -89,7 +89,7 @@ module _ {A S : Type 0} (language : Language A) (performs : S → A → List ℕ
         count = omega arith;
       }
 
-  pub took_trans : (old mid new : S) (n m k : ℕ) (block next last : Place) (lines more : List (List ℕ)) (first after end : DeviceOutput (List ℕ))
+  pub took_trans : (old mid new : S) (n m k : ℕ) (block next last : Place H) (lines more : List (List ℕ)) (first after end : DeviceOutput (List ℕ))
       → Took language performs old n block lines first mid m next after → Took language performs mid m next more after new k last end → Took language performs old n block (lines ++ more) first new k last end
   took_trans old mid new n m k block next last lines more first after end c d =
       record {
@@ -124,7 +124,7 @@ module _ {A S : Type 0} (language : Language A) (performs : S → A → List ℕ
   own_after old mid script left done text fault first after last e r a s =
       (ap (λ (x : Script A). x.fault) e ∙ s.0, all_after old mid script left done text first after last e r a s.1)
 
-  halted_after : (old mid : S) (n m : ℕ) (block next : Place) (lines more : List (List ℕ)) (first after last : DeviceOutput (List ℕ))
+  halted_after : (old mid : S) (n m : ℕ) (block next : Place H) (lines more : List (List ℕ)) (first after last : DeviceOutput (List ℕ))
       → Took language performs old n block lines first mid m next after → HaltedAt language performs mid m next more after last → HaltedAt language performs old n block (lines ++ more) first last
   halted_after old mid n m block next lines more first after last c h =
       let here = take-append-add lines more h.line in
@@ -147,7 +147,7 @@ module _ {A S : Type 0} (language : Language A) (performs : S → A → List ℕ
         done = subst (λ (l : List A). SentAll performs old l first last) done (sent_after old mid c.done (front ++ h.own) c.text first after last c.runs c.written h.done);
       }
 
-  pub halts_after : (old mid : S) (n m : ℕ) (block next : Place) (lines more : List (List ℕ)) (ending : Ending) (fault : RunFault) (first after last : DeviceOutput (List ℕ))
+  pub halts_after : (old mid : S) (n m : ℕ) (block next : Place H) (lines more : List (List ℕ)) (ending : Ending) (fault : RunFault) (first after last : DeviceOutput (List ℕ))
       → Took language performs old n block lines first mid m next after → Halts language performs mid ending m next more fault after last → Halts language performs old ending n block (lines ++ more) fault first last
   unfolding Halts
   halts_after old mid n m block next lines more ending Memory first after last c s = halted_after old mid n m block next lines more first after last c s
@@ -168,7 +168,7 @@ module _ {A S : Type 0} (language : Language A) (performs : S → A → List ℕ
   halts_after old mid n m block next lines more ending ReadBound first after last c s =
       own_after old mid (script_from language ending (n + 1) block (lines ++ more)) (script_from language ending (m + 1) next more) c.done c.text ReadBound first after last (c.asks ending more) c.runs c.written s
 
-  pub closes_after : (old mid : S) (n m : ℕ) (block next : Place) (lines more : List (List ℕ)) (ending : Ending) (answer : Result Summary RunFault) (first after last : DeviceOutput (List ℕ))
+  pub closes_after : (old mid : S) (n m : ℕ) (block next : Place H) (lines more : List (List ℕ)) (ending : Ending) (answer : Result Summary RunFault) (first after last : DeviceOutput (List ℕ))
       → Took language performs old n block lines first mid m next after → Closes language performs mid ending m next more answer after last → Closes language performs old ending n block (lines ++ more) answer first last
   closes_after old mid n m block next lines more ending (Ok summary) first after last c h =
       let e = c.asks ending more in (
@@ -179,7 +179,7 @@ module _ {A S : Type 0} (language : Language A) (performs : S → A → List ℕ
   closes_after old mid n m block next lines more ending (Err fault) first after last c h = halts_after old mid n m block next lines more ending fault first after last c h
 
   -- ---- a line that wasn't taken
-  pub own_fault : (old : S) (ending : Ending) (n : ℕ) (block : Place) (line : List ℕ) (lines : List (List ℕ)) (fault : RunFault) (before after : DeviceOutput (List ℕ))
+  pub own_fault : (old : S) (ending : Ending) (n : ℕ) (block : Place H) (line : List ℕ) (lines : List (List ℕ)) (fault : RunFault) (before after : DeviceOutput (List ℕ))
       → (step_from language (n + 1) block line ≡ Err fault) × (after ≡ before)
       → ((script_from language ending (n + 1) block (line ∷ lines)).fault ≡ Some fault) × SentAll performs old (script_from language ending (n + 1) block (line ∷ lines)).actions before after
   unfolding script_from
@@ -187,13 +187,13 @@ module _ {A S : Type 0} (language : Language A) (performs : S → A → List ℕ
       let bad = not_led (step_from language (n + 1) block line) fault (λ b. script_from language ending (n + 1 + 1) b lines) t.0 in
       (ap (λ (s : Script A). s.fault) bad, sent_none old (script_from language ending (n + 1) block (line ∷ lines)).actions before after (ap (λ (s : Script A). s.actions) bad) t.1)
 
-  without_memory : (old : S) (n : ℕ) (block : Place) (line : List ℕ) (lines : List (List ℕ)) (before after : DeviceOutput (List ℕ))
+  without_memory : (old : S) (n : ℕ) (block : Place H) (line : List ℕ) (lines : List (List ℕ)) (before after : DeviceOutput (List ℕ))
       → (step_from language (n + 1) block line ≡ Err (BadLine (n + 1)) → ⊥) × DoneOf (λ own. SentAll performs old own before after) (actions_due (step_from language (n + 1) block line))
       → HaltedAt language performs old n block (line ∷ lines) before after
   unfolding script_from fault_at_ending
   without_memory old n block line lines before after t =
       let number : n + 0 + 1 ≡ n + 1 = omega arith in
-      let next : Place → Script A = λ b. script_from language Failed (n + 1 + 1) b [] in
+      let next : Place H → Script A = λ b. script_from language Failed (n + 1 + 1) b [] in
       record {
         line = 0;
         within = omega arith;
@@ -206,7 +206,7 @@ module _ {A S : Type 0} (language : Language A) (performs : S → A → List ℕ
         done = t.1.sent;
       }
 
-  unwritten_line : (old : S) (ending : Ending) (n : ℕ) (block : Place) (line : List ℕ) (lines : List (List ℕ)) (before after : DeviceOutput (List ℕ))
+  unwritten_line : (old : S) (ending : Ending) (n : ℕ) (block : Place H) (line : List ℕ) (lines : List (List ℕ)) (before after : DeviceOutput (List ℕ))
       → DoneOf (λ own. SentSome performs old own before after) (actions_due (step_from language (n + 1) block line))
       → (k : ℕ) × SentSome performs old (take k (script_from language ending (n + 1) block (line ∷ lines)).actions) before after
   unfolding script_from
@@ -215,7 +215,7 @@ module _ {A S : Type 0} (language : Language A) (performs : S → A → List ℕ
       let first = seam (script_from language ending (n + 1) block (line ∷ lines)).actions d.own d.left b.0 (b.1 ∙ ap (λ (l : List A). l ++ b.0) d.asked) in
       (length d.own, subst (λ (l : List A). SentSome performs old l before after) (sym first) d.sent)
 
-  pub stops_line : (old new : S) (ending : Ending) (n : ℕ) (block next : Place) (line : List ℕ) (lines : List (List ℕ)) (fault : RunFault) (before after : DeviceOutput (List ℕ))
+  pub stops_line : (old new : S) (ending : Ending) (n : ℕ) (block next : Place H) (line : List ℕ) (lines : List (List ℕ)) (fault : RunFault) (before after : DeviceOutput (List ℕ))
       → TakesLine performs (n + 1) (step_from language (n + 1) block line) old before (Err fault) new after next → Halts language performs old ending n block (line ∷ lines) fault before after
   unfolding TakesLine Halts
   stops_line old new ending n block next line lines (BadLine m) before after t = own_fault old ending n block line lines (BadLine m) before after t
@@ -227,24 +227,24 @@ module _ {A S : Type 0} (language : Language A) (performs : S → A → List ℕ
   stops_line old new ending n block next line lines ReadBound before after t = own_fault old ending n block line lines ReadBound before after t
 
   -- ---- where no line is left
-  ended_by : (old : S) (n : ℕ) (block : Option Block) (bad_look : Option ℕ) (answer : Result Summary RunFault) (w : DeviceOutput (List ℕ))
+  ended_by : (old : S) (n : ℕ) (block : Option (Block H)) (bad_look : Option ℕ) (answer : Result Summary RunFault) (w : DeviceOutput (List ℕ))
       → MatchOption (end_fault block bad_look) (IsOkAnd answer (λ s. s.lines ≡ n)) (λ fault. answer ≡ Err fault)
-      → (let place : Place = record { block = block; bad_look = bad_look } in Closes language performs old AtEnd n place [] answer w w)
+      → (let place : Place H = record { block = block; bad_look = bad_look } in Closes language performs old AtEnd n place [] answer w w)
   unfolding script_from fault_at_ending Halts
   ended_by old n None None (Ok s) w h = (refl, omega (arith, h), sent_none old [] w w refl refl)
   ended_by old n None None (Err fault) w h = absurd h
   ended_by old n None (Some line) (Ok s) w h = cc
   ended_by old n None (Some line) (Err fault) w h =
-      let place : Place = record { block = None; bad_look = Some line } in
+      let place : Place H = record { block = None; bad_look = Some line } in
       let same : BadLook line ≡ fault = cc in
       subst (λ f. Halts language performs old AtEnd n place [] f w w) same (refl, sent_none old [] w w refl refl)
   ended_by old n (Some block) bad_look (Ok s) w h = cc
   ended_by old n (Some block) bad_look (Err fault) w h =
-      let place : Place = record { block = Some block; bad_look = bad_look } in
+      let place : Place H = record { block = Some block; bad_look = bad_look } in
       let same : BadLine (block.line) ≡ fault = cc in
       subst (λ f. Halts language performs old AtEnd n place [] f w w) same (refl, sent_none old [] w w refl refl)
 
-  pub ended : (old : S) (ending : Ending) (n : ℕ) (block : Place) (answer : Result Summary RunFault) (w : DeviceOutput (List ℕ))
+  pub ended : (old : S) (ending : Ending) (n : ℕ) (block : Place H) (answer : Result Summary RunFault) (w : DeviceOutput (List ℕ))
       → MatchOption (fault_at_ending ending block) (IsOkAnd answer (λ s. s.lines ≡ n)) (λ fault. answer ≡ Err fault) → Closes language performs old ending n block [] answer w w
   unfolding script_from fault_at_ending Halts
   ended old AtEnd n block answer w h = ended_by old n block.block block.bad_look answer w h

@@ -113,7 +113,7 @@ no_ending calls bytes l some few AtEnd h = let same = sym l ∙ h in some cc
 no_ending calls bytes l some few Failed h = let same = sym l ∙ h in cc
 no_ending calls bytes l some few PastBound h = omega (arith, h, few)
 
-module _ {A S : Type 0} (language : Language A) (performs : S → A → List ℕ → S → Type 0) where
+module _ {A H S : Type 0} (language : Language A H) (performs : S → A → List ℕ → S → Type 0) where
   -- what is due before a read, at each of these calls and after them
   due_first : (start : S) (calls : List DeviceCall) (first : Option (List ℕ)) (ms : List (Option (List ℕ))) → ((why : Ending) → IsEnding calls why → ⊥)
       → EndsScript language performs start Failed (given calls) (Err Read) (taken calls) → InTime language performs start calls → InTime language performs start (then_read calls first ms)
@@ -161,7 +161,7 @@ module _ {A S : Type 0} (language : Language A) (performs : S → A → List ℕ
 
   module _ {D : Type 0} (reads writes : D → Option (List ℕ) → D → Type 0) where
     -- the complete lines of what was read are done and written
-    pub due_now : (start mid : S) (before now : D) (read m : ℕ) (next : Place) (part : List ℕ) (s : SeenSoFar language performs start reads writes before now read mid m next part)
+    pub due_now : (start mid : S) (before now : D) (read m : ℕ) (next : Place H) (part : List ℕ) (s : SeenSoFar language performs start reads writes before now read mid m next part)
         → IsUnbroken part → is_too_long (strip_carriage_return part) ≡ false → EndsScript language performs start Failed (given s.calls) (Err Read) (taken s.calls)
     unfolding fault_at_ending
     due_now start mid before now read m next part s u short =
@@ -174,7 +174,7 @@ module _ {A S : Type 0} (language : Language A) (performs : S → A → List ℕ
     made_on before now mid then calls bytes ms f r w =
         folds_append (did reads writes) before now then calls (Reading bytes ∷ map Writing ms) f (mid, r, did_writes reads writes mid then ms w)
 
-    pub seen_start : (start : S) (now : D) (n : ℕ) (block : Place) (part : List ℕ) → n ≡ 0 → block ≡ first_place → part ≡ []
+    pub seen_start : (start : S) (now : D) (n : ℕ) (block : Place H) (part : List ℕ) → n ≡ 0 → block ≡ first_place → part ≡ []
         → SeenSoFar language performs start reads writes now now 0 start n block part
     unfolding most_bytes
     seen_start start now n block part e b p =
@@ -188,11 +188,11 @@ module _ {A S : Type 0} (language : Language A) (performs : S → A → List ℕ
           came = came_start language performs start 0 first_place [] (device_output [] []);
         } in
         subst (λ (k : ℕ). SeenSoFar language performs start reads writes now now 0 start k block part) (sym e)
-        (subst (λ (x : Place). SeenSoFar language performs start reads writes now now 0 start 0 x part) (sym b)
+        (subst (λ (x : Place H). SeenSoFar language performs start reads writes now now 0 start 0 x part) (sym b)
         (subst (λ (l : List ℕ). SeenSoFar language performs start reads writes now now 0 start 0 first_place l) (sym p) begun))
 
     -- a piece more, and its lines
-    came_on : (start old new : S) (seen part piece last : List ℕ) (n m : ℕ) (block next : Place) (before after : List ℕ)
+    came_on : (start old new : S) (seen part piece last : List ℕ) (n m : ℕ) (block next : Place H) (before after : List ℕ)
         → Came language performs start 0 first_place seen (device_output [] []) old n block part (device_output before [])
         → Came language performs old n block (part ++ piece) (device_output before []) new m next last (device_output after [])
         → Came language performs start 0 first_place (seen ++ piece) (device_output [] []) new m next last (device_output after [])
@@ -200,7 +200,7 @@ module _ {A S : Type 0} (language : Language A) (performs : S → A → List ℕ
         came_trans language performs start old new 0 n m first_place block next (seen ++ piece) (part ++ piece) last (device_output [] []) (device_output before []) (device_output after [])
         (came_more language performs start old 0 n first_place block seen part piece (device_output [] []) (device_output before []) c) d
 
-    pub seen_taken : (start old new : S) (before now mid then : D) (read took room n m : ℕ) (block next : Place) (part last piece buffer : List ℕ)
+    pub seen_taken : (start old new : S) (before now mid then : D) (read took room n m : ℕ) (block next : Place H) (part last piece buffer : List ℕ)
         → SeenSoFar language performs start reads writes before now read old n block part → IsUnbroken part → is_too_long (strip_carriage_return part) ≡ false
         → reads now (Some (take took buffer)) mid → piece ≡ take room buffer → room ≡ took → took ≤ length buffer → (took ≡ 0 → ⊥) → read + took ≤ 16777216
         → Calling writes mid then (λ x y. Came language performs old n block (part ++ piece) (device_output x []) new m next last (device_output y []))
@@ -226,10 +226,10 @@ module _ {A S : Type 0} (language : Language A) (performs : S → A → List ℕ
         }
 
     -- ---- the last read
-    abbrev ClosesThen : S → ℕ → Place → List ℕ → Ending → Result Summary RunFault → List ℕ → List ℕ → Type 0
+    abbrev ClosesThen : S → ℕ → Place H → List ℕ → Ending → Result Summary RunFault → List ℕ → List ℕ → Type 0
     ClosesThen mid m next part ending answer x y = Closes language performs mid ending m next (lines_met ending part) answer (device_output x []) (device_output y [])
 
-    pub ran_failed : (start old : S) (before now mid then : D) (read m : ℕ) (next : Place) (part : List ℕ) (answer : Result Summary RunFault)
+    pub ran_failed : (start old : S) (before now mid then : D) (read m : ℕ) (next : Place H) (part : List ℕ) (answer : Result Summary RunFault)
         → SeenSoFar language performs start reads writes before now read old m next part → IsUnbroken part → is_too_long (strip_carriage_return part) ≡ false → read ≤ 16777216
         → reads now None mid → Calling writes mid then (ClosesThen old m next part Failed answer) → RanIn language performs start reads writes before answer then
     unfolding most_bytes
@@ -244,7 +244,7 @@ module _ {A S : Type 0} (language : Language A) (performs : S → A → List ℕ
         (subst (EndsScript language performs start Failed (given s.calls) answer) (sym (then_taken s.calls None c.calls))
         (ends_from language performs start old (given s.calls) part Failed m next answer (taken s.calls) (taken s.calls ++ taken (map Writing c.calls)) s.came (c.does (taken s.calls))))
 
-    pub ran_at_end : (start old : S) (before now mid then : D) (read took m : ℕ) (buffer : List ℕ) (next : Place) (part : List ℕ) (answer : Result Summary RunFault)
+    pub ran_at_end : (start old : S) (before now mid then : D) (read took m : ℕ) (buffer : List ℕ) (next : Place H) (part : List ℕ) (answer : Result Summary RunFault)
         → SeenSoFar language performs start reads writes before now read old m next part → IsUnbroken part → is_too_long (strip_carriage_return part) ≡ false → read ≤ 16777216
         → took ≡ 0 → reads now (Some (take took buffer)) mid → Calling writes mid then (ClosesThen old m next part AtEnd answer) → RanIn language performs start reads writes before answer then
     unfolding most_bytes
@@ -261,7 +261,7 @@ module _ {A S : Type 0} (language : Language A) (performs : S → A → List ℕ
         (subst (EndsScript language performs start AtEnd (given s.calls) answer) (sym (then_taken s.calls (Some []) c.calls))
         (ends_from language performs start old (given s.calls) part AtEnd m next answer (taken s.calls) (taken s.calls ++ taken (map Writing c.calls)) s.came (c.does (taken s.calls))))
 
-    pub ran_piece_stopped : (start old : S) (before now mid then : D) (read took room n : ℕ) (block : Place) (part piece buffer : List ℕ) (fault : RunFault)
+    pub ran_piece_stopped : (start old : S) (before now mid then : D) (read took room n : ℕ) (block : Place H) (part piece buffer : List ℕ) (fault : RunFault)
         → SeenSoFar language performs start reads writes before now read old n block part → IsUnbroken part → is_too_long (strip_carriage_return part) ≡ false
         → reads now (Some (take took buffer)) mid → piece ≡ take room buffer → room ≤ took → took ≤ length buffer → read + room ≤ 16777216 → (room < took → read + room ≡ 16777216)
         → Calling writes mid then (λ x y. Stopped language performs old n block (part ++ piece) fault (device_output x []) (device_output y []))
@@ -280,7 +280,7 @@ module _ {A S : Type 0} (language : Language A) (performs : S → A → List ℕ
         (ap (take most_bytes) (then_given s.calls bytes c.calls) ∙ cut)
         (subst (λ (l : List ℕ). Stopped language performs start 0 first_place (given s.calls ++ piece) fault (device_output [] []) (device_output l [])) (sym (then_taken s.calls (Some bytes) c.calls)) stopped)
 
-    pub ran_past : (start old new : S) (before now mid then : D) (read took room n m : ℕ) (block next : Place) (part last piece buffer : List ℕ) (answer : Result Summary RunFault)
+    pub ran_past : (start old new : S) (before now mid then : D) (read took room n m : ℕ) (block next : Place H) (part last piece buffer : List ℕ) (answer : Result Summary RunFault)
         → SeenSoFar language performs start reads writes before now read old n block part → IsUnbroken part → is_too_long (strip_carriage_return part) ≡ false
         → reads now (Some (take took buffer)) mid → piece ≡ take room buffer → room < took → took ≤ length buffer → read + room ≡ 16777216
         → Calling writes mid then (λ x z. (y : List ℕ) × Came language performs old n block (part ++ piece) (device_output x []) new m next last (device_output y []) × ClosesThen new m next last PastBound answer y z)

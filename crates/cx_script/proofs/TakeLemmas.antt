@@ -26,10 +26,10 @@ nothing before mid after waits e t =
     ap (λ w. device_output w []) all
 
 -- the faults of a step are those of the line
-abbrev led : {A : Type 0} → (LineStep A → Step A) → Result (LineStep A) RunFault → Result (Step A) RunFault
+abbrev led : {A H : Type 0} → (LineStep A H → Step A H) → Result (LineStep A H) RunFault → Result (Step A H) RunFault
 led f due = result_map_both f (λ fault. fault) due
 
-not_led : {A : Type 0} (f : LineStep A → Step A) (due : Result (LineStep A) RunFault) (fault : RunFault) → led f due ≡ Err fault → due ≡ Err fault
+not_led : {A H : Type 0} (f : LineStep A H → Step A H) (due : Result (LineStep A H) RunFault) (fault : RunFault) → led f due ≡ Err fault → due ≡ Err fault
 not_led f (Ok step) fault e = cc
 not_led f (Err own) fault e = let same : own ≡ fault = cc in ap Err same
 
@@ -38,12 +38,12 @@ module _ {A S : Type 0} (performs : S → A → List ℕ → S → Type 0) where
   unfolding PerformsAll
   none_done old before = record { text = []; new = old; runs = (refl, refl); written = sends_nil logs before }
 
-  own : (number : ℕ) (due : Result (Step A) RunFault) (met fault : RunFault) (old : S) (before : DeviceOutput (List ℕ)) (block : Place)
+  own : {H : Type 0} (number : ℕ) (due : Result (Step A H) RunFault) (met fault : RunFault) (old : S) (before : DeviceOutput (List ℕ)) (block : Place H)
       → met ≡ fault → TakesLine performs number due old before (Err met) old before block → TakesLine performs number due old before (Err fault) old before block
   own number due met fault old before block e t = subst (λ f. TakesLine performs number due old before (Err f) old before block) e t
 
   -- a line's own fault, or Memory where it isn't a bad one
-  pub line_faulty : (number : ℕ) (f : LineStep A → Step A) (due r : Result (LineStep A) RunFault) (fault : RunFault) (old : S) (before : DeviceOutput (List ℕ)) (block : Place)
+  pub line_faulty : {H : Type 0} (number : ℕ) (f : LineStep A H → Step A H) (due r : Result (LineStep A H) RunFault) (fault : RunFault) (old : S) (before : DeviceOutput (List ℕ)) (block : Place H)
       → r ≡ Err fault → (is_memory r ≡ false → r ≡ due) → (due ≡ Err (BadLine number) → r ≡ Err (BadLine number)) → is_write r ≡ false
       → TakesLine performs number (led f due) old before (Err fault) old before block
   unfolding TakesLine
@@ -64,13 +64,13 @@ module _ {A S : Type 0} (performs : S → A → List ℕ → S → Type 0) where
       ((λ is. let reported = bad (not_led f due (BadLine number) is) in cc), record { own = []; left = actions_due (led f due); asked = refl; sent = none_done old before })
 
   -- ---- a line after which what waits is written
-  pub line_written : (number : ℕ) (due : Result (Step A) RunFault) (old new : S) (before after : List ℕ) (mid : List ℕ) (waits : List ℕ) (block : Place)
+  pub line_written : {H : Type 0} (number : ℕ) (due : Result (Step A H) RunFault) (old new : S) (before after : List ℕ) (mid : List ℕ) (waits : List ℕ) (block : Place H)
       → TakesLine performs number due old (device_output before []) (Ok tt) new (device_output mid waits) block → Takes logs mid after waits
       → TakesLine performs number due old (device_output before []) (Ok tt) new (device_output after []) block
   unfolding TakesLine
   line_written number due old new before after mid waits block t w = (t.0, t.1, t.2, t.3, t.4, sends_flushed logs (device_output before []) mid after waits t.3 t.5 w)
 
-  line_flushed : (number : ℕ) (due : Result (Step A) RunFault) (fault : RunFault) (old new : S) (before after : List ℕ) (mid : List ℕ) (waits : List ℕ) (block : Place)
+  line_flushed : {H : Type 0} (number : ℕ) (due : Result (Step A H) RunFault) (fault : RunFault) (old new : S) (before after : List ℕ) (mid : List ℕ) (waits : List ℕ) (block : Place H)
       → is_write (let r : Result (Unit {0}) RunFault = Err fault in r) ≡ false
       → TakesLine performs number due old (device_output before []) (Err fault) new (device_output mid waits) block → Takes logs mid after waits
       → TakesLine performs number due old (device_output before []) (Err fault) new (device_output after []) block
@@ -92,13 +92,13 @@ module _ {A S : Type 0} (performs : S → A → List ℕ → S → Type 0) where
         },
       )
 
-  pub line_served : (number : ℕ) (due : Result (Step A) RunFault) (r : Result (Unit {0}) RunFault) (old new : S) (before after : List ℕ) (mid : List ℕ) (waits : List ℕ) (block : Place)
+  pub line_served : {H : Type 0} (number : ℕ) (due : Result (Step A H) RunFault) (r : Result (Unit {0}) RunFault) (old new : S) (before after : List ℕ) (mid : List ℕ) (waits : List ℕ) (block : Place H)
       → is_write r ≡ false → TakesLine performs number due old (device_output before []) r new (device_output mid waits) block → Takes logs mid after waits
       → TakesLine performs number due old (device_output before []) r new (device_output after []) block
   line_served number due (Ok done) old new before after mid waits block e t w = line_written number due old new before after mid waits block t w
   line_served number due (Err fault) old new before after mid waits block e t w = line_flushed number due fault old new before after mid waits block e t w
 
-  none_written : (number : ℕ) (due : Result (Step A) RunFault) (old : S) (before after : List ℕ) (mid : List ℕ) (waits : List ℕ) → device_output mid waits ≡ device_output before [] → TakesFront logs mid after waits
+  none_written : {H : Type 0} (number : ℕ) (due : Result (Step A H) RunFault) (old : S) (before after : List ℕ) (mid : List ℕ) (waits : List ℕ) → device_output mid waits ≡ device_output before [] → TakesFront logs mid after waits
       → DoneOf (λ own. SentSome performs old own (device_output before []) (device_output after [])) (actions_due due)
   unfolding PerformsAll
   none_written number due old before after mid waits e w =
@@ -115,7 +115,7 @@ module _ {A S : Type 0} (performs : S → A → List ℕ → S → Type 0) where
         };
       }
 
-  pub line_unwritten : (number : ℕ) (due : Result (Step A) RunFault) (r : Result (Unit {0}) RunFault) (old new : S) (before after : List ℕ) (mid : List ℕ) (waits : List ℕ) (block : Place)
+  pub line_unwritten : {H : Type 0} (number : ℕ) (due : Result (Step A H) RunFault) (r : Result (Unit {0}) RunFault) (old new : S) (before after : List ℕ) (mid : List ℕ) (waits : List ℕ) (block : Place H)
       → is_write r ≡ false → TakesLine performs number due old (device_output before []) r new (device_output mid waits) block → TakesFront logs mid after waits
       → TakesLine performs number due old (device_output before []) (Err Write) new (device_output after []) block
   unfolding TakesLine
@@ -142,7 +142,7 @@ module _ {A S : Type 0} (performs : S → A → List ℕ → S → Type 0) where
   line_unwritten number due (Err Write) old new before after mid waits block e t w = cc
 
   -- after a failed write it doesn't matter what waits
-  pub line_failed : (number : ℕ) (due : Result (Step A) RunFault) (r : Result (Unit {0}) RunFault) (old new : S) (before after : List ℕ) (waits : List ℕ) (block : Place)
+  pub line_failed : {H : Type 0} (number : ℕ) (due : Result (Step A H) RunFault) (r : Result (Unit {0}) RunFault) (old new : S) (before after : List ℕ) (waits : List ℕ) (block : Place H)
       → is_write r ≡ true → TakesLine performs number due old (device_output before []) r new (device_output after waits) block
       → TakesLine performs number due old (device_output before []) r new (device_output after []) block
   unfolding TakesLine
@@ -158,8 +158,8 @@ module _ {A S : Type 0} (performs : S → A → List ℕ → S → Type 0) where
       record { own = t.own; left = t.left; asked = t.asked; sent = record { text = d.text; new = d.new; runs = d.runs; written = d.written } }
 
   -- ---- actions, one after another
-  module _ (language : Language A) (refused : S → A → S → Type 0) where
-    pub line_acted : (number : ℕ) (f : LineStep A → Step A) (due : Result (LineStep A) RunFault) (step : LineStep A) (old new : S) (before after : DeviceOutput (List ℕ)) (r : Result (Unit {0}) RunFault)
+  module _ {H : Type 0} (language : Language A H) (refused : S → A → S → Type 0) where
+    pub line_acted : (number : ℕ) (f : LineStep A H → Step A H) (due : Result (LineStep A H) RunFault) (step : LineStep A H) (old new : S) (before after : DeviceOutput (List ℕ)) (r : Result (Unit {0}) RunFault)
         → due ≡ Ok step → Acted performs refused (f step).actions old before r new after
         → TakesLine performs number (led f due) old before r new after (f step).place
     unfolding TakesLine Acted
@@ -261,14 +261,14 @@ module _ {A S : Type 0} (performs : S → A → List ℕ → S → Type 0) where
           calling_so writes a b (λ x y. TakesFront logs x y (waits ++ shown)) (λ x y. ActsOnce performs refused action old (device_output x waits) (Err Write) new (device_output y left))
           (calling_front writes a b (waits ++ shown) s) (λ x y h. (shown, subst (λ (l : List ℕ). performs old action l new) (sym same) p, h))
 
-    pub acts_first : (language : Language A) (a : W) (first : Option A) (waits : List ℕ) (old : S)
+    pub acts_first : {H : Type 0} (language : Language A H) (a : W) (first : Option A) (waits : List ℕ) (old : S)
         → Calling writes a a (λ x y. Acting language performs first old (device_output x waits) first old (device_output y waits))
     unfolding PerformsAll
     acts_first language a first waits old =
         calling_none writes a (λ x y. Acting language performs first old (device_output x waits) first old (device_output y waits))
         (λ x. record { done = []; asked = refl; text = []; runs = (refl, refl); written = sends_nil logs (device_output x waits) })
 
-    pub acts_on : (language : Language A) (refused : S → A → S → Type 0) (a b c : W) (first due next : Option A) (action : A) (waits left last : List ℕ) (old mid new : S)
+    pub acts_on : {H : Type 0} (language : Language A H) (refused : S → A → S → Type 0) (a b c : W) (first due next : Option A) (action : A) (waits left last : List ℕ) (old mid new : S)
         → Calling writes a b (λ x y. Acting language performs first old (device_output x waits) due mid (device_output y left)) → due ≡ Some action
         → language.actions_of action ≡ action ∷ actions_of language next
         → Calling writes b c (λ x y. ActsOnce performs refused action mid (device_output x left) (Ok tt) new (device_output y last))
@@ -279,7 +279,7 @@ module _ {A S : Type 0} (performs : S → A → List ℕ → S → Type 0) where
         (λ x y. Acting language performs first old (device_output x waits) next new (device_output y last)) p q
         (λ x y z g o. step_on language refused first due next action old mid new (device_output x waits) (device_output y left) (device_output z last) g e n o)
 
-    pub acts_stopped : (language : Language A) (refused : S → A → S → Type 0) (a b c : W) (first due next : Option A) (action : A) (fault : RunFault) (waits left last : List ℕ) (old mid new : S)
+    pub acts_stopped : {H : Type 0} (language : Language A H) (refused : S → A → S → Type 0) (a b c : W) (first due next : Option A) (action : A) (fault : RunFault) (waits left last : List ℕ) (old mid new : S)
         → Calling writes a b (λ x y. Acting language performs first old (device_output x waits) due mid (device_output y left)) → due ≡ Some action
         → language.actions_of action ≡ action ∷ actions_of language next
         → Calling writes b c (λ x y. ActsOnce performs refused action mid (device_output x left) (Err fault) new (device_output y last))
@@ -290,7 +290,7 @@ module _ {A S : Type 0} (performs : S → A → List ℕ → S → Type 0) where
         (λ x y. Acted performs refused (actions_of language first) old (device_output x waits) (Err fault) new (device_output y last)) p q
         (λ x y z g o. step_stopped language refused first due next action fault old mid new (device_output x waits) (device_output y left) (device_output z last) g e n o)
 
-    pub acts_done : (language : Language A) (refused : S → A → S → Type 0) (a b : W) (first due : Option A) (waits left : List ℕ) (old new : S)
+    pub acts_done : {H : Type 0} (language : Language A H) (refused : S → A → S → Type 0) (a b : W) (first due : Option A) (waits left : List ℕ) (old new : S)
         → Calling writes a b (λ x y. Acting language performs first old (device_output x waits) due new (device_output y left)) → due ≡ None
         → Calling writes a b (λ x y. Acted performs refused (actions_of language first) old (device_output x waits) (Ok tt) new (device_output y left))
     acts_done language refused a b first due waits left old new p e =
@@ -298,10 +298,10 @@ module _ {A S : Type 0} (performs : S → A → List ℕ → S → Type 0) where
         (λ x y. Acted performs refused (actions_of language first) old (device_output x waits) (Ok tt) new (device_output y left)) p
         (λ x y g. all_acted language refused first due old new (device_output x waits) (device_output y left) g e)
 
-    abbrev LineIs : ℕ → Result (Step A) RunFault → S → List ℕ → Result (Unit {0}) RunFault → S → List ℕ → Place → List ℕ → List ℕ → Type 0
+    abbrev LineIs : {H : Type 0} → ℕ → Result (Step A H) RunFault → S → List ℕ → Result (Unit {0}) RunFault → S → List ℕ → Place H → List ℕ → List ℕ → Type 0
     LineIs number due old waits r new left block x y = TakesLine performs number due old (device_output x waits) r new (device_output y left) block
 
-    pub take_faulty : (language : Language A) (a : W) (number : ℕ) (place : Place) (line : List ℕ) (r : Result (LineStep A) RunFault) (fault : RunFault) (old : S) (waits : List ℕ) (block : Place)
+    pub take_faulty : {H : Type 0} (language : Language A H) (a : W) (number : ℕ) (place : Place H) (line : List ℕ) (r : Result (LineStep A H) RunFault) (fault : RunFault) (old : S) (waits : List ℕ) (block : Place H)
         → r ≡ Err fault → (is_memory r ≡ false → r ≡ step_at language number place.block line) → (step_at language number place.block line ≡ Err (BadLine number) → r ≡ Err (BadLine number)) → is_write r ≡ false
         → Calling writes a a (λ x y. TakesLine performs number (step_from language number place line) old (device_output x waits) (Err fault) old (device_output y waits) block)
     unfolding step_from
@@ -309,7 +309,7 @@ module _ {A S : Type 0} (performs : S → A → List ℕ → S → Type 0) where
         calling_none writes a (LineIs number (step_from language number place line) old waits (Err fault) old waits block)
         (λ x. line_faulty number (stepped language number place) (step_at language number place.block line) r fault old (device_output x waits) block e h bad w)
 
-    pub take_acted : (language : Language A) (refused : S → A → S → Type 0) (a b : W) (number : ℕ) (place : Place) (line : List ℕ) (step : LineStep A) (old new : S) (waits left : List ℕ) (r : Result (Unit {0}) RunFault)
+    pub take_acted : {H : Type 0} (language : Language A H) (refused : S → A → S → Type 0) (a b : W) (number : ℕ) (place : Place H) (line : List ℕ) (step : LineStep A H) (old new : S) (waits left : List ℕ) (r : Result (Unit {0}) RunFault)
         → step_at language number place.block line ≡ Ok step
         → Calling writes a b (λ x y. Acted performs refused (actions_of language step.action) old (device_output x waits) r new (device_output y left))
         → Calling writes a b (λ x y. TakesLine performs number (step_from language number place line) old (device_output x waits) r new (device_output y left) (stepped language number place step).place)
@@ -319,26 +319,26 @@ module _ {A S : Type 0} (performs : S → A → List ℕ → S → Type 0) where
         (LineIs number (step_from language number place line) old waits r new left (stepped language number place step).place) c
         (λ x y h. line_acted language refused number (stepped language number place) (step_at language number place.block line) step old new (device_output x waits) (device_output y left) r e h)
 
-    pub take_long : (a : W) (number : ℕ) (due : Result (Step A) RunFault) (old : S) (waits : List ℕ) (block : Place) → due ≡ Err (BadLine number)
+    pub take_long : {H : Type 0} (a : W) (number : ℕ) (due : Result (Step A H) RunFault) (old : S) (waits : List ℕ) (block : Place H) → due ≡ Err (BadLine number)
         → Calling writes a a (λ x y. TakesLine performs number due old (device_output x waits) (Err (BadLine number)) old (device_output y waits) block)
     unfolding TakesLine
     take_long a number due old waits block e = calling_none writes a (LineIs number due old waits (Err (BadLine number)) old waits block) (λ x. (e, refl))
 
-    pub take_served : (a b c : W) (number : ℕ) (due : Result (Step A) RunFault) (r : Result (Unit {0}) RunFault) (old new : S) (waits : List ℕ) (block : Place) → is_write r ≡ false
+    pub take_served : {H : Type 0} (a b c : W) (number : ℕ) (due : Result (Step A H) RunFault) (r : Result (Unit {0}) RunFault) (old new : S) (waits : List ℕ) (block : Place H) → is_write r ≡ false
         → Calling writes a b (λ x y. TakesLine performs number due old (device_output x []) r new (device_output y waits) block) → Takes writes b c waits
         → Calling writes a c (λ x y. TakesLine performs number due old (device_output x []) r new (device_output y []) block)
     take_served a b c number due r old new waits block e p t =
         calling_then writes a b c (LineIs number due old [] r new waits block) (λ x y. Takes logs x y waits) (LineIs number due old [] r new [] block) p (calling_takes writes b c waits t)
         (λ x y z h k. line_served number due r old new x z y waits block e h k)
 
-    pub take_unwritten : (a b c : W) (number : ℕ) (due : Result (Step A) RunFault) (r : Result (Unit {0}) RunFault) (old new : S) (waits : List ℕ) (block : Place) → is_write r ≡ false
+    pub take_unwritten : {H : Type 0} (a b c : W) (number : ℕ) (due : Result (Step A H) RunFault) (r : Result (Unit {0}) RunFault) (old new : S) (waits : List ℕ) (block : Place H) → is_write r ≡ false
         → Calling writes a b (λ x y. TakesLine performs number due old (device_output x []) r new (device_output y waits) block) → TakesFront writes b c waits
         → Calling writes a c (λ x y. TakesLine performs number due old (device_output x []) (Err Write) new (device_output y []) block)
     take_unwritten a b c number due r old new waits block e p t =
         calling_then writes a b c (LineIs number due old [] r new waits block) (λ x y. TakesFront logs x y waits) (LineIs number due old [] (Err Write) new [] block) p (calling_front writes b c waits t)
         (λ x y z h k. line_unwritten number due r old new x z y waits block e h k)
 
-    pub take_failed : (a b : W) (number : ℕ) (due : Result (Step A) RunFault) (r : Result (Unit {0}) RunFault) (old new : S) (waits : List ℕ) (block : Place)
+    pub take_failed : {H : Type 0} (a b : W) (number : ℕ) (due : Result (Step A H) RunFault) (r : Result (Unit {0}) RunFault) (old new : S) (waits : List ℕ) (block : Place H)
         → Calling writes a b (λ x y. TakesLine performs number due old (device_output x []) r new (device_output y waits) block) → is_write r ≡ true
         → Calling writes a b (λ x y. TakesLine performs number due old (device_output x []) r new (device_output y []) block)
     take_failed a b number due r old new waits block p e =

@@ -15,6 +15,7 @@ use Rattle.cx_script.proofs.FaultLemmas.{never_faultless}
 use Rattle.cx_script_blocks.specs.declared.faults.Summary.{Summary}
 use Rattle.cx_script_io.specs.declared.input.Ending.{Ending}
 use Rattle.cx_script_io.specs.declared.input.Ending.TheVariants.{AtEnd, Failed, PastBound}
+use Rattle.cx_edf.specs.Steps.{DisplayMaker}
 
 same_parts : (parts : List (List ℕ)) → lines_of_parts AtEnd parts ≡ std_lines_of_parts parts
 same_parts [] = refl
@@ -26,27 +27,27 @@ unfolding lines_met
 same_lines_met bytes = same_parts (slice_split (λ b. b == 10) bytes)
 
 -- an Ok is the whole script
-whole_by : (calls : List DeviceCall) (summary : Summary) (s : IsScriptSession calls (Ok summary)) (why : Ending) → IsEnding calls why → IsEnding calls AtEnd × IsTranscribed (given calls) summary.lines (taken calls)
+whole_by : (make : DisplayMaker) (calls : List DeviceCall) (summary : Summary) (s : IsScriptSession make calls (Ok summary)) (why : Ending) → IsEnding calls why → IsEnding calls AtEnd × IsTranscribed make (given calls) summary.lines (taken calls)
 unfolding EndsScript
-whole_by calls summary s AtEnd h =
-    let e = s.ends AtEnd (given calls) (read_whole edf_language Performs fresh_state calls s.in_time AtEnd h refl) in
-    (h, record { within = ended_within edf_language Performs fresh_state calls s.in_time AtEnd h refl; faultless = e.0; count = e.1 ∙ ap length (same_lines_met (given calls)); transcript = e.2 })
-whole_by calls summary s Failed h =
-    let e = s.ends Failed (take most_bytes (given calls)) (read_ended edf_language Performs fresh_state calls s.in_time Failed h) in
+whole_by make calls summary s AtEnd h =
+    let e = s.ends AtEnd (given calls) (read_whole edf_language (Performs make) fresh_state calls s.in_time AtEnd h refl) in
+    (h, record { within = ended_within edf_language (Performs make) fresh_state calls s.in_time AtEnd h refl; faultless = e.0; count = e.1 ∙ ap length (same_lines_met (given calls)); transcript = e.2 })
+whole_by make calls summary s Failed h =
+    let e = s.ends Failed (take most_bytes (given calls)) (read_ended edf_language (Performs make) fresh_state calls s.in_time Failed h) in
     absurd (never_faultless edf_language Failed (take most_bytes (given calls)) refl e.0)
-whole_by calls summary s PastBound h =
-    let e = s.ends PastBound (take most_bytes (given calls)) (read_ended edf_language Performs fresh_state calls s.in_time PastBound h) in
+whole_by make calls summary s PastBound h =
+    let e = s.ends PastBound (take most_bytes (given calls)) (read_ended edf_language (Performs make) fresh_state calls s.in_time PastBound h) in
     absurd (never_faultless edf_language PastBound (take most_bytes (given calls)) refl e.0)
 
-whole_in : (calls : List DeviceCall) (summary : Summary) (s : IsScriptSession calls (Ok summary)) → Endings calls → IsEnding calls AtEnd × IsTranscribed (given calls) summary.lines (taken calls)
+whole_in : (make : DisplayMaker) (calls : List DeviceCall) (summary : Summary) (s : IsScriptSession make calls (Ok summary)) → Endings calls → IsEnding calls AtEnd × IsTranscribed make (given calls) summary.lines (taken calls)
 unfolding EndsScript
-whole_in calls summary s (inl w) = whole_by calls summary s w.0 w.1
-whole_in calls summary s (inr none) =
+whole_in make calls summary s (inl w) = whole_by make calls summary s w.0 w.1
+whole_in make calls summary s (inr none) =
     let e = s.ends Failed (take most_bytes (given calls)) (read_open calls none Failed) in
     absurd (never_faultless edf_language Failed (take most_bytes (given calls)) refl e.0)
 
 pub ok_whole : OkIsTheWholeScript
-ok_whole calls summary s = whole_in calls summary s (ending_of calls)
+ok_whole make calls summary s = whole_in make calls summary s (ending_of calls)
 
 -- two runs of the same actions are one
 module _ {A S : Type 0} (performs : S → A → List ℕ → S → Type 0)

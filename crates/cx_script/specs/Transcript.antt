@@ -30,12 +30,12 @@ abbrev pub IsFront : List ℕ → List ℕ → Type 0
 IsFront bytes text = (n : ℕ) × (bytes ≡ take n text)
 
 -- what the first n lines ask, as if no more could be read
-abbrev pub front_of : {A : Type 0} → Language A → List (List ℕ) → ℕ → Script A
+abbrev pub front_of : {A H : Type 0} → Language A H → List (List ℕ) → ℕ → Script A
 front_of language lines n = script_from language Failed 1 first_place (take n lines)
 
 -- A run without memory stopped at a line: those in front of it have no fault, and are done and written, and so are the
 -- actions of the line's own in front of the one that had no memory; and it isn't a bad one.
-pub record StoppedAt {A S : Type 0} (language : Language A) (performs : S → A → List ℕ → S → Type 0) (old : S)
+pub record StoppedAt {A H S : Type 0} (language : Language A H) (performs : S → A → List ℕ → S → Type 0) (old : S)
     (lines : List (List ℕ)) (written : List ℕ) : Type 0 where
   -- how many are in front of it
   pub line : ℕ
@@ -51,7 +51,7 @@ pub record StoppedAt {A S : Type 0} (language : Language A) (performs : S → A 
 -- How a run of the script that these bytes are ended, and what it wrote. Ok: all of its actions are done and written.
 -- Without memory it stopped at an action of a line; after a failed write some of its actions are done, and a front of
 -- their transcript is written; any other fault is the script's own, and everything in front of it is done and written.
-unfoldable pub EndsScript : {A S : Type 0} → Language A → (S → A → List ℕ → S → Type 0) → S → Ending → List ℕ
+unfoldable pub EndsScript : {A H S : Type 0} → Language A H → (S → A → List ℕ → S → Type 0) → S → Ending → List ℕ
     → Result Summary RunFault → List ℕ → Type 0
 EndsScript language performs old ending bytes (Ok summary) written =
     let script = script_in language ending bytes in

@@ -6,6 +6,7 @@ ghost use Rattle.cx_script_io.specs.Lines.{lines_met};
 ghost use Rattle.cx_asm_execution.specs.Laws.Entry.{ReachesEntry};
 ghost use Rattle.cx_asm_execution.specs.Arrival.{CommandsArrive};
 ghost use Rattle.cx_edf.specs.State.{EdfState};
+ghost use Rattle.cx_edf.specs.Steps.{DisplayMaker};
 ghost use Rattle.cx_script_actions.specs.Effects.{Performs};
 ghost use Rattle.cx_script.specs.Transcript.{PerformsAll};
 ghost use Rattle.cx_script.specs.Laws.WholeScripts.{OkIsTheWholeScript};
@@ -19,6 +20,7 @@ ghost use Rattle.cx_script_blocks.specs.declared.faults.Summary.{Summary};
 ghost use Rattle.cx_script_io.specs.declared.input.Ending.TheVariants.{AtEnd};
 
 use crate::script::EdfPerformer;
+use cx_edf::MakesDisplays;
 use cx_script_actions::{Performer, ScriptAction};
 use cx_script_io::ScriptDevices;
 
@@ -58,12 +60,12 @@ pub fn known_bytes_are_read<P: Performer, D: ScriptDevices>()
 
 /// Where the bytes that readers have are known, they decide the answer and the transcript, whatever the devices are,
 /// unless lack of memory or the writer stops the run, or a read fails.
-pub fn known_bytes_decide<D: ScriptDevices, E: ScriptDevices>()
-    ensures { KnownBytesDecide (AreCallsOver D.reads D.writes D.left) (AreCallsOver E.reads E.writes E.left) }
+pub fn known_bytes_decide<M: MakesDisplays, D: ScriptDevices, E: ScriptDevices>()
+    ensures { KnownBytesDecide M.make (AreCallsOver D.reads D.writes D.left) (AreCallsOver E.reads E.writes E.left) }
 {
     the_input_decides();
-    known_bytes_are_read::<EdfPerformer, D>();
-    known_bytes_are_read::<EdfPerformer, E>();
+    known_bytes_are_read::<EdfPerformer<M>, D>();
+    known_bytes_are_read::<EdfPerformer<M>, E>();
 }
 
 /// A front of a script is a script: the actions that its complete lines give, and a fault met there, are those of the
@@ -82,8 +84,9 @@ pub fn bad_lines_are_bad<A: ScriptAction>()
 /// An action on a region under EDF has one outcome: the state and the action determine what is written, and the state
 /// afterwards.
 pub fn an_action_has_one_outcome()
-    ensures { (old : EdfState) (action : Action) (text other : List ℕ) (new another : EdfState) →
-        Performs old action text new → Performs old action other another → (text ≡ other) × (new ≡ another) }
+    ensures { (make : DisplayMaker) (old : EdfState) (action : Action) (text other : List ℕ) (new another : EdfState)
+        → Performs make old action text new → Performs make old action other another
+        → (text ≡ other) × (new ≡ another) }
 {
     cx_edf::laws::edf_events_decide();
 }
@@ -91,8 +94,9 @@ pub fn an_action_has_one_outcome()
 /// A list of actions on a region under EDF has one outcome: the state and the list determine the transcript, and the
 /// state afterwards.
 pub fn a_transcript_is_one()
-    ensures { (old : EdfState) (actions : List Action) (text other : List ℕ) (new another : EdfState)
-        → PerformsAll Performs old actions text new → PerformsAll Performs old actions other another
+    ensures { (make : DisplayMaker) (old : EdfState) (actions : List Action) (text other : List ℕ)
+        (new another : EdfState)
+        → PerformsAll (Performs make) old actions text new → PerformsAll (Performs make) old actions other another
         → (text ≡ other) × (new ≡ another) }
 {
     an_action_has_one_outcome();

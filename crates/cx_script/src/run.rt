@@ -32,16 +32,16 @@ const MOST_BYTES: usize = 16_777_216;
 
 /// What the lines of a script that were taken leave to the next one.
 #[derive(Drop)]
-pub struct Place {
+pub struct Place<H> {
     /// The block that the next line is in, where it is in one.
-    pub block: Option<Block>,
+    pub block: Option<Block<H>>,
     /// The number of the line with the first bad look, counted from 1, where there was one.
     pub bad_look: Option<usize>,
 }
 
-impl Place {
+impl<H> Place<H> {
     /// That of a script's first line.
-    fn first() -> Place
+    fn first() -> Place<H>
         ensures { result ≡ first_place }
     {
         Place {
@@ -110,7 +110,7 @@ fn bad_look_after<A: ScriptAction>(
     ensures { result ≡ bad_look_after A.language number before action.now }
 {
     match action {
-        Some(action) if before.is_none() && action.is_bad_look() => Some(number),
+        Some(action) if before.is_none() && action.is_deferred_fault() => Some(number),
         _ => before,
     }
 }
@@ -118,11 +118,11 @@ fn bad_look_after<A: ScriptAction>(
 /// Lines that were taken: what they were performed on, the texts that wait to be written, how many they are, and what
 /// they leave to the next one.
 #[derive(Drop)]
-pub struct Progress<P> {
+pub struct Progress<P: Performer> {
     performer: P,
     waiting: OutputBuffer,
     lines: usize,
-    place: Place,
+    place: Place<<P::Action as ScriptAction>::Heading>,
 }
 
 impl<P: Performer + Drop> Progress<P> {
@@ -213,7 +213,7 @@ impl<P: Performer + Drop> Progress<P> {
 
 /// A run of a script: the lines that were taken so far, and the bytes of the next one that were read.
 #[derive(Drop)]
-pub struct ScriptRun<P> {
+pub struct ScriptRun<P: Performer> {
     progress: Progress<P>,
     part: ArrayVec<u8, MOST_KEPT>,
 }

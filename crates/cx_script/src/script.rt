@@ -8,7 +8,7 @@ ghost use Rattle.cx_script_blocks.specs.declared.faults.RunFault.TheVariants.{Me
 ghost use Rattle.cx_script_blocks.specs.Faults.{is_read, is_write};
 
 use crate::run::ScriptRun;
-use cx_edf::Debugged;
+use cx_edf::{Debugged, MakesDisplays};
 use cx_region::Region;
 use cx_script_actions::Performer;
 use cx_script_blocks::{RunFault, Summary};
@@ -16,13 +16,13 @@ use cx_script_io::ScriptDevices;
 use cx_storage_pages::{KeepingStore, PagedStore};
 use std::alloc::{AllocError, Global};
 
-/// What a script of `cicsedf` is performed on: a region under EDF.
-pub type EdfPerformer = Debugged<KeepingStore<PagedStore>>;
+/// What a script of `cicsedf` is performed on: a region under EDF. `M` makes its displays.
+pub type EdfPerformer<M> = Debugged<KeepingStore<PagedStore>, M>;
 
 /// The performer of a script of `cicsedf` at its beginning: a fresh region, with EDF Off at each terminal.
 ///
 /// An error comes only where an allocation failed.
-pub fn edf_performer(alloc: Global) -> Result<EdfPerformer, AllocError>
+pub fn edf_performer<M: MakesDisplays>(alloc: Global) -> Result<EdfPerformer<M>, AllocError>
     ensures { IfOk result (λ performer. performer ≡ fresh_state) }
 {
     let region = Region::new(alloc, KeepingStore::new(PagedStore::new(alloc)))?;
@@ -68,13 +68,16 @@ pub fn run_script_on<P: Performer + Drop, D: ScriptDevices>(
 
 /// Runs a script of `cicsedf` on a fresh region, as `run_script_on` does. Where there is no memory for that region,
 /// Memory is answered and nothing is read or written. Neither device may have failed.
-pub fn run_script<D: ScriptDevices>(alloc: Global, devices: &mut D) -> Result<Summary, RunFault>
+pub fn run_script<M: MakesDisplays, D: ScriptDevices>(
+    alloc: Global,
+    devices: &mut D,
+) -> Result<Summary, RunFault>
     requires reader { D.ScriptIn.has_failed devices.old ≡ false }
     requires writer { D.ScriptOut.has_failed devices.old ≡ false }
-    ensures ran { RanIn edf_language Performs fresh_state D.reads D.writes devices.old result devices.new
+    ensures ran { RanIn edf_language (Performs M.make) fresh_state D.reads D.writes devices.old result devices.new
         ⊎ ((result ≡ Err Memory) × (devices.new ≡ devices.old)) }
     ensures read { D.ScriptIn.has_failed devices.new ≡ is_read result }
     ensures write { D.ScriptOut.has_failed devices.new ≡ is_write result }
 {
-    run_script_on(edf_performer(alloc), alloc, devices)
+    run_script_on(edf_performer::<M>(alloc), alloc, devices)
 }

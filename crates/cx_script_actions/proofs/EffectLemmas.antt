@@ -8,46 +8,46 @@ use Rattle.cx_edf.specs.declared.answers.Answer.{Answer}
 use Rattle.cx_edf.specs.declared.answers.EdfEvent.{EdfEvent}
 use Rattle.cx_edf.specs.declared.answers.EdfEvent.TheVariants as edf_event
 use Rattle.cx_edf.specs.State.{EdfState}
-use Rattle.cx_edf.specs.Steps.{EdfApplies}
+use Rattle.cx_edf.specs.Steps.{EdfApplies, DisplayMaker}
 use Rattle.cx_script_actions.specs.Texts.{answer_text, page_lines, refused_text}
 use Rattle.cx_script_actions.specs.Effects.{ByFault, Performs, Replies, main_page_back, screen_text, shown_page}
 use Rattle.cx_script_actions.specs.declared.actions.Action.TheVariants as action
 
-pub event_replied : (old new : EdfState) (event : EdfEvent) (given : Answer) (text : List ℕ) → EdfApplies old event given new → text ≡ answer_text event given → Replies old event text new
+pub event_replied : (make : DisplayMaker) (old new : EdfState) (event : EdfEvent) (given : Answer) (text : List ℕ) → EdfApplies make old event given new → text ≡ answer_text event given → Replies make old event text new
 unfolding Replies
-event_replied old new event given text h t = (given, h, t)
+event_replied make old new event given text h t = (given, h, t)
 
-pub image_refused : (old new : EdfState) (name : List ℕ) (image : Image) (fault : ImageFault) (text : List ℕ)
-    → image_fault image ≡ Some fault → text ≡ refused_text (codes "PROGRAM") name (fault_name fault) → new ≡ old → Performs old (action.Image name image) text new
+pub image_refused : (make : DisplayMaker) (old new : EdfState) (name : List ℕ) (image : Image) (fault : ImageFault) (text : List ℕ)
+    → image_fault image ≡ Some fault → text ≡ refused_text (codes "PROGRAM") name (fault_name fault) → new ≡ old → Performs make old (action.Image name image) text new
 unfolding Performs
-image_refused old new name image fault text is t n =
-    subst (λ (due : Option ImageFault). ByFault due old name image text new) (sym is) (t, n)
+image_refused make old new name image fault text is t n =
+    subst (λ (due : Option ImageFault). ByFault make due old name image text new) (sym is) (t, n)
 
-pub image_defined : (old new : EdfState) (name : List ℕ) (image : Image) (text : List ℕ)
-    → IsFit image → Replies old (edf_event.Plain (event.Program name image)) text new → Performs old (action.Image name image) text new
+pub image_defined : (make : DisplayMaker) (old new : EdfState) (name : List ℕ) (image : Image) (text : List ℕ)
+    → IsFit image → Replies make old (edf_event.Plain (event.Program name image)) text new → Performs make old (action.Image name image) text new
 unfolding Performs
-image_defined old new name image text fit d = subst (λ (due : Option ImageFault). ByFault due old name image text new) (sym fit.none) d
+image_defined make old new name image text fit d = subst (λ (due : Option ImageFault). ByFault make due old name image text new) (sym fit.none) d
 
-pub event_done : (old new : EdfState) (event : EdfEvent) (text : List ℕ) → Replies old event text new → Performs old (action.Event event) text new
+pub event_done : (make : DisplayMaker) (old new : EdfState) (event : EdfEvent) (text : List ℕ) → Replies make old event text new → Performs make old (action.Event event) text new
 unfolding Performs
-event_done old new event text h = h
+event_done make old new event text h = h
 
-pub screen_shown : (old new : EdfState) (name : List ℕ) (text : List ℕ) → new ≡ old
-    → text ≡ screen_text old.region name → Performs old (action.Screen name) text new
+pub screen_shown : (make : DisplayMaker) (old new : EdfState) (name : List ℕ) (text : List ℕ) → new ≡ old
+    → text ≡ screen_text old.region name → Performs make old (action.Screen name) text new
 unfolding Performs
-screen_shown old new name text n t = (t, n)
+screen_shown make old new name text n t = (t, n)
 
-pub display_shown : (old new : EdfState) (name : List ℕ) (text : List ℕ) → new ≡ old
-    → text ≡ page_lines (codes "DISPLAY") name (shown_page old name) → Performs old (action.Display name) text new
+pub display_shown : (make : DisplayMaker) (old new : EdfState) (name : List ℕ) (text : List ℕ) → new ≡ old
+    → text ≡ page_lines (codes "DISPLAY") name (shown_page old name) → Performs make old (action.Display name) text new
 unfolding Performs
-display_shown old new name text n t = (t, n)
+display_shown make old new name text n t = (t, n)
 
-pub previous_shown : (old new : EdfState) (name : List ℕ) (k : ℕ) (text : List ℕ) → new ≡ old
-    → text ≡ page_lines (codes "DISPLAY") name (main_page_back old name k) → Performs old (action.Previous name k) text new
+pub previous_shown : (make : DisplayMaker) (old new : EdfState) (name : List ℕ) (k : ℕ) (text : List ℕ) → new ≡ old
+    → text ≡ page_lines (codes "DISPLAY") name (main_page_back old name k) → Performs make old (action.Previous name k) text new
 unfolding Performs
-previous_shown old new name k text n t = (t, n)
+previous_shown make old new name k text n t = (t, n)
 
-pub source_defined : (old new : EdfState) (name before : List ℕ) (image : Image) (own text : List ℕ)
-    → Performs old (action.Image name image) own new → text ≡ before ++ own → Performs old (action.Source name before image) text new
+pub source_defined : (make : DisplayMaker) (old new : EdfState) (name before : List ℕ) (image : Image) (own text : List ℕ)
+    → Performs make old (action.Image name image) own new → text ≡ before ++ own → Performs make old (action.Source name before image) text new
 unfolding Performs
-source_defined old new name before image own text checks written = (own, checks, written)
+source_defined make old new name before image own text checks written = (own, checks, written)

@@ -16,6 +16,7 @@ use Rattle.cx_script_actions.specs.declared.actions.Action.{Action}
 use Rattle.cx_script_actions.specs.declared.actions.Action.TheVariants as action
 use Rattle.cx_script_actions.specs.declared.actions.Line.{Line}
 use Rattle.cx_script_actions.specs.declared.actions.Line.TheVariants as line
+use Rattle.cx_script_actions.specs.declared.actions.NoHeading.{NoHeading}
 use Rattle.cx_script_actions.specs.declared.actions.Wanted.{Wanted}
 
 abbrev pub aids : List Aid
@@ -32,7 +33,7 @@ key_with_text text =
     option_and_then (λ aid. option_map (λ pressed. (aid, pressed)) bytes) (aid_of (word text))
 
 -- a line that gives an event of the region
-abbrev pub event_line : Event → Line Action
+abbrev pub event_line : Event → Line Action NoHeading
 event_line e = line.Action (action.Event (edf.Plain e))
 
 -- ON or OFF of a terminal's EDF
@@ -40,11 +41,11 @@ abbrev pub switch_of : List ℕ → Option Bool
 switch_of text =
     let is = bytes_eq text in if is (codes "ON") then Some true else if is (codes "OFF") then Some false else None
 
-abbrev pub edf_switch : List ℕ → Bool → Line Action
+abbrev pub edf_switch : List ℕ → Bool → Line Action NoHeading
 edf_switch name on = line.Action (action.Event (if on then edf.On name else edf.Off name))
 
 -- the display that is shown, or the one a given number before the newest
-abbrev pub display_line : List ℕ → Option (List ℕ) → Option (Line Action)
+abbrev pub display_line : List ℕ → Option (List ℕ) → Option (Line Action NoHeading)
 display_line name None = Some (line.Action (action.Display name))
 display_line name (Some back) = option_map (λ k. line.Action (action.Previous name k)) (number_with_digits 1 1 back)
 
@@ -57,11 +58,11 @@ wanted_of (Some text) =
     else if bytes_eq text (codes "LIST DISASM") then Some (record { listing = true; disassembly = true }) else None
 
 -- the line that begins a source's block
-abbrev pub source_line : List ℕ → Option (List ℕ) → Option (Line Action)
+abbrev pub source_line : List ℕ → Option (List ℕ) → Option (Line Action NoHeading)
 source_line name rest = option_map (λ wanted. line.Source name wanted) (wanted_of rest)
 
 -- what a line asks by its first word and the words after it
-unfoldable pub line_asked_for : List ℕ → List ℕ → Option (Line Action)
+unfoldable pub line_asked_for : List ℕ → List ℕ → Option (Line Action NoHeading)
 line_asked_for verb text =
     let is = bytes_eq verb in
     if is (codes "IMAGE") then two_words line.Image (padded_name 8) (number_with_digits 1 9) text
@@ -89,7 +90,7 @@ is_blank_or_comment [] = true
 is_blank_or_comment (c ∷ cs) = c == 42
 
 -- What a line asks; None where it is a bad line.
-unfoldable pub line_of : List ℕ → Option (Line Action)
+unfoldable pub line_of : List ℕ → Option (Line Action NoHeading)
 line_of text =
     if is_blank_or_comment text then Some line.Blank
     else option_and_then (line_asked_for (word text)) (after_first_blank text)

@@ -11,6 +11,6 @@ IsAllowedAction (action.Event event) = IsAllowedEdf event
 IsAllowedAction _ = Unit {0}
 
 -- a line whose action may be asked
-abbrev pub IsAllowedLine : {A : Type 0} → (A → Type 0) → Line A → Type 0
+abbrev pub IsAllowedLine : {A H : Type 0} → (A → Type 0) → Line A H → Type 0
 IsAllowedLine Allowed (line.Action a) = Allowed a
 IsAllowedLine Allowed _ = Unit {0}

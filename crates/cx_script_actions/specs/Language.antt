@@ -2,29 +2,31 @@
 use Rattle.std.specs.Prelude.{ℕ, Bool, false, Option, None, List, [], ◌∷◌}
 use Rattle.cx_script_actions.specs.Actions.{line_of}
 use Rattle.cx_script_actions.specs.declared.actions.Action.{Action}
-use Rattle.cx_script_actions.specs.declared.actions.Heading.{Heading}
 use Rattle.cx_script_actions.specs.declared.actions.Line.{Line}
+use Rattle.cx_script_actions.specs.declared.actions.NoHeading.{NoHeading}
 
-pub record Language (A : Type 0) : Type 0 where
+-- A is an action, and H what begins a block of lines that are handed over.
+pub record Language (A H : Type 0) : Type 0 where
   -- what a line asks, by its number and its text; None where it is a bad line
-  pub line_of : ℕ → List ℕ → Option (Line A)
+  pub line_of : ℕ → List ℕ → Option (Line A H)
   -- the action that the end of a block gives, as one of these
   pub of_block : Action → A
   -- the action that the end of a source's block gives: by its program's name, its lines, and what they are made into
   pub of_source : List ℕ → List (List ℕ) → Action → A
   -- the lines of a block of lines with one more, as far as they are kept, by what begins it; None where it may not have
   -- that line
-  pub with_line : Heading → List (List ℕ) → List ℕ → Option (List (List ℕ))
+  pub with_line : H → List (List ℕ) → List ℕ → Option (List (List ℕ))
   -- the action that the end of a block of lines gives: by the number of the line that begins it, what this says, and
-  -- the lines that were kept; None in a language without such blocks
-  pub of_lines : ℕ → Heading → List (List ℕ) → Option A
+  -- the lines that were kept; None where such a block asks nothing
+  pub of_lines : ℕ → H → List (List ℕ) → Option A
   -- the actions that a line asks, one after another, by the first of them
   pub actions_of : A → List A
-  -- whether an action only reports a bad look, with which a script goes on
-  pub is_bad_look : A → Bool
+  -- whether an action's line is a fault that is deferred: the script goes on, and the first such line is its fault at
+  -- the end, where it has no other
+  pub is_deferred_fault : A → Bool
 
--- that of `cicsedf`, where a line asks one action; without blocks of lines and without looks
-abbrev pub edf_language : Language Action
+-- that of `cicsedf`, where a line asks one action; without blocks of lines, and without deferred faults
+abbrev pub edf_language : Language Action NoHeading
 edf_language =
     record {
       line_of = λ number text. line_of text;
@@ -33,5 +35,5 @@ edf_language =
       with_line = λ heading lines text. None;
       of_lines = λ first heading lines. None;
       actions_of = λ a. a ∷ [];
-      is_bad_look = λ a. false;
+      is_deferred_fault = λ a. false;
     }

@@ -43,40 +43,14 @@ pub enum Action {
     Previous(Name4, usize),
 }
 
-/// What ORDERS says of its search.
+/// What begins a block of lines that are handed over in a script of `cicsedf`: nothing does.
 #[derive(Clone, Copy)]
-pub struct OrdersAsked {
-    /// How many states are looked at, at most: 1 to 1,000,000 as a line asks it.
-    pub most: u32,
-    /// Whether a key may also come while its terminal's task runs, as long as no input is held there.
-    pub typed_ahead: bool,
-}
+pub enum NoHeading {}
 
-/// What CHOICES says of its search.
-#[derive(Clone, Copy)]
-pub struct ChoicesAsked {
-    /// How many keys are pressed, at most: 1 to 64 as a line asks it.
-    pub keys: u32,
-    /// How many states are kept, at most: 1 to 1,000,000 as a line asks it.
-    pub most: u32,
-    /// Whether states that differ in the task counter alone are one.
-    pub one_number: bool,
-}
-
-/// What begins a block of lines that are handed over.
-#[derive(Clone, Copy)]
-pub enum Heading {
-    /// FAULTS, with a program's name.
-    Faults(Name8),
-    /// ORDERS, with what it says of its search.
-    Orders(OrdersAsked),
-    /// CHOICES, with what it says of its search.
-    Choices(ChoicesAsked),
-}
-
-/// What a line asks where it is not in a block; `A` is an action of the script's language.
+/// What a line asks where it is not in a block; `A` is an action of the script's language, and `H` what begins a block of
+/// lines that are handed over.
 #[derive(Drop)]
-pub enum Line<A> {
+pub enum Line<A, H> {
     /// Nothing: it is empty, or a comment.
     Blank,
     /// It begins the block of an image: its program's name, and the length of its working storage in bytes.
@@ -84,7 +58,7 @@ pub enum Line<A> {
     /// It begins the block of a source: its program's name, and what is to be written of it.
     Source(Name8, Wanted),
     /// It begins a block of lines that are handed over.
-    Lines(Heading),
+    Lines(H),
     /// An action.
     Action(A),
 }
@@ -107,7 +81,7 @@ fn aid_of(name: &[u8]) -> Option<Aid>
 }
 
 /// The line that asks an event of the region.
-fn event_line(event: Event) -> Line<Action>
+fn event_line(event: Event) -> Line<Action, NoHeading>
     ensures { result ≡ event_line event }
 {
     Line::Action(Action::Event(EdfEvent::Plain(event)))
@@ -115,7 +89,7 @@ fn event_line(event: Event) -> Line<Action>
 
 /// The line that begins an image's block, by what follows its first word.
 #[tactic(auto, unfolding(crate::specs::Actions::line_asked_for))]
-fn image_line(text: &[u8]) -> Option<Line<Action>>
+fn image_line(text: &[u8]) -> Option<Line<Action, NoHeading>>
     ensures { result ≡ line_asked_for (codes "IMAGE") text.now }
 {
     let (word, rest) = split_word(text);
@@ -156,7 +130,7 @@ fn wanted_of(rest: Option<&[u8]>) -> Option<Wanted>
 
 /// The line that begins a source's block, by what follows its first word.
 #[tactic(auto, unfolding(crate::specs::Actions::line_asked_for))]
-fn source_line(text: &[u8]) -> Option<Line<Action>>
+fn source_line(text: &[u8]) -> Option<Line<Action, NoHeading>>
     ensures { result ≡ line_asked_for (codes "SOURCE") text.now }
 {
     let (word, rest) = split_word(text);
@@ -167,7 +141,7 @@ fn source_line(text: &[u8]) -> Option<Line<Action>>
 
 /// TRANSACTION, by what follows its first word.
 #[tactic(auto, unfolding(crate::specs::Actions::line_asked_for))]
-fn transaction_line(text: &[u8]) -> Option<Line<Action>>
+fn transaction_line(text: &[u8]) -> Option<Line<Action, NoHeading>>
     ensures { result ≡ line_asked_for (codes "TRANSACTION") text.now }
 {
     let (word, rest) = split_word(text);
@@ -178,7 +152,7 @@ fn transaction_line(text: &[u8]) -> Option<Line<Action>>
 
 /// CLOCK, by what follows its first word.
 #[tactic(auto, unfolding(crate::specs::Actions::line_asked_for))]
-fn clock_line(text: &[u8]) -> Option<Line<Action>>
+fn clock_line(text: &[u8]) -> Option<Line<Action, NoHeading>>
     ensures value { result ≡ line_asked_for (codes "CLOCK") text.now }
     ensures allowed { IfSome result (IsAllowedLine IsAllowedAction) }
 {
@@ -206,7 +180,7 @@ fn key_with_text(alloc: Global, text: &[u8]) -> Result<Option<(Aid, Bytes)>, All
 
 /// KEY, by what follows its first word.
 #[tactic(auto, unfolding(crate::specs::Actions::line_asked_for))]
-fn key_line(alloc: Global, text: &[u8]) -> Result<Option<Line<Action>>, AllocError>
+fn key_line(alloc: Global, text: &[u8]) -> Result<Option<Line<Action, NoHeading>>, AllocError>
     ensures value { IfOk result (λ line. line ≡ line_asked_for (codes "KEY") text.now) }
     ensures memory { OnErr result (is_some (line_asked_for (codes "KEY") text.now) ≡ true) }
     ensures allowed { IfOk result (λ line. IfSome line (IsAllowedLine IsAllowedAction)) }
@@ -236,7 +210,7 @@ fn switch_of(word: &[u8]) -> Option<bool>
 
 /// EDF, by what follows its first word.
 #[tactic(auto, unfolding(crate::specs::Actions::line_asked_for))]
-fn edf_line(text: &[u8]) -> Option<Line<Action>>
+fn edf_line(text: &[u8]) -> Option<Line<Action, NoHeading>>
     ensures value { result ≡ line_asked_for (codes "EDF") text.now }
     ensures allowed { IfSome result (IsAllowedLine IsAllowedAction) }
 {
@@ -252,7 +226,7 @@ fn edf_line(text: &[u8]) -> Option<Line<Action>>
 
 /// DISPLAY, by what follows its first word.
 #[tactic(auto, unfolding(crate::specs::Actions::line_asked_for))]
-fn display_line(text: &[u8]) -> Option<Line<Action>>
+fn display_line(text: &[u8]) -> Option<Line<Action, NoHeading>>
     ensures value { result ≡ line_asked_for (codes "DISPLAY") text.now }
     ensures allowed { IfSome result (IsAllowedLine IsAllowedAction) }
 {
@@ -267,7 +241,7 @@ fn display_line(text: &[u8]) -> Option<Line<Action>>
 
 /// ALTER, by what follows its first word.
 #[tactic(auto, unfolding(crate::specs::Actions::line_asked_for))]
-fn alter_line(text: &[u8]) -> Option<Line<Action>>
+fn alter_line(text: &[u8]) -> Option<Line<Action, NoHeading>>
     ensures value { result ≡ line_asked_for (codes "ALTER") text.now }
     ensures allowed { IfSome result (IsAllowedLine IsAllowedAction) }
 {
@@ -279,7 +253,11 @@ fn alter_line(text: &[u8]) -> Option<Line<Action>>
 
 /// What a line asks by its first word and what follows it.
 #[tactic(auto, unfolding(crate::specs::Actions::line_asked_for))]
-fn asked(alloc: Global, verb: &[u8], text: &[u8]) -> Result<Option<Line<Action>>, AllocError>
+fn asked(
+    alloc: Global,
+    verb: &[u8],
+    text: &[u8],
+) -> Result<Option<Line<Action, NoHeading>>, AllocError>
     ensures value { IfOk result (λ line. line ≡ line_asked_for verb.now text.now) }
     ensures memory { OnErr result (is_some (line_asked_for verb.now text.now) ≡ true) }
     ensures allowed { IfOk result (λ line. IfSome line (IsAllowedLine IsAllowedAction)) }
@@ -322,7 +300,7 @@ fn is_blank_or_comment(text: &[u8]) -> bool
 ///
 /// An error comes only where an allocation failed.
 #[tactic(auto, unfolding(crate::specs::Actions::line_of))]
-pub fn line_of(alloc: Global, text: &[u8]) -> Result<Option<Line<Action>>, AllocError>
+pub fn line_of(alloc: Global, text: &[u8]) -> Result<Option<Line<Action, NoHeading>>, AllocError>
     ensures value { IfOk result (λ line. line ≡ line_of text.now) }
     ensures memory { OnErr result (is_some (line_of text.now) ≡ true) }
     ensures allowed { IfOk result (λ line. IfSome line (IsAllowedLine IsAllowedAction)) }

@@ -12,7 +12,7 @@ use crate::texts::{answer_text, page_lines, refused_image};
 use cx_base::Page;
 use cx_code::{Bytes, Image};
 use cx_ebcdic::{Name4, Name8};
-use cx_edf::{Debugged, Display, EdfEvent, PageName};
+use cx_edf::{Debugged, Display, EdfEvent, MakesDisplays, PageName};
 use cx_load::check;
 use cx_region::{Event, Region};
 use cx_storage::Store;
@@ -20,13 +20,13 @@ use std::alloc::{AllocError, Global};
 
 /// Does an event, and gives the text of its answer.
 #[tactic(auto, using(crate::proofs::EffectLemmas::event_replied))]
-fn do_event<S: Store + Drop>(
-    region: &mut Debugged<S>,
+fn do_event<S: Store + Drop, M: MakesDisplays>(
+    region: &mut Debugged<S, M>,
     alloc: Global,
     event: &EdfEvent,
 ) -> Result<Vec<u8>, AllocError>
     requires { IsAllowedEdf event.now }
-    ensures { IfOk result (λ text. Replies region.old event.now text.items region.new) }
+    ensures { IfOk result (λ text. Replies M.make region.old event.now text.items region.new) }
 {
     let answer = region.apply(event)?;
     answer_text(alloc, event, answer)
@@ -34,13 +34,13 @@ fn do_event<S: Store + Drop>(
 
 /// Defines a program from an image, which is checked before.
 #[tactic(auto, using(crate::proofs::EffectLemmas::image_refused, crate::proofs::EffectLemmas::image_defined))]
-fn define_image<S: Store + Drop>(
-    region: &mut Debugged<S>,
+fn define_image<S: Store + Drop, M: MakesDisplays>(
+    region: &mut Debugged<S, M>,
     alloc: Global,
     name: Name8,
     image: Image,
 ) -> Result<Vec<u8>, AllocError>
-    ensures { IfOk result (λ text. Performs region.old (action.Image name image) text.items region.new) }
+    ensures { IfOk result (λ text. Performs M.make region.old (action.Image name image) text.items region.new) }
 {
     match check(image) {
         Ok(checked) => do_event(
@@ -54,14 +54,14 @@ fn define_image<S: Store + Drop>(
 
 /// Defines a program from a source's image: what is written of the source, then as of any image.
 #[tactic(auto, using(crate::proofs::EffectLemmas::source_defined))]
-fn define_source<S: Store + Drop>(
-    region: &mut Debugged<S>,
+fn define_source<S: Store + Drop, M: MakesDisplays>(
+    region: &mut Debugged<S, M>,
     alloc: Global,
     name: Name8,
     before: Bytes,
     image: Image,
 ) -> Result<Vec<u8>, AllocError>
-    ensures { IfOk result (λ text. Performs region.old (action.Source name before image) text.items region.new) }
+    ensures { IfOk result (λ text. Performs M.make region.old (action.Source name before image) text.items region.new) }
 {
     let mut text = before.into_vec();
     let own = define_image(region, alloc, name, image)?;
@@ -104,8 +104,8 @@ fn page_of(display: &Display, page: PageName) -> &Page
 }
 
 /// Shows the page that EDF shows at a terminal.
-fn show_display<S: Store + Drop>(
-    region: &Debugged<S>,
+fn show_display<S: Store + Drop, M: MakesDisplays>(
+    region: &Debugged<S, M>,
     alloc: Global,
     name: Name4,
 ) -> Result<Vec<u8>, AllocError>
@@ -120,8 +120,8 @@ fn show_display<S: Store + Drop>(
 }
 
 /// Shows the main page of the display that many before a terminal's newest.
-fn show_previous<S: Store + Drop>(
-    region: &Debugged<S>,
+fn show_previous<S: Store + Drop, M: MakesDisplays>(
+    region: &Debugged<S, M>,
     alloc: Global,
     name: Name4,
     back: usize,
@@ -135,10 +135,10 @@ fn show_previous<S: Store + Drop>(
     }
 }
 
-impl<S: Store + Drop> Performer for Debugged<S> {
+impl<S: Store + Drop, M: MakesDisplays> Performer for Debugged<S, M> {
     type Action = Action;
 
-    ghost performs = { Performs };
+    ghost performs = { Performs M.make };
 
     ghost refused = { λ _ _ _. Unit {0} };
 

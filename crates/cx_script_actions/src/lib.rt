@@ -9,7 +9,7 @@ mod performer;
 mod texts;
 mod words;
 
-pub use actions::{Action, ChoicesAsked, Heading, Line, OrdersAsked, Wanted, line_of};
+pub use actions::{Action, Line, NoHeading, Wanted, line_of};
 pub use alterations::hex_address;
 pub use effects::screen_text;
 pub use performer::{Performer, ScriptAction};

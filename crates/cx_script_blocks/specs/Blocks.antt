@@ -23,15 +23,15 @@ use Rattle.cx_script_actions.specs.declared.actions.Line.{Line}
 use Rattle.cx_script_actions.specs.declared.actions.Line.TheVariants as line
 
 -- a line that leads to this action, and leaves no block to the next one
-abbrev pub action_step : {A : Type 0} → Option A → LineStep A
+abbrev pub action_step : {A H : Type 0} → Option A → LineStep A H
 action_step asked = record { action = asked; block = None }
 
 -- a line that leaves this block to the next one
-abbrev pub block_step : {A : Type 0} → Block → LineStep A
+abbrev pub block_step : {A H : Type 0} → Block H → LineStep A H
 block_step block = record { action = None; block = Some block }
 
 -- a line outside a block, by its number
-abbrev pub step_of : {A : Type 0} → ℕ → Line A → LineStep A
+abbrev pub step_of : {A H : Type 0} → ℕ → Line A H → LineStep A H
 step_of first line.Blank = action_step None
 step_of first (line.Image name stg_len) = block_step (record { line = first; body = kind.Image name stg_len [] })
 step_of first (line.Source name wanted) = block_step (record { line = first; body = kind.Source name wanted [] })
@@ -49,7 +49,7 @@ kept_lines lines = take 10001 lines
 
 -- What a block has with one more line, which in an image's is hexadecimal digits; None where it may not have that line.
 -- Of lines that are handed over the language says it.
-abbrev pub body_with : {A : Type 0} → Language A → Body → List ℕ → Option Body
+abbrev pub body_with : {A H : Type 0} → Language A H → Body H → List ℕ → Option (Body H)
 body_with language (kind.Image name stg_len text) line =
     option_map (λ new. kind.Image name stg_len (kept_text (text ++ new))) (hex_bytes line)
 body_with language (kind.Source name wanted lines) line =
@@ -57,7 +57,7 @@ body_with language (kind.Source name wanted lines) line =
 body_with language (kind.Lines heading lines) line =
     option_map (λ more. kind.Lines heading more) (language.with_line heading lines line)
 
-abbrev pub with_line : {A : Type 0} → Language A → Block → List ℕ → Option Block
+abbrev pub with_line : {A H : Type 0} → Language A H → Block H → List ℕ → Option (Block H)
 with_line language block text = option_map (λ more. record block { body = more }) (body_with language block.body text)
 
 -- an image has entry 0 and no relocated words
@@ -71,7 +71,7 @@ fault_of_line first without.Memory = Memory
 
 -- What the line that ends a block leads to, by the line that begins it and what it has. A source is judged there,
 -- whole; lines are handed over.
-abbrev pub block_end : {A : Type 0} → Language A → ℕ → Body → Result (LineStep A) RunFault
+abbrev pub block_end : {A H : Type 0} → Language A H → ℕ → Body H → Result (LineStep A H) RunFault
 block_end language first (kind.Image name stg_len text) =
     Ok (action_step (Some (language.of_block (action.Image name (image_of stg_len text)))))
 block_end language first (kind.Source name wanted lines) =
@@ -81,7 +81,7 @@ block_end language first (kind.Source name wanted lines) =
 block_end language first (kind.Lines heading lines) = Ok (action_step (language.of_lines first heading lines))
 
 -- a line outside a block, or inside one: its end, or one more line of it
-abbrev pub step_in : {A : Type 0} → Language A → ℕ → Option Block → List ℕ → Result (LineStep A) RunFault
+abbrev pub step_in : {A H : Type 0} → Language A H → ℕ → Option (Block H) → List ℕ → Result (LineStep A H) RunFault
 step_in language number None text = ok_or (option_map (step_of number) (language.line_of number text)) (BadLine number)
 step_in language number (Some block) text =
     if bytes_eq text (codes "/*") then block_end language block.line block.body
@@ -89,6 +89,6 @@ step_in language number (Some block) text =
 
 -- What the line with this number leads to in a script of this language: a step, or a fault of its own. That of a bad
 -- line is BadLine with its number.
-unfoldable pub step_at : {A : Type 0} → Language A → ℕ → Option Block → List ℕ → Result (LineStep A) RunFault
+unfoldable pub step_at : {A H : Type 0} → Language A H → ℕ → Option (Block H) → List ℕ → Result (LineStep A H) RunFault
 step_at language number block text =
     if is_too_long text then Err (BadLine number) else step_in language number block text

@@ -14,7 +14,7 @@ use cx_asm_build::{PrepareFault, Prepared, prepare};
 use cx_base::List;
 use cx_code::{Bytes, Image, Offsets};
 use cx_ebcdic::Name8;
-use cx_script_actions::{Action, Heading, Line, ScriptAction, Wanted};
+use cx_script_actions::{Action, Line, ScriptAction, Wanted};
 use cx_script_io::is_too_long;
 use cx_source::Text;
 use std::alloc::{AllocError, Global};
@@ -28,29 +28,32 @@ const MOST_KEPT: usize = 65_537;
 /// The most lines of a block that are kept: one line more than a source may have.
 const MOST_LINES: usize = 10_001;
 
-/// A block of a script, up to some line of it.
+/// A block of a script, up to some line of it; `H` is what begins a block of lines that are handed over.
 #[derive(Drop)]
-pub struct Block {
+pub struct Block<H> {
     /// The number of the line that begins it, counted from 1.
     pub line: usize,
     /// What that line says, and what it has so far, as far as that is kept.
-    pub body: Body,
+    pub body: Body<H>,
 }
 
 /// What the line that begins a block says, and what the block has so far, as far as that is kept.
 #[derive(Drop)]
-pub enum Body {
+pub enum Body<H> {
     /// An image: its program's name, the length of its working storage in bytes, and its bytes so far, at most 65,537.
     Image(Name8, u32, Bytes),
     /// A source: its program's name, what is to be written of it, and its lines so far, at most 10,001.
     Source(Name8, Wanted, List<Text>),
     /// Lines that are handed over: what begins them, and those that are kept.
-    Lines(Heading, List<Text>),
+    Lines(H, List<Text>),
 }
 
 /// The fault of a source that begins after this line. It is Memory only where the source's is, since no source has too
 /// many lines for the sum to fit.
-fn refused<A: ScriptAction>(first: usize, fault: PrepareFault) -> Result<LineStep<A>, RunFault>
+fn refused<A: ScriptAction>(
+    first: usize,
+    fault: PrepareFault,
+) -> Result<LineStep<A, A::Heading>, RunFault>
     ensures value { is_memory result ≡ false → result ≡ Err (fault_of_line first fault) }
     ensures memory { (line : ℕ) (kind : _) → fault ≡ At line kind → first + line < 2 ^ 64
         → is_memory result ≡ false }
@@ -88,9 +91,9 @@ fn end_source<A: ScriptAction>(
     name: Name8,
     wanted: Wanted,
     lines: Vec<Text>,
-) -> Result<LineStep<A>, RunFault>
-    ensures value { let body = Body.Source name wanted lines.items in
-        is_memory result ≡ false → result ≡ block_end A.language first body }
+) -> Result<LineStep<A, A::Heading>, RunFault>
+    ensures value { is_memory result ≡ false
+        → result ≡ block_end A.language first (Body.Source name wanted lines.items) }
     ensures allowed { IfOk result (λ step. IfSome step.action A.allowed) }
     ensures unwritten { is_write result ≡ false }
     ensures unread { is_read result ≡ false }
@@ -104,13 +107,13 @@ fn end_source<A: ScriptAction>(
     }
 }
 
-impl Body {
+impl<H: Copy + Drop> Body<H> {
     /// What it has with one more line, where it may have that line.
-    fn with_line<A: ScriptAction>(
+    fn with_line<A: ScriptAction<Heading = H>>(
         self,
         alloc: Global,
         line: &[u8],
-    ) -> Result<Option<Body>, AllocError>
+    ) -> Result<Option<Body<H>>, AllocError>
         requires { length line.now ≤ 4096 }
         ensures value { IfOk result (λ more. more ≡ body_with A.language self line.now) }
         ensures memory { OnErr result (is_some (body_with A.language self line.now) ≡ true) }
@@ -123,7 +126,7 @@ impl Body {
             Body::Source(name, wanted, lines) => {
                 Some(Body::Source(name, wanted, with_text(alloc, lines, line)?))
             }
-            Body::Lines(heading, lines) => match A::with_line(alloc, heading, lines, line)? {
+            Body::Lines(heading, lines) => match A::with_line(alloc, Some(heading), lines, line)? {
                 Some(lines) => Some(Body::Lines(heading, lines)),
                 None => None,
             },
@@ -131,9 +134,9 @@ impl Body {
     }
 }
 
-impl Block {
+impl<H: Copy + Drop> Block<H> {
     /// What its end leads to.
-    fn end<A: ScriptAction>(self, alloc: Global) -> Result<LineStep<A>, RunFault>
+    fn end<A: ScriptAction<Heading = H>>(self, alloc: Global) -> Result<LineStep<A, H>, RunFault>
         ensures value { is_memory result ≡ false → result ≡ block_end A.language self.line self.body }
         ensures allowed { IfOk result (λ step. IfSome step.action A.allowed) }
         ensures unwritten { is_write result ≡ false }
@@ -147,7 +150,7 @@ impl Block {
             Body::Source(name, wanted, lines) => {
                 return end_source(alloc, line, name, wanted, lines.into_vec());
             }
-            Body::Lines(heading, lines) => A::of_lines(alloc, line, heading, lines)?,
+            Body::Lines(heading, lines) => A::of_lines(alloc, line, Some(heading), lines)?,
         };
         Ok(LineStep {
             action,
@@ -156,11 +159,11 @@ impl Block {
     }
 
     /// The block with one more line, where it may have that line.
-    fn with_line<A: ScriptAction>(
+    fn with_line<A: ScriptAction<Heading = H>>(
         self,
         alloc: Global,
         text: &[u8],
-    ) -> Result<Option<Block>, AllocError>
+    ) -> Result<Option<Block<H>>, AllocError>
         requires { length text.now ≤ 4096 }
         ensures value { IfOk result (λ block. block ≡ with_line A.language self text.now) }
         ensures memory { OnErr result (is_some (with_line A.language self text.now) ≡ true) }
@@ -175,15 +178,15 @@ impl Block {
 
 /// What a line leads to: what is done, and the block that the next line is in.
 #[derive(Drop)]
-pub struct LineStep<A> {
+pub struct LineStep<A, H> {
     /// What is done; None where the line asks nothing, begins a block, or is inside one.
     pub action: Option<A>,
     /// The block that the next line is in; None outside of blocks.
-    pub block: Option<Block>,
+    pub block: Option<Block<H>>,
 }
 
 /// A block that begins with this line, which leaves it to the next.
-fn begun<A: ScriptAction>(line: usize, body: Body) -> LineStep<A>
+fn begun<A, H>(line: usize, body: Body<H>) -> LineStep<A, H>
     ensures { result ≡ block_step (record { line = line; body = body }) }
 {
     LineStep {
@@ -193,7 +196,7 @@ fn begun<A: ScriptAction>(line: usize, body: Body) -> LineStep<A>
 }
 
 /// What a line outside a block leads to.
-fn step_of<A: ScriptAction>(alloc: Global, number: usize, line: Line<A>) -> LineStep<A>
+fn step_of<A, H>(alloc: Global, number: usize, line: Line<A, H>) -> LineStep<A, H>
     ensures { result ≡ step_of number line }
 {
     match line {
@@ -274,9 +277,9 @@ pub fn with_text(alloc: Global, lines: List<Text>, line: &[u8]) -> Result<List<T
 fn step_within<A: ScriptAction>(
     alloc: Global,
     number: usize,
-    block: Block,
+    block: Block<A::Heading>,
     line: &[u8],
-) -> Result<LineStep<A>, RunFault>
+) -> Result<LineStep<A, A::Heading>, RunFault>
     requires { length line.now ≤ 4096 }
     ensures value { is_memory result ≡ false → result ≡ step_in A.language number (Some block) line.now }
     ensures bad { let due = step_in A.language number (Some block) line.now in
@@ -302,7 +305,7 @@ fn step_outside<A: ScriptAction>(
     alloc: Global,
     number: usize,
     line: &[u8],
-) -> Result<LineStep<A>, RunFault>
+) -> Result<LineStep<A, A::Heading>, RunFault>
     ensures value { is_memory result ≡ false → result ≡ step_in A.language number None line.now }
     ensures bad { let due = step_in A.language number None line.now in
         due ≡ Err (BadLine number) → result ≡ Err (BadLine number) }
@@ -325,9 +328,9 @@ fn step_outside<A: ScriptAction>(
 pub fn step_at<A: ScriptAction>(
     alloc: Global,
     number: usize,
-    block: Option<Block>,
+    block: Option<Block<A::Heading>>,
     line: &[u8],
-) -> Result<LineStep<A>, RunFault>
+) -> Result<LineStep<A, A::Heading>, RunFault>
     ensures value { is_memory result ≡ false → result ≡ step_at A.language number block line.now }
     ensures bad { let due = step_at A.language number block line.now in
         due ≡ Err (BadLine number) → result ≡ Err (BadLine number) }

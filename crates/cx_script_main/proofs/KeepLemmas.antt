@@ -62,7 +62,7 @@ module _ {D : Type 0} (reads writes : D → Option (List ℕ) → D → Type 0) 
   none_kept bytes before None e h = refl
   none_kept bytes before (Some all) e h = let k = rw e at h in cc
 
-  ran_kept : {A S : Type 0} (language : Language A) (performs : S → A → List ℕ → S → Type 0) (start : S) (keeps : Bool)
+  ran_kept : {A B S : Type 0} (language : Language A B) (performs : S → A → List ℕ → S → Type 0) (start : S) (keeps : Bool)
       (before after : Keeping D) (answer : Result Summary RunFault) → before.kept ≡ (if keeps then Some [] else None)
       → RanIn language performs start (KeepsRead reads) (LeavesKept writes) before answer after
       → RanFrom language performs start reads writes before.devices (record { answer = answer; read = after.kept })
@@ -74,7 +74,7 @@ module _ {D : Type 0} (reads writes : D → Option (List ℕ) → D → Type 0) 
       }
 
   -- a run on a performer that was to be made
-  pub runs_kept : {A S : Type 0} (language : Language A) (performs : S → A → List ℕ → S → Type 0) (performer : Result S AllocError) (keeps : Bool)
+  pub runs_kept : {A B S : Type 0} (language : Language A B) (performs : S → A → List ℕ → S → Type 0) (performer : Result S AllocError) (keeps : Bool)
       (devices : D) (before after : Keeping D) (answer : Result Summary RunFault) (read : Option (List ℕ)) → before.devices ≡ devices
       → before.kept ≡ (if keeps then Some [] else None) → read ≡ after.kept
       → IfOk performer (λ start. RanIn language performs start (KeepsRead reads) (LeavesKept writes) before answer after)
@@ -85,7 +85,7 @@ module _ {D : Type 0} (reads writes : D → Option (List ℕ) → D → Type 0) 
       (ran_kept language performs start keeps before after answer k h))
   runs_kept language performs (Err why) keeps devices before after answer read e k r h = tt
 
-  pub runs_unkept : {A S : Type 0} (language : Language A) (performs : S → A → List ℕ → S → Type 0) (performer : Result S AllocError) (keeps : Bool)
+  pub runs_unkept : {A B S : Type 0} (language : Language A B) (performs : S → A → List ℕ → S → Type 0) (performer : Result S AllocError) (keeps : Bool)
       (before after : Keeping D) (answer : Result Summary RunFault) (read : Option (List ℕ)) → before.kept ≡ (if keeps then Some [] else None)
       → read ≡ after.kept → IfOk performer (λ start. RanIn language performs start (KeepsRead reads) (LeavesKept writes) before answer after)
       → OnErr performer ((answer ≡ Err fault.Memory) × (after ≡ before)) → keeps ≡ false → read ≡ None

@@ -11,7 +11,7 @@ use Rattle.cx_script_main.specs.declared.program.Refusal.{Refusal}
 use Rattle.cx_script_main.specs.declared.program.Run.{Run}
 
 -- a run over what was opened
-runs_opened : {A S D E : Type 0} (language : Language A) (performs : S → A → List ℕ → S → Type 0) (performer : Result S AllocError) (keeps : Bool)
+runs_opened : {A B S D E : Type 0} (language : Language A B) (performs : S → A → List ℕ → S → Type 0) (performer : Result S AllocError) (keeps : Bool)
     (reads writes : D → Option (List ℕ) → D → Type 0) (opened : Result D E) (run : Run)
     → IfOk opened (λ devices. IfOk performer (λ start. RanFrom language performs start reads writes devices run))
     → IfOk opened (λ devices. OnErr performer (run.answer ≡ Err fault.Memory)) → IfOk opened (λ devices. keeps ≡ false → run.read ≡ None)
@@ -19,7 +19,7 @@ runs_opened : {A S D E : Type 0} (language : Language A) (performs : S → A →
 runs_opened language performs performer keeps reads writes (Ok devices) run h k n = record { ran = h; unmade = k; unkept = n }
 runs_opened language performs performer keeps reads writes (Err why) run h k n = tt
 
-pub runs_file : {H A S D : Type 0} (opens : H → List ℕ → Result D DeviceFault → H → Type 0) (language : Language A)
+pub runs_file : {H A B S D : Type 0} (opens : H → List ℕ → Result D DeviceFault → H → Type 0) (language : Language A B)
     (performs : S → A → List ℕ → S → Type 0) (performer : Result S AllocError) (keeps : Bool) (reads writes : D → Option (List ℕ) → D → Type 0)
     (old new : H) (path : List ℕ) (opened : Result D DeviceFault) (run : Run) → opens old path opened new
     → IfOk opened (λ devices. IfOk performer (λ start. RanFrom language performs start reads writes devices run))

@@ -26,7 +26,7 @@ told_run (Ok done) = record { answer = Ok (record { lines = 0 }); read = None }
 told_run (Err why) = record { answer = Err fault.Write; read = None }
 
 -- A run over devices from this state of theirs on. Where what was read is kept, it is all that the reads gave.
-pub record RanFrom {A S D : Type 0} (language : Language A) (performs : S → A → List ℕ → S → Type 0) (start : S)
+pub record RanFrom {A B S D : Type 0} (language : Language A B) (performs : S → A → List ℕ → S → Type 0) (start : S)
     (reads writes : D → Option (List ℕ) → D → Type 0) (before : D) (run : Run) : Type 0 where
   pub after : D
   pub ran : RanIn language performs start reads writes before run.answer after

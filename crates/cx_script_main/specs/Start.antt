@@ -17,7 +17,7 @@ use Rattle.cx_script_main.specs.declared.program.Refusal.{Refusal}
 use Rattle.cx_script_main.specs.declared.program.Refusal.TheVariants.{Usage, Memory}
 
 -- A run over devices, on a performer that was to be made. What is read is kept only where that is asked.
-pub record RunsOnDevices {A S D : Type 0} (language : Language A) (performs : S → A → List ℕ → S → Type 0)
+pub record RunsOnDevices {A B S D : Type 0} (language : Language A B) (performs : S → A → List ℕ → S → Type 0)
     (performer : Result S AllocError) (keeps : Bool) (reads writes : D → Option (List ℕ) → D → Type 0) (devices : D)
     (run : Run) : Type 0 where
   pub ran : IfOk performer (λ start. RanFrom language performs start reads writes devices run)

@@ -40,9 +40,10 @@ fn is_made(
 }
 
 /// Whether expressions and constants over the tests' symbols are answered as they should be, each by itself.
-fn answers(alloc: Global, symbols: &SymbolTable) -> [Result<bool, AllocError>; 6] {
+fn answers(alloc: Global, symbols: &SymbolTable) -> [Result<bool, AllocError>; 7] {
     [
         has_value(alloc, symbols, b"1+2-B'1'", Ok(2)),
+        has_value(alloc, symbols, b"E+E", Ok(8_589_934_590)),
         has_value(alloc, symbols, b"X-Z", Err(FaultKind::NotRelocatable)),
         has_value(alloc, symbols, b"X-NONE", Err(FaultKind::UndefinedSymbol)),
         is_made(alloc, symbols, b"CL3'A'", b"\xC1\x40\x40"),

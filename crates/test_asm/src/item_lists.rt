@@ -54,3 +54,16 @@ fn statements_of_one_line_count_together(rt: HostRuntime) -> Result<(), Fail> {
     }
     Ok(())
 }
+
+/// A source without a section.
+const END_ALONE: &[Row] = &[(1, b"", b"END", b"")];
+
+#[test]
+fn an_end_without_a_section_enters_at_the_start(rt: HostRuntime) -> Result<(), Fail> {
+    let alloc = rt.alloc();
+    match assemble(alloc, &source_of(alloc, END_ALONE)?) {
+        Ok(made) => assert!(rt; made.image().entry == 0),
+        Err(_) => assert!(rt; false),
+    }
+    Ok(())
+}

@@ -3,15 +3,7 @@
 #![tactic(auto)]
 
 #[cfg(test)]
-mod addresses;
-#[cfg(test)]
-mod constants;
-#[cfg(test)]
-mod directives;
-#[cfg(test)]
 mod expression_memory;
-#[cfg(test)]
-mod expressions;
 #[cfg(test)]
 mod image_row;
 #[cfg(test)]
@@ -32,7 +24,5 @@ mod pass1_faults;
 mod pass1_places;
 #[cfg(test)]
 mod pass1_texts;
-#[cfg(test)]
-mod statements;
 #[cfg(test)]
 mod symbols;

@@ -35,7 +35,7 @@ fn is_addressed(alloc: Global, symbols: &SymbolTable, bases: &Bases) -> Result<b
 }
 
 /// Whether statements are answered as they should be where P,5,6 is in use, each by itself.
-fn answers(alloc: Global, symbols: &SymbolTable, bases: &Bases) -> [Result<bool, AllocError>; 4] {
+fn answers(alloc: Global, symbols: &SymbolTable, bases: &Bases) -> [Result<bool, AllocError>; 6] {
     [
         is_assembled(
             alloc,
@@ -58,6 +58,20 @@ fn answers(alloc: Global, symbols: &SymbolTable, bases: &Bases) -> [Result<bool,
             bases,
             (b"EXEC", b""),
             Err(FaultKind::UnknownOperation),
+        ),
+        is_assembled(
+            alloc,
+            symbols,
+            bases,
+            (b"DC", b"F'1'"),
+            Err(FaultKind::UnknownOperation),
+        ),
+        is_assembled(
+            alloc,
+            symbols,
+            bases,
+            (b"LM", b"1,2,=A(NONE)"),
+            Err(FaultKind::BadOperand),
         ),
     ]
 }

@@ -1,5 +1,5 @@
 //! Where statements and literals are.
-use crate::pass1_texts::{placed, value_of_symbol};
+use crate::pass1_texts::placed;
 use std::test::Fail;
 
 #[rattlefmt::skip]
@@ -31,48 +31,5 @@ fn statements_and_literals_stand_there(rt: HostRuntime) -> Result<(), Fail> {
         let found = placed(rt.alloc(), source)?;
         assert!(rt; found.as_str() == places, "{}", found.as_str());
     }
-    Ok(())
-}
-
-const SYMBOLS: &[u8] =
-    b"P CSECT\nX DS 3F,C\nY DC F'1,2'\nI MVC X,X\nE EQU X+2\nN EQU 5+X-X\nS EQU *\nL EQU L'X\nT LTORG\nLY EQU L'Y\nLI EQU L'I\nLE EQU L'E\nLP EQU L'P\nD DSECT\nQ DS XL300,F\nR DS 0CL8\nV DS X\nU EQU *\n DFHREGS\n COPY DFHAID\n END\n";
-
-#[rattlefmt::skip]
-const WORTH: &[(&[u8], &str)] = &[
-    (b"P", "0:1+"),
-    (b"X", "0:4+"),
-    (b"Y", "16:8+"),
-    (b"I", "24:6+"),
-    (b"E", "2:4+"),
-    (b"N", "5:1"),
-    (b"S", "30:1+"),
-    (b"L", "4:1"),
-    (b"T", "30:1+"),
-    (b"LY", "8:1"),
-    (b"LI", "6:1"),
-    (b"LE", "4:1"),
-    (b"LP", "1:1"),
-    (b"D", "0:1+"),
-    (b"Q", "0:300+"),
-    (b"R", "304:8+"),
-    (b"U", "305:1+"),
-    (b"R15", "15:1"),
-    (b"DFHPF12", "124:1"),
-    (b"DFHENTER", "125:1"),
-    (b"Z", "none"),
-];
-
-#[test]
-fn symbols_have_their_values(rt: HostRuntime) -> Result<(), Fail> {
-    for &(name, value) in WORTH {
-        let found = value_of_symbol(rt.alloc(), SYMBOLS, name)?;
-        assert!(rt; found.as_str() == value, "{}", found.as_str());
-    }
-    let difference = value_of_symbol(
-        rt.alloc(),
-        b"D DSECT\nA DS 4294967295XL8192\nB DS X\nC EQU B-A-B+A+1\nP CSECT\n END\n",
-        b"C",
-    )?;
-    assert!(rt; difference.as_str() == "1:1");
     Ok(())
 }

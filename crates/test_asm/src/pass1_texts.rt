@@ -1,5 +1,4 @@
 //! Sources, and where everything in them is, as text.
-use cx_asm_expressions::symbol_name;
 use cx_asm_pass1::{Places, place_all};
 use cx_asm_pools::Pool;
 use cx_source::read_source;
@@ -48,24 +47,5 @@ pub(crate) fn placed(alloc: Global, source: &[u8]) -> Result<String, Fail> {
     match place_all(alloc, &source)? {
         Ok(places) => Ok(shown(alloc, &places)?),
         Err(first) => Ok(format!(in alloc; "{} {}", first.line, first.kind.name())?),
-    }
-}
-
-/// The value of a symbol of a source: its number, its length attribute, and `+` where it is in a section.
-pub(crate) fn value_of_symbol(alloc: Global, source: &[u8], name: &[u8]) -> Result<String, Fail> {
-    let source = read_source(alloc, source)?;
-    let Ok(places) = place_all(alloc, &source)? else {
-        return Ok(format!(in alloc; "refused")?);
-    };
-    let value = match symbol_name(name) {
-        Some(name) => places.symbols.get(name),
-        None => None,
-    };
-    match value {
-        Some(value) => {
-            let mark = if value.section.is_some() { "+" } else { "" };
-            Ok(format!(in alloc; "{}:{}{}", value.number, value.length, mark)?)
-        }
-        None => Ok(format!(in alloc; "none")?),
     }
 }

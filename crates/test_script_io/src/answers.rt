@@ -4,9 +4,10 @@ ghost use Rattle.std.specs.Prelude.{None, false};
 ghost use Rattle.cx_script.specs.Devices.{ReadsKnown, WritesKnown};
 
 use crate::steps::{Example, LISTED, RETURN, STOPPED, Step, TRANSLATED, written_by};
+use cx_edf_display::EdfDisplays;
 use cx_script::{DeviceFault, Devices, ScriptIn, ScriptOut, Summary, run_script};
+use std::alloc::Global;
 use std::cell::Cell;
-use std::process::Abort;
 use std::rc::Rc;
 use std::test::Fail;
 
@@ -76,11 +77,11 @@ impl<'a, 'b> ScriptIn for LookingIn<'a, 'b> {
     }
 }
 
-/// The script of these steps is read in such pieces, and at each read all is written for the steps that were read
-/// whole.
-fn expect_answers<R: Abort + AllocGlobal>(rt: &R, steps: &[Step], most: usize) -> Result<(), Fail> {
-    let example = Example::new(rt, steps)?;
-    let written = Rc::new(rt.alloc(), Cell::new(0))?;
+/// Whether the script of these steps is read in such pieces, and at each read all is written for the steps that were
+/// read whole.
+fn are_answered(alloc: Global, steps: &[Step], most: usize) -> Result<bool, Fail> {
+    let example = Example::new(alloc, steps)?;
+    let written = Rc::new(alloc, Cell::new(0))?;
     let writer = ShownOut {
         written: written.clone()?,
     };
@@ -94,19 +95,15 @@ fn expect_answers<R: Abort + AllocGlobal>(rt: &R, steps: &[Step], most: usize) -
         good: 0,
     };
     let mut devices = Devices { reader, writer };
-    let ran = run_script(rt.alloc(), &mut devices);
+    let ran = run_script::<EdfDisplays, _>(alloc, &mut devices);
     let input = devices.reader;
-    assert_eq!(rt;
-        ran,
-        Ok(Summary {
-            lines: example.lines
-        }),
-        "by {most}"
-    );
-    assert_eq!(rt; written.get(), example.transcript.len(), "by {most}");
-    assert_eq!(rt; input.given, example.script.len(), "by {most}");
-    assert_eq!(rt; input.good, input.reads, "by {most}");
-    Ok(())
+    let lines = example.lines;
+    Ok(
+        ran == Ok(Summary { lines })
+            && written.get() == example.transcript.len()
+            && input.given == example.script.len()
+            && input.good == input.reads,
+    )
 }
 
 #[test]
@@ -114,7 +111,7 @@ fn answers_are_written_before_more_is_read(rt: HostRuntime) -> Result<(), Fail> 
     let scripts: [&[Step]; 4] = [&RETURN, &STOPPED, &LISTED, &TRANSLATED];
     for steps in scripts {
         for most in [1, 2, 3, 7, 64] {
-            expect_answers(&rt, steps, most)?;
+            assert!(rt; are_answered(rt.alloc(), steps, most)?, "by {most}");
         }
     }
     Ok(())

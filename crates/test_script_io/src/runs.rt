@@ -2,31 +2,29 @@
 
 ghost use Rattle.std.specs.Prelude.{◌≡◌, false};
 
+use cx_edf_display::EdfDisplays;
 use cx_script::{Devices, RunFault, ScriptIn, ScriptOut, Summary, run_script};
-use std::process::Abort;
-use std::test::Fail;
+use std::alloc::{AllocError, Global};
 use test_devices::{PieceIn, PieceOut};
 
 /// Runs a script between devices that have not failed, and gives the run's answer.
-pub fn run<'a, 'b, R: AllocGlobal>(
-    rt: &R,
+pub fn run<'a, 'b>(
+    alloc: Global,
     devices: &mut Devices<PieceIn<'a>, PieceOut<'b>>,
 ) -> Result<Summary, RunFault>
     requires reader { ⟦<PieceIn<'a> as ScriptIn>⟧.has_failed devices.old.reader ≡ false }
     requires writer { ⟦<PieceOut<'b> as ScriptOut>⟧.has_failed devices.old.writer ≡ false }
 {
-    run_script(rt.alloc(), devices)
+    run_script::<EdfDisplays, _>(alloc, devices)
 }
 
-/// Runs what a reader has, and looks at the answer, the reader and the transcript. The place is reported where these
-/// differ.
-pub fn expect_read<'a, R: Abort + AllocGlobal>(
-    rt: &R,
+/// Whether what a reader has is answered so, with this transcript, and the reader has failed just where a read did.
+pub fn is_answered<'a>(
+    alloc: Global,
     input: PieceIn<'a>,
-    place: usize,
     answer: Result<Summary, RunFault>,
     transcript: &[u8],
-)
+) -> bool
     requires { ⟦<PieceIn<'a> as ScriptIn>⟧.has_failed input ≡ false }
 {
     let mut buffer = [0; 2048];
@@ -34,21 +32,28 @@ pub fn expect_read<'a, R: Abort + AllocGlobal>(
         reader: input,
         writer: PieceOut::new(&mut buffer, usize::MAX),
     };
-    let ran = run(rt, &mut devices);
+    let ran = run(alloc, &mut devices);
     let Devices { reader, writer } = devices;
-    assert_eq!(rt; ran, answer, "at {place}");
-    assert_eq!(rt;
-        reader.failed(),
-        answer == Err(RunFault::Read),
-        "at {place}"
-    );
-    assert!(rt; !writer.failed(), "at {place}");
-    assert_eq!(rt; writer.text(), transcript, "at {place}");
+    ran == answer
+        && reader.failed() == (answer == Err(RunFault::Read))
+        && !writer.failed()
+        && writer.text() == transcript
+}
+
+/// How many lines end in a text.
+pub fn count_lines(text: &[u8]) -> usize {
+    let mut count = 0usize;
+    for byte in text {
+        if *byte == b'\n' {
+            count = count.saturating_add(1);
+        }
+    }
+    count
 }
 
 /// `len` bytes of comments: an LF is where what is left, divided by 64, leaves `end`. An error means out of memory.
-pub fn comments<R: AllocGlobal>(rt: &R, len: usize, end: usize) -> Result<Vec<u8>, Fail> {
-    let mut text = vec![in rt.alloc(); b'*'; len]?;
+pub fn comments(alloc: Global, len: usize, end: usize) -> Result<Vec<u8>, AllocError> {
+    let mut text = vec![in alloc; b'*'; len]?;
     let mut left = len;
     for byte in text.iter_mut() {
         if left % 64 == end {

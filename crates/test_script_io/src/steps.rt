@@ -1,6 +1,7 @@
 //! Scripts of the examples, step by step, with what is written for each step.
 
-use std::test::Fail;
+use crate::runs::count_lines;
+use std::alloc::{AllocError, Global};
 
 /// An action or a block, as the script has it, and what is written for it.
 pub(crate) type Step = (&'static [u8], &'static [u8]);
@@ -87,13 +88,13 @@ pub(crate) struct Example {
 }
 
 impl Example {
-    pub(crate) fn new<R: AllocGlobal>(rt: &R, steps: &[Step]) -> Result<Example, Fail> {
-        let (mut script, mut transcript) = (Vec::new(rt.alloc()), Vec::new(rt.alloc()));
+    pub(crate) fn new(alloc: Global, steps: &[Step]) -> Result<Example, AllocError> {
+        let (mut script, mut transcript) = (Vec::new(alloc), Vec::new(alloc));
         for (asked, written) in steps {
             script.extend_from_slice(asked)?;
             transcript.extend_from_slice(written)?;
         }
-        let lines = script.iter().filter(|byte| **byte == b'\n').count();
+        let lines = count_lines(script.as_slice());
         Ok(Example {
             script,
             transcript,

@@ -4,56 +4,61 @@
 use crate::runs::run;
 use crate::steps::{Example, LISTED, RETURN, STOPPED, Step, TRANSLATED, written_by};
 use cx_script::{Devices, RunFault, ScriptIn, ScriptOut, Summary, status};
-use std::process::Abort;
-use std::test::Fail;
+use std::alloc::{AllocError, Global};
 use test_devices::{PieceIn, PieceOut};
 
+/// Whether a run has this answer and its status, and a device has failed just where the answer says so.
+fn is_end(
+    ran: Result<Summary, RunFault>,
+    answer: Result<Summary, RunFault>,
+    (read_failed, write_failed): (bool, bool),
+) -> bool {
+    let code = if answer.is_ok() { 0 } else { 3 };
+    ran == answer
+        && status(&ran) == code
+        && read_failed == (answer == Err(RunFault::Read))
+        && write_failed == (answer == Err(RunFault::Write))
+}
+
 impl Example {
-    /// The script is read in such pieces, and its transcript is the whole one.
-    fn expect_whole<R: Abort + AllocGlobal>(&self, rt: &R, most: usize) {
+    /// Whether the script is read in such pieces, and its transcript is the whole one.
+    fn is_whole(&self, alloc: Global, most: usize) -> bool {
         let mut buffer = [0; 2048];
         let mut devices = Devices {
             reader: PieceIn::new(&self.script, most),
             writer: PieceOut::new(&mut buffer, most),
         };
-        let ran = run(rt, &mut devices);
+        let ran = run(alloc, &mut devices);
         let Devices { reader, writer } = devices;
-        assert_eq!(rt; ran, Ok(Summary { lines: self.lines }), "by {most}");
-        assert_eq!(rt; writer.text(), self.transcript.as_slice(), "by {most}");
-        assert!(rt; !reader.failed() && !writer.failed());
+        let answer = Ok(Summary { lines: self.lines });
+        is_end(ran, answer, (reader.failed(), writer.failed()))
+            && writer.text() == self.transcript.as_slice()
     }
 
-    /// A read fails after a given number of bytes of the script, before which a given number of the transcript's are
-    /// written.
-    fn expect_read<R: Abort + AllocGlobal>(
-        &self,
-        rt: &R,
-        most: usize,
-        good: usize,
-        written: usize,
-    ) {
-        assert!(rt; good <= self.script.len() && written <= self.transcript.len());
+    /// Whether a read that fails after a given number of bytes of the script is reported, and a given number of the
+    /// transcript's are written before.
+    fn is_read(&self, alloc: Global, most: usize, good: usize, written: usize) -> bool {
+        if good > self.script.len() || written > self.transcript.len() {
+            return false;
+        }
         let mut buffer = [0; 2048];
         let mut devices = Devices {
             reader: PieceIn::failing(&self.script[..good], most),
             writer: PieceOut::new(&mut buffer, most),
         };
-        let ran = run(rt, &mut devices);
+        let ran = run(alloc, &mut devices);
         let Devices { reader, writer } = devices;
-        assert_eq!(rt; ran, Err(RunFault::Read), "at {good} by {most}");
-        assert_eq!(rt; status(&ran), 3);
-        assert!(rt; reader.failed() && !writer.failed());
-        assert_eq!(rt;
-            writer.text(),
-            &self.transcript[..written],
-            "at {good} by {most}"
-        );
+        is_end(ran, Err(RunFault::Read), (reader.failed(), writer.failed()))
+            && writer.text() == &self.transcript[..written]
     }
 
-    /// A write fails, or takes none, after a given number of bytes of the transcript.
-    fn expect_write<R: Abort + AllocGlobal>(&self, rt: &R, most: usize, good: usize, fails: bool) {
+    /// Whether a write that fails, or takes none, after a given number of bytes of the transcript is reported, where
+    /// these aren't all.
+    fn is_written(&self, alloc: Global, most: usize, good: usize, fails: bool) -> bool {
         let mut buffer = [0; 2048];
-        assert!(rt; good <= self.transcript.len() && good <= buffer.len());
+        if good > self.transcript.len() || good > buffer.len() {
+            return false;
+        }
         let room = &mut buffer[..good];
         let writer = if fails {
             PieceOut::failing(room, most)
@@ -64,60 +69,76 @@ impl Example {
             reader: PieceIn::new(&self.script, most),
             writer,
         };
-        let ran = run(rt, &mut devices);
+        let ran = run(alloc, &mut devices);
         let Devices { reader, writer } = devices;
-        let whole = good == self.transcript.len();
-        let (answer, code) = if whole {
-            (Ok(Summary { lines: self.lines }), 0)
+        let answer = if good == self.transcript.len() {
+            Ok(Summary { lines: self.lines })
         } else {
-            (Err(RunFault::Write), 3)
+            Err(RunFault::Write)
         };
-        assert_eq!(rt; ran, answer, "at {good} by {most}");
-        assert_eq!(rt; status(&ran), code);
-        assert!(rt; !reader.failed());
-        assert_eq!(rt; writer.failed(), !whole);
-        assert_eq!(rt;
-            writer.text(),
-            &self.transcript[..good],
-            "at {good} by {most}"
-        );
+        is_end(ran, answer, (reader.failed(), writer.failed()))
+            && writer.text() == &self.transcript[..good]
+    }
+
+    /// The first place of the script where a failing read isn't reported as it should be, in such pieces.
+    fn first_read(&self, alloc: Global, steps: &[Step], most: usize) -> Option<usize> {
+        for good in 0..self.script.len() + 1 {
+            if !self.is_read(alloc, most, good, written_by(steps, good)) {
+                return Some(good);
+            }
+        }
+        None
+    }
+
+    /// The first place of the transcript where a write isn't reported as it should be, in such pieces.
+    fn first_write(&self, alloc: Global, most: usize) -> Option<usize> {
+        for good in 0..self.transcript.len() + 1 {
+            if !self.is_written(alloc, most, good, true)
+                || !self.is_written(alloc, most, good, false)
+            {
+                return Some(good);
+            }
+        }
+        None
     }
 }
 
-/// The script of these steps with each device.
-fn sweep<R: Abort + AllocGlobal>(rt: &R, steps: &[Step]) -> Result<(), Fail> {
-    let example = Example::new(rt, steps)?;
+/// The pieces, and the place, of the first run of these steps that doesn't end as it should, with each device; None
+/// where all do.
+fn first_wrong(alloc: Global, steps: &[Step]) -> Result<Option<(usize, usize)>, AllocError> {
+    let example = Example::new(alloc, steps)?;
     for most in [1, 2, 3, 7, usize::MAX] {
-        example.expect_whole(rt, most);
+        if !example.is_whole(alloc, most) {
+            return Ok(Some((most, 0)));
+        }
     }
     for most in [1, 3, usize::MAX] {
-        for good in 0..example.script.len() + 1 {
-            example.expect_read(rt, most, good, written_by(steps, good));
+        if let Some(place) = example.first_read(alloc, steps, most) {
+            return Ok(Some((most, place)));
         }
-        for good in 0..example.transcript.len() + 1 {
-            example.expect_write(rt, most, good, true);
-            example.expect_write(rt, most, good, false);
+        if let Some(place) = example.first_write(alloc, most) {
+            return Ok(Some((most, place)));
         }
     }
-    Ok(())
+    Ok(None)
 }
 
 #[test]
-fn devices_of_a_program_that_returns(rt: HostRuntime) -> Result<(), Fail> {
-    sweep(&rt, &RETURN)
+fn devices_of_a_program_that_returns(rt: HostRuntime) {
+    assert!(rt; first_wrong(rt.alloc(), &RETURN) == Ok(None));
 }
 
 #[test]
-fn devices_of_a_stopped_program(rt: HostRuntime) -> Result<(), Fail> {
-    sweep(&rt, &STOPPED)
+fn devices_of_a_stopped_program(rt: HostRuntime) {
+    assert!(rt; first_wrong(rt.alloc(), &STOPPED) == Ok(None));
 }
 
 #[test]
-fn devices_of_a_listed_source(rt: HostRuntime) -> Result<(), Fail> {
-    sweep(&rt, &LISTED)
+fn devices_of_a_listed_source(rt: HostRuntime) {
+    assert!(rt; first_wrong(rt.alloc(), &LISTED) == Ok(None));
 }
 
 #[test]
-fn devices_of_a_translated_source(rt: HostRuntime) -> Result<(), Fail> {
-    sweep(&rt, &TRANSLATED)
+fn devices_of_a_translated_source(rt: HostRuntime) {
+    assert!(rt; first_wrong(rt.alloc(), &TRANSLATED) == Ok(None));
 }

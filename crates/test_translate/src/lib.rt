@@ -2,10 +2,6 @@
 #![tactic(auto)]
 
 #[cfg(test)]
-mod faults;
-#[cfg(test)]
-mod lists;
-#[cfg(test)]
 mod source;
 #[cfg(test)]
 mod sources;

@@ -6,7 +6,6 @@ use cx_source::{
     skip_blanks, text_of, trim_blanks,
 };
 use std::alloc::{AllocError, Global};
-use std::test::Fail;
 
 /// A source of seven lines with a name on the first alone.
 const PROGRAM: &[u8] =
@@ -75,36 +74,60 @@ const LINES: [&[u8]; 8] = [
     b"no\tname",
 ];
 
-#[test]
-fn lines_one_by_one_give_the_source(rt: HostRuntime) -> Result<(), Fail> {
-    assert!(rt; is_program(&read_by_lines(rt.alloc(), &LINES)?));
-    let mut reader = SourceReader::new(rt.alloc());
+/// Feeds the program in pieces, and then line by line.
+fn read_by_both(alloc: Global) -> Result<Source, SourceFault> {
+    let mut reader = SourceReader::new(alloc);
     reader.feed(b"P    ")?;
     reader.feed_line(b"    CSECT")?;
     for line in LINES.as_slice().split_at(1).1 {
         reader.feed_line(line)?;
     }
-    assert!(rt; is_program(&reader.finish()?));
-    Ok(())
+    reader.finish()
+}
+
+/// Whether this is the program.
+fn gives_program(source: Result<Source, SourceFault>) -> bool {
+    match source {
+        Ok(source) => is_program(&source),
+        Err(_) => false,
+    }
 }
 
 #[test]
-fn a_line_fed_at_once_keeps_its_carriage_return(rt: HostRuntime) -> Result<(), Fail> {
+fn lines_one_by_one_give_the_source(rt: HostRuntime) {
+    assert!(rt; gives_program(read_by_lines(rt.alloc(), &LINES)));
+    assert!(rt; gives_program(read_by_both(rt.alloc())));
+}
+
+fn feed(reader: &mut SourceReader, piece: &[u8]) -> Option<SourceFault> {
+    reader.feed(piece).err()
+}
+
+fn feed_line(reader: &mut SourceReader, line: &[u8]) -> Option<SourceFault> {
+    reader.feed_line(line).err()
+}
+
+fn finish(reader: SourceReader) -> Option<SourceFault> {
+    reader.finish().err()
+}
+
+/// Why lines are no source.
+fn fault_of_lines(alloc: Global, lines: &[&[u8]]) -> Option<SourceFault> {
+    read_by_lines(alloc, lines).err()
+}
+
+#[test]
+fn a_line_fed_at_once_keeps_its_carriage_return(rt: HostRuntime) {
     let mut reader = SourceReader::new(rt.alloc());
-    reader.feed_line(b"*")?;
-    let fault = SourceFault::BadCharacter(2);
-    assert!(rt; reader.feed_line(b"X\r") == Err(fault));
-    assert!(rt; reader.feed_line(b"         END") == Err(fault));
-    assert!(rt; matches!(reader.finish(), Err(kept) if kept == fault));
-    let line_feed = read_by_lines(rt.alloc(), &[b"X\n", b"         END"]);
-    assert!(rt; matches!(line_feed, Err(SourceFault::BadCharacter(1))));
-    assert!(rt;
-        matches!(
-            read_by_lines(rt.alloc(), &[b"*", b""]),
-            Err(SourceFault::NoEnd(3))
-        )
-    );
-    Ok(())
+    let fault = Some(SourceFault::BadCharacter(2));
+    assert!(rt; feed_line(&mut reader, b"*").is_none());
+    assert!(rt; feed_line(&mut reader, b"X\r") == fault);
+    assert!(rt; feed_line(&mut reader, b"         END") == fault);
+    assert!(rt; finish(reader) == fault);
+    let line_feed = fault_of_lines(rt.alloc(), &[b"X\n", b"         END"]);
+    assert!(rt; line_feed == Some(SourceFault::BadCharacter(1)));
+    let unended = fault_of_lines(rt.alloc(), &[b"*", b""]);
+    assert!(rt; unended == Some(SourceFault::NoEnd(3)));
 }
 
 /// The first statement of a source.
@@ -118,13 +141,14 @@ fn first_stmt(source: &Source) -> Option<&Stmt> {
 }
 
 #[test]
-fn pieces_of_any_size_give_one_source(rt: HostRuntime) -> Result<(), Fail> {
-    assert!(rt; is_program(&read_source(rt.alloc(), PROGRAM)?));
+fn pieces_of_any_size_give_one_source(rt: HostRuntime) {
+    assert!(rt; gives_program(read_source(rt.alloc(), PROGRAM)));
     for size in [1, 2, 3, 7, 1000] {
-        let source = read_in_pieces(rt.alloc(), PROGRAM, size)?;
-        assert!(rt; is_program(&source), "{size}");
+        assert!(rt;
+            gives_program(read_in_pieces(rt.alloc(), PROGRAM, size)),
+            "{size}"
+        );
     }
-    Ok(())
 }
 
 /// A comment of `lines` lines of 80 columns, and then an END.
@@ -138,21 +162,19 @@ fn long_source(alloc: Global, lines: usize, rest: &[u8]) -> Result<Vec<u8>, Allo
     Ok(source)
 }
 
-/// The size of a piece, and the number of lines that it gives.
-fn fed(alloc: Global, piece: &[u8]) -> Result<(usize, usize), SourceFault> {
+/// The size of such a source, which is fed at once, and the number of lines that it gives.
+fn fed(alloc: Global, lines: usize, rest: &[u8]) -> Result<(usize, usize), SourceFault> {
+    let piece = long_source(alloc, lines, rest)?;
     let mut reader = SourceReader::new(alloc);
-    reader.feed(piece)?;
+    reader.feed(piece.as_slice())?;
     let source = reader.finish()?;
     Ok((piece.len(), source.items.as_slice().len()))
 }
 
 #[test]
-fn a_piece_of_65537_bytes_is_fed(rt: HostRuntime) -> Result<(), Fail> {
-    let piece = long_source(rt.alloc(), 809, b" END    ")?;
-    assert!(rt; fed(rt.alloc(), piece.as_slice())? == (65_537, 810));
-    let source = long_source(rt.alloc(), 9_999, b" END")?;
-    assert!(rt; fed(rt.alloc(), source.as_slice())? == (809_923, 10_000));
-    Ok(())
+fn a_piece_of_65537_bytes_is_fed(rt: HostRuntime) {
+    assert!(rt; fed(rt.alloc(), 809, b" END    ") == Ok((65_537, 810)));
+    assert!(rt; fed(rt.alloc(), 9_999, b" END") == Ok((809_923, 10_000)));
 }
 
 /// Why bytes are no source.
@@ -207,20 +229,18 @@ fn each_fault_has_its_line(rt: HostRuntime) {
     }
 }
 
-/// `count` empty lines.
-fn empty_lines(alloc: Global, count: usize) -> Result<Vec<u8>, AllocError> {
-    vec![in alloc; b'\n'; count]
+/// Why `count` empty lines are no source.
+fn fault_of_empty(alloc: Global, count: usize) -> Result<Option<SourceFault>, AllocError> {
+    let lines = vec![in alloc; b'\n'; count]?;
+    Ok(fault_of(alloc, lines.as_slice()))
 }
 
 #[test]
-fn a_source_has_at_most_ten_thousand_lines(rt: HostRuntime) -> Result<(), Fail> {
+fn a_source_has_at_most_ten_thousand_lines(rt: HostRuntime) {
     let without_end = Some(SourceFault::NoEnd(10_001));
-    let lines = empty_lines(rt.alloc(), 10_000)?;
-    assert!(rt; fault_of(rt.alloc(), lines.as_slice()) == without_end);
+    assert!(rt; fault_of_empty(rt.alloc(), 10_000) == Ok(without_end));
     let too_long = Some(SourceFault::TooLong(10_001));
-    let lines = empty_lines(rt.alloc(), 10_001)?;
-    assert!(rt; fault_of(rt.alloc(), lines.as_slice()) == too_long);
-    Ok(())
+    assert!(rt; fault_of_empty(rt.alloc(), 10_001) == Ok(too_long));
 }
 
 /// Whether the first statement of a source has this name, operation and operand.
@@ -264,11 +284,13 @@ const RULES: &[(&str, (&str, &str, &str))] = &[
 ];
 
 #[test]
-fn each_rule_of_lines_holds(rt: HostRuntime) -> Result<(), Fail> {
+fn each_rule_of_lines_holds(rt: HostRuntime) {
     for &(source, expected) in RULES {
-        assert!(rt; begins_with(rt.alloc(), source, expected)?, "{source}");
+        assert!(rt;
+            begins_with(rt.alloc(), source, expected) == Ok(true),
+            "{source}"
+        );
     }
-    Ok(())
 }
 
 /// A line's number, the length of its text, and whether a statement begins on it.
@@ -281,23 +303,34 @@ fn kept(source: &Source, place: usize) -> Option<(usize, usize, bool)> {
 #[rattlefmt::skip]
 const FOUR_LINES: &[u8] = b"* A  \n DC C'A'                                                               X12345678\n               'B'\n END\n{";
 
+/// What is kept of them.
+const KEPT: [Option<(usize, usize, bool)>; 5] = [
+    Some((1, 3, false)),
+    Some((2, 72, true)),
+    Some((3, 18, false)),
+    Some((4, 4, true)),
+    None,
+];
+
+/// Whether of a source this is kept.
+fn keeps_four_lines(source: &Source) -> bool {
+    for (place, due) in KEPT.iter().enumerate() {
+        if kept(source, place) != *due {
+            return false;
+        }
+    }
+    true
+}
+
+/// Whether of those lines this is kept, and then of copies.
+fn are_kept(alloc: Global) -> Result<bool, SourceFault> {
+    let source = read_source(alloc, FOUR_LINES)?;
+    Ok(keeps_four_lines(&source) && keeps_four_lines(&copied(alloc, &source)?))
+}
+
 #[test]
-fn lines_keep_their_texts(rt: HostRuntime) -> Result<(), Fail> {
-    let source = read_source(rt.alloc(), FOUR_LINES)?;
-    assert!(rt; kept(&source, 0) == Some((1, 3, false)));
-    assert!(rt; kept(&source, 1) == Some((2, 72, true)));
-    assert!(rt; kept(&source, 2) == Some((3, 18, false)));
-    assert!(rt; kept(&source, 3) == Some((4, 4, true)));
-    assert!(rt; kept(&source, 4).is_none());
-    Ok(())
-}
-
-fn feed(reader: &mut SourceReader, piece: &[u8]) -> Option<SourceFault> {
-    reader.feed(piece).err()
-}
-
-fn finish(reader: SourceReader) -> Option<SourceFault> {
-    reader.finish().err()
+fn lines_keep_their_texts(rt: HostRuntime) {
+    assert!(rt; are_kept(rt.alloc()) == Ok(true));
 }
 
 #[test]
@@ -336,31 +369,20 @@ fn is_cut(
     Ok(joined.as_slice() == expected)
 }
 
+/// Operands, marks, and the parts.
+const CUT: &[(&[u8], Delimiter, &[u8])] = &[
+    (b"1,D(2,B),C','", Delimiter::TopComma, b"1|D(2,B)|C','|"),
+    (b"(1),2)+(3)", Delimiter::Closing, b"(1),2|+(3)|"),
+    (b"D(X,B)'('", Delimiter::Parenthesis, b"D|X,B|'('|"),
+    (b"A  'B C'", Delimiter::Blank, b"A||'B C'|"),
+    (b"", Delimiter::TopComma, b"|"),
+];
+
 #[test]
-fn operands_are_cut_outside_apostrophes(rt: HostRuntime) -> Result<(), Fail> {
-    let operand = b"1,D(2,B),C','".as_slice();
-    for (text, mark, expected) in [
-        (operand, Delimiter::TopComma, b"1|D(2,B)|C','|".as_slice()),
-        (
-            b"(1),2)+(3)".as_slice(),
-            Delimiter::Closing,
-            b"(1),2|+(3)|".as_slice(),
-        ),
-        (
-            b"D(X,B)'('".as_slice(),
-            Delimiter::Parenthesis,
-            b"D|X,B|'('|".as_slice(),
-        ),
-        (
-            b"A  'B C'".as_slice(),
-            Delimiter::Blank,
-            b"A||'B C'|".as_slice(),
-        ),
-        (b"".as_slice(), Delimiter::TopComma, b"|".as_slice()),
-    ] {
-        assert!(rt; is_cut(rt.alloc(), text, mark, expected)?);
+fn operands_are_cut_outside_apostrophes(rt: HostRuntime) {
+    for &(text, mark, expected) in CUT {
+        assert!(rt; is_cut(rt.alloc(), text, mark, expected) == Ok(true));
     }
-    Ok(())
 }
 
 /// Whether these are the characters outside apostrophes.
@@ -369,12 +391,11 @@ fn lie_outside(alloc: Global, text: &[u8], expected: &[bool]) -> Result<bool, Al
 }
 
 #[test]
-fn marks_are_found_outside_apostrophes(rt: HostRuntime) -> Result<(), Fail> {
+fn marks_are_found_outside_apostrophes(rt: HostRuntime) {
     let expected = [true, false, false, false, true, true, true, true, false];
-    assert!(rt; lie_outside(rt.alloc(), b"A'B',L'C'", &expected)?);
+    assert!(rt; lie_outside(rt.alloc(), b"A'B',L'C'", &expected) == Ok(true));
     assert!(rt; first_mark(b"C'A B',X REST", Delimiter::Blank) == 8);
     assert!(rt; first_mark(b"AB", Delimiter::TopComma) == 2);
-    Ok(())
 }
 
 /// The numbers of flags and of parts of an operand of `size` commas.
@@ -388,9 +409,8 @@ fn cut_count(alloc: Global, size: usize) -> Result<(usize, usize), AllocError> {
 }
 
 #[test]
-fn a_long_operand_is_cut(rt: HostRuntime) -> Result<(), Fail> {
-    assert!(rt; cut_count(rt.alloc(), 560_000)? == (560_000, 560_001));
-    Ok(())
+fn a_long_operand_is_cut(rt: HostRuntime) {
+    assert!(rt; cut_count(rt.alloc(), 560_000) == Ok((560_000, 560_001)));
 }
 
 #[test]
@@ -460,16 +480,15 @@ fn is_copied(
     }
 }
 
+/// Whether the program's lines are copied, and its first statement.
+fn are_copied(alloc: Global) -> Result<bool, SourceFault> {
+    let source = read_source(alloc, PROGRAM)?;
+    Ok(is_program(&copied(alloc, &source)?) && is_copied(alloc, &source, STATEMENTS[0])?)
+}
+
 #[test]
-fn lines_and_statements_are_copied(rt: HostRuntime) -> Result<(), Fail> {
-    let source = read_source(rt.alloc(), PROGRAM)?;
-    assert!(rt; is_program(&copied(rt.alloc(), &source)?));
-    assert!(rt; is_copied(rt.alloc(), &source, STATEMENTS[0])?);
-    let source = copied(rt.alloc(), &read_source(rt.alloc(), FOUR_LINES)?)?;
-    assert!(rt; kept(&source, 0) == Some((1, 3, false)));
-    assert!(rt; kept(&source, 1) == Some((2, 72, true)));
-    assert!(rt; kept(&source, 4).is_none());
-    Ok(())
+fn lines_and_statements_are_copied(rt: HostRuntime) {
+    assert!(rt; are_copied(rt.alloc()) == Ok(true));
 }
 
 /// Whether a fault has this name, and is shown so.
@@ -478,31 +497,25 @@ fn is_shown(alloc: Global, fault: SourceFault, name: &str, text: &str) -> Result
     Ok(fault.name() == name && shown.as_str() == text)
 }
 
+/// Faults, the name of each, and how it is shown.
+#[rattlefmt::skip]
+const SHOWN: &[(SourceFault, &str, &str)] = &[
+    (SourceFault::BadCharacter(1), "BadCharacter", "line 1: BadCharacter"),
+    (SourceFault::BadName(20), "BadName", "line 20: BadName"),
+    (SourceFault::BadContinuation(3), "BadContinuation", "line 3: BadContinuation"),
+    (SourceFault::TooLong(10_001), "TooLong", "line 10001: TooLong"),
+    (SourceFault::NoEnd(8), "NoEnd", "line 8: NoEnd"),
+    (SourceFault::Memory, "Memory", "Memory"),
+];
+
 #[test]
-fn faults_have_names(rt: HostRuntime) -> Result<(), Fail> {
-    for (fault, name, text) in [
-        (
-            SourceFault::BadCharacter(1),
-            "BadCharacter",
-            "line 1: BadCharacter",
-        ),
-        (SourceFault::BadName(20), "BadName", "line 20: BadName"),
-        (
-            SourceFault::BadContinuation(3),
-            "BadContinuation",
-            "line 3: BadContinuation",
-        ),
-        (
-            SourceFault::TooLong(10_001),
-            "TooLong",
-            "line 10001: TooLong",
-        ),
-        (SourceFault::NoEnd(8), "NoEnd", "line 8: NoEnd"),
-        (SourceFault::Memory, "Memory", "Memory"),
-    ] {
-        assert!(rt; is_shown(rt.alloc(), fault, name, text)?, "{name}");
+fn faults_have_names(rt: HostRuntime) {
+    for &(fault, name, text) in SHOWN {
+        assert!(rt;
+            is_shown(rt.alloc(), fault, name, text) == Ok(true),
+            "{name}"
+        );
     }
-    Ok(())
 }
 
 /// Whether a list holds these bytes and gives them back.
@@ -519,7 +532,6 @@ fn give_back(alloc: Global, bytes: &[u8]) -> Result<bool, AllocError> {
 }
 
 #[test]
-fn lists_give_back_what_they_hold(rt: HostRuntime) -> Result<(), Fail> {
-    assert!(rt; give_back(rt.alloc(), b"AB")?);
-    Ok(())
+fn lists_give_back_what_they_hold(rt: HostRuntime) {
+    assert!(rt; give_back(rt.alloc(), b"AB") == Ok(true));
 }

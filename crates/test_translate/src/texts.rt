@@ -34,46 +34,6 @@ fn section_with_ends(alloc: Global, operand: &[u8], ends: &[usize]) -> Result<So
     })
 }
 
-/// A control section with one EXEC statement of this operand, on line 2.
-fn section_with(alloc: Global, operand: &[u8]) -> Result<Source, AllocError> {
-    section_with_ends(alloc, operand, &[3])
-}
-
-/// The statements on line 2, one per line: operation, a blank, operand.
-fn second_line(alloc: Global, source: &Source) -> Result<Vec<u8>, AllocError> {
-    let mut text = Vec::new(alloc);
-    for item in source.items.as_slice() {
-        if let (2, Some(stmt)) = (item.line, &item.stmt) {
-            text.extend_from_slice(stmt.operation.as_slice())?;
-            text.push(b' ')?;
-            text.extend_from_slice(stmt.operand.as_slice())?;
-            text.push(b'\n')?;
-        }
-    }
-    Ok(text)
-}
-
-/// What is made of an EXEC statement of this operand, or the fault's name.
-pub(crate) fn made_of(alloc: Global, operand: &[u8]) -> Result<Vec<u8>, AllocError> {
-    match translate(alloc, &section_with(alloc, operand)?) {
-        Ok(source) => second_line(alloc, &source),
-        Err(fault) => Vec::from_slice(alloc, fault.name().as_bytes()),
-    }
-}
-
-/// The words of the argument list that an EXEC statement of this operand makes, with a blank after each.
-pub(crate) fn list_of(alloc: Global, operand: &[u8]) -> Result<Vec<u8>, AllocError> {
-    let made = made_of(alloc, operand)?;
-    let mut list = Vec::new(alloc);
-    for line in made.split(|c| *c == b'\n') {
-        if let Some(word) = line.strip_prefix(b"LA 0,") {
-            list.extend_from_slice(word)?;
-            list.push(b' ')?;
-        }
-    }
-    Ok(list)
-}
-
 /// The lines of a source, each with the last two digits of its number before it.
 fn numbered(alloc: Global, source: &Source) -> Result<Vec<u8>, AllocError> {
     let mut text = Vec::new(alloc);

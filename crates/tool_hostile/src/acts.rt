@@ -5,6 +5,7 @@ ghost use Rattle.std.specs.Prelude.{◌≤◌, length};
 use crate::seen::task_of;
 use cx_ebcdic::{Aid, Name4};
 use cx_edf::{Answer, Debugged, KeyAnswer, TurnAnswer};
+use cx_edf_display::EdfDisplays;
 use cx_region::{Change, Region, Reply};
 use cx_storage_pages::PagedStore;
 use std::alloc::AllocError;
@@ -85,7 +86,7 @@ pub struct Done {
 // The calls of a region without what their contracts ensure.
 
 fn key(
-    debugged: &mut Debugged<PagedStore>,
+    debugged: &mut Debugged<PagedStore, EdfDisplays>,
     terminal: Name4,
     aid: Aid,
     sent: Sent,
@@ -96,18 +97,24 @@ fn key(
     }
 }
 
-fn turn(debugged: &mut Debugged<PagedStore>, terminal: Name4) -> Result<Answer, AllocError> {
+fn turn(
+    debugged: &mut Debugged<PagedStore, EdfDisplays>,
+    terminal: Name4,
+) -> Result<Answer, AllocError> {
     match debugged.turn(terminal)? {
         TurnAnswer::Region(reply) => Ok(Answer::Region(Reply::Turn(reply))),
         TurnAnswer::Held => Ok(Answer::Held),
     }
 }
 
-fn edf_on(debugged: &mut Debugged<PagedStore>, terminal: Name4) -> Result<Answer, AllocError> {
+fn edf_on(
+    debugged: &mut Debugged<PagedStore, EdfDisplays>,
+    terminal: Name4,
+) -> Result<Answer, AllocError> {
     Ok(Answer::Edf(debugged.edf_on(terminal)?))
 }
 
-fn edf_off(debugged: &mut Debugged<PagedStore>, terminal: Name4) -> Answer {
+fn edf_off(debugged: &mut Debugged<PagedStore, EdfDisplays>, terminal: Name4) -> Answer {
     Answer::Edf(debugged.edf_off(terminal))
 }
 
@@ -130,7 +137,7 @@ fn abend_alone(region: &mut Region<PagedStore>, terminal: Name4) -> Reply {
 
 /// What an act is answered under EDF.
 fn answer(
-    debugged: &mut Debugged<PagedStore>,
+    debugged: &mut Debugged<PagedStore, EdfDisplays>,
     terminal: Name4,
     act: Act,
 ) -> Result<Answer, AllocError> {
@@ -144,7 +151,7 @@ fn answer(
 
 /// Does an act at a terminal under EDF.
 pub fn perform(
-    debugged: &mut Debugged<PagedStore>,
+    debugged: &mut Debugged<PagedStore, EdfDisplays>,
     terminal: Name4,
     act: Act,
 ) -> Result<Done, AllocError> {

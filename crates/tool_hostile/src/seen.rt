@@ -2,6 +2,7 @@
 
 use cx_ebcdic::Name4;
 use cx_edf::Debugged;
+use cx_edf_display::EdfDisplays;
 use cx_region::{Region, TaskInfo};
 use cx_storage_pages::PagedStore;
 
@@ -13,7 +14,7 @@ const MOST_LEVELS: usize = 16;
 const MOST_NUMBER: u32 = 9_999_999;
 
 /// The live task of a terminal.
-pub fn task_of(debugged: &Debugged<PagedStore>, terminal: Name4) -> Option<TaskInfo> {
+pub fn task_of(debugged: &Debugged<PagedStore, EdfDisplays>, terminal: Name4) -> Option<TaskInfo> {
     debugged.task(terminal)
 }
 
@@ -31,12 +32,12 @@ pub struct Seen {
 }
 
 /// Whether `len` bytes from an address on are in storage.
-fn has_bytes(debugged: &Debugged<PagedStore>, first: u32, len: u32) -> bool {
+fn has_bytes(debugged: &Debugged<PagedStore, EdfDisplays>, first: u32, len: u32) -> bool {
     (0..len).all(|k| debugged.byte(first.saturating_add(k)).is_some())
 }
 
 /// Whether a terminal's task, if it has one, is within its limits, and its EIB and its DFHEISTG have all their bytes.
-pub fn is_whole(debugged: &Debugged<PagedStore>, terminal: Name4) -> bool {
+pub fn is_whole(debugged: &Debugged<PagedStore, EdfDisplays>, terminal: Name4) -> bool {
     let Some(task) = task_of(debugged, terminal) else {
         return true;
     };
@@ -71,7 +72,7 @@ pub fn are_same(one: &Option<TaskInfo>, other: &Option<TaskInfo>) -> bool {
 }
 
 /// The screen of a terminal.
-fn cells_of(debugged: &Debugged<PagedStore>, terminal: Name4) -> [[u8; 80]; 24] {
+fn cells_of(debugged: &Debugged<PagedStore, EdfDisplays>, terminal: Name4) -> [[u8; 80]; 24] {
     match debugged.screen(terminal) {
         Some(screen) => *screen.cells(),
         None => [[0; 80]; 24],
@@ -80,7 +81,7 @@ fn cells_of(debugged: &Debugged<PagedStore>, terminal: Name4) -> [[u8; 80]; 24] 
 
 impl Seen {
     /// What is seen of a terminal now.
-    pub fn new(debugged: &Debugged<PagedStore>, terminal: Name4) -> Seen {
+    pub fn new(debugged: &Debugged<PagedStore, EdfDisplays>, terminal: Name4) -> Seen {
         Seen {
             terminal,
             task: task_of(debugged, terminal),
@@ -94,7 +95,7 @@ impl Seen {
     }
 
     /// Whether the terminal's task and screen are still as they were.
-    pub fn is_still(&self, debugged: &Debugged<PagedStore>) -> bool {
+    pub fn is_still(&self, debugged: &Debugged<PagedStore, EdfDisplays>) -> bool {
         are_same(&self.task, &task_of(debugged, self.terminal))
             && self.cells == cells_of(debugged, self.terminal)
     }

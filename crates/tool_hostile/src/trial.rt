@@ -9,6 +9,7 @@ use crate::setup::{HOSTILE, OTHERS};
 use crate::stop::{Stop, Violation, unless};
 use cx_ebcdic::{Aid, Name4};
 use cx_edf::{Answer, Debugged};
+use cx_edf_display::EdfDisplays;
 use cx_region::{AlterReply, Region, Reply};
 use cx_storage_pages::PagedStore;
 
@@ -28,7 +29,7 @@ fn stopped_key(draws: &mut Draws) -> Act {
 /// A region under EDF, beside it one without, and what is to be seen of them.
 #[derive(Drop)]
 pub struct Trial {
-    debugged: Debugged<PagedStore>,
+    debugged: Debugged<PagedStore, EdfDisplays>,
     alone: Option<Region<PagedStore>>,
     watch: Watch,
     seen: [Seen; 3],
@@ -39,7 +40,10 @@ pub struct Trial {
 
 impl Trial {
     /// A region under EDF and, if there is one, a region without, alike in what is defined.
-    pub fn new(debugged: Debugged<PagedStore>, alone: Option<Region<PagedStore>>) -> Trial {
+    pub fn new(
+        debugged: Debugged<PagedStore, EdfDisplays>,
+        alone: Option<Region<PagedStore>>,
+    ) -> Trial {
         let [second, third] = OTHERS;
         let hostile = Seen::new(&debugged, Name4::from_bytes(HOSTILE));
         let second = Seen::new(&debugged, Name4::from_bytes(second));

@@ -14,9 +14,10 @@ use crate::sources::program_of;
 use cx_code::Image;
 use cx_ebcdic::{Name4, Name8};
 use cx_edf::{Answer, Debugged, EdfEvent};
+use cx_edf_display::EdfDisplays;
 use cx_load::check;
 use cx_region::{Event, Reply};
-use cx_script_actions::{Action, Line, Wanted};
+use cx_script_actions::{Action, Line, NoHeading, Wanted};
 use cx_script_io::split_line;
 use cx_storage::Store;
 use std::alloc::AllocError;
@@ -38,14 +39,14 @@ pub fn terminal_of(event: &EdfEvent, answer: &Answer) -> Option<Name4> {
 /// A list up to some line of it.
 #[derive(Drop)]
 struct List<S: Store + Drop> {
-    region: Debugged<S>,
+    region: Debugged<S, EdfDisplays>,
     /// The terminals that are defined.
     terminals: Vec<Name4>,
 }
 
 impl<S: Store + Drop> List<S> {
     /// A list of which nothing is done.
-    fn new(rt: &HostRuntime, region: Debugged<S>) -> List<S> {
+    fn new(rt: &HostRuntime, region: Debugged<S, EdfDisplays>) -> List<S> {
         List {
             region,
             terminals: Vec::new(rt.alloc()),
@@ -121,11 +122,16 @@ impl<S: Store + Drop> List<S> {
     }
 
     /// Does what a line asks, and the block after it where it begins one.
-    fn line(&mut self, rt: &HostRuntime, line: Line<Action>, block: &[u8]) -> io::Result<()>
+    fn line(
+        &mut self,
+        rt: &HostRuntime,
+        line: Line<Action, NoHeading>,
+        block: &[u8],
+    ) -> io::Result<()>
         requires { IsAllowedLine IsAllowedAction line }
     {
         match line {
-            Line::Blank | Line::Lines(_) => Ok(()),
+            Line::Blank => Ok(()),
             Line::Action(action) => self.action(rt, action),
             Line::Image(name, stg_len) => self.image_block(rt, name, stg_len, block),
             Line::Source(name, wanted) => self.source(rt, name, wanted, block),
@@ -172,7 +178,7 @@ impl<S: Store + Drop> List<S> {
 }
 
 /// The lines of the block that a line begins, none where it begins none, and those after it.
-pub fn block_of<'a>(line: &Line<Action>, after: &'a [u8]) -> (&'a [u8], &'a [u8]) {
+pub fn block_of<'a>(line: &Line<Action, NoHeading>, after: &'a [u8]) -> (&'a [u8], &'a [u8]) {
     match line {
         Line::Image(_, _) | Line::Source(_, _) | Line::Lines(_) => split_block(after),
         Line::Blank | Line::Action(_) => (b"", after),
@@ -213,7 +219,11 @@ fn split_heading(lines: &[u8]) -> (Heading, Option<&[u8]>, &[u8]) {
 }
 
 /// Does a list's events, each by itself.
-fn do_each<S: Store + Drop>(rt: &HostRuntime, region: Debugged<S>, lines: &[u8]) -> io::Result<()> {
+fn do_each<S: Store + Drop>(
+    rt: &HostRuntime,
+    region: Debugged<S, EdfDisplays>,
+    lines: &[u8],
+) -> io::Result<()> {
     let mut list = List::new(rt, region);
     list.all(rt, lines)
 }

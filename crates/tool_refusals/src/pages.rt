@@ -4,6 +4,7 @@ use crate::answers::as_text;
 use cx_base::{Page, shown_bytes, trim};
 use cx_ebcdic::Name4;
 use cx_edf::{Debugged, Display, PageName};
+use cx_edf_display::EdfDisplays;
 use cx_region::TaskInfo;
 use cx_service::Screen;
 use cx_storage::Store;
@@ -50,14 +51,14 @@ fn print_heading(rt: &HostRuntime, word: &str, name: Name4) -> io::Result<()> {
 }
 
 /// The screen of a terminal.
-fn screen_of<S: Store + Drop>(region: &Debugged<S>, name: Name4) -> Option<&Screen> {
+fn screen_of<S: Store + Drop>(region: &Debugged<S, EdfDisplays>, name: Name4) -> Option<&Screen> {
     region.screen(name)
 }
 
 /// Prints the screen of a terminal as SCREEN does.
 pub fn print_screen<S: Store + Drop>(
     rt: &HostRuntime,
-    region: &Debugged<S>,
+    region: &Debugged<S, EdfDisplays>,
     name: Name4,
 ) -> io::Result<()> {
     print_heading(rt, "SCREEN", name)?;
@@ -71,7 +72,7 @@ pub fn print_screen<S: Store + Drop>(
 }
 
 /// The page that is shown at a terminal.
-fn shown_page<S: Store + Drop>(region: &Debugged<S>, name: Name4) -> Option<&Page> {
+fn shown_page<S: Store + Drop>(region: &Debugged<S, EdfDisplays>, name: Name4) -> Option<&Page> {
     let (display, view) = region.display(name)?;
     Some(match view.page {
         PageName::Main => &display.main,
@@ -81,14 +82,18 @@ fn shown_page<S: Store + Drop>(region: &Debugged<S>, name: Name4) -> Option<&Pag
 }
 
 /// A display of a terminal, `back` displays before the newest.
-fn kept<S: Store + Drop>(region: &Debugged<S>, name: Name4, back: usize) -> Option<&Display> {
+fn kept<S: Store + Drop>(
+    region: &Debugged<S, EdfDisplays>,
+    name: Name4,
+    back: usize,
+) -> Option<&Display> {
     region.previous(name, back)
 }
 
 /// Prints the page that is shown at a terminal, or the main page of the display `back` displays before its newest.
 pub fn print_displays<S: Store + Drop>(
     rt: &HostRuntime,
-    region: &Debugged<S>,
+    region: &Debugged<S, EdfDisplays>,
     name: Name4,
     back: Option<usize>,
 ) -> io::Result<()> {
@@ -120,12 +125,12 @@ fn print_display(rt: &HostRuntime, name: Name4, back: usize, display: &Display) 
 }
 
 /// The live task of a terminal.
-fn task_of<S: Store + Drop>(region: &Debugged<S>, name: Name4) -> Option<TaskInfo> {
+fn task_of<S: Store + Drop>(region: &Debugged<S, EdfDisplays>, name: Name4) -> Option<TaskInfo> {
     region.task(name)
 }
 
 /// A byte of storage; 0 where there is none.
-fn byte_at<S: Store + Drop>(region: &Debugged<S>, address: u32) -> u8 {
+fn byte_at<S: Store + Drop>(region: &Debugged<S, EdfDisplays>, address: u32) -> u8 {
     region.byte(address).unwrap_or(0)
 }
 
@@ -140,7 +145,7 @@ fn print_registers(rt: &HostRuntime, registers: &[u32]) -> io::Result<()> {
 }
 
 /// The bytes of a task's EIB.
-fn eib_bytes<S: Store + Drop>(region: &Debugged<S>, start: u32) -> [u8; EIB_LEN] {
+fn eib_bytes<S: Store + Drop>(region: &Debugged<S, EdfDisplays>, start: u32) -> [u8; EIB_LEN] {
     let mut bytes = [0; EIB_LEN];
     let mut address = start;
     for byte in bytes.iter_mut() {
@@ -153,7 +158,7 @@ fn eib_bytes<S: Store + Drop>(region: &Debugged<S>, start: u32) -> [u8; EIB_LEN]
 /// Prints the bytes of a task's EIB.
 fn print_eib<S: Store + Drop>(
     rt: &HostRuntime,
-    region: &Debugged<S>,
+    region: &Debugged<S, EdfDisplays>,
     start: u32,
 ) -> io::Result<()> {
     let mut digits = [0; 2 * EIB_LEN];
@@ -164,7 +169,7 @@ fn print_eib<S: Store + Drop>(
 /// Prints a live task of a terminal.
 fn print_live<S: Store + Drop>(
     rt: &HostRuntime,
-    region: &Debugged<S>,
+    region: &Debugged<S, EdfDisplays>,
     task: &TaskInfo,
 ) -> io::Result<()> {
     let program = shown_bytes(&task.program.bytes());
@@ -183,7 +188,7 @@ fn print_live<S: Store + Drop>(
 /// Prints the task of a terminal.
 fn print_task<S: Store + Drop>(
     rt: &HostRuntime,
-    region: &Debugged<S>,
+    region: &Debugged<S, EdfDisplays>,
     name: Name4,
 ) -> io::Result<()> {
     print_heading(rt, "TASK", name)?;
@@ -196,7 +201,7 @@ fn print_task<S: Store + Drop>(
 /// Prints the task of a terminal, its screen, and all displays that are kept of it, the newest first.
 pub fn print_all<S: Store + Drop>(
     rt: &HostRuntime,
-    region: &Debugged<S>,
+    region: &Debugged<S, EdfDisplays>,
     name: Name4,
 ) -> io::Result<()> {
     print_task(rt, region, name)?;

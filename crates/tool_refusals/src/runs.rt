@@ -11,9 +11,10 @@ use crate::images::image_of;
 use crate::lists::{MOST_LINES, block_of, terminal_of};
 use cx_ebcdic::{Name4, Name8};
 use cx_edf::{Answer, Debugged, EdfEvent};
+use cx_edf_display::EdfDisplays;
 use cx_load::{CheckedImage, check};
 use cx_region::{Event, Region, Reply};
-use cx_script_actions::{Action, Line};
+use cx_script_actions::{Action, Line, NoHeading};
 use cx_script_io::split_line;
 use cx_storage::Store;
 use std::alloc::{AllocError, Global};
@@ -173,14 +174,18 @@ fn asked(action: Action) -> Option<EdfEvent>
 }
 
 /// The event that a line asks, with the block after it where it begins one; None where it asks none.
-fn event_of(alloc: Global, line: Line<Action>, block: &[u8]) -> Result<Option<EdfEvent>, AllocError>
+fn event_of(
+    alloc: Global,
+    line: Line<Action, NoHeading>,
+    block: &[u8],
+) -> Result<Option<EdfEvent>, AllocError>
     requires { IsAllowedLine IsAllowedAction line }
     ensures { IfOk result (λ event. IfSome event IsAllowedEdf) }
 {
     match line {
         Line::Action(action) => Ok(asked(action)),
         Line::Image(name, stg_len) => program(alloc, name, stg_len, block),
-        Line::Blank | Line::Lines(_) | Line::Source(_, _) => Ok(None),
+        Line::Blank | Line::Source(_, _) => Ok(None),
     }
 }
 
@@ -235,7 +240,7 @@ fn run_events<S: Store + Drop>(region: &mut Region<S>, list: &Events) -> Result<
 }
 
 fn run_under_edf<S: Store + Drop>(
-    region: &mut Debugged<S>,
+    region: &mut Debugged<S, EdfDisplays>,
     list: &EdfEvents,
 ) -> Result<Vec<Answer>, usize> {
     match region.run(list.events()) {
@@ -245,7 +250,7 @@ fn run_under_edf<S: Store + Drop>(
 }
 
 fn define_program<S: Store + Drop>(
-    region: &mut Debugged<S>,
+    region: &mut Debugged<S, EdfDisplays>,
     name: Name8,
     image: &CheckedImage,
 ) -> Reply {
@@ -253,24 +258,24 @@ fn define_program<S: Store + Drop>(
 }
 
 fn define_transaction<S: Store + Drop>(
-    region: &mut Debugged<S>,
+    region: &mut Debugged<S, EdfDisplays>,
     name: Name4,
     program: Name8,
 ) -> Reply {
     Reply::Transaction(region.define_transaction(name, program))
 }
 
-fn define_terminal<S: Store + Drop>(region: &mut Debugged<S>, name: Name4) -> Reply {
+fn define_terminal<S: Store + Drop>(region: &mut Debugged<S, EdfDisplays>, name: Name4) -> Reply {
     Reply::Terminal(region.define_terminal(name))
 }
 
 /// Whether a display of a terminal is kept, so many before the newest.
-fn is_kept<S: Store + Drop>(region: &Debugged<S>, name: Name4, back: usize) -> bool {
+fn is_kept<S: Store + Drop>(region: &Debugged<S, EdfDisplays>, name: Name4, back: usize) -> bool {
     region.previous(name, back).is_some()
 }
 
 /// How many displays are kept of a terminal.
-fn kept<S: Store + Drop>(region: &Debugged<S>, name: Name4) -> usize {
+fn kept<S: Store + Drop>(region: &Debugged<S, EdfDisplays>, name: Name4) -> usize {
     let mut count = 0usize;
     for back in 0..MORE_THAN_KEPT {
         if is_kept(region, name, back) {
@@ -281,7 +286,10 @@ fn kept<S: Store + Drop>(region: &Debugged<S>, name: Name4) -> usize {
 }
 
 /// What the call of a definition replies; None where an event is none.
-fn defined<S: Store + Drop>(region: &mut Debugged<S>, event: &EdfEvent) -> Option<Reply> {
+fn defined<S: Store + Drop>(
+    region: &mut Debugged<S, EdfDisplays>,
+    event: &EdfEvent,
+) -> Option<Reply> {
     match event {
         EdfEvent::Plain(Event::Program(name, image)) => Some(define_program(region, *name, image)),
         EdfEvent::Plain(Event::Transaction(name, program)) => {
@@ -295,7 +303,7 @@ fn defined<S: Store + Drop>(region: &mut Debugged<S>, event: &EdfEvent) -> Optio
 /// Does a definition, if there is one, and prints its answer. Keeps the name of a terminal that was defined.
 fn define<S: Store + Drop>(
     rt: &HostRuntime,
-    region: &mut Debugged<S>,
+    region: &mut Debugged<S, EdfDisplays>,
     terminals: &mut Vec<Name4>,
     event: &Option<EdfEvent>,
 ) -> io::Result<()> {
@@ -312,7 +320,7 @@ fn define<S: Store + Drop>(
 /// it begins one.
 fn define_text<'a, S: Store + Drop>(
     rt: &HostRuntime,
-    region: &mut Debugged<S>,
+    region: &mut Debugged<S, EdfDisplays>,
     terminals: &mut Vec<Name4>,
     (text, after): (&[u8], &'a [u8]),
 ) -> io::Result<&'a [u8]> {
@@ -339,7 +347,7 @@ fn print_and_keep(
 /// Does the definitions of a list, each by a call, up to its line `RUN`. Answers the lines after that.
 fn define_first<'a, S: Store + Drop>(
     rt: &HostRuntime,
-    region: &mut Debugged<S>,
+    region: &mut Debugged<S, EdfDisplays>,
     terminals: &mut Vec<Name4>,
     lines: &'a [u8],
 ) -> io::Result<&'a [u8]> {
@@ -374,7 +382,7 @@ fn print_answers(
 /// Does the events of a list by one call, and prints their answers.
 fn run_list<S: Store + Drop>(
     rt: &HostRuntime,
-    region: &mut Debugged<S>,
+    region: &mut Debugged<S, EdfDisplays>,
     terminals: &mut Vec<Name4>,
     list: &EdfEvents,
 ) -> io::Result<()> {
@@ -387,7 +395,7 @@ fn run_list<S: Store + Drop>(
 /// Puts the events that lines ask last, does those of the list by one call, and prints their answers.
 fn put_and_run<S: Store + Drop>(
     rt: &HostRuntime,
-    region: &mut Debugged<S>,
+    region: &mut Debugged<S, EdfDisplays>,
     terminals: &mut Vec<Name4>,
     (list, lines): (&mut EdfEvents, &[u8]),
 ) -> io::Result<()> {
@@ -398,7 +406,7 @@ fn put_and_run<S: Store + Drop>(
 /// Does the events that lines ask by one call, and prints their answers.
 fn run_lines<S: Store + Drop>(
     rt: &HostRuntime,
-    region: &mut Debugged<S>,
+    region: &mut Debugged<S, EdfDisplays>,
     terminals: &mut Vec<Name4>,
     lines: &[u8],
 ) -> io::Result<()> {
@@ -411,7 +419,7 @@ fn run_lines<S: Store + Drop>(
 /// Prints how many displays are kept of each terminal.
 fn print_all_kept<S: Store + Drop>(
     rt: &HostRuntime,
-    region: &Debugged<S>,
+    region: &Debugged<S, EdfDisplays>,
     terminals: &[Name4],
 ) -> io::Result<()> {
     for name in terminals {
@@ -423,7 +431,7 @@ fn print_all_kept<S: Store + Drop>(
 /// Does definitions, each by a call, and after a line `RUN` events, all by one call, and prints what is due of them.
 fn define_and_run<S: Store + Drop>(
     rt: &HostRuntime,
-    region: &mut Debugged<S>,
+    region: &mut Debugged<S, EdfDisplays>,
     terminals: &mut Vec<Name4>,
     lines: &[u8],
 ) -> io::Result<()> {
@@ -436,7 +444,7 @@ fn define_and_run<S: Store + Drop>(
 /// displays are kept of each terminal.
 pub fn do_at_once<S: Store + Drop>(
     rt: &HostRuntime,
-    mut region: Debugged<S>,
+    mut region: Debugged<S, EdfDisplays>,
     lines: &[u8],
 ) -> io::Result<()> {
     let mut terminals = Vec::new(rt.alloc());

@@ -10,13 +10,13 @@ use Rattle.cx_region.specs.declared.replies.Event.{Event}
 use Rattle.cx_region.specs.declared.replies.Event.TheVariants as event
 use Rattle.cx_region.specs.declared.replies.Reply.{Reply}
 use Rattle.cx_region.specs.declared.replies.Reply.TheVariants as reply
-use Rattle.cx_edf_display.specs.declared.displays.Display.{Display}
-use Rattle.cx_edf_display.specs.declared.stops.StopPoint.{StopPoint}
-use Rattle.cx_edf_display.specs.Displays.{display_of}
+use Rattle.cx_edf.specs.declared.displays.Display.{Display}
+use Rattle.cx_edf.specs.declared.stops.StopPoint.{StopPoint}
 use Rattle.cx_edf.specs.declared.answers.EdfEvent.{EdfEvent}
 use Rattle.cx_edf.specs.declared.answers.Answer.{Answer}
 use Rattle.cx_edf.specs.Sessions.{SessionState, operators_end, stop_of_turn}
 use Rattle.cx_edf.specs.State.{EdfState, session_at}
+use Rattle.cx_edf.specs.Steps.{DisplayMaker}
 use Rattle.cx_edf.specs.Erasure.{left_of}
 use Rattle.cx_edf.specs.Runs.{Trace, last_state}
 
@@ -31,15 +31,17 @@ stop_taken old q _ _ = None
 
 -- All displays of a terminal's session so far, after one more event: it takes one of the region right after the event.
 -- There are none where the terminal has no session.
-unfoldable pub displays_after : EdfState → EdfEvent → Answer → EdfState → List ℕ → List Display → List Display
-displays_after old e given new q all = if is_some (session_at new q)
-    then all ++ map (display_of new.region q) (filter_map (λ p. stop_taken old q p.0 p.1) (left_of old e given)) else []
+unfoldable pub displays_after : DisplayMaker → EdfState → EdfEvent → Answer → EdfState → List ℕ → List Display
+    → List Display
+displays_after make old e given new q all = if is_some (session_at new q)
+    then all ++ map (make new.region q) (filter_map (λ p. stop_taken old q p.0 p.1) (left_of old e given)) else []
 
 -- the same after each of some events
-unfoldable pub history : EdfState → List EdfEvent → List Answer → List EdfState → List ℕ → List Display → List Display
-history old (e ∷ events) (given ∷ answers) (new ∷ states) q all =
-    history new events answers states q (displays_after old e given new q all)
-history old _ _ _ q all = all
+unfoldable pub history : DisplayMaker → EdfState → List EdfEvent → List Answer → List EdfState → List ℕ → List Display
+    → List Display
+history make old (e ∷ events) (given ∷ answers) (new ∷ states) q all =
+    history make new events answers states q (displays_after make old e given new q all)
+history make old _ _ _ q all = all
 
 -- of all displays of a session the last ten are kept; without a session there are none
 abbrev pub IsKept : Option SessionState → List Display → Type 0
@@ -48,7 +50,7 @@ IsKept (Some session) all = session.displays ≡ keep_last 10 all
 
 -- the kept displays of each terminal are the last ten of its session
 abbrev pub LastDisplaysAreKept : Type 0
-LastDisplaysAreKept = (old : EdfState) (events : List EdfEvent) (answers : List Answer) (states : List EdfState)
-    (q : List ℕ) (all : List Display)
-    → Trace display_of old events answers states → IsKept (session_at old q) all
-    → IsKept (session_at (last_state old states) q) (history old events answers states q all)
+LastDisplaysAreKept = (make : DisplayMaker) (old : EdfState) (events : List EdfEvent) (answers : List Answer)
+    (states : List EdfState) (q : List ℕ) (all : List Display)
+    → Trace make old events answers states → IsKept (session_at old q) all
+    → IsKept (session_at (last_state old states) q) (history make old events answers states q all)

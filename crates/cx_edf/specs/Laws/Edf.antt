@@ -10,7 +10,7 @@ use Rattle.cx_region.specs.declared.replies.Reply.{Reply}
 use Rattle.cx_region.specs.declared.replies.Reply.TheVariants as reply
 use Rattle.cx_region.specs.declared.changes.AlterReply.TheVariants as alter
 use Rattle.cx_region_state.specs.declared.replies.TurnReply.{TurnReply}
-use Rattle.cx_edf_display.specs.declared.stops.StopPoint.{StopPoint}
+use Rattle.cx_edf.specs.declared.stops.StopPoint.{StopPoint}
 use Rattle.cx_edf.specs.declared.modes.Mode.TheVariants as mode
 use Rattle.cx_edf.specs.declared.answers.EdfEvent.{EdfEvent}
 use Rattle.cx_edf.specs.declared.answers.EdfEvent.TheVariants as edf_event
@@ -18,7 +18,7 @@ use Rattle.cx_edf.specs.declared.answers.Answer.{Answer}
 use Rattle.cx_edf.specs.declared.answers.Answer.TheVariants as answer
 use Rattle.cx_edf.specs.Sessions.{SessionState, Sessions, session_in, stop_of, takes_in, with_session}
 use Rattle.cx_edf.specs.State.{EdfState, ends_by_key, session_at}
-use Rattle.cx_edf.specs.Steps.{AppliesBy, DisplayMaker, EdfApplies, Passes, door_of}
+use Rattle.cx_edf.specs.Steps.{DisplayMaker, EdfApplies, Passes, door_of}
 use Rattle.cx_edf.specs.Erasure.{erasure, is_own, is_refused, left_of, reply_in, region_replies}
 use Rattle.cx_edf.specs.Runs.{EdfRun, Trace, last_state}
 
@@ -27,7 +27,7 @@ use Rattle.cx_edf.specs.Runs.{EdfRun, Trace, last_state}
 abbrev pub EventsAreSteps : Type 0
 EventsAreSteps = (make : DisplayMaker) (old : EdfState) (events : List EdfEvent) (answers : List Answer)
     (states : List EdfState) (e : EdfEvent) (given : Answer) (new : EdfState)
-    → Trace make old events answers states → AppliesBy make (last_state old states) e given new
+    → Trace make old events answers states → EdfApplies make (last_state old states) e given new
     → Trace make old (events ++ e ∷ []) (answers ++ given ∷ []) (states ++ new ∷ [])
     × (last_state old (states ++ new ∷ []) ≡ new)
 
@@ -40,14 +40,14 @@ FrontsAreTraces = (make : DisplayMaker) (old : EdfState) (events : List EdfEvent
 -- ---- one outcome
 -- two outcomes of one event under EDF are equal
 abbrev pub EdfEventsDecide : Type 0
-EdfEventsDecide = (old : EdfState) (e : EdfEvent) (given other : Answer) (new later : EdfState)
-    → EdfApplies old e given new → EdfApplies old e other later → (given ≡ other) × (new ≡ later)
+EdfEventsDecide = (make : DisplayMaker) (old : EdfState) (e : EdfEvent) (given other : Answer) (new later : EdfState)
+    → EdfApplies make old e given new → EdfApplies make old e other later → (given ≡ other) × (new ≡ later)
 
 -- two outcomes of one run under EDF are equal, up to each event
 abbrev pub EdfRunsDecide : Type 0
-EdfRunsDecide = (old : EdfState) (events : List EdfEvent) (answers others : List Answer) (new later : EdfState)
-    (run : EdfRun old events answers new) (other : EdfRun old events others later) → (answers ≡ others) × (new ≡ later)
-    × (run.states ≡ other.states)
+EdfRunsDecide = (make : DisplayMaker) (old : EdfState) (events : List EdfEvent) (answers others : List Answer)
+    (new later : EdfState) (run : EdfRun make old events answers new) (other : EdfRun make old events others later)
+    → (answers ≡ others) × (new ≡ later) × (run.states ≡ other.states)
 
 -- ---- watching changes nothing
 -- what is left of events without EDF is a run of the region alone, with the region's replies
@@ -99,26 +99,26 @@ ReportedAreThoseGiven = (make : DisplayMaker) (old : EdfState) (events : List Ed
 -- an event is EDF's own exactly where its answer is
 abbrev pub OwnEventsHaveOwnAnswers : Type 0
 OwnEventsHaveOwnAnswers = (make : DisplayMaker) (old : EdfState) (e : EdfEvent) (given : Answer) (new : EdfState)
-    → AppliesBy make old e given new → is_own old e ≡ is_edfs given
+    → EdfApplies make old e given new → is_own old e ≡ is_edfs given
 
 -- Nothing is left of an event exactly where its answer is EDF's own, and it is no PF12 that ends a task; or where it is
 -- a refused alteration.
 abbrev pub ErasedEvents : Type 0
 ErasedEvents = (make : DisplayMaker) (old : EdfState) (e : EdfEvent) (given : Answer) (new : EdfState)
-    → AppliesBy make old e given new
+    → EdfApplies make old e given new
     → (length (left_of old e given) == 0) ≡ ((is_edfs given && not (event_ends_task old e)) || is_refusal e given)
 
 -- where nothing is left of an event, the region stays
 abbrev pub ErasedEventsLeaveTheRegion : Type 0
 ErasedEventsLeaveTheRegion = (make : DisplayMaker) (old : EdfState) (e : EdfEvent) (given : Answer) (new : EdfState)
-    → AppliesBy make old e given new → left_of old e given ≡ [] → new.region ≡ old.region
+    → EdfApplies make old e given new → left_of old e given ≡ [] → new.region ≡ old.region
 
 -- ---- no stop is missed
 -- a stop that a session doesn't take is met under suppression
 abbrev pub StopsAreMissedUnderSuppression : Type 0
 StopsAreMissedUnderSuppression =
-    (old : EdfState) (name : List ℕ) (r : TurnReply) (new : EdfState) (session : SessionState) (stop : StopPoint)
-    → EdfApplies old (edf_event.Plain (event.Turn name)) (answer.Region (reply.Turn r)) new
+    (make : DisplayMaker) (old : EdfState) (name : List ℕ) (r : TurnReply) (new : EdfState) (session : SessionState)
+    (stop : StopPoint) → EdfApplies make old (edf_event.Plain (event.Turn name)) (answer.Region (reply.Turn r)) new
     → session_at old name ≡ Some session → stop_of r ≡ Some stop
     → takes_in session.mode session.stops stop ≡ false → session.mode ≡ mode.Suppressed
 

@@ -9,7 +9,7 @@ use Rattle.cx_edf.specs.declared.answers.EdfEvent.{EdfEvent}
 use Rattle.cx_edf.specs.declared.answers.EdfEvent.TheVariants as edf_event
 use Rattle.cx_edf.specs.declared.answers.Answer.{Answer}
 use Rattle.cx_edf.specs.State.{EdfState}
-use Rattle.cx_edf.specs.Steps.{EdfApplies}
+use Rattle.cx_edf.specs.Steps.{DisplayMaker, EdfApplies}
 use Rattle.cx_edf.specs.Runs.{EdfRun, IsAllowedEdf, MayTakeEdf}
 
 -- ---- soundness
@@ -20,20 +20,21 @@ IsCheckedEdf _ = ⊤
 
 -- an event under EDF leads from a sound region to a sound one
 abbrev pub EdfSoundIsKept : Type 0
-EdfSoundIsKept = (old new : EdfState) (e : EdfEvent) (given : Answer) → IsSound old.region → IsAllowedEdf e
-    → IsCheckedEdf e → EdfApplies old e given new → ArePartsSound new.region → IsSound new.region
+EdfSoundIsKept = (make : DisplayMaker) (old new : EdfState) (e : EdfEvent) (given : Answer) → IsSound old.region
+    → IsAllowedEdf e → IsCheckedEdf e → EdfApplies make old e given new → ArePartsSound new.region → IsSound new.region
 
 -- ---- memory
 -- what comes after a refused event is done as if that had never come, with all modes and displays
 abbrev pub RefusedEdfEventsAreNone : Type 0
-RefusedEdfEventsAreNone = (old mid new : EdfState) (refused next : EdfEvent) (fault : AllocError)
+RefusedEdfEventsAreNone = (make : DisplayMaker) (old mid new : EdfState) (refused next : EdfEvent) (fault : AllocError)
     (result : Result Answer AllocError)
-    → IsDone EdfApplies MayTakeEdf old refused (Err fault) mid → IsDone EdfApplies MayTakeEdf mid next result new
-    → IsAsWithout EdfApplies MayTakeEdf old next result new
+    → IsDone (EdfApplies make) MayTakeEdf old refused (Err fault) mid
+    → IsDone (EdfApplies make) MayTakeEdf mid next result new
+    → IsAsWithout (EdfApplies make) MayTakeEdf old next result new
 
 -- a list of events that ran out of memory, and then goes on with the events that weren't done, is the run of the whole
 -- list
 abbrev pub StoppedEdfRunsGoOn : Type 0
-StoppedEdfRunsGoOn = (old mid new : EdfState) (events : List EdfEvent) (done : ℕ) (others : List Answer)
-    (stopped : RunStopped EdfRun MayTakeEdf old events done mid)
-    → EdfRun mid (drop done events) others new → EdfRun old events (stopped.replies ++ others) new
+StoppedEdfRunsGoOn = (make : DisplayMaker) (old mid new : EdfState) (events : List EdfEvent) (done : ℕ)
+    (others : List Answer) (stopped : RunStopped (EdfRun make) MayTakeEdf old events done mid)
+    → EdfRun make mid (drop done events) others new → EdfRun make old events (stopped.replies ++ others) new

@@ -5,7 +5,7 @@ use Rattle.std.specs.List.{AllByRecursion}
 use Rattle.cx_edf.specs.declared.answers.EdfEvent.{EdfEvent}
 use Rattle.cx_edf.specs.declared.answers.Answer.{Answer}
 use Rattle.cx_edf.specs.State.{EdfState}
-use Rattle.cx_edf.specs.Steps.{AppliesBy, DisplayMaker}
+use Rattle.cx_edf.specs.Steps.{DisplayMaker, EdfApplies}
 use Rattle.cx_edf.specs.Runs.{Trace}
 use Rattle.cx_edf.specs.Laws.Memory.{IsCheckedEdf}
 
@@ -13,7 +13,7 @@ use Rattle.cx_edf.specs.Laws.Memory.{IsCheckedEdf}
 pub record HasOutcomeEdf (make : DisplayMaker) (old : EdfState) (e : EdfEvent) : Type 0 where
   pub given : Answer
   pub new : EdfState
-  pub applies : AppliesBy make old e given new
+  pub applies : EdfApplies make old e given new
 
 -- each event under EDF has an outcome
 abbrev pub EdfEventsHaveOutcomes : Type 0

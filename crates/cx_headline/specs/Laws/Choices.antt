@@ -25,8 +25,8 @@ use Rattle.cx_look_choices.specs.declared.presses.Press.{Press}
 use Rattle.cx_look_choices.specs.declared.rows.Arrow.{Arrow}
 use Rattle.cx_look_choices.specs.declared.rows.StateRow.{StateRow}
 use Rattle.cx_look.specs.Choices.{choices_block}
+use Rattle.cx_look.specs.declared.choices.ChoicesAsked.{ChoicesAsked}
 use Rattle.cx_look.specs.declared.choices.ChoicesBlock.{ChoicesBlock}
-use Rattle.cx_script_actions.specs.declared.actions.ChoicesAsked.{ChoicesAsked}
 use Rattle.cx_look_script.specs.Choices.{number_of}
 use Rattle.cx_look_script.specs.Laws.Orders.{LeadThere}
 use Rattle.cx_look_script.specs.Laws.Outcomes.{IsScriptState}
@@ -152,16 +152,16 @@ ChoicesBlocksAreTrue = (block : ChoicesBlock) (state : LookState) (text : List �
 
 -- The lines that are written of a list are read as lines of a script. They ask for EDF OFF where EDF is on, and then
 -- for the very events that its keys and turns are; and done one after another they lead to that region.
-pub record ListLeadsThere (state : LookState) (choices : List KeyLine) (presses : List Press) (region : RegionState)
-    : Type 0 where
+pub record ListLeadsThere (make : DisplayMaker) (state : LookState) (choices : List KeyLine) (presses : List Press)
+    (region : RegionState) : Type 0 where
   pub run : IsRunOf (keys_pressed choices presses) (orders.begun state.edf.region)
       (steps_of state.edf.region choices presses) (orders.begun region)
-  pub lead : LeadThere state (list_lines state.edf.region choices (names_with_edf state.edf) presses)
+  pub lead : LeadThere make state (list_lines state.edf.region choices (names_with_edf state.edf) presses)
       (map event.Off (names_with_edf state.edf) ++ map event.Plain run.events) region
 
 -- so it is of each list of keys of a block's lines, wherever a script may be, without one number
 abbrev pub ListsLeadThere : Type 0
-ListsLeadThere = (state : LookState) → IsScriptState state
+ListsLeadThere = (make : DisplayMaker) (state : LookState) → IsScriptState make state
     → (asked : ChoicesAsked) (lines : List (List ℕ)) (presses : List Press) (to : ChoicesState)
     → ArePresses (choices_block asked lines).choices None (begun state.edf.region) presses to
-    → ListLeadsThere state (choices_block asked lines).choices presses to.region
+    → ListLeadsThere make state (choices_block asked lines).choices presses to.region

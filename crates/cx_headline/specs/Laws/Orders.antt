@@ -19,8 +19,8 @@ use Rattle.cx_look_orders.specs.Script.{script_lines, steps_lines}
 use Rattle.cx_look_orders.specs.Steps.{AreSteps, Telling, moves_of}
 use Rattle.cx_look_orders.specs.declared.outcomes.Outcome.{Outcome}
 use Rattle.cx_look_orders.specs.declared.steps.Step.{Step}
-use Rattle.cx_script_actions.specs.declared.actions.OrdersAsked.{OrdersAsked}
 use Rattle.cx_look.specs.Orders.{orders_block}
+use Rattle.cx_look.specs.declared.orders.OrdersAsked.{OrdersAsked}
 use Rattle.cx_look.specs.declared.orders.OrdersBlock.{OrdersBlock}
 use Rattle.cx_look_script.specs.Laws.Orders.{LeadThere}
 use Rattle.cx_look_script.specs.Laws.Outcomes.{IsScriptState}
@@ -93,8 +93,9 @@ BlocksAreTrue = (block : OrdersBlock) (state : LookState) (text : List ℕ) (is 
 -- EDF is on, and then for the very events that the steps are; and done one after another they lead to the region to
 -- which the steps lead: of the keys of a block's lines.
 abbrev pub LinesLeadThere : Type 0
-LinesLeadThere = (state : LookState) → IsScriptState state
+LinesLeadThere = (make : DisplayMaker) (state : LookState) → IsScriptState make state
     → (asked : OrdersAsked) (lines : List (List ℕ)) (steps : List Step) (to : OrdersState)
     → (run : IsRunOf (orders_block asked lines).keys (begun state.edf.region) steps to)
-    → LeadThere state (script_lines state.edf.region (orders_block asked lines).keys (names_with_edf state.edf) steps)
+    → LeadThere make state
+    (script_lines state.edf.region (orders_block asked lines).keys (names_with_edf state.edf) steps)
     (map event.Off (names_with_edf state.edf) ++ map event.Plain run.events) to.region

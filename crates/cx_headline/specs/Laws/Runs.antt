@@ -39,8 +39,9 @@ WasWritten (Err Write) written text = IsFront written text
 WasWritten answer written text = written ≡ text
 
 -- What was done of a script: the first of its actions, and all of them unless memory or the writer stopped the run.
--- Their events are a run under EDF from the fresh region on, and their texts were written.
-pub record IsDoneOf (script : Script Action) (answer : Result Summary RunFault) (written : List ℕ) : Type 0 where
+-- Their events are a run under EDF from the fresh region on, where displays are made so, and their texts were written.
+pub record IsDoneOf (make : DisplayMaker) (script : Script Action) (answer : Result Summary RunFault)
+    (written : List ℕ) : Type 0 where
   pub count : ℕ
   pub actions : List Action
   pub first : actions ≡ take count script.actions
@@ -48,13 +49,13 @@ pub record IsDoneOf (script : Script Action) (answer : Result Summary RunFault) 
   pub text : List ℕ
   pub was_written : WasWritten answer written text
   pub new : EdfState
-  pub did : IsRun fresh_state actions text new
+  pub did : IsRun make fresh_state actions text new
 
 -- Of the run that each script did, however it ended: the premise is what `run_script` ensures of the calls that it
--- made, whatever its devices are.
+-- made, whatever its devices and displays are.
 abbrev pub OfEachScript : (EdfState → List EdfEvent → List Answer → List EdfState → Type 0) → Type 0
 OfEachScript Holds =
-    (calls : List DeviceCall) (answer : Result Summary RunFault) (session : IsScriptSession calls answer)
-    (ending : Ending) (bytes : List ℕ) → IsReadOf calls ending bytes
-    → (done : IsDoneOf (script_in edf_language ending bytes) answer (taken calls))
+    (make : DisplayMaker) (calls : List DeviceCall) (answer : Result Summary RunFault)
+    (session : IsScriptSession make calls answer) (ending : Ending) (bytes : List ℕ) → IsReadOf calls ending bytes
+    → (done : IsDoneOf make (script_in edf_language ending bytes) answer (taken calls))
     × Holds fresh_state (events_of done.actions) done.did.answers done.did.run.states

@@ -72,5 +72,5 @@ pub record IsAsUnwatched (old : EdfState) (events : List EdfEvent) (answers : Li
 
 -- what a script shows comes between events: an action that gives none changes nothing
 abbrev pub ShowingChangesNothing : Type 0
-ShowingChangesNothing = (old : EdfState) (action : Action) (text : List ℕ) (new : EdfState) → event_of action ≡ None
-    → Performs old action text new → new ≡ old
+ShowingChangesNothing = (make : DisplayMaker) (old : EdfState) (action : Action) (text : List ℕ) (new : EdfState)
+    → event_of action ≡ None → Performs make old action text new → new ≡ old

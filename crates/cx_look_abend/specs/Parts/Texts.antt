@@ -5,7 +5,7 @@ use Rattle.std.specs.Map.{lookup}
 use Rattle.cx_base.specs.Digits.{digits}
 use Rattle.cx_base.specs.Texts.{shown_name}
 use Rattle.cx_ebcdic.specs.Names.{is_name}
-use Rattle.cx_look_tables.specs.Words.{Lines, look_line}
+use Rattle.cx_look_lines.specs.Words.{Lines, look_line}
 use Rattle.cx_look_abend.specs.Noting.{KeptAbends}
 use Rattle.cx_look_abend.specs.Dumps.{Dump}
 use Rattle.cx_look_abend.specs.declared.abends.LastAbend.{LastAbend}

@@ -4,7 +4,7 @@ use Rattle.cx_exec.specs.Machine.{Machine}
 use Rattle.cx_region_state.specs.declared.replies.TurnReply.{TurnReply}
 use Rattle.cx_region.specs.State.{RegionState}
 use Rattle.cx_region.specs.Turn.{TakesTurn}
-use Rattle.cx_look_tables.specs.Words.{Lines}
+use Rattle.cx_look_lines.specs.Words.{Lines}
 use Rattle.cx_look_symbols.specs.Lines.{SourcePlaces}
 use Rattle.cx_look_symbols.specs.Sources.{Sources}
 use Rattle.cx_look_ahead.specs.Arrivals.{statements_on}

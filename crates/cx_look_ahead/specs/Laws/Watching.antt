@@ -12,13 +12,13 @@ use Rattle.cx_region_task.specs.Turn.{PerformsCommand, RunsOn, machine_of}
 use Rattle.cx_region.specs.State.{RegionState, TerminalState}
 use Rattle.cx_region.specs.Tables.{task_of, terminal_of}
 use Rattle.cx_region.specs.Turn.{TakesTurn, context_of, put_back, task_after}
-use Rattle.cx_look_tables.specs.Words.{Lines}
+use Rattle.cx_look_lines.specs.Words.{Lines}
 use Rattle.cx_look_ahead.specs.Watching.{AreChanges, AreOfRange, ActionEffect, work_of, kept_in}
-use Rattle.cx_look_ahead.specs.Writing.{IsUnchanged, LastWriter}
+use Rattle.cx_look_ahead.specs.Writers.{IsUnchanged, LastWriter}
 use Rattle.cx_look_ahead.specs.declared.rows.Row.{Row}
 use Rattle.cx_look_ahead.specs.declared.watching.Cause.TheVariants as cause
-use Rattle.cx_look_ahead.specs.declared.writing.Work.{Work}
-use Rattle.cx_look_ahead.specs.declared.writing.Work.TheVariants as work
+use Rattle.cx_look_ahead.specs.declared.writers.Work.{Work}
+use Rattle.cx_look_ahead.specs.declared.writers.Work.TheVariants as work
 
 -- a range has no line exactly where none of its bytes differs
 abbrev pub ChangesAreWritten : Type 0

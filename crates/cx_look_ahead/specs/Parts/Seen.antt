@@ -6,9 +6,9 @@ use Rattle.std.specs.Str.{bytes_eq}
 use Rattle.cx_base.specs.Digits.{hex_digits}
 use Rattle.cx_exec.specs.Machine.{Machine}
 use Rattle.cx_storage.specs.Storage.{Storage}
-use Rattle.cx_look_tables.specs.Words.{Lines}
+use Rattle.cx_look_lines.specs.Words.{Lines}
 use Rattle.cx_look_ahead.specs.Watching.{ActionEffect, IsChange, change_line, instruction_word, shown_in}
-use Rattle.cx_look_ahead.specs.Writing.{LastWriter}
+use Rattle.cx_look_ahead.specs.Writers.{LastWriter}
 use Rattle.cx_look_ahead.specs.declared.watching.Kept.{Kept}
 
 -- a range, its bytes as they are shown, and the last instruction that changed one of them

@@ -8,12 +8,13 @@ use Rattle.cx_storage.specs.Storage.{Storage}
 use Rattle.cx_region_state.specs.Replies.{turn_reply_name}
 use Rattle.cx_region_state.specs.declared.replies.TurnReply.{TurnReply}
 use Rattle.cx_script_actions.specs.Texts.{turn_reply_detail}
-use Rattle.cx_look_tables.specs.Words.{Lines, look_line}
+use Rattle.cx_look_lines.specs.Words.{Lines, look_line}
 use Rattle.cx_look_symbols.specs.Places.{address_word}
 use Rattle.cx_look_symbols.specs.Sources.{Sources, led_by, statement_at}
 use Rattle.cx_look_symbols.specs.declared.places.Place.{Place}
-use Rattle.cx_look_levels.specs.Names.{LevelNames, nearest_by}
-use Rattle.cx_look_levels.specs.Wheres.{near_word}
+use Rattle.cx_look_fields.specs.Addresses.{nearest_by}
+use Rattle.cx_look_fields.specs.Fields.{LevelFields}
+use Rattle.cx_look_fields.specs.Nearest.{near_word}
 use Rattle.cx_look_ahead.specs.Watching.{shown_in}
 use Rattle.cx_look_ahead.specs.declared.rows.Row.{Row}
 
@@ -22,8 +23,8 @@ turn_end_line name reply =
     look_line (codes "AHEAD" ∷ shown_name name ∷ turn_reply_name reply ∷ option_to_list (turn_reply_detail reply))
 
 -- the field that has the byte at an address
-abbrev pub field_word : Option LevelNames → ℕ → Option (List ℕ)
-field_word names address = option_map near_word (option_and_then (nearest_by address) names)
+abbrev pub field_word : Option LevelFields → ℕ → Option (List ℕ)
+field_word fields address = option_map near_word (option_and_then (nearest_by address) fields)
 
 abbrev pub visit_word : Sources → Place → Option (List ℕ) → List ℕ
 visit_word sources place code =

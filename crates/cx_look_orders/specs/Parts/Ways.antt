@@ -39,8 +39,8 @@ pub record IsStepBetween (tells : Telling) (from : OrdersState) (move : ℕ) (to
   pub told : IsTold tells from step.number step.key step.told
 
 -- the steps are those of a list of moves, and lead to a state
-pub record AreStepsOf (tells : Telling) (keys : Keys) (from : OrdersState) (moves : List ℕ) (to : OrdersState) (steps : List Step)
-    : Type 0 where
+pub record AreStepsOf (tells : Telling) (keys : Keys) (from : OrdersState) (moves : List ℕ) (to : OrdersState)
+    (steps : List Step) : Type 0 where
   pub are : AreSteps tells keys from steps to
   pub of : moves_of steps ≡ moves
 

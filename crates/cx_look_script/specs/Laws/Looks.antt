@@ -20,6 +20,7 @@ use Rattle.cx_look_script.specs.Watched.{IsWatchedText, cause_of, watch_lines, w
 use Rattle.cx_look_script.specs.declared.action.LookAction.{LookAction}
 use Rattle.cx_look_script.specs.declared.action.LookAction.TheVariants as action
 use Rattle.cx_look_script.specs.declared.action.Stop.{Stop}
+use Rattle.cx_edf.specs.Steps.{DisplayMaker}
 
 -- What became of an action of a script with looks: actions of `cicsedf`, what these wrote, what a look wrote after
 -- them, and what was written of the bytes that are watched.
@@ -75,13 +76,14 @@ state_kept_after old (action.Cover on) plain new = record new { covered = covere
 state_kept_after old _ plain new = new
 
 -- a part for each action, from the state that those before leave, with the last abends that their events lead to
-unfoldable pub ArePartsOf : LookState → List LookAction → List ActionPart → LookState → Type 0
-ArePartsOf old [] [] new = new ≡ old
-ArePartsOf old (a ∷ actions) (part ∷ parts) new =
-    (done between : LookState) × IsPart old a part × PerformsAll NotedPerforms old part.plain part.written done
+unfoldable pub ArePartsOf : DisplayMaker → LookState → List LookAction → List ActionPart → LookState → Type 0
+ArePartsOf make old [] [] new = new ≡ old
+ArePartsOf make old (a ∷ actions) (part ∷ parts) new =
+    (done between : LookState) × IsPart old a part
+    × PerformsAll (NotedPerforms make) old part.plain part.written done
     × (between ≡ state_kept_after old a part.plain done) × IsWatchedText old (cause_of a) between part.watched
-    × ArePartsOf between actions parts new
-ArePartsOf old _ _ new = ⊥
+    × ArePartsOf make between actions parts new
+ArePartsOf make old _ _ new = ⊥
 
 abbrev pub plain_of : ActionPart → List Action
 plain_of part = part.plain
@@ -95,15 +97,16 @@ text_of_part part = part.written ++ part.looked ++ part.watched
 
 -- There is a part for each action so that: the actions of all parts are a run of `cicsedf`, from the same state to the
 -- same state; and the text is what this writes, with that of each look, and of what is watched, at its place.
-pub record ChangesNothing (old : LookState) (actions : List LookAction) (text : List ℕ) (new : LookState) : Type 0 where
+pub record ChangesNothing (make : DisplayMaker) (old : LookState) (actions : List LookAction) (text : List ℕ)
+    (new : LookState) : Type 0 where
   pub parts : List ActionPart
-  pub each : ArePartsOf old actions parts new
-  pub runs : PerformsAll Performs old.edf (flat_map plain_of parts) (flat_map written_of parts) new.edf
+  pub each : ArePartsOf make old actions parts new
+  pub runs : PerformsAll (Performs make) old.edf (flat_map plain_of parts) (flat_map written_of parts) new.edf
   pub whole : text ≡ flat_map text_of_part parts
 
 abbrev pub LooksChangeNothing : Type 0
-LooksChangeNothing = (old : LookState) (actions : List LookAction) (text : List ℕ) (new : LookState)
-    → PerformsAll LookPerforms old actions text new → ChangesNothing old actions text new
+LooksChangeNothing = (make : DisplayMaker) (old : LookState) (actions : List LookAction) (text : List ℕ)
+    (new : LookState) → PerformsAll (LookPerforms make) old actions text new → ChangesNothing make old actions text new
 
 -- what is written for a look is lines of looks
 abbrev pub LooksAreMarked : Type 0

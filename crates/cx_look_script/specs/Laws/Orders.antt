@@ -7,6 +7,7 @@ use Rattle.cx_region.specs.State.{RegionState}
 use Rattle.cx_region.specs.declared.replies.Event.{Event}
 use Rattle.cx_edf.specs.declared.answers.EdfEvent.{EdfEvent}
 use Rattle.cx_edf.specs.declared.answers.EdfEvent.TheVariants as edf_event
+use Rattle.cx_edf.specs.Steps.{DisplayMaker}
 use Rattle.cx_script_actions.specs.Actions.{is_blank_or_comment}
 use Rattle.cx_script_actions.specs.declared.actions.Action.TheVariants as edf_action
 use Rattle.cx_script_actions.specs.declared.actions.Line.TheVariants as line
@@ -95,17 +96,19 @@ pub record IsThere (state : LookState) (region : RegionState) (new : LookState) 
       → AreSeen (λ l. AreLookLines l new) new.edf.region sights lines
 
 -- Lines ask for these events; and the actions as which they are read, done one after another from the state on, lead to
--- a state with that region, whatever is written for them.
-pub record LeadThere (state : LookState) (lines : Lines) (events : List EdfEvent) (region : RegionState)
-    : Type 0 where
+-- a state with that region, whatever is written for them and however displays are made.
+pub record LeadThere (make : DisplayMaker) (state : LookState) (lines : Lines) (events : List EdfEvent)
+    (region : RegionState) : Type 0 where
   pub asked : AskForEvents lines events
   pub lead : (text : List ℕ) (new : LookState)
-      → PerformsAll LookPerforms state (flat_map look_actions_of asked.actions) text new → IsThere state region new
+      → PerformsAll (LookPerforms make) state (flat_map look_actions_of asked.actions) text new
+      → IsThere state region new
 
 -- the lines that are written of steps lead where the steps do without EDF
 abbrev pub ScriptsLeadThere : Type 0
-ScriptsLeadThere = (state : LookState) (keys : List KeyLine) (steps : List Step) (to : OrdersState)
+ScriptsLeadThere = (make : DisplayMaker) (state : LookState) (keys : List KeyLine) (steps : List Step)
+    (to : OrdersState)
     → AllByRecursion HasSpelling (names_of state.edf.region.terminals) → AllByRecursion IsAskedByItsLine keys
     → (run : IsRunOf keys (begun state.edf.region) steps to)
-    → LeadThere state (script_lines state.edf.region keys (names_with_edf state.edf) steps)
+    → LeadThere make state (script_lines state.edf.region keys (names_with_edf state.edf) steps)
     (map edf_event.Off (names_with_edf state.edf) ++ map edf_event.Plain run.events) to.region

@@ -4,6 +4,7 @@ use Rattle.std.specs.List.{AllByRecursion, IsDistinct}
 use Rattle.std.specs.Map.{keys_of as names_of}
 use Rattle.cx_ebcdic.specs.Names.{is_name}
 use Rattle.cx_region.specs.State.{RegionState}
+use Rattle.cx_edf.specs.Steps.{DisplayMaker}
 use Rattle.cx_script_blocks.specs.declared.faults.RunFault.{RunFault}
 use Rattle.cx_script_blocks.specs.declared.faults.Summary.{Summary}
 use Rattle.cx_script_io.specs.Calls.{DeviceCall, taken}
@@ -25,35 +26,38 @@ HasApartNames region = IsDistinct is_name (names_of region.terminals)
 
 -- where no two terminals share a name, the state and the action determine what is written, and the state afterwards
 abbrev pub LookActionsDecide : Type 0
-LookActionsDecide = (old : LookState) (a : LookAction) (text other : List ℕ) (new another : LookState)
-    → HasApartNames old.edf.region → LookPerforms old a text new → LookPerforms old a other another
+LookActionsDecide = (make : DisplayMaker) (old : LookState) (a : LookAction) (text other : List ℕ)
+    (new another : LookState)
+    → HasApartNames old.edf.region → LookPerforms make old a text new → LookPerforms make old a other another
     → (text ≡ other) × (new ≡ another)
 
 -- and the state and a list of actions determine the transcript, and the state afterwards
 abbrev pub LookTranscriptsDecide : Type 0
-LookTranscriptsDecide = (old : LookState) (actions : List LookAction) (text other : List ℕ) (new another : LookState)
-    → HasApartNames old.edf.region → PerformsAll LookPerforms old actions text new
-    → PerformsAll LookPerforms old actions other another → (text ≡ other) × (new ≡ another)
+LookTranscriptsDecide = (make : DisplayMaker) (old : LookState) (actions : List LookAction) (text other : List ℕ)
+    (new another : LookState)
+    → HasApartNames old.edf.region → PerformsAll (LookPerforms make) old actions text new
+    → PerformsAll (LookPerforms make) old actions other another → (text ≡ other) × (new ≡ another)
 
 -- Two runs of `cicslook` that were not stopped, of which the reads may be of one script, in whatever pieces: they have
 -- one answer and one transcript.
 abbrev pub LookInputsDecide : Type 0
-LookInputsDecide =
+LookInputsDecide = (make : DisplayMaker)
     (ending : Ending) (bytes : List ℕ) (calls others : List DeviceCall) (answer other : Result Summary RunFault)
-    → IsSession look_language LookPerforms fresh_look_state calls answer
-    → IsSession look_language LookPerforms fresh_look_state others other
+    → IsSession look_language (LookPerforms make) fresh_look_state calls answer
+    → IsSession look_language (LookPerforms make) fresh_look_state others other
     → IsReadOf calls ending bytes → IsReadOf others ending bytes
     → was_stopped answer ≡ false → was_stopped other ≡ false
     → (answer ≡ other) × (taken calls ≡ taken others)
 
 -- ---- the states of scripts
--- the first actions of a script lead there
-pub record IsScriptState (state : LookState) : Type 0 where
+-- the first actions of a script, where displays are made so, lead there
+pub record IsScriptState (make : DisplayMaker) (state : LookState) : Type 0 where
   pub ending : Ending
   pub bytes : List ℕ
   pub count : ℕ
   pub text : List ℕ
-  pub led : PerformsAll LookPerforms fresh_look_state (take count (script_in look_language ending bytes).actions) text
+  pub led :
+      PerformsAll (LookPerforms make) fresh_look_state (take count (script_in look_language ending bytes).actions) text
       state
 
 -- there each terminal's name has a spelling, and no two are the same
@@ -62,4 +66,5 @@ pub record IsNamed (region : RegionState) : Type 0 where
   pub apart : HasApartNames region
 
 abbrev pub ScriptsNameTheirTerminals : Type 0
-ScriptsNameTheirTerminals = (state : LookState) → IsScriptState state → IsNamed state.edf.region
+ScriptsNameTheirTerminals = (make : DisplayMaker) (state : LookState) → IsScriptState make state
+    → IsNamed state.edf.region

@@ -1,5 +1,6 @@
 -- A script of `cicsedf` is one of `cicslook`, and does the same.
 use Rattle.std.specs.Prelude.{◌≡◌, ℕ, List, [], map, Option, Some, None}
+use Rattle.cx_edf.specs.Steps.{DisplayMaker}
 use Rattle.cx_script_actions.specs.Effects.{Performs}
 use Rattle.cx_script_actions.specs.Language.{edf_language}
 use Rattle.cx_script_actions.specs.declared.actions.Action.{Action}
@@ -38,6 +39,7 @@ ScriptsStay = (ending : Ending) (bytes : List ℕ) → HasNoBadLine (script_in e
 
 -- and where nothing is watched its actions write the same, from the same state to the same state
 abbrev pub ActionsStay : Type 0
-ActionsStay = (old : LookState) (actions : List LookAction) (plain : List Action) (text : List ℕ) (new : LookState)
-    → ArePlainActions actions plain → old.watched ≡ [] → PerformsAll LookPerforms old actions text new
-    → PerformsAll Performs old.edf plain text new.edf
+ActionsStay = (make : DisplayMaker) (old : LookState) (actions : List LookAction) (plain : List Action) (text : List ℕ)
+    (new : LookState)
+    → ArePlainActions actions plain → old.watched ≡ [] → PerformsAll (LookPerforms make) old actions text new
+    → PerformsAll (Performs make) old.edf plain text new.edf

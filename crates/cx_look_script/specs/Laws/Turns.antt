@@ -6,6 +6,7 @@ use Rattle.cx_region.specs.State.{RegionState}
 use Rattle.cx_region.specs.Turn.{TakesTurn as RegionTakesTurn}
 use Rattle.cx_region.specs.declared.replies.Reply.TheVariants as reply
 use Rattle.cx_edf.specs.State.{EdfState, holds}
+use Rattle.cx_edf.specs.Steps.{DisplayMaker}
 use Rattle.cx_edf.specs.declared.answers.Answer.{Answer}
 use Rattle.cx_edf.specs.declared.answers.Answer.TheVariants as answer
 use Rattle.cx_script_actions.specs.Texts.{answer_text}
@@ -26,23 +27,24 @@ use Rattle.cx_look_script.specs.declared.action.Stop.TheVariants as stop
 
 -- At most n turns of a terminal, one after another: the state before, what is written for them, and the state after.
 -- One more follows exactly where the last is to be followed by one more, and RUN doesn't end in front of it.
-unfoldable pub TakesTurns : LookState → List ℕ → Stop → ℕ → List ℕ → LookState → Type 0
-TakesTurns old name s zero text new = (text ≡ still_running name) × (new ≡ run_over old)
-TakesTurns old name s (suc n) text new =
+unfoldable pub TakesTurns : DisplayMaker → LookState → List ℕ → Stop → ℕ → List ℕ → LookState → Type 0
+TakesTurns make old name s zero text new = (text ≡ still_running name) × (new ≡ run_over old)
+TakesTurns make old name s (suc n) text new =
     (line : Option (List ℕ)) × StopsWith s old.sources old.edf name line
     × MatchOption line
     ((given : Answer) × (between : LookState) × (watched rest : List ℕ)
-    × AppliesAtLooks old (turn_of name) given between × IsWatchedText old (cause.Turn name) between watched
-    × MatchBool (turn_goes_on between.edf (turn_of name) given) (TakesTurns between name s n rest new)
+    × AppliesAtLooks make old (turn_of name) given between × IsWatchedText old (cause.Turn name) between watched
+    × MatchBool (turn_goes_on between.edf (turn_of name) given) (TakesTurns make between name s n rest new)
     ((rest ≡ []) × (new ≡ between))
     × (text ≡ answer_text (turn_of name) given ++ watched ++ rest))
     (λ l. (text ≡ l) × (new ≡ run_over old))
 
 -- so the actions of a RUN of n turns are
 abbrev pub RunsTakeTurns : Type 0
-RunsTakeTurns = (old : LookState) (name : List ℕ) (s : Stop) (n : ℕ) (text : List ℕ) (new : LookState)
-    → PerformsAll LookPerforms old (look_actions_of (action.Run name (suc n) s)) text new
-    → TakesTurns old name s (suc n) text new
+RunsTakeTurns = (make : DisplayMaker) (old : LookState) (name : List ℕ) (s : Stop) (n : ℕ) (text : List ℕ)
+    (new : LookState)
+    → PerformsAll (LookPerforms make) old (look_actions_of (action.Run name (suc n) s)) text new
+    → TakesTurns make old name s (suc n) text new
 
 -- the code of the abend as which an event is answered
 abbrev pub abend_in : Answer → Option (List ℕ)
@@ -52,8 +54,9 @@ abend_in _ = None
 -- RUN BEFORE ABEND ends in front of a turn exactly where the turn is answered as an abend when it is done, and names
 -- its code
 abbrev pub RunsEndBeforeAbends : Type 0
-RunsEndBeforeAbends = (old new : LookState) (name : List ℕ) (line : Option (List ℕ)) (given : Answer)
-    → StopsWith stop.BeforeAbend old.sources old.edf name line → AppliesAtLooks old (turn_of name) given new
+RunsEndBeforeAbends = (make : DisplayMaker) (old new : LookState) (name : List ℕ) (line : Option (List ℕ))
+    (given : Answer)
+    → StopsWith stop.BeforeAbend old.sources old.edf name line → AppliesAtLooks make old (turn_of name) given new
     → line ≡ option_map (stopped_before name) (abend_in given)
 
 -- what the region's turn does of a line of a source, which is answered so
@@ -79,8 +82,9 @@ pub record EndsBeforeLine (old : LookState) (name : List ℕ) (to : SourceLine) 
   pub is : line ≡ (if does then Some (stopped_before_line name to) else None)
 
 abbrev pub RunsEndBeforeLines : Type 0
-RunsEndBeforeLines = (old new : LookState) (name : List ℕ) (to : SourceLine) (line : Option (List ℕ)) (given : Answer)
-    → StopsWith (stop.BeforeLine to) old.sources old.edf name line → AppliesAtLooks old (turn_of name) given new
+RunsEndBeforeLines = (make : DisplayMaker) (old new : LookState) (name : List ℕ) (to : SourceLine)
+    (line : Option (List ℕ)) (given : Answer)
+    → StopsWith (stop.BeforeLine to) old.sources old.edf name line → AppliesAtLooks make old (turn_of name) given new
     → MatchBool (has_statement old.sources.places to) (EndsBeforeLine old name to line given new)
     (line ≡ Some (no_line name to))
 

@@ -2,6 +2,7 @@
 use Rattle.std.specs.Prelude.{◌≡◌, ℕ, Bool, true, false, List}
 use Rattle.cx_look_ahead.specs.declared.rows.Row.{Row}
 use Rattle.cx_look_ahead.specs.declared.watching.Cause.{Cause}
+use Rattle.cx_edf.specs.Steps.{DisplayMaker}
 use Rattle.cx_look_script.specs.Looking.{Acts}
 use Rattle.cx_look_script.specs.State.{LookState}
 use Rattle.cx_look_script.specs.Watched.{IsWatchedText}
@@ -19,12 +20,13 @@ watching state ranges = record state { watched = ranges }
 -- Whatever is watched, an action that is no WATCH does the same and has the same text of its own: that of a look is the
 -- same, and so is an abend that is kept. It leaves what is watched.
 abbrev pub WatchesChangeNothing : Type 0
-WatchesChangeNothing = (old : LookState) (a : LookAction) (own : List ℕ) (new : LookState) (ranges : List Row)
-    → is_watch a ≡ false → Acts old a own new → Acts (watching old ranges) a own (watching new ranges)
+WatchesChangeNothing = (make : DisplayMaker) (old : LookState) (a : LookAction) (own : List ℕ) (new : LookState)
+    (ranges : List Row) → is_watch a ≡ false → Acts make old a own new
+    → Acts make (watching old ranges) a own (watching new ranges)
 
 abbrev pub WatchesStay : Type 0
-WatchesStay = (old : LookState) (a : LookAction) (own : List ℕ) (new : LookState)
-    → is_watch a ≡ false → Acts old a own new → new.watched ≡ old.watched
+WatchesStay = (make : DisplayMaker) (old : LookState) (a : LookAction) (own : List ℕ) (new : LookState)
+    → is_watch a ≡ false → Acts make old a own new → new.watched ≡ old.watched
 
 -- what is written of the bytes that are watched is a function of the two states
 abbrev pub WatchedTextsDecide : Type 0

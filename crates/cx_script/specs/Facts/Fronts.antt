@@ -15,13 +15,13 @@ pub acted_first : {A : Type 0} (actions : List A) (front whole : Script A) → t
 acted_first [] front whole h = h
 acted_first {A} (action ∷ actions) front whole h = ap (λ (l : List A). action ∷ l) (acted_first actions front whole h)
 
-by_step : {A : Type 0} (due : Result (Step A) RunFault) (next others : Place → Script A)
-    → ((place : Place) → take (length (next place).actions) (others place).actions ≡ (next place).actions)
+by_step : {A H : Type 0} (due : Result (Step A H) RunFault) (next others : Place H → Script A)
+    → ((place : Place H) → take (length (next place).actions) (others place).actions ≡ (next place).actions)
     → take (length (led_to due next).actions) (led_to due others).actions ≡ (led_to due next).actions
 by_step (Err fault) next others h = refl
 by_step (Ok step) next others h = acted_first step.actions (next step.place) (others step.place) (h step.place)
 
-pub first_actions : {A : Type 0} (language : Language A) (ending : Ending) (number : ℕ) (place : Place) (lines : List (List ℕ)) (k : ℕ)
+pub first_actions : {A H : Type 0} (language : Language A H) (ending : Ending) (number : ℕ) (place : Place H) (lines : List (List ℕ)) (k : ℕ)
     → take (length (script_from language Failed number place (take k lines)).actions) (script_from language ending number place lines).actions
     ≡ (script_from language Failed number place (take k lines)).actions
 unfolding script_from
@@ -34,11 +34,11 @@ first_actions language ending number place (line ∷ lines) (suc k) =
 pub seam : {A : Type 0} (all own left rest : List A) → all ≡ (own ++ left) ++ rest → take (length own) all ≡ own
 seam {A} all own left rest e = ap (λ (l : List A). take (length own) l) (e ∙ append_assoc own left rest) ∙ take-append_seam own (left ++ rest)
 
-pub part_first : {A : Type 0} (language : Language A) (ending : Ending) (number : ℕ) (place : Place) (lines : List (List ℕ)) (k : ℕ) (own left : List A)
+pub part_first : {A H : Type 0} (language : Language A H) (ending : Ending) (number : ℕ) (place : Place H) (lines : List (List ℕ)) (k : ℕ) (own left : List A)
     → (script_from language Failed number place (take (k + 1) lines)).actions ≡ (script_from language Failed number place (take k lines)).actions ++ own ++ left
     → take (length ((script_from language Failed number place (take k lines)).actions ++ own)) (script_from language ending number place lines).actions
     ≡ (script_from language Failed number place (take k lines)).actions ++ own
-part_first {A} language ending number place lines k own left asked =
+part_first {A} {H} language ending number place lines k own left asked =
     let front : List A = (script_from language Failed number place (take k lines)).actions in
     let led : List A = (script_from language Failed number place (take (k + 1) lines)).actions in
     let whole : List A = (script_from language ending number place lines).actions in

@@ -9,6 +9,7 @@ use Rattle.cx_edf.specs.declared.answers.Answer.{Answer}
 use Rattle.cx_edf.specs.declared.answers.EdfEvent.{EdfEvent}
 use Rattle.cx_edf.specs.declared.answers.EdfEvent.TheVariants as edf_event
 use Rattle.cx_edf.specs.State.{EdfState}
+use Rattle.cx_edf.specs.Steps.{DisplayMaker}
 use Rattle.cx_edf.specs.Runs.{EdfRun}
 use Rattle.cx_script_actions.specs.Texts.{answer_text}
 use Rattle.cx_script.specs.Transcript.{PerformsAll}
@@ -52,13 +53,14 @@ AreReported (action ∷ actions) answers (text ∷ texts) =
 AreReported _ _ _ = ⊥
 
 -- the actions did their events, in order, from the one state to the other, with the answers that were written
-pub record IsRun (old : EdfState) (actions : List Action) (written : List ℕ) (new : EdfState) : Type 0 where
+pub record IsRun (make : DisplayMaker) (old : EdfState) (actions : List Action) (written : List ℕ) (new : EdfState)
+    : Type 0 where
   pub answers : List Answer
-  pub run : EdfRun old (events_of actions) answers new
+  pub run : EdfRun make old (events_of actions) answers new
   pub texts : List (List ℕ)
   pub whole : written ≡ flat_map (λ text. text) texts
   pub reported : AreReported actions answers texts
 
 abbrev pub ScriptsRunTheirEvents : Type 0
-ScriptsRunTheirEvents = (old : EdfState) (actions : List Action) (text : List ℕ) (new : EdfState)
-    → PerformsAll Performs old actions text new → IsRun old actions text new
+ScriptsRunTheirEvents = (make : DisplayMaker) (old : EdfState) (actions : List Action) (text : List ℕ) (new : EdfState)
+    → PerformsAll (Performs make) old actions text new → IsRun make old actions text new

@@ -13,6 +13,6 @@ pub record IsFrontOf {A : Type 0} (front whole : Script A) : Type 0 where
   pub fault : (front.fault ≡ Some Read) ⊎ (whole ≡ front)
 
 -- the script of bytes after which no more could be read is a front of each that goes on after them
-abbrev pub FrontsAreScripts : {A : Type 0} → Language A → Type 0
+abbrev pub FrontsAreScripts : {A H : Type 0} → Language A H → Type 0
 FrontsAreScripts language = (ending : Ending) (seen rest : List ℕ)
     → IsFrontOf (script_in language Failed seen) (script_in language ending (seen ++ rest))

@@ -74,7 +74,7 @@ Acted performs refused actions old before (Err Write) new after = UnwrittenAmong
 Acted performs refused actions old before (Err _) new after = ⊥
 
 -- how far the actions are done that are asked from this one on: up to that which is due
-pub record Acting {A S : Type 0} (language : Language A) (performs : S → A → List ℕ → S → Type 0) (first : Option A)
+pub record Acting {A H S : Type 0} (language : Language A H) (performs : S → A → List ℕ → S → Type 0) (first : Option A)
     (old : S) (before : DeviceOutput (List ℕ)) (due : Option A) (new : S) (after : DeviceOutput (List ℕ)) : Type 0 where
   pub done : List A
   pub asked : actions_of language first ≡ done ++ actions_of language due
@@ -93,7 +93,7 @@ abbrev pub SentSome : {A S : Type 0} → (S → A → List ℕ → S → Type 0)
 SentSome performs old actions before after = Wrote (SentFront logs before after) performs old actions
 
 -- the actions of a line, where it has no fault of its own
-abbrev pub actions_due : {A : Type 0} → Result (Step A) RunFault → List A
+abbrev pub actions_due : {A H : Type 0} → Result (Step A H) RunFault → List A
 actions_due (Ok step) = step.actions
 actions_due (Err fault) = []
 
@@ -106,21 +106,21 @@ pub record DoneOf {A : Type 0} (Texts : List A → Type 0) (actions : List A) : 
 
 -- a line with this number, of which this step or fault is due, by what was answered; a bad one is never reported as
 -- Memory
-unfoldable pub TakesLine : {A S : Type 0} → (S → A → List ℕ → S → Type 0) → ℕ → Result (Step A) RunFault → S
-    → DeviceOutput (List ℕ) → Result (Unit {0}) RunFault → S → DeviceOutput (List ℕ) → Place → Type 0
+unfoldable pub TakesLine : {A H S : Type 0} → (S → A → List ℕ → S → Type 0) → ℕ → Result (Step A H) RunFault → S
+    → DeviceOutput (List ℕ) → Result (Unit {0}) RunFault → S → DeviceOutput (List ℕ) → Place H → Type 0
 TakesLine performs number due old before (Err Memory) new after place =
     (due ≡ Err (BadLine number) → ⊥) × DoneOf (λ own. SentAll performs old own before after) (actions_due due)
 TakesLine performs number due old before (Err Write) new after place =
     DoneOf (λ own. SentSome performs old own before after) (actions_due due)
 TakesLine performs number due old before (Err fault) new after place = (due ≡ Err fault) × (after ≡ before)
-TakesLine {A} performs number due old before (Ok done) new after place =
-    (step : Step A) × (due ≡ Ok step) × (place ≡ step.place)
+TakesLine {A} {H} performs number due old before (Ok done) new after place =
+    (step : Step A H) × (due ≡ Ok step) × (place ≡ step.place)
     × (text : List ℕ) × PerformsAll performs old step.actions text new × Sends logs before after text
 
 -- Some lines are done, after n others and in this block: however the script goes on, what it asks is their actions, and
 -- what the next lines ask.
-pub record Took {A S : Type 0} (language : Language A) (performs : S → A → List ℕ → S → Type 0) (old : S) (n : ℕ)
-    (block : Place) (lines : List (List ℕ)) (before : DeviceOutput (List ℕ)) (new : S) (m : ℕ) (next : Place)
+pub record Took {A H S : Type 0} (language : Language A H) (performs : S → A → List ℕ → S → Type 0) (old : S) (n : ℕ)
+    (block : Place H) (lines : List (List ℕ)) (before : DeviceOutput (List ℕ)) (new : S) (m : ℕ) (next : Place H)
     (after : DeviceOutput (List ℕ)) : Type 0 where
   pub done : List A
   pub text : List ℕ
@@ -133,9 +133,9 @@ pub record Took {A S : Type 0} (language : Language A) (performs : S → A → L
 
 -- how far a run has come from one place of a script to another: the lines are done that the bytes ahead have in front
 -- of those of the bytes left, however the script goes on
-pub record Came {A S : Type 0} (language : Language A) (performs : S → A → List ℕ → S → Type 0) (old : S) (n : ℕ)
-    (block : Place) (ahead : List ℕ) (before : DeviceOutput (List ℕ)) (new : S) (m : ℕ) (next : Place) (left : List ℕ)
-    (after : DeviceOutput (List ℕ)) : Type 0 where
+pub record Came {A H S : Type 0} (language : Language A H) (performs : S → A → List ℕ → S → Type 0) (old : S) (n : ℕ)
+    (block : Place H) (ahead : List ℕ) (before : DeviceOutput (List ℕ)) (new : S) (m : ℕ) (next : Place H)
+    (left : List ℕ) (after : DeviceOutput (List ℕ)) : Type 0 where
   pub lines : List (List ℕ)
   pub met : (ending : Ending) (rest : List ℕ)
       → lines_met ending (ahead ++ rest) ≡ lines ++ lines_met ending (left ++ rest)
@@ -143,8 +143,8 @@ pub record Came {A S : Type 0} (language : Language A) (performs : S → A → L
 
 -- stopped without memory at one of these lines: those in front of it are done, and some of its own actions; and it
 -- isn't a bad one
-pub record HaltedAt {A S : Type 0} (language : Language A) (performs : S → A → List ℕ → S → Type 0) (old : S) (n : ℕ)
-    (block : Place) (lines : List (List ℕ)) (before after : DeviceOutput (List ℕ)) : Type 0 where
+pub record HaltedAt {A H S : Type 0} (language : Language A H) (performs : S → A → List ℕ → S → Type 0) (old : S)
+    (n : ℕ) (block : Place H) (lines : List (List ℕ)) (before after : DeviceOutput (List ℕ)) : Type 0 where
   pub line : ℕ
   pub within : line < length lines
   pub led : (script_from language Failed (n + 1) block (take line lines)).fault ≡ Some Read
@@ -158,7 +158,7 @@ pub record HaltedAt {A S : Type 0} (language : Language A) (performs : S → A �
       after
 
 -- how a run stopped in these lines, after n others, where some of its transcript may wait yet
-unfoldable pub Halts : {A S : Type 0} → Language A → (S → A → List ℕ → S → Type 0) → S → Ending → ℕ → Place
+unfoldable pub Halts : {A H S : Type 0} → Language A H → (S → A → List ℕ → S → Type 0) → S → Ending → ℕ → Place H
     → List (List ℕ) → RunFault → DeviceOutput (List ℕ) → DeviceOutput (List ℕ) → Type 0
 Halts language performs old ending n block lines Memory before after =
     HaltedAt language performs old n block lines before after
@@ -169,8 +169,8 @@ Halts language performs old ending n block lines fault before after =
     × SentAll performs old (script_from language ending (n + 1) block lines).actions before after
 
 -- how it ended
-abbrev pub Closes : {A S : Type 0} → Language A → (S → A → List ℕ → S → Type 0) → S → Ending → ℕ → Place → List (List ℕ)
-    → Result Summary RunFault → DeviceOutput (List ℕ) → DeviceOutput (List ℕ) → Type 0
+abbrev pub Closes : {A H S : Type 0} → Language A H → (S → A → List ℕ → S → Type 0) → S → Ending → ℕ → Place H
+    → List (List ℕ) → Result Summary RunFault → DeviceOutput (List ℕ) → DeviceOutput (List ℕ) → Type 0
 Closes language performs old ending n block lines (Ok summary) before after =
     ((script_from language ending (n + 1) block lines).fault ≡ None) × (summary.lines ≡ n + length lines)
     × SentAll performs old (script_from language ending (n + 1) block lines).actions before after
@@ -178,22 +178,22 @@ Closes language performs old ending n block lines (Err fault) before after =
     Halts language performs old ending n block lines fault before after
 
 -- a run stopped at such a place, however the script goes on
-pub record Stopped {A S : Type 0} (language : Language A) (performs : S → A → List ℕ → S → Type 0) (old : S) (n : ℕ)
-    (block : Place) (ahead : List ℕ) (fault : RunFault) (before after : DeviceOutput (List ℕ)) : Type 0 where
+pub record Stopped {A H S : Type 0} (language : Language A H) (performs : S → A → List ℕ → S → Type 0) (old : S) (n : ℕ)
+    (block : Place H) (ahead : List ℕ) (fault : RunFault) (before after : DeviceOutput (List ℕ)) : Type 0 where
   pub stops : (ending : Ending) (rest : List ℕ)
       → Halts language performs old ending n block (lines_met ending (ahead ++ rest)) fault before after
 
 -- before each read of these calls there was no reason to read no more, and the lines complete until then were done and
 -- written
-abbrev pub InTime : {A S : Type 0} → Language A → (S → A → List ℕ → S → Type 0) → S → List DeviceCall → Type 0
+abbrev pub InTime : {A H S : Type 0} → Language A H → (S → A → List ℕ → S → Type 0) → S → List DeviceCall → Type 0
 InTime language performs start calls =
     (before after : List DeviceCall) (bytes : Option (List ℕ)) → calls ≡ before ++ Reading bytes ∷ after
     → ((why : Ending) → IsEnding before why → ⊥)
     × EndsScript language performs start Failed (given before) (Err Read) (taken before)
 
 -- what a run from a script's beginning has read so far, and how far it has come in that: nothing waits
-pub record SeenSoFar {A S D : Type 0} (language : Language A) (performs : S → A → List ℕ → S → Type 0) (start : S)
-    (reads writes : D → Option (List ℕ) → D → Type 0) (before now : D) (read : ℕ) (new : S) (m : ℕ) (next : Place)
+pub record SeenSoFar {A H S D : Type 0} (language : Language A H) (performs : S → A → List ℕ → S → Type 0) (start : S)
+    (reads writes : D → Option (List ℕ) → D → Type 0) (before now : D) (read : ℕ) (new : S) (m : ℕ) (next : Place H)
     (part : List ℕ) : Type 0 where
   pub calls : List DeviceCall
   pub made : FoldsTo (did reads writes) before calls now

@@ -2,15 +2,17 @@
 -- it is now.
 use Rattle.std.specs.Prelude.{◌≡◌, ℕ, List}
 use Rattle.cx_edf.specs.State.{EdfState, session_at}
+use Rattle.cx_edf.specs.Steps.{DisplayMaker}
 use Rattle.cx_script_actions.specs.declared.actions.Action.{Action}
 use Rattle.cx_script_actions.specs.declared.actions.Action.TheVariants.{Display, Previous}
 use Rattle.cx_script_actions.specs.Effects.{Performs}
 
--- where a terminal has the same session, an action writes the same
+-- where a terminal has the same session, an action writes the same, whatever displays are
 abbrev pub IsOfTheSession : Action → List ℕ → Type 0
 IsOfTheSession action name =
-    (one other after later : EdfState) (text written : List ℕ) → session_at one name ≡ session_at other name
-    → Performs one action text after → Performs other action written later → text ≡ written
+    (make : DisplayMaker) (one other after later : EdfState) (text written : List ℕ)
+    → session_at one name ≡ session_at other name
+    → Performs make one action text after → Performs make other action written later → text ≡ written
 
 -- the shown page, and the main page of an earlier display
 abbrev pub DisplayIsTheSessions : Type 0

@@ -1,9 +1,9 @@
 use Rattle.std.proofs.Common.{◌≡◌, ◌≤◌, ℕ, List, ap, arith, subst, sym}
-use Rattle.cx_script_actions.specs.declared.actions.ChoicesAsked.{ChoicesAsked}
-use Rattle.cx_script_actions.specs.declared.actions.OrdersAsked.{OrdersAsked}
 use Rattle.cx_look.specs.Choices.{choices_block}
+use Rattle.cx_look.specs.declared.choices.ChoicesAsked.{ChoicesAsked}
 use Rattle.cx_look.specs.declared.choices.ChoicesBlock.{ChoicesBlock}
 use Rattle.cx_look.specs.Orders.{orders_block}
+use Rattle.cx_look.specs.declared.orders.OrdersAsked.{OrdersAsked}
 use Rattle.cx_look.specs.declared.orders.OrdersBlock.{OrdersBlock}
 use Rattle.cx_look_script.proofs.action.LookActionScriptAction.of_lines.Goals as goal
 

@@ -1,8 +1,0 @@
-use Rattle.cx_look_levels.proofs.NearestLemmas.{nearest_field_is, nearest_label_is}
-use Rattle.cx_look_levels.proofs.laws.the_nearest_is_reported.Goals as goal
-
-pub returns-clause-fields : goal.returns-clause-fields
-returns-clause-fields c = nearest_field_is c.symbols_are_looked_up.ensures
-
-pub returns-clause-labels : goal.returns-clause-labels
-returns-clause-labels c = nearest_label_is

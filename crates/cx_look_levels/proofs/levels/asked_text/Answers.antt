@@ -1,6 +1,0 @@
-use Rattle.std.proofs.Common.{append_assoc}
-use Rattle.cx_look_levels.proofs.levels.asked_text.Goals as goal
-
-pub returns : goal.returns
-returns c =
-    rw (c.in_ok-handling_lines.ensures, append_assoc, c.active-active.ensures, c.kept.ensures.value) at c.pushed_lines.ensures
