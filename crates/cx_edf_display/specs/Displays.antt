@@ -1,5 +1,5 @@
 -- EDF's displays (own): a main page, the working storage, and the user's screen.
-use Rattle.std.specs.Prelude.{ℕ, ◌+◌, ◌-◌, ◌*◌, ◌/◌, ◌^◌, nat_le, nat_lt, if◌then◌else◌, Option, Some, None, List, [], ◌∷◌, ◌++◌, codes, fold, map, slice_index}
+use Rattle.std.specs.Prelude.{ℕ, ◌+◌, ◌-◌, ◌*◌, ◌/◌, ◌^◌, nat_le, nat_lt, if◌then◌else◌, Option, Some, None, List, [], ◌∷◌, ◌++◌, codes, fold, map, min, slice_index}
 use Rattle.std.specs.Option.{option_and_then, option_map, option_map_or}
 use Rattle.cx_base.specs.Commands.{command_with, row_of}
 use Rattle.cx_base.specs.Conditions.{entry_of}
@@ -20,7 +20,7 @@ use Rattle.cx_edf_display.specs.declared.seen.Seen.{Seen}
 use Rattle.cx_edf.specs.declared.stops.Ending.TheVariants as ending
 use Rattle.cx_edf.specs.declared.stops.StopPoint.{StopPoint}
 use Rattle.cx_edf.specs.declared.stops.StopPoint.TheVariants as kind
-use Rattle.cx_region_bytes.specs.Rows.{character_group, hex_at, hex_group, quarters}
+use Rattle.cx_region_bytes.specs.Rows.{bytes_at, character_group, hex_at, hex_group, quarters, row_text}
 use Rattle.cx_edf_display.specs.Texts.{with_page_line, with_page_lines}
 
 -- ---- what is seen of a task
@@ -84,7 +84,8 @@ displayed_command storage task other = []
 abbrev pub argument : Storage → ℕ → ℕ → List (List ℕ)
 argument storage k address =
     codes "ARG " ∷ digits 10 2 k ∷ codes " " ∷ digits 16 6 address ∷ codes "  "
-    ∷ map (hex_group storage address 16) quarters ++ codes "  " ∷ map (character_group storage address 16) quarters
+    ∷ map (hex_group (bytes_at storage address 16)) quarters ++ codes "  "
+    ∷ map (character_group (bytes_at storage address 16)) quarters
 
 -- The arguments with these numbers, up to a word that isn't in storage, and none after one with its high bit set.
 unfoldable pub arguments : Storage → ℕ → List ℕ → List (ℕ × List (List ℕ))
@@ -114,13 +115,15 @@ abbrev pub state_line : Seen → List (List ℕ)
 state_line task = codes "CC " ∷ digits 10 1 task.cc ∷ codes "  NEXT " ∷ digits 16 6 task.next ∷ []
 
 -- line 20
+abbrev pub eib_bytes : Storage → Seen → EibField → ℕ → List (Option ℕ)
+eib_bytes storage task field n = bytes_at storage (field_at task field) n
+
 abbrev pub eib_line : Storage → Seen → List (List ℕ)
 eib_line storage task =
-    codes "EIBFN " ∷ hex_at storage (field_at task eib.Fn) 2 0 ∷ hex_at storage (field_at task eib.Fn) 2 1
-    ∷ codes "  EIBRESP " ∷ hex_group storage (field_at task eib.Resp) 4 0
-    ∷ codes "  EIBAID " ∷ hex_at storage (field_at task eib.Aid) 1 0
-    ∷ codes "  EIBCALEN " ∷ hex_at storage (field_at task eib.Calen) 2 0 ∷ hex_at storage (field_at task eib.Calen) 2 1
-    ∷ []
+    codes "EIBFN " ∷ map (hex_at (eib_bytes storage task eib.Fn 2)) (0 ∷ 1 ∷ [])
+    ++ codes "  EIBRESP " ∷ hex_group (eib_bytes storage task eib.Resp 4) 0
+    ∷ codes "  EIBAID " ∷ hex_at (eib_bytes storage task eib.Aid 1) 0
+    ∷ codes "  EIBCALEN " ∷ map (hex_at (eib_bytes storage task eib.Calen 2)) (0 ∷ 1 ∷ [])
 
 -- line 21
 abbrev pub outcome : StopPoint → List (List ℕ)
@@ -150,17 +153,14 @@ main_page storage name stop task =
 
 -- ---- the other pages
 -- one of 22 rows of 16 bytes, where the working storage goes so far
-abbrev pub storage_row : Storage → Seen → ℕ → List (List ℕ)
+abbrev pub storage_row : Storage → Seen → ℕ → List ℕ
 storage_row storage task row =
-    let at = address_after task.stg (16 * row) in let count = task.stg_len - 16 * row in
-    digits 16 6 at ∷ codes "  "
-    ∷ hex_group storage at count 0 ∷ codes " " ∷ hex_group storage at count 4 ∷ codes " " ∷ hex_group storage at count 8
-    ∷ codes " " ∷ hex_group storage at count 12 ∷ codes "  "
-    ∷ map (character_group storage at count) quarters
+    let at = address_after task.stg (16 * row) in
+    row_text at (bytes_at storage at (min (task.stg_len - 16 * row) 16))
 
 unfoldable pub with_row : Storage → Seen → List (List ℕ) → ℕ → List (List ℕ)
 with_row storage task page row =
-    if nat_lt (16 * row) task.stg_len then with_page_line page (row + 2) (storage_row storage task row) else page
+    if nat_lt (16 * row) task.stg_len then with_page_line page (row + 2) (storage_row storage task row ∷ []) else page
 
 abbrev pub page_rows : List ℕ
 page_rows = 0 ∷ 1 ∷ 2 ∷ 3 ∷ 4 ∷ 5 ∷ 6 ∷ 7 ∷ 8 ∷ 9 ∷ 10 ∷ 11 ∷ 12 ∷ 13 ∷ 14 ∷ 15 ∷ 16 ∷ 17 ∷ 18 ∷ 19 ∷ 20 ∷ 21 ∷ []

@@ -1,5 +1,5 @@
 //! The main page of a display.
-ghost use Rattle.std.specs.Prelude.{◌≡◌, ◌∷◌, [], ◌+◌, ◌≤◌, Some, codes, map};
+ghost use Rattle.std.specs.Prelude.{◌≡◌, ◌∷◌, [], ◌+◌, ◌<◌, ◌≤◌, ◌^◌, Some, codes, map};
 ghost use Rattle.std.specs.List.{AllByRecursion};
 ghost use Rattle.std.specs.Option.{option_and_then};
 ghost use Rattle.cx_storage.specs.Address.{address_in};
@@ -7,14 +7,14 @@ ghost use Rattle.cx_storage.specs.Word.{halfword_at, word_at};
 ghost use Rattle.cx_base.specs.Texts.{shown_text};
 ghost use Rattle.cx_region_bytes.specs.Rows.{quarters};
 ghost use Rattle.cx_edf_display.specs.Texts.{with_page_line, with_page_lines};
-ghost use Rattle.cx_edf_display.specs.Displays.{argument, arguments, arguments_due, displayed_command, eib_line, heading, list_of_seen, main_page, name_of_function, outcome, registers, state_line, stop_status, task_heading, task_lines};
+ghost use Rattle.cx_edf_display.specs.Displays.{argument, arguments, arguments_due, displayed_command, eib_bytes, eib_line, heading, list_of_seen, main_page, name_of_function, outcome, registers, state_line, stop_status, task_heading, task_lines};
 
 use crate::seen::{Seen, halfword, word};
 use cx_base::{Command, EibField, Page, decimal, hexadecimal, shown_bytes};
 use cx_ebcdic::Name4;
 use cx_edf::{Ending, StopPoint};
 use cx_region::Region;
-use cx_region_bytes::{character_group, hex_at, hex_group};
+use cx_region_bytes::{character_group, hex_at, hex_group, read_bytes};
 use cx_storage::{Store, address_after, address_in};
 
 /// Line 24.
@@ -192,14 +192,16 @@ fn put_argument<S: Store + Drop>(page: &mut Page, region: &Region<S>, k: u32, ad
 {
     let number = decimal::<2>(k);
     let place = hexadecimal::<6>(address);
-    let a = hex_group(region, address, 16, 0);
-    let b = hex_group(region, address, 16, 4);
-    let c = hex_group(region, address, 16, 8);
-    let d = hex_group(region, address, 16, 12);
-    let e = character_group(region, address, 16, 0);
-    let f = character_group(region, address, 16, 4);
-    let g = character_group(region, address, 16, 8);
-    let h = character_group(region, address, 16, 12);
+    let mut bytes = [None; 16];
+    read_bytes(region, address, &mut bytes);
+    let a = hex_group(&bytes, 0);
+    let b = hex_group(&bytes, 4);
+    let c = hex_group(&bytes, 8);
+    let d = hex_group(&bytes, 12);
+    let e = character_group(&bytes, 0);
+    let f = character_group(&bytes, 4);
+    let g = character_group(&bytes, 8);
+    let h = character_group(&bytes, 12);
     page.put_line(
         k as usize + 4,
         &[
@@ -244,28 +246,32 @@ fn put_state(page: &mut Page, task: &Seen)
     page.put_line(19, &[b"CC ", &code, b"  NEXT ", &next]);
 }
 
+/// The bytes of a field of the EIB.
+fn eib_bytes<S: Store + Drop, const N: usize>(
+    region: &Region<S>,
+    task: &Seen,
+    field: EibField,
+) -> [Option<u8>; N]
+    requires { N < 2 ^ 32 }
+    ensures { result ≡ eib_bytes region.now.shared.storage task.now field N }
+{
+    let mut bytes = [None; N];
+    read_bytes(region, address_after(task.eib, field.offset()), &mut bytes);
+    bytes
+}
+
 /// Line 20.
 fn put_eib<S: Store + Drop>(page: &mut Page, region: &Region<S>, task: &Seen)
     ensures { page.new ≡ with_page_line page.old 20 (eib_line region.now.shared.storage task.now) }
 {
-    let function = address_after(task.eib, EibField::Fn.offset());
-    let length = address_after(task.eib, EibField::Calen.offset());
-    let a = hex_at(region, function, 2, 0);
-    let b = hex_at(region, function, 2, 1);
-    let c = hex_group(
-        region,
-        address_after(task.eib, EibField::Resp.offset()),
-        4,
-        0,
-    );
-    let d = hex_at(
-        region,
-        address_after(task.eib, EibField::Aid.offset()),
-        1,
-        0,
-    );
-    let e = hex_at(region, length, 2, 0);
-    let f = hex_at(region, length, 2, 1);
+    let function = eib_bytes::<S, 2>(region, task, EibField::Fn);
+    let a = hex_at(&function, 0);
+    let b = hex_at(&function, 1);
+    let c = hex_group(&eib_bytes::<S, 4>(region, task, EibField::Resp), 0);
+    let d = hex_at(&eib_bytes::<S, 1>(region, task, EibField::Aid), 0);
+    let length = eib_bytes::<S, 2>(region, task, EibField::Calen);
+    let e = hex_at(&length, 0);
+    let f = hex_at(&length, 1);
     page.put_line(
         20,
         &[

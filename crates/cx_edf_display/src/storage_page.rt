@@ -12,7 +12,7 @@ use crate::seen::Seen;
 use cx_base::{Page, hexadecimal};
 use cx_ebcdic::Name4;
 use cx_region::Region;
-use cx_region_bytes::{character_group, hex_group};
+use cx_region_bytes::{read_bytes, row_text};
 use cx_storage::{Store, address_after};
 
 /// The rows of 16 bytes that are shown.
@@ -64,22 +64,11 @@ fn put_row<S: Store + Drop>(page: &mut Page, region: &Region<S>, task: &Seen, ro
         return;
     }
     let address = address_after(task.stg, 16 * row);
-    let count = task.stg_len - 16 * row;
-    let place = hexadecimal::<6>(address);
-    let a = hex_group(region, address, count, 0);
-    let b = hex_group(region, address, count, 4);
-    let c = hex_group(region, address, count, 8);
-    let d = hex_group(region, address, count, 12);
-    let e = character_group(region, address, count, 0);
-    let f = character_group(region, address, count, 4);
-    let g = character_group(region, address, count, 8);
-    let h = character_group(region, address, count, 12);
-    page.put_line(
-        row as usize + 2,
-        &[
-            &place, b"  ", &a, b" ", &b, b" ", &c, b" ", &d, b"  ", &e, &f, &g, &h,
-        ],
-    );
+    let count = (task.stg_len - 16 * row).min(16);
+    let mut bytes = [None; 16];
+    let bytes = &mut bytes[..count as usize];
+    read_bytes(region, address, bytes);
+    page.put_line(row as usize + 2, &[&row_text(address, bytes)]);
 }
 
 /// The user's screen; a blank page where there is no such terminal.

@@ -10,7 +10,7 @@ use Rattle.cx_orders.specs.Moves as orders
 use Rattle.cx_orders.specs.declared.states.KeyLine.{KeyLine}
 use Rattle.cx_choices.specs.Moves.{Goes, begun}
 use Rattle.cx_choices.specs.declared.states.ChoicesState.{ChoicesState}
-use Rattle.cx_look_tables.specs.Words.{Lines}
+use Rattle.cx_look_lines.specs.Words.{Lines}
 use Rattle.cx_look_orders.specs.Facts.Items.{item_too}
 use Rattle.cx_look_orders.specs.Laws.{ScriptsAskForSteps}
 use Rattle.cx_look_choices.specs.Laws.{PressesAreRuns, PressesLead}

@@ -12,7 +12,7 @@ use Rattle.cx_orders.specs.Laws.{IsOrder}
 use Rattle.cx_orders.specs.Moves.{Moves, begun}
 use Rattle.cx_orders.specs.declared.states.Keys.{Keys}
 use Rattle.cx_orders.specs.declared.states.OrdersState.{OrdersState}
-use Rattle.cx_look_tables.specs.Words.{Lines}
+use Rattle.cx_look_lines.specs.Words.{Lines}
 use Rattle.cx_look_orders.specs.Facts.Outcomes.{texts_stand_once}
 use Rattle.cx_look_orders.specs.Laws.{LoopsAreEndless, ScriptsAskForSteps, StepsAreRuns}
 use Rattle.cx_look_orders.specs.Outcomes.{AllCanRest, AreOutcomes, IsOutcome, IsStuck, MayLoop}

@@ -1,12 +1,11 @@
 -- The DFHEISTG of a level as it is at an abend (own).
-use Rattle.std.specs.Prelude.{◌≡◌, ℕ, ◌+◌, ◌*◌, ◌/◌, min, MatchBool, MatchOption, Option, None, List, [], ◌∷◌, ◌++◌, codes, drop, length, take}
+use Rattle.std.specs.Prelude.{◌≡◌, ℕ, min, MatchBool, MatchOption, Option, Some, None, List, [], ◌∷◌, ◌++◌, codes, length, map}
 use Rattle.std.specs.Option.{option_map}
-use Rattle.std.specs.List.{flat_map, range_with_len}
 use Rattle.cx_base.specs.Digits.{digits}
-use Rattle.cx_base.specs.Texts.{in_columns, join, shown_name, shown_text}
+use Rattle.cx_base.specs.Texts.{shown_name}
 use Rattle.cx_exec.specs.Machine.{Machine}
 use Rattle.cx_program.specs.declared.level.Level.{Level}
-use Rattle.cx_storage.specs.Address.{address_after, address_in}
+use Rattle.cx_storage.specs.Address.{address_in}
 use Rattle.cx_storage.specs.Storage.{Storage, span}
 use Rattle.cx_region.specs.State.{RegionState}
 use Rattle.cx_region.specs.Tables.{task_of}
@@ -14,7 +13,8 @@ use Rattle.cx_region_state.specs.State.{TaskState}
 use Rattle.cx_region_task.specs.Turn.{most_steps}
 use Rattle.cx_look_turn.specs.NextTurn.{task_machine}
 use Rattle.cx_look_turn.specs.Traces.{Leaves}
-use Rattle.cx_look_lines.specs.Words.{hex_groups, look_line, or_none, Lines}
+use Rattle.cx_look_lines.specs.Words.{look_line, or_none, Lines}
+use Rattle.cx_look_storage.specs.Bytes.{row_lines}
 use Rattle.cx_look_symbols.specs.Sources.{Sources, source_lines}
 use Rattle.cx_look_fields.specs.KeptFields.{kept_fields}
 
@@ -49,20 +49,11 @@ unfoldable pub TurnHasDump : RegionState → List ℕ → Option Dump → Type 0
 TurnHasDump region name dump =
     MatchOption (task_of region name) (dump ≡ None) (λ task. HasDump region.shared.storage task dump)
 
--- ---- as it is written: rows of sixteen bytes, as STORAGE has them
-unfoldable pub dump_row_line : ℕ → List ℕ → Lines
-dump_row_line at row =
-    look_line (digits 16 6 at ∷ [] ∷ hex_groups row ++ [] ∷ in_columns 16 (join (shown_text row ∷ [])) ∷ [])
-
--- that of a number, counted from 0
-abbrev pub dump_row : ℕ → List ℕ → ℕ → Lines
-dump_row at bytes k = dump_row_line (address_after at (16 * k)) (take 16 (drop (16 * k) bytes))
-
--- its address and its length, and its rows
+-- ---- as it is written: its address and its length, and its rows, as STORAGE has them
 unfoldable pub dump_lines : Dump → Lines
 dump_lines dump =
     look_line (codes "DFHEISTG" ∷ digits 16 6 dump.at ∷ codes "LENGTH" ∷ digits 16 6 (length dump.bytes) ∷ [])
-    ++ flat_map (dump_row dump.at dump.bytes) (range_with_len 0 ((length dump.bytes + 15) / 16))
+    ++ row_lines dump.at (map Some dump.bytes)
 
 -- ---- its fields, by the source of the level's program, as FIELDS has them
 abbrev pub field_lines : Sources → List ℕ → Dump → Lines

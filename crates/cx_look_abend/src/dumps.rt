@@ -1,29 +1,26 @@
 //! The DFHEISTG of a level as it is at an abend.
 ghost use Rattle.std.specs.Prelude.{◌≡◌, ◌≤◌, ◌+◌, ◌*◌, ◌/◌, ◌<◌, ◌^◌, ◌++◌, IfOk, OnOk, length};
-ghost use Rattle.cx_look_abend.specs.Dumps.{dump_at, dump_in, dump_lines, dump_row, dump_row_line, field_lines};
+ghost use Rattle.cx_look_abend.specs.Dumps.{dump_at, dump_in, dump_lines, field_lines};
 ghost use Rattle.cx_look_abend.specs.Parts.Texts.{if_dumped};
-ghost use Rattle.std.specs.List.{flat_map, range_with_len};
 ghost use Rattle.cx_look_abend.specs.Parts.Sources.{GivesDump, IsSourceOf, RunGives, no_source, room_of};
 ghost use Rattle.cx_look_turn.specs.NextTurn.{task_machine};
 
-use cx_base::{hexadecimal, in_columns, shown};
+use cx_base::hexadecimal;
 use cx_ebcdic::{Name4, Name8};
 use cx_look_fields::{fields_word, kept_fields};
-use cx_look_lines::{Report, bytes_from, first_bytes, hex_group};
+use cx_look_lines::{Report, present};
+use cx_look_storage::row_lines;
 use cx_look_symbols::Sources;
 use cx_look_turn::{KeptMachine, TurnMachine};
 use cx_program::Level;
 use cx_region_state::Task;
-use cx_storage::{Store, address_after, address_in};
+use cx_storage::{Store, address_in};
 use cx_storage_pages::PagedStore;
 use std::alloc::{AllocError, Global};
 use std::marker::Model;
 
 /// The most bytes of a DFHEISTG.
 const MOST_BYTES: u32 = 65_520;
-
-/// The bytes of a row.
-const ROW: u32 = 16;
 
 /// A level's DFHEISTG: the level's program, the address of the first byte, and the bytes, at most 65,520.
 #[derive(Drop)]
@@ -214,45 +211,6 @@ impl DumpBefore {
     }
 }
 
-/// Adds the line of a row at an address.
-#[tactic(auto, unfolding(crate::specs::Dumps::dump_row_line))]
-fn dump_row_line(report: &mut Report, at: u32, row: &[u8]) -> Result<(), AllocError>
-    ensures { OnOk result (report.new ≡ report.old ++ dump_row_line at row.now) }
-{
-    let alloc = report.alloc();
-    let place = hexadecimal::<6>(at);
-    let a = hex_group(alloc, row, 0)?;
-    let b = hex_group(alloc, row, 4)?;
-    let c = hex_group(alloc, row, 8)?;
-    let d = hex_group(alloc, row, 12)?;
-    let characters = shown(alloc, row)?;
-    let characters = in_columns::<16>(&[&characters]);
-    report.line(&[&place, b"", &a, &b, &c, &d, b"", &characters])
-}
-
-/// Adds the line of a row of bytes from an address on, counted from 0.
-fn dump_row(report: &mut Report, at: u32, bytes: &[u8], k: u32) -> Result<(), AllocError>
-    requires { 16 * k < 2 ^ 32 }
-    ensures { OnOk result (report.new ≡ report.old ++ dump_row at bytes.now k) }
-{
-    let offset = ROW * k;
-    let row = first_bytes(bytes_from(bytes, offset as usize), ROW as usize);
-    dump_row_line(report, address_after(at, offset), row)
-}
-
-/// Adds the rows of bytes from an address on.
-fn all_rows(report: &mut Report, at: u32, bytes: &[u8]) -> Result<(), AllocError>
-    requires { length bytes.now ≤ 65520 }
-    ensures { let rows = range_with_len 0 ((length bytes.now + 15) / 16) in
-        OnOk result (report.new ≡ report.old ++ flat_map (dump_row at bytes.now) rows) }
-{
-    let rows = (bytes.len() as u32 + 15) / ROW;
-    for k in 0..rows {
-        dump_row(report, at, bytes, k)?;
-    }
-    Ok(())
-}
-
 impl StorageDump {
     /// Adds its lines.
     ///
@@ -264,7 +222,7 @@ impl StorageDump {
         let at = hexadecimal::<6>(self.at);
         let length = hexadecimal::<6>(self.bytes.len() as u32);
         report.line(&[b"DFHEISTG", &at, b"LENGTH", &length])?;
-        all_rows(report, self.at, &self.bytes)
+        row_lines(report, self.at, &present(report.alloc(), &self.bytes)?)
     }
 
     /// A line for each field of the level's working storage, by the source of its program; NONE without one.

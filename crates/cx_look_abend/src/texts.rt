@@ -20,7 +20,7 @@ use cx_code::instruction_length;
 use cx_ebcdic::{Name4, Name8};
 use cx_exec::Interruption;
 use cx_load::Loaded;
-use cx_look_lines::{Report, joined, register_lines};
+use cx_look_lines::{Report, first_bytes, joined, register_lines};
 use cx_look_symbols::{
     Place, Sources, address_word, place_at_address, place_word, push_led_by, spot_before,
     statement_at,
@@ -67,13 +67,6 @@ fn why_word(alloc: Global, explanation: &Option<Explanation>) -> Result<Vec<u8>,
         Some(explanation) => cause_word(alloc, explanation.abend_record.cause),
         None => b"ASKED BY OPERATOR".to_vec(alloc),
     }
-}
-
-/// The first `count` bytes, or all where there are fewer.
-fn first_bytes(bytes: &[Option<u8>], count: usize) -> &[Option<u8>]
-    ensures { result.now ≡ take count bytes.now }
-{
-    bytes.split_at(count.min(bytes.len())).0
 }
 
 /// Whether all of these bytes are there.

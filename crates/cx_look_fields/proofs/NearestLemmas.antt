@@ -19,7 +19,7 @@ use Rattle.cx_look_symbols.specs.declared.rows.Symbol.{Symbol}
 use Rattle.cx_look_fields.specs.Fields.{LevelFields, bases_at_offset, field_by, fields_in, is_field, own_offset}
 use Rattle.cx_look_fields.specs.declared.fields.Field.{Field}
 use Rattle.cx_look_fields.specs.Laws.{FieldHasByte, field_in, IsLabel, MatchNearest, NearestFieldIs, NearestLabelIs}
-use Rattle.cx_look_fields.specs.Addresses.{near_field, near_in, near_label, nearest_by, nearest_field, nearest_label}
+use Rattle.cx_look_fields.specs.Addresses.{near_field, near_in, near_label, nearest_by, nearest_label}
 use Rattle.cx_look_fields.proofs.FieldLemmas.{looked_up}
 use Rattle.cx_look_fields.specs.Nearest.{near, nearer_symbol, nearest}
 use Rattle.cx_look_fields.specs.declared.nearest.Near.{Near}

@@ -2,17 +2,12 @@
 -- program; and WHERE (own).
 use Rattle.std.specs.Prelude.{ℕ, ◌-◌, nat_lt, if◌then◌else◌, Option, Some, None, option_and_then, option_map, List, [], ◌∷◌, ◌++◌, codes, length}
 use Rattle.std.specs.List.{filter_map, filter, flat_map, range_with_len}
+use Rattle.std.specs.Option.{option_map_or}
 use Rattle.cx_storage.specs.Address.{distance}
 use Rattle.cx_asm_operands.specs.Bases.{Bases}
 use Rattle.cx_look_symbols.specs.Symbols.{named_in}
 use Rattle.cx_look_symbols.specs.Texts.{offset_up_to}
 use Rattle.cx_look_symbols.specs.declared.rows.Symbol.{Symbol}
-use Rattle.cx_look_fields.specs.Fields.{LevelFields, field_by, fields_at, is_field, standing_in}
-use Rattle.cx_look_fields.specs.declared.fields.Field.{Field}
-use Rattle.cx_look_fields.specs.declared.standing.Standing.{Standing}
-use Rattle.cx_look_fields.specs.Nearest.{near, nearest, near_word}
-use Rattle.cx_look_fields.specs.declared.nearest.Near.{Near}
-use Rattle.std.specs.Option.{option_map_or}
 use Rattle.cx_storage.specs.Storage.{areas_of}
 use Rattle.cx_load.specs.declared.program.Loaded.{Loaded}
 use Rattle.cx_program.specs.Levels.{all_levels}
@@ -26,6 +21,11 @@ use Rattle.cx_look_symbols.specs.Sources.{Sources, led_by, source_lines, stateme
 use Rattle.cx_look_symbols.specs.declared.places.Place.{Place}
 use Rattle.cx_look_symbols.specs.declared.places.Spot.{Spot}
 use Rattle.cx_look_storage.specs.Uses.{is_met, met_line}
+use Rattle.cx_look_fields.specs.Fields.{LevelFields, field_by, fields_at, is_field, standing_in}
+use Rattle.cx_look_fields.specs.declared.fields.Field.{Field}
+use Rattle.cx_look_fields.specs.declared.standing.Standing.{Standing}
+use Rattle.cx_look_fields.specs.Nearest.{near, nearest, near_word}
+use Rattle.cx_look_fields.specs.declared.nearest.Near.{Near}
 
 -- ---- fields, as FIELDS has them
 -- how far the byte is from the first of the field, where the field has it

@@ -1,5 +1,5 @@
 -- FIELD and FIELDS: what is written of a level's fields (own).
-use Rattle.std.specs.Prelude.{ℕ, min, Bool, true, ◌&&◌, if◌then◌else◌, Option, Some, None, option_and_then, option_map, List, [], ◌∷◌, ◌++◌, codes}
+use Rattle.std.specs.Prelude.{ℕ, min, Bool, true, ◌&&◌, if◌then◌else◌, Option, None, option_and_then, option_map, List, [], ◌∷◌, ◌++◌, codes}
 use Rattle.std.specs.Fmt.{decimal}
 use Rattle.std.specs.List.{flat_map, list_any}
 use Rattle.std.specs.Map.{lookup}

@@ -1,11 +1,11 @@
 -- What the lines of looks are made of (own).
-use Rattle.std.specs.Prelude.{ℕ, Bool, false, ◌&&◌, ◌==◌, not, List, [], ◌∷◌, ◌++◌, drop, length, map, take, codes, if◌then◌else◌}
+use Rattle.std.specs.Prelude.{ℕ, Bool, false, ◌&&◌, ◌==◌, not, List, [], ◌∷◌, ◌++◌, length, codes, if◌then◌else◌}
 use Rattle.std.specs.List.{filter, flat_map, list_all}
 use Rattle.std.specs.Option.{option_map_or}
 use Rattle.std.specs.Str.{byte}
 use Rattle.cx_ebcdic.specs.Characters.{code_of, shown_as}
 use Rattle.cx_base.specs.Digits.{hex_digits}
-use Rattle.cx_base.specs.Texts.{in_columns, join, shown_text, trim}
+use Rattle.cx_base.specs.Texts.{shown_text, trim}
 
 -- ---- lines
 -- what a look has to say, a line after the other
@@ -55,10 +55,6 @@ in_hexadecimal bytes = codes "X" ++ in_apostrophes (hex_digits bytes)
 -- bytes as characters between apostrophes; in hexadecimal where one of them has no character, or is an apostrophe
 unfoldable pub written_bytes : List ℕ → List ℕ
 written_bytes bytes = if list_all is_plain bytes then in_apostrophes (shown_text bytes) else in_hexadecimal bytes
-
--- up to sixteen bytes in hexadecimal digits, in four groups, which blanks fill
-abbrev pub hex_groups : List ℕ → List (List ℕ)
-hex_groups row = map (λ k. in_columns 8 (join (hex_digits (take 4 (drop k row)) ∷ []))) (0 ∷ 4 ∷ 8 ∷ 12 ∷ [])
 
 -- a name: as bytes, without the blanks that fill it
 unfoldable pub written_name : List ℕ → List ℕ

@@ -10,5 +10,5 @@ pub use lines::{decimal, joined, push_word, push_words};
 pub use registers::register_lines;
 pub use reports::Report;
 pub use values::{
-    bytes_from, first_bytes, hex_group, in_apostrophes, spelled, written_bytes, written_name,
+    bytes_from, first_bytes, in_apostrophes, present, spelled, written_bytes, written_name,
 };

@@ -1,13 +1,12 @@
 //! Bytes and names as a source writes them.
-ghost use Rattle.std.specs.Prelude.{◌≡◌, ◌==◌, ◌∷◌, ◌++◌, [], IfOk, OnOk, drop, false, take};
+ghost use Rattle.std.specs.Prelude.{◌≡◌, ◌==◌, ◌++◌, IfOk, OnOk, Some, drop, false, map, take};
 ghost use Rattle.std.specs.Option.{option_map_or};
 ghost use Rattle.cx_ebcdic.specs.Characters.{code_of, shown_as};
 ghost use Rattle.std.specs.List.{list_all};
 ghost use Rattle.cx_base.specs.Digits.{hex_digits};
-ghost use Rattle.cx_base.specs.Texts.{in_columns, join};
 ghost use Rattle.cx_look_lines.specs.Words.{in_apostrophes, in_hexadecimal, is_plain, written_bytes, written_name};
 
-use cx_base::{hexadecimal, in_columns, shown, trim};
+use cx_base::{hexadecimal, shown, trim};
 use cx_ebcdic::{shown_as, to_ebcdic};
 use std::alloc::{AllocError, Global};
 
@@ -60,29 +59,27 @@ pub fn spelled(alloc: Global, bytes: &[u8]) -> Result<Vec<u8>, AllocError>
     Ok(text)
 }
 
-/// The bytes from a place on; none where there are none. It takes no memory.
-pub fn bytes_from(bytes: &[u8], place: usize) -> &[u8]
+/// The bytes from a place on, which may be absent ones; none where there are none. It takes no memory.
+pub fn bytes_from<T>(bytes: &[T], place: usize) -> &[T]
     ensures { result.now ≡ drop place bytes.now }
 {
     bytes.split_at(place.min(bytes.len())).1
 }
 
-/// The first `count` bytes, or all where there are fewer. It takes no memory.
-pub fn first_bytes(bytes: &[u8], count: usize) -> &[u8]
+/// The first `count` bytes, which may be absent ones, or all where there are fewer. It takes no memory.
+pub fn first_bytes<T>(bytes: &[T], count: usize) -> &[T]
     ensures { result.now ≡ take count bytes.now }
 {
     bytes.split_at(count.min(bytes.len())).0
 }
 
-/// Four bytes of a row from a place on, as far as it has them, in hexadecimal digits, which blanks fill.
+/// Bytes of which none is absent, as those that may be.
 ///
 /// An error comes only where memory for them was refused.
-pub fn hex_group(alloc: Global, row: &[u8], place: usize) -> Result<[u8; 8], AllocError>
-    ensures { let digits = hex_digits (take 4 (drop place row.now)) in
-        IfOk result (λ text. text ≡ in_columns 8 (join (digits ∷ []))) }
+pub fn present(alloc: Global, bytes: &[u8]) -> Result<Vec<Option<u8>>, AllocError>
+    ensures { IfOk result (λ all. all.items ≡ map Some bytes.now) }
 {
-    let digits = spelled(alloc, first_bytes(bytes_from(row, place), 4))?;
-    Ok(in_columns::<8>(&[&digits]))
+    bytes.iter().map(|byte| Some(*byte)).collect(alloc)
 }
 
 /// Bytes in hexadecimal.

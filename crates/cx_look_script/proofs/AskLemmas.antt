@@ -1,5 +1,5 @@
 -- The lines of a script of ORDERS are read, and ask for the events that its steps are.
-use Rattle.std.proofs.Common.{◌≡◌, ℕ, zero, suc, ◌+◌, ◌<◌, ◌≤◌, Bool, true, false, true≢false, Option, Some, None, List, [], ◌∷◌, ◌++◌, add-one, codes, length, map, nat_le, arith, ap, refl, sym, subst, ◌∙◌, append-nil, cond, length-append}
+use Rattle.std.proofs.Common.{◌≡◌, ℕ, zero, suc, ◌+◌, ◌≤◌, Bool, true, false, true≢false, Option, Some, None, List, [], ◌∷◌, ◌++◌, add-one, codes, length, map, nat_le, arith, ap, refl, sym, subst, ◌∙◌, append-nil, cond, length-append}
 use Rattle.std.specs.Prelude.{⊤, drop, if◌then◌else◌, not, option_map, replicate, slice_get, unwrap_or}
 use Rattle.std.specs.Char.{is_ascii_digit, to_ascii_uppercase}
 use Rattle.std.specs.Fmt.{decimal}
@@ -32,10 +32,10 @@ use Rattle.cx_orders.specs.declared.states.KeyLine.{KeyLine}
 use Rattle.cx_look.specs.Laws.{IsAskedByItsLine}
 use Rattle.cx_look.specs.Looks.{count_up_to, subject_of}
 use Rattle.cx_look.specs.declared.look.Subject.TheVariants as subject
-use Rattle.cx_look_tables.specs.Words.{Lines, joined_line as words_line, look_line}
+use Rattle.cx_look_lines.specs.Words.{Lines, joined_line as words_line, look_line}
 use Rattle.cx_look_orders.specs.Laws.{IsStepAsked, IsTurnOf, ScriptsAskForSteps, asked_lines, asked_row, asked_steps, event_at, event_of_step}
 use Rattle.cx_look_orders.specs.Rest.{terminal_name_at}
-use Rattle.cx_look_orders.specs.Script.{comment_lines, comments_on, key_at, off_line, row_lines, script_lines, steps_lines, with_text}
+use Rattle.cx_look_orders.specs.Script.{comment_lines, comments_on, key_at, off_line, script_lines, steps_lines, with_text}
 use Rattle.cx_look_orders.specs.declared.steps.Step.{Step}
 use Rattle.cx_look_script.specs.Laws.Orders.{AskForEvents, HasSpelling, ScriptsAskForEvents, asked_events, asking_lines}
 use Rattle.cx_look_script.specs.Reading.{line_by, line_of_subject, look_line_of, own_line, run_of, run_with, turns_of}

@@ -9,7 +9,7 @@ use Rattle.cx_look_ahead.specs.Laws.{AheadDecides}
 use Rattle.cx_look_ahead.specs.Laws.Ats.{AtDecides}
 use Rattle.cx_look_choices.specs.Facts.Decides.{reports_decide}
 use Rattle.cx_look_choices.specs.Report.{ChoicesText}
-use Rattle.cx_look_tables.specs.Words.{Lines, marked}
+use Rattle.cx_look_lines.specs.Words.{Lines, marked}
 use Rattle.cx_look_tasks.specs.Laws.{ResourcesTextsDecide, TasksTextsDecide, WaitsTextsDecide}
 use Rattle.cx_orders.specs.declared.states.KeyLine.{KeyLine}
 use Rattle.cx_search.specs.Laws.{SoonerOrders}

@@ -44,7 +44,7 @@ use Rattle.cx_orders.specs.declared.states.KeyLine.{KeyLine}
 use Rattle.cx_look.specs.declared.look.Look.{Look}
 use Rattle.cx_look.specs.declared.orders.Sight.{Sight}
 use Rattle.cx_look.specs.declared.orders.Sight.TheVariants as sight
-use Rattle.cx_look_tables.specs.Words.{Lines}
+use Rattle.cx_look_lines.specs.Words.{Lines}
 use Rattle.cx_look_orders.specs.Laws.{IsMoveReply, ScriptsAskForSteps, event_at, event_of_step}
 use Rattle.cx_look_orders.specs.declared.steps.Step.{Step}
 use Rattle.cx_look_script.specs.Laws.Looks.{turn_action}

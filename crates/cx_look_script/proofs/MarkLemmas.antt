@@ -3,8 +3,8 @@ use Rattle.std.proofs.Common.{◌≡◌, ap, sym, subst, ◌∙◌}
 use Rattle.cx_look.specs.declared.look.Look.{Look}
 use Rattle.cx_look.specs.declared.look.Look.TheVariants as look
 use Rattle.cx_look_lines.specs.Facts.Marked.{marked_is_of_looks}
-use Rattle.cx_look_tables.specs.Marked.{IsOfLooks}
-use Rattle.cx_look_tables.specs.Words.{Lines, marked}
+use Rattle.cx_look_lines.specs.Marked.{IsOfLooks}
+use Rattle.cx_look_lines.specs.Words.{Lines, marked}
 use Rattle.cx_look_ahead.specs.Laws.{AheadDecides}
 use Rattle.cx_look_ahead.specs.Laws.Ats.{AtDecides}
 use Rattle.cx_look_tasks.specs.Laws.{ResourcesTextsDecide, TasksTextsDecide}

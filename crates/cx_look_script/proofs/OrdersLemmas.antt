@@ -11,7 +11,7 @@ use Rattle.cx_look.specs.declared.orders.OrdersBlock.{OrdersBlock}
 use Rattle.cx_look.specs.declared.orders.Sight.{Sight}
 use Rattle.cx_look.specs.declared.orders.Sight.TheVariants as sight
 use Rattle.cx_look_orders.specs.Report.{OrdersText}
-use Rattle.cx_look_tables.specs.Words.{Lines, marked}
+use Rattle.cx_look_lines.specs.Words.{Lines, marked}
 use Rattle.cx_orders.specs.declared.states.Keys.{Keys}
 use Rattle.cx_look_script.specs.Looking.{AreLookLines, ShowsOrders, at_region}
 use Rattle.cx_look_script.specs.Orders.{AreSeen, IsSeen, keys_asked, names_with_edf, sights_of}

@@ -5,7 +5,7 @@ use Rattle.cx_script_actions.specs.declared.actions.Action.{Action}
 use Rattle.cx_script_actions.specs.declared.actions.Action.TheVariants as script
 use Rattle.cx_look.specs.declared.look.Look.{Look}
 use Rattle.cx_look.specs.declared.look.Look.TheVariants as look
-use Rattle.cx_look_tables.specs.Words.{Lines}
+use Rattle.cx_look_lines.specs.Words.{Lines}
 use Rattle.cx_edf.specs.Sessions.{Sessions}
 use Rattle.cx_edf.specs.Steps.{DisplayMaker}
 use Rattle.cx_look_abend.specs.Noting.{KeptAbends}

@@ -3,7 +3,7 @@ use Rattle.std.proofs.Common.{◌≡◌, ℕ, List, [], ◌∷◌, ◌++◌, len
 use Rattle.cx_edf.specs.State.{EdfState}
 use Rattle.cx_edf.specs.Steps.{DisplayMaker}
 use Rattle.cx_look_ahead.specs.declared.rows.Row.{Row}
-use Rattle.cx_look_tables.specs.Words.{marked}
+use Rattle.cx_look_lines.specs.Words.{marked}
 use Rattle.cx_look_ahead.specs.Facts.Unchanged.{no_changes}
 use Rattle.cx_look_ahead.specs.Laws.Watching.{ChangesDecide}
 use Rattle.cx_look_ahead.specs.Watching.{AreChanges, AreOfRanges, ActionEffect, kept_in, work_of}

@@ -6,7 +6,7 @@ use Rattle.cx_look.specs.declared.choices.ChoicesBlock.{ChoicesBlock}
 use Rattle.cx_look.specs.declared.look.Look.{Look}
 use Rattle.cx_look_choices.specs.Report.{ChoicesText}
 use Rattle.cx_look_script.specs.Orders.{AreSeen, names_with_edf, sights_of}
-use Rattle.cx_look_tables.specs.Words.{Lines, marked}
+use Rattle.cx_look_lines.specs.Words.{Lines, marked}
 
 -- with ONE NUMBER each key is pressed with the number of the last task as it is at the block
 abbrev pub number_of : ChoicesBlock → RegionState → Option ℕ

@@ -1,5 +1,5 @@
 -- COVER: what is counted of a turn's instructions (own).
-use Rattle.std.specs.Prelude.{◌≡◌, ℕ, Bool, true, if◌then◌else◌, Option, Some, None, List, [], ◌∷◌, codes}
+use Rattle.std.specs.Prelude.{◌≡◌, ℕ, Bool, if◌then◌else◌, Option, Some, None, List, [], ◌∷◌, codes}
 use Rattle.cx_exec.specs.Machine.{Machine}
 use Rattle.cx_exec.specs.Tallies.{IsTallied}
 use Rattle.cx_exec.specs.declared.tallied.Tally.{Tally}
@@ -8,7 +8,7 @@ use Rattle.cx_region_task.specs.Turn.{most_steps}
 use Rattle.cx_edf.specs.State.{EdfState, holds}
 use Rattle.cx_edf.specs.declared.answers.EdfEvent.{EdfEvent}
 use Rattle.cx_edf.specs.declared.answers.EdfEvent.TheVariants as edf_event
-use Rattle.cx_look_tables.specs.Words.{Lines, look_line}
+use Rattle.cx_look_lines.specs.Words.{Lines, look_line}
 use Rattle.cx_look_turn.specs.NextTurn.{machine_ahead}
 use Rattle.cx_look_cover.specs.Tallies.{reaching}
 

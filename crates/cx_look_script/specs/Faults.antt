@@ -6,7 +6,7 @@ use Rattle.cx_base.specs.Texts.{shown_name}
 use Rattle.cx_asm_build.specs.Kinds.{kind_name}
 use Rattle.cx_script_blocks.specs.Shown.{printable_byte}
 use Rattle.cx_look.specs.declared.look.SourceLines.{SourceLines}
-use Rattle.cx_look_tables.specs.Words.{Lines, look_line}
+use Rattle.cx_look_lines.specs.Words.{Lines, look_line}
 use Rattle.cx_look_faults.specs.Kept.{kept_faults}
 use Rattle.cx_look_faults.specs.Marks.{marks_of}
 use Rattle.cx_look_faults.specs.Notes.{notes_of}

@@ -4,7 +4,7 @@ use Rattle.std.specs.Fmt.{decimal}
 use Rattle.std.specs.List.{flat_map}
 use Rattle.cx_look.specs.Looks.{help_line, subjects}
 use Rattle.cx_look.specs.declared.look.Subject.{Subject}
-use Rattle.cx_look_tables.specs.Words.{look_line, Lines}
+use Rattle.cx_look_lines.specs.Words.{look_line, Lines}
 
 abbrev pub form_lines : List Subject → Lines
 form_lines words = flat_map (λ s. look_line (help_line s ∷ [])) words

@@ -25,8 +25,8 @@ pub use Rattle.cx_look_orders.specs.Report as OrdersReports
 pub use Rattle.cx_look_choices.specs.Report as ChoicesReports
 pub use Rattle.cx_look_faults.specs.Faults as FaultyLines
 pub use Rattle.cx_asm_build.specs.Kinds
-pub use Rattle.cx_look_tables.specs.Words
-pub use Rattle.cx_look_tables.specs.Marked
+pub use Rattle.cx_look_lines.specs.Words
+pub use Rattle.cx_look_lines.specs.Marked
 pub use Rattle.cx_look_tables.specs.Queues
 pub use Rattle.cx_look_tables.specs.Programs
 pub use Rattle.cx_look_tables.specs.Terminals

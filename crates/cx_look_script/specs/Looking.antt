@@ -12,7 +12,7 @@ use Rattle.cx_look.specs.declared.look.Look.{Look}
 use Rattle.cx_look.specs.declared.choices.ChoicesBlock.{ChoicesBlock}
 use Rattle.cx_look.specs.declared.orders.OrdersBlock.{OrdersBlock}
 use Rattle.cx_look.specs.declared.look.Look.TheVariants as look
-use Rattle.cx_look_tables.specs.Words.{Lines, marked}
+use Rattle.cx_look_lines.specs.Words.{Lines, marked}
 use Rattle.cx_look_tables.specs.Queues
 use Rattle.cx_look_tables.specs.Programs
 use Rattle.cx_look_tables.specs.Terminals

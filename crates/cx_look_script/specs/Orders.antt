@@ -13,7 +13,7 @@ use Rattle.cx_look.specs.declared.orders.Sight.TheVariants as sight
 use Rattle.cx_look_orders.specs.Report.{OrdersText}
 use Rattle.cx_look_orders.specs.Steps.{Telling}
 use Rattle.cx_orders.specs.declared.states.Keys.{Keys}
-use Rattle.cx_look_tables.specs.Words.{Lines, marked}
+use Rattle.cx_look_lines.specs.Words.{Lines, marked}
 
 -- ---- what is to be seen of a region, where `Says` is what looks at it have to say
 -- a screen, line by line as SCREEN writes it; or what a look has to say

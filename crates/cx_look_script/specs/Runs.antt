@@ -15,7 +15,7 @@ use Rattle.cx_edf.specs.declared.answers.EdfEvent.{EdfEvent}
 use Rattle.cx_edf.specs.declared.answers.EdfEvent.TheVariants as edf_event
 use Rattle.cx_edf.specs.State.{EdfState, holds, stopped_at}
 use Rattle.cx_edf.specs.Steps.{DisplayMaker}
-use Rattle.cx_look_tables.specs.Words.{look_line, marked}
+use Rattle.cx_look_lines.specs.Words.{look_line, marked}
 use Rattle.cx_look_symbols.specs.Sources.{Sources}
 use Rattle.cx_look_ahead.specs.Arrivals.{ComesTo, has_statement}
 use Rattle.cx_look_ahead.specs.declared.arrivals.SourceLine.{SourceLine}

@@ -17,7 +17,7 @@ use Rattle.cx_region.specs.State.{RegionState}
 use Rattle.cx_region.specs.Tables.{task_of}
 use Rattle.cx_script_actions.specs.Texts.{turn_reply_detail}
 use Rattle.cx_orders.specs.Moves.{is_move}
-use Rattle.cx_look_tables.specs.Words.{joined_line}
+use Rattle.cx_look_lines.specs.Words.{joined_line}
 use Rattle.cx_look_symbols.specs.Lines.{line_in}
 use Rattle.cx_look_symbols.specs.Places.{spot_before}
 use Rattle.cx_look_symbols.specs.Sources.{Sources}

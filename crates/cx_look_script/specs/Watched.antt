@@ -7,7 +7,7 @@ use Rattle.cx_edf.specs.declared.answers.EdfEvent.{EdfEvent}
 use Rattle.cx_edf.specs.declared.answers.EdfEvent.TheVariants as edf_event
 use Rattle.cx_script_actions.specs.declared.actions.Action.{Action}
 use Rattle.cx_script_actions.specs.declared.actions.Action.TheVariants as edf_action
-use Rattle.cx_look_tables.specs.Words.{Lines, look_line, marked, written_name}
+use Rattle.cx_look_lines.specs.Words.{Lines, look_line, marked, written_name}
 use Rattle.cx_look_ahead.specs.declared.rows.Row.{Row}
 use Rattle.cx_look_fields.specs.FieldTexts.{field_there, standing_at}
 use Rattle.cx_look_fields.specs.declared.fields.Field.{Field}

@@ -1,10 +1,10 @@
 //! What HELP writes of its table, and what is written for a bad look.
 ghost use Rattle.std.specs.Prelude.{◌≡◌, ◌++◌, IfOk, OnOk};
 ghost use Rattle.cx_look_script.specs.Help.{bad_look_text, form_lines, help_text};
-ghost use Rattle.cx_look_tables.specs.Words.{marked};
+ghost use Rattle.cx_look_lines.specs.Words.{marked};
 
 use cx_look::Subject;
-use cx_look_tables::{Report, decimal};
+use cx_look_lines::{Report, decimal};
 use std::alloc::{AllocError, Global};
 
 /// Adds the lines of words.

@@ -12,7 +12,7 @@ use cx_edf::MakesDisplays;
 use cx_look::Look;
 use cx_look_ahead::SourceLine;
 use cx_look_fields::{FieldLook, level_program};
-use cx_look_tables::Report;
+use cx_look_lines::Report;
 use cx_region::Region;
 use cx_source::Text;
 use cx_storage::Store;

@@ -12,7 +12,7 @@ ghost use Rattle.cx_look_script.specs.State.{fresh_look_state};
 ghost use Rattle.cx_look_script.specs.Watched.{ShowsChanges, watch_lines, watched_after};
 ghost use Rattle.cx_look_script.specs.Allowed.{IsAllowedLook};
 ghost use Rattle.cx_look_ahead.specs.Watching.{ActionEffect, begun_watch, with_range};
-ghost use Rattle.cx_look_tables.specs.Words.{marked};
+ghost use Rattle.cx_look_lines.specs.Words.{marked};
 
 use crate::action::{LookAction, Stop, WatchLine};
 use crate::choices::choices_written;

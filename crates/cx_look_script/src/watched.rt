@@ -1,6 +1,6 @@
 //! WATCH: what is watched, and what is written after an action that changes it.
 ghost use Rattle.std.specs.Prelude.{◌≡◌, ◌∷◌, [], codes, IfOk};
-ghost use Rattle.cx_look_tables.specs.Words.{look_line};
+ghost use Rattle.cx_look_lines.specs.Words.{look_line};
 ghost use Rattle.cx_look_script.specs.Watched.{cause_of, cause_of_action, cause_of_event, field_range, no_range, range_of};
 
 use crate::action::LookAction;

@@ -1,3 +1,4 @@
 pub mod AreaLemmas
+pub mod ByteLemmas
 pub mod LevelLemmas
 pub mod MetLemmas

@@ -1,61 +1,63 @@
 //! STORAGE.
-ghost use Rattle.std.specs.Prelude.{◌≡◌, ◌+◌, ◌-◌, ◌*◌, ◌/◌, ◌<◌, ◌^◌, ◌++◌, IfOk, OnOk};
-ghost use Rattle.std.specs.List.{filter, flat_map, range_with_len};
-ghost use Rattle.cx_storage.specs.Address.{address_after};
+ghost use Rattle.std.specs.Prelude.{◌≡◌, ◌*◌, ◌<◌, ◌^◌, ◌++◌, IfOk, OnOk, length};
+ghost use Rattle.std.specs.List.{filter, flat_map};
 ghost use Rattle.cx_storage.specs.Storage.{areas_of};
-ghost use Rattle.cx_look_storage.specs.Bytes.{storage_row, storage_row_line, storage_text};
+ghost use Rattle.cx_region_bytes.specs.Rows.{bytes_at};
+ghost use Rattle.cx_look_storage.specs.Bytes.{row_line, row_lines, storage_text};
 ghost use Rattle.cx_look_storage.specs.Uses.{is_met, met_line};
 
 use crate::areas::all_areas;
 use crate::uses::{is_met, met_line};
-use cx_base::{hexadecimal, in_columns};
-use cx_look_lines::Report;
+use cx_look_lines::{Report, bytes_from, first_bytes};
 use cx_region::Region;
-use cx_region_bytes::{character_group, hex_group};
+use cx_region_bytes::{read_bytes, row_text};
 use cx_storage::{Area, Store, address_after};
 use std::alloc::{AllocError, Global};
 
 /// The bytes of a row.
-const ROW: u32 = 16;
+const ROW: usize = 16;
 
-/// Adds the line of a row of `count` bytes, of which it shows the first sixteen.
-#[tactic(auto, unfolding(crate::specs::Bytes::storage_row_line))]
-fn storage_row_line<S: Store + Drop>(
-    report: &mut Report,
-    region: &Region<S>,
-    at: u32,
-    count: u32,
-) -> Result<(), AllocError>
-    ensures { OnOk result (report.new ≡ report.old ++ storage_row_line region.now.shared.storage at count) }
+/// Adds the line of a row, counted from 0, of bytes that begin at an address.
+fn row_line(report: &mut Report, at: u32, bytes: &[Option<u8>], k: usize) -> Result<(), AllocError>
+    requires { 16 * k < 2 ^ 32 }
+    ensures { OnOk result (report.new ≡ report.old ++ row_line at bytes.now k) }
 {
-    let place = hexadecimal::<6>(at);
-    let a = hex_group(region, at, count, 0);
-    let b = hex_group(region, at, count, 4);
-    let c = hex_group(region, at, count, 8);
-    let d = hex_group(region, at, count, 12);
-    let e = character_group(region, at, count, 0);
-    let f = character_group(region, at, count, 4);
-    let g = character_group(region, at, count, 8);
-    let h = character_group(region, at, count, 12);
-    let characters = in_columns::<16>(&[&e, &f, &g, &h]);
-    report.line(&[&place, b"", &a, &b, &c, &d, b"", &characters])
+    let offset = ROW * k;
+    let row = first_bytes(bytes_from(bytes, offset), ROW);
+    report.line(&[&row_text(address_after(at, offset as u32), row)])
 }
 
-/// Adds the rows of `n` bytes from an address on.
-fn storage_rows_text<S: Store + Drop>(
-    report: &mut Report,
+/// Adds the rows of bytes (fewer than 2^32) that begin at an address, sixteen a line: the address of the first one, all
+/// in hexadecimal digits, and their characters; hyphens are those of an absent one.
+///
+/// An error comes only where memory for the lines was refused.
+#[tactic(auto, unfolding(crate::specs::Bytes::row_lines))]
+pub fn row_lines(report: &mut Report, at: u32, bytes: &[Option<u8>]) -> Result<(), AllocError>
+    requires { length bytes.now < 2 ^ 32 }
+    ensures { OnOk result (report.new ≡ report.old ++ row_lines at bytes.now) }
+{
+    let rows = (bytes.len() + 15) / ROW;
+    for k in 0..rows {
+        row_line(report, at, bytes, k)?;
+    }
+    Ok(())
+}
+
+/// `n` bytes from an address on.
+#[tactic(auto, using(crate::proofs::ByteLemmas::bytes_size))]
+fn bytes_at<S: Store + Drop>(
+    alloc: Global,
     region: &Region<S>,
     address: u32,
     n: u32,
-) -> Result<(), AllocError>
-    ensures { let row = storage_row region.now.shared.storage address n in
-        OnOk result (report.new ≡ report.old ++ flat_map row (range_with_len 0 ((n + 15) / 16))) }
+) -> Result<Vec<Option<u8>>, AllocError>
+    ensures value { IfOk result (λ bytes. bytes.items ≡ bytes_at region.now.shared.storage address n) }
+    ensures size { IfOk result (λ bytes. length bytes.items ≡ n) }
 {
-    let rows = ((u64::from(n) + 15) / 16) as u32;
-    for k in 0..rows {
-        storage_row_line(report, region, address_after(address, ROW * k), n - ROW * k)?;
-    }
-    Ok(())
+    let mut bytes = Vec::new(alloc);
+    bytes.resize(n as usize, None)?;
+    read_bytes(region, address, &mut bytes);
+    Ok(bytes)
 }
 
 /// Adds a line for each of some areas that have bytes from an address on.
@@ -108,7 +110,7 @@ pub fn met_lines<S: Store + Drop>(
 /// and a line for each area that has one of them, the one at the lowest address first. After X'FFFFFF' they go on at
 /// address 0.
 ///
-/// An error comes only where memory for the report was refused.
+/// An error comes only where memory for the bytes or the report was refused.
 #[tactic(auto, unfolding(crate::specs::Bytes::storage_text))]
 pub fn storage_text<S: Store + Drop>(
     alloc: Global,
@@ -119,7 +121,7 @@ pub fn storage_text<S: Store + Drop>(
     ensures { IfOk result (λ report. report ≡ storage_text region.now address n) }
 {
     let mut report = Report::new(alloc);
-    storage_rows_text(&mut report, region, address, n)?;
+    row_lines(&mut report, address, &bytes_at(alloc, region, address, n)?)?;
     met_lines(&mut report, region, address, n)?;
     Ok(report)
 }

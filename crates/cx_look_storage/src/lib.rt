@@ -7,5 +7,5 @@ pub mod laws;
 mod uses;
 
 pub use areas::{areas_text, task_areas_text};
-pub use bytes::{met_lines, storage_text};
+pub use bytes::{met_lines, row_lines, storage_text};
 pub use uses::area_line;

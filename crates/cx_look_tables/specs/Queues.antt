@@ -1,12 +1,13 @@
 -- What looks write of temporary storage queues (own).
-use Rattle.std.specs.Prelude.{ℕ, ◌+◌, ◌*◌, ◌/◌, List, [], ◌∷◌, ◌++◌, length, take, drop, codes, Option, Some, None}
+use Rattle.std.specs.Prelude.{ℕ, ◌+◌, ◌*◌, ◌/◌, List, [], ◌∷◌, ◌++◌, length, map, take, drop, codes, Option, Some, None}
 use Rattle.std.specs.Fmt.{decimal}
 use Rattle.std.specs.List.{flat_map, range_with_len}
 use Rattle.std.specs.Option.{option_map_or}
 use Rattle.cx_base.specs.Digits.{digits}
 use Rattle.cx_base.specs.Texts.{shown_text}
+use Rattle.cx_region_bytes.specs.Rows.{hex_group, quarters}
 use Rattle.cx_service.specs.Queues.{Queue, Queues, item_of, queue_of, size_of}
-use Rattle.cx_look_lines.specs.Words.{hex_groups, in_apostrophes, look_line, or_none, written_name, Lines}
+use Rattle.cx_look_lines.specs.Words.{in_apostrophes, look_line, or_none, written_name, Lines}
 
 -- ---- all queues
 -- a queue: its name, its items, their bytes together, the number of the item last read
@@ -40,7 +41,8 @@ queue_text queues name =
 -- ---- one item
 -- a row of sixteen bytes, of which the last one may have fewer: its offset, its bytes in digits, and in characters
 abbrev pub row_line : ℕ → List ℕ → Lines
-row_line offset row = look_line (digits 16 4 offset ∷ hex_groups row ++ in_apostrophes (shown_text row) ∷ [])
+row_line offset row =
+    look_line (digits 16 4 offset ∷ map (hex_group (map Some row)) quarters ++ in_apostrophes (shown_text row) ∷ [])
 
 -- that of a number, counted from 0
 abbrev pub row_line_at : List ℕ → ℕ → Lines

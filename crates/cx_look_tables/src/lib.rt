@@ -8,6 +8,5 @@ mod queues;
 mod rows;
 mod terminals;
 
-pub use cx_look_lines::{Report, decimal, hex_group, register_lines, spelled, written_name};
 pub use looks::{item_text, programs_text, queue_text, queues_text};
 pub use terminals::terminals_text;

@@ -4,7 +4,8 @@ ghost use Rattle.std.specs.List.{flat_map, range_with_len};
 ghost use Rattle.cx_look_tables.specs.Queues.{row_line, row_line_at};
 
 use cx_base::{hexadecimal, shown};
-use cx_look_lines::{Report, bytes_from, first_bytes, hex_group, in_apostrophes};
+use cx_look_lines::{Report, bytes_from, first_bytes, in_apostrophes, present};
+use cx_region_bytes::hex_group;
 use std::alloc::AllocError;
 
 /// The bytes of a row.
@@ -15,10 +16,11 @@ fn row_line(report: &mut Report, offset: u32, row: &[u8]) -> Result<(), AllocErr
     ensures { OnOk result (report.new ≡ report.old ++ row_line offset row.now) }
 {
     let place = hexadecimal::<4>(offset);
-    let a = hex_group(report.alloc(), row, 0)?;
-    let b = hex_group(report.alloc(), row, 4)?;
-    let c = hex_group(report.alloc(), row, 8)?;
-    let d = hex_group(report.alloc(), row, 12)?;
+    let bytes = present(report.alloc(), row)?;
+    let a = hex_group(&bytes, 0);
+    let b = hex_group(&bytes, 4);
+    let c = hex_group(&bytes, 8);
+    let d = hex_group(&bytes, 12);
     let characters = shown(report.alloc(), row)?;
     let characters = in_apostrophes(report.alloc(), &characters)?;
     report.line(&[&place, &a, &b, &c, &d, &characters])

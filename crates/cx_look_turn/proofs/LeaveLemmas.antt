@@ -1,5 +1,5 @@
 -- A turn of instructions that isn't answered as an abend leaves storage as they leave it.
-use Rattle.std.proofs.Common.{◌≡◌, ℕ, Bool, true, false, Option, Some, None, List, refl, sym, subst, ap, ◌∙◌}
+use Rattle.std.proofs.Common.{◌≡◌, ℕ, Bool, true, false, Option, Some, None, List, subst, ap, ◌∙◌}
 use Rattle.std.specs.Prelude.{MatchBool, MatchOption, if◌then◌else◌, option_and_then}
 use Rattle.std.specs.Option.{option_map}
 use Rattle.cx_exec.specs.Advance.{Advances}
@@ -7,19 +7,18 @@ use Rattle.cx_exec.specs.Machine.{Machine}
 use Rattle.cx_exec.specs.declared.machine.Halt.{Halt}
 use Rattle.cx_exec.specs.declared.machine.Halt.TheVariants as halt
 use Rattle.cx_exec_laws.specs.Laws.Decide.{RunsDecide}
-use Rattle.cx_storage.specs.Storage.{Storage}
 use Rattle.cx_region_state.specs.State.{TaskContext, TaskState}
 use Rattle.cx_region_state.specs.declared.replies.TurnReply.{TurnReply}
 use Rattle.cx_region_state.specs.declared.replies.TurnReply.TheVariants as turn
 use Rattle.cx_region_task.specs.Laws.AbendRecords.{AbendRecordsExplain, Explains, is_abend}
-use Rattle.cx_region_task.specs.Turn.{EndsRun, HalfTurn, HalfTurnWith, PerformsCommand, RunsOn, abend_record_with, halt_cause, machine_of, most_steps}
+use Rattle.cx_region_task.specs.Turn.{EndsRun, HalfTurnWith, PerformsCommand, RunsOn, abend_record_with, halt_cause, machine_of, most_steps}
 use Rattle.cx_region_task.specs.declared.cause.AbendRecord.{AbendRecord}
 use Rattle.cx_region_task.specs.declared.cause.Cause.TheVariants as cause
 use Rattle.cx_region.specs.State.{RegionState, TerminalState}
 use Rattle.cx_region.specs.Tables.{terminal_of}
 use Rattle.cx_region.specs.Turn.{TakesTurn, TaskTakesTurn, context_of}
 use Rattle.cx_look_turn.specs.Laws.{TurnsLeaveRuns}
-use Rattle.cx_look_turn.specs.NextTurn.{machine_ahead, runs_on, task_machine}
+use Rattle.cx_look_turn.specs.NextTurn.{runs_on}
 use Rattle.cx_look_turn.specs.Traces.{Leaves}
 
 abbrev pub RunsAreDecided : Type 0

@@ -36,8 +36,7 @@ fn push_ended(names: &mut Vec<Name8>, run: &[u8], next: u8) -> Result<(), AllocE
     if next == b'\'' {
         return Ok(());
     }
-    push_name(names, run)?;
-    Ok(())
+    push_name(names, run)
 }
 
 /// Adds the names in a text, of whose characters those lie outside apostrophes.
@@ -63,8 +62,7 @@ fn push_outside(
         push_ended(names, &run, *c)?;
         run.clear();
     }
-    push_name(names, &run)?;
-    Ok(())
+    push_name(names, &run)
 }
 
 /// Adds the names in a text.
@@ -72,8 +70,7 @@ fn push_names(alloc: Global, names: &mut Vec<Name8>, text: &[u8]) -> Result<(), 
     ensures { OnOk result (names.new.items ≡ names.old.items ++ names_in text.now) }
 {
     let outside = outside(alloc, text)?;
-    push_outside(alloc, names, text, outside.as_slice())?;
-    Ok(())
+    push_outside(alloc, names, text, outside.as_slice())
 }
 
 /// How many letters and digits a text begins with.
@@ -94,8 +91,7 @@ fn push_constant(alloc: Global, names: &mut Vec<Name8>, text: &[u8]) -> Result<(
     ensures { OnOk result (names.new.items ≡ names.old.items ++ names_of_constant text.now) }
 {
     let (_, value) = text.split_at(front_len(text));
-    push_names(alloc, names, value)?;
-    Ok(())
+    push_names(alloc, names, value)
 }
 
 /// Adds the names in an operand that may be a literal.
@@ -106,8 +102,7 @@ fn push_part(alloc: Global, names: &mut Vec<Name8>, part: &[u8]) -> Result<(), A
         push_names(alloc, names, part)?;
         return Ok(());
     };
-    push_constant(alloc, names, text)?;
-    Ok(())
+    push_constant(alloc, names, text)
 }
 
 /// Adds the names in constants.
@@ -144,22 +139,15 @@ fn push_used(
 {
     match operation {
         Some(Operation::Directive(Directive::Dc | Directive::Ds)) => {
-            push_constants(alloc, names, parts)?;
-            Ok(())
+            push_constants(alloc, names, parts)
         }
         Some(
             Operation::Directive(
                 Directive::Equ | Directive::Using | Directive::Drop | Directive::End,
             ),
-        ) => {
-            push_parts(alloc, names, parts)?;
-            Ok(())
-        }
+        ) => push_parts(alloc, names, parts),
         Some(Operation::Directive(_)) => Ok(()),
-        _ => {
-            push_parts(alloc, names, parts)?;
-            Ok(())
-        }
+        _ => push_parts(alloc, names, parts),
     }
 }
 

@@ -44,8 +44,7 @@ fn push_line(alloc: Global, references: &mut Vec<Reference>, item: &Item) -> Res
         return Ok(());
     };
     let names = names_used(alloc, stmt)?;
-    push_names(references, item.line, names.as_slice())?;
-    Ok(())
+    push_names(references, item.line, names.as_slice())
 }
 
 /// The names that a source's statements use, each with its line, in the source's order.
@@ -74,8 +73,7 @@ fn push_stores(
         return Ok(());
     };
     let names = names_stored(alloc, stmt)?;
-    push_names(references, item.line, names.as_slice())?;
-    Ok(())
+    push_names(references, item.line, names.as_slice())
 }
 
 /// The names in front of the parentheses of the operands into which a source's instructions store, each with its line,
@@ -102,8 +100,7 @@ fn put_name(
     ensures { OnOk result ((name : List ℕ) → lines_of_name table.new.entries name
         ≡ with_line (is_same name reference.name) reference.line (lines_of_name table.old.entries name)) }
 {
-    put(alloc, table, reference.name, reference.line)?;
-    Ok(())
+    put(alloc, table, reference.name, reference.line)
 }
 
 /// The lines that use each name.

@@ -1,5 +1,5 @@
 -- The vocabulary of private functions.
-use Rattle.std.specs.Prelude.{◌≡◌, ℕ, Bool, true, false, if◌then◌else◌, List, Some, slice_get}
+use Rattle.std.specs.Prelude.{◌≡◌, ℕ, Bool, true, if◌then◌else◌, List, Some, slice_get}
 use Rattle.cx_region.specs.Sound.{IsSound}
 use Rattle.cx_region.specs.State.{TerminalState}
 use Rattle.cx_region.specs.declared.replies.KeyReply.{KeyReply}

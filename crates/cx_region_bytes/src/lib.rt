@@ -3,4 +3,4 @@
 
 mod rows;
 
-pub use rows::{character_group, hex_at, hex_group};
+pub use rows::{character_group, hex_at, hex_group, read_bytes, row_text};

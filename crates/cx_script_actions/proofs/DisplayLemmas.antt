@@ -1,9 +1,8 @@
 -- What DISPLAY writes is the session's.
-use Rattle.std.proofs.Common.{◌≡◌, ℕ, Option, List, sym, ◌∙◌, ap}
+use Rattle.std.proofs.Common.{Option, sym, ◌∙◌, ap}
 use Rattle.std.specs.Prelude.{codes}
 use Rattle.std.specs.Option.{option_and_then, option_map}
 use Rattle.cx_edf.specs.Sessions.{SessionState, nth_back, shown_of}
-use Rattle.cx_edf.specs.State.{EdfState, session_at}
 use Rattle.cx_script_actions.specs.Effects.{Performs, page_of}
 use Rattle.cx_script_actions.specs.Laws.Displays.{DisplayIsTheSessions, PreviousIsTheSessions}
 use Rattle.cx_script_actions.specs.Texts.{page_lines}

@@ -1,5 +1,5 @@
 -- What the end of a source's block leads to.
-use Rattle.std.proofs.Common.{◌≡◌, ℕ, true, false, List, Result, Ok, Err, sym, ap, ◌∙◌}
+use Rattle.std.proofs.Common.{◌≡◌, ℕ, true, false, Result, Ok, Err, sym, ap, ◌∙◌}
 use Rattle.std.specs.Result.{result_map_both}
 use Rattle.cx_asm_build.specs.Prepared.{Prepares, prepared_of}
 use Rattle.cx_asm_build.specs.declared.faults.PrepareFault.{PrepareFault}

@@ -1,5 +1,5 @@
 -- What is run over a file that was opened, and what is done for words.
-use Rattle.std.proofs.Common.{◌≡◌, ℕ, Bool, false, List, None, Some, Option, Result, Ok, Err, sym, subst}
+use Rattle.std.proofs.Common.{◌≡◌, ℕ, Bool, false, List, None, Some, Option, Result, Ok, Err, subst}
 use Rattle.std.specs.Prelude.{IfOk, OnErr}
 use Rattle.std.specs.declared.alloc.AllocError.{AllocError}
 use Rattle.cx_script.specs.Language.{Language}

@@ -13,7 +13,7 @@ use Rattle.cx_orders.specs.Moves as orders
 use Rattle.cx_orders.specs.declared.states.KeyLine.{KeyLine}
 use Rattle.cx_choices.specs.Moves.{Goes, begun}
 use Rattle.cx_choices.specs.declared.states.ChoicesState.{ChoicesState}
-use Rattle.cx_look_tables.specs.Words.{Lines}
+use Rattle.cx_look_lines.specs.Words.{Lines}
 use Rattle.cx_look_orders.specs.Laws.{AskFor, IsRunOf}
 use Rattle.cx_look_orders.specs.Outcomes.{NoLater}
 use Rattle.cx_look_orders.specs.Script.{steps_lines}

@@ -10,7 +10,7 @@ use Rattle.cx_edf.specs.Laws.Edf.{AreAnsweredOff}
 use Rattle.cx_orders.specs.Moves.{Moves, begun}
 use Rattle.cx_orders.specs.declared.states.Keys.{Keys}
 use Rattle.cx_orders.specs.declared.states.OrdersState.{OrdersState}
-use Rattle.cx_look_tables.specs.Words.{Lines}
+use Rattle.cx_look_lines.specs.Words.{Lines}
 use Rattle.cx_look_orders.specs.Laws.{AskFor, IsRunOf}
 use Rattle.cx_look_orders.specs.Outcomes.{EndsWith, HasText, IsStuck, IsWritten, NoLater}
 use Rattle.cx_look_orders.specs.Report.{CutText, WholeText}

@@ -5,9 +5,8 @@ use Rattle.std.specs.Option.{option_and_then}
 use Rattle.std.proofs.lemmas.Bool.{eq-eqb, eqb-true}
 use Rattle.std.proofs.lemmas.List.{get_or-set_same}
 use Rattle.std.proofs.lemmas.Option.{get_or_from_slice_get, same_Some, slice_get_within}
-use Rattle.cx_region.specs.State.{RegionState, TerminalState}
+use Rattle.cx_region.specs.State.{TerminalState}
 use Rattle.cx_region.specs.Turn.{TakesTurn}
-use Rattle.cx_region_state.specs.declared.replies.TurnReply.{TurnReply}
 use Rattle.cx_region_laws.specs.Laws.Regions.{TurnsDecide}
 use Rattle.cx_orders.specs.Moves.{KeyMoves, Moves, TurnMoves, key_number, turn_number}
 use Rattle.cx_orders.specs.declared.states.Keys.{Keys}

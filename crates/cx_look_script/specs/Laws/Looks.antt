@@ -5,12 +5,12 @@ use Rattle.cx_script_actions.specs.Effects.{Performs}
 use Rattle.cx_script_actions.specs.declared.actions.Action.{Action}
 use Rattle.cx_script_actions.specs.declared.actions.Action.TheVariants as edf_action
 use Rattle.cx_script.specs.Transcript.{PerformsAll}
-use Rattle.cx_look_tables.specs.Marked.{IsOfLooks}
+use Rattle.cx_look_lines.specs.Marked.{IsOfLooks}
 use Rattle.cx_look.specs.declared.look.Look.{Look}
 use Rattle.cx_look.specs.declared.choices.ChoicesBlock.{ChoicesBlock}
 use Rattle.cx_look.specs.declared.orders.OrdersBlock.{OrdersBlock}
 use Rattle.cx_look_script.specs.Looking.{IsLookText, LookPerforms, NotedPerforms, ShowsChoices, ShowsOrders}
-use Rattle.cx_look_tables.specs.Words.{marked}
+use Rattle.cx_look_lines.specs.Words.{marked}
 use Rattle.cx_look_script.specs.Covered.{cover_lines, covered_from}
 use Rattle.cx_look_script.specs.Help.{bad_look_text}
 use Rattle.cx_look_script.specs.Runs.{StopsWith, run_over, still_running, turn_of}

@@ -1,7 +1,7 @@
 -- What FAULTS marks of a faulty line (own).
 use Rattle.std.specs.Prelude.{◌≡◌, ℕ, ◌-◌, List, [], ◌∷◌, ◌++◌, codes, drop, length, map, min, take}
 use Rattle.cx_look.specs.declared.look.SourceLines.{SourceLines}
-use Rattle.cx_look_tables.specs.Words.{look_line}
+use Rattle.cx_look_lines.specs.Words.{look_line}
 use Rattle.cx_look_faults.specs.declared.marks.Mark.{Mark}
 use Rattle.cx_look_faults.specs.declared.positions.Spot.{Spot}
 use Rattle.cx_look_script.specs.Faults.{mark_line, fault_word, line_and_column, source_text_at}

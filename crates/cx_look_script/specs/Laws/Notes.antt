@@ -7,7 +7,7 @@ use Rattle.cx_asm_build.specs.Prepared.{prepared_of}
 use Rattle.cx_asm_build.specs.declared.faults.PrepareFault.TheVariants.{At}
 use Rattle.cx_asm_build.specs.declared.faults.SourceKind.{SourceKind}
 use Rattle.cx_look.specs.declared.look.SourceLines.{SourceLines}
-use Rattle.cx_look_tables.specs.Words.{look_line}
+use Rattle.cx_look_lines.specs.Words.{look_line}
 use Rattle.cx_look_faults.specs.Kept.{kept_faults}
 use Rattle.cx_look_faults.specs.Laws.First.{Has}
 use Rattle.cx_look_faults.specs.Marks.{marks_of}

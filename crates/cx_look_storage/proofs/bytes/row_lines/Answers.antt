@@ -2,14 +2,14 @@ use Rattle.std.proofs.Common.{ℕ, ◌++◌, ap, append_assoc, arith, sym, ◌�
 use Rattle.std.specs.List.{flat_map, range_with_len}
 use Rattle.cx_look_lines.specs.Facts.Ranges.{of_next}
 use Rattle.cx_look_lines.specs.Words.{Lines}
-use Rattle.cx_look_storage.specs.Bytes.{storage_row}
-use Rattle.cx_look_storage.proofs.bytes.storage_rows_text.Goals as goal
+use Rattle.cx_look_storage.specs.Bytes.{row_line}
+use Rattle.cx_look_storage.proofs.bytes.row_lines.Goals as goal
 
 pub loop-k-preserved : goal.loop-k-preserved
-loop-k-preserved g c =
-    let row : ℕ → Lines = storage_row c.args.region.now.shared.storage c.args.address c.args.n in
+loop-k-preserved c =
+    let row : ℕ → Lines = row_line c.args.at c.args.bytes.now in
     let k = c.loop-k.k in
-    (rw c.address_after.ensures.value at c.in_ok-storage_row_line.ensures)
+    c.in_ok-row_line.ensures
     ∙ ap (λ (t : Lines). t ++ row k) c.loop-k.invariant
     ∙ append_assoc c.args.report.now (flat_map row (range_with_len 0 k)) (row k)
     ∙ ap (λ (t : Lines). c.args.report.now ++ t) (sym (of_next row 0 k k (omega arith)))
