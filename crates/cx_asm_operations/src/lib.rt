@@ -1,4 +1,4 @@
-//! The ninety operations of assembler statements, one table.
+//! The operations of assembler statements, one table.
 #![tactic(auto)]
 
 pub mod laws;

@@ -180,8 +180,7 @@ fn directive_named(name: &[u8]) -> Option<Directive>
 }
 
 impl Operation {
-    /// The operation, one of ninety, of this name (ASCII, in capital letters); None where none has it. It takes no
-    /// memory.
+    /// The operation of this name (ASCII, in capital letters); None where none has it. It takes no memory.
     #[tactic(auto, using(crate::proofs::NameLemmas::by_kinds))]
     pub fn from_name(name: &[u8]) -> Option<Operation>
         ensures { result ≡ operation_named name.now }

@@ -38,8 +38,8 @@ pub fn outside_is_before()
     ensures joined { OutsideIsJoined }
 {}
 
-/// MVC, XC, TR, PACK and UNPK: as many bytes, one or more, are stored as are asked for, and each is what the rule makes
-/// of those before it.
+/// Instructions that make a string byte by byte: as many bytes, one or more, are stored as are asked for, and each is
+/// what the rule makes of those before it.
 #[tactic(auto, using(crate::proofs::SequenceLemmas::each_is_stored))]
 pub fn each_is_stored()
     ensures { EachIsStored }

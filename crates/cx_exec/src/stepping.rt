@@ -243,7 +243,7 @@ fn run<S: Store>(cpu: &mut Cpu, store: &mut S) -> Performed
 
 /// Performs the instruction at the next address, unless that is the entry.
 ///
-/// Done: its effect is that of its row, one of 56, and the instruction is the one that storage holds at that moment; EX
+/// Done: its effect is that of its row, and the instruction is the one that storage holds at that moment; EX
 /// performs the changed copy of its target. AtEntry: nothing was fetched, and nothing changed. Interrupt: nothing
 /// changed, except the register of a CVB whose number no word holds. Of several causes the first in this order is
 /// taken: an odd instruction address (6), a byte of the instruction absent (5), an unknown operation code (1); for EX

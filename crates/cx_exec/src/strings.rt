@@ -1,4 +1,4 @@
-//! MVC and XC: two operands of one length, from left to right.
+//! Strings: two operands of one length, from left to right.
 
 ghost use Rattle.std.specs.Prelude.{◌≡◌, ◌≢◌, ℕ, ◌+◌, ◌<◌, ◌≤◌, ◌^◌, ◌&&◌, take, true, false, Ok, is_some, length, slice_index, bit_xor};
 ghost use Rattle.cx_storage.specs.Address.{address_after};
