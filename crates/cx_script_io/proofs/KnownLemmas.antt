@@ -6,7 +6,7 @@ use Rattle.std.specs.Io.KnownBytes.{Appends, Consumes, IsAtEnd, Keeps}
 use Rattle.std.proofs.KnownBytes.{Appends-nil, Appends-trans, Consumes-nil, Consumes-trans}
 use Rattle.cx_script_io.specs.Calls.{DeviceCall, Reading, Writing, did, given, last_read, taken}
 use Rattle.cx_script_io.specs.Devices.{ReadsKnown, WritesKnown}
-use Rattle.cx_script_io.specs.Laws.Known.{CallsMoveKnown, MovesKnown}
+use Rattle.cx_script_io.specs.Laws.Known.{CallsMoveKnown}
 
 kept_consumes : (a b : Option (List ℕ)) → Keeps a b → Consumes a b []
 kept_consumes None b k = tt

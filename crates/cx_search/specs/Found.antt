@@ -1,6 +1,6 @@
 -- How far a search has come (own): the states that it found, in the order in which they were found, each with how it
 -- was first come to.
-use Rattle.std.specs.Prelude.{◌≡◌, ℕ, ◌+◌, ◌<◌, ◌≤◌, ◌⊎◌, List, Some, length, slice_get}
+use Rattle.std.specs.Prelude.{◌≡◌, ℕ, ◌+◌, ◌<◌, ◌≤◌, ◌⊎◌, List, Some, slice_get}
 use Rattle.cx_search.specs.declared.found.Origin.{Origin}
 
 -- the state is at that place

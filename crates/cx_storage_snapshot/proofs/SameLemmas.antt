@@ -1,10 +1,9 @@
 -- Bytes written where they are already change nothing.
-use Rattle.std.proofs.Common.{◌≡◌, ℕ, zero, suc, ◌+◌, ◌-◌, ◌<◌, ◌≤◌, ◌^◌, refl, sym, ap, ◌∙◌, arith, inl, inr, true, List, [], ◌∷◌, map, length, slice_get, Option, Some, None, is_some}
-use Rattle.std.specs.Prelude.{slice_set, IsTrue}
-use Rattle.std.specs.List.{AllByRecursion}
+use Rattle.std.proofs.Common.{◌≡◌, ℕ, zero, suc, ◌-◌, refl, ap, ◌∙◌, inl, inr, true, List, [], ◌∷◌, length, slice_get, Option, Some, None, is_some}
+use Rattle.std.specs.Prelude.{slice_set}
 use Rattle.std.specs.Option.{option_and_then, option_map}
 use Rattle.cx_storage.specs.Address.{address_after}
-use Rattle.cx_storage.specs.Storage.{Held, Storage, end_of, byte_at, span, put_byte, with_byte, with_bytes, after_write, IsSoundStorage}
+use Rattle.cx_storage.specs.Storage.{Storage, end_of, byte_at, span, with_byte, with_bytes, after_write, IsSoundStorage}
 use Rattle.cx_storage.specs.Facts.Sound.{IsSoundStorage-tail, IsSoundStorage-apart, covers_cases}
 use Rattle.cx_storage.specs.Facts.Writes.{written_whole}
 use Rattle.cx_storage_snapshot.proofs.WriteLemmas.{put_after}

@@ -1,9 +1,9 @@
 -- A move of the graph leads to one place.
-use Rattle.std.proofs.Common.{◌≡◌, ℕ, ◌<◌, ◌≤◌, inl, inr, ◌∙◌, Bool, true, List, Option, Some, None, sym, refl, arith}
+use Rattle.std.proofs.Common.{◌≡◌, ℕ, ◌<◌, ◌≤◌, inl, inr, ◌∙◌, List, Option, Some, None, sym, arith}
 use Rattle.std.specs.Prelude.{slice_get, option_and_then}
 use Rattle.std.proofs.lemmas.Bool.{cases_lt}
 use Rattle.std.proofs.lemmas.Option.{none-some, same_Some}
-use Rattle.cx_search.specs.Moves.{GoesTo, GoesOnly}
+use Rattle.cx_search.specs.Moves.{GoesTo}
 use Rattle.test_search.specs.declared.graph.Row.{Row}
 use Rattle.test_search.specs.Graph.{Edge, edge_of, move_of}
 

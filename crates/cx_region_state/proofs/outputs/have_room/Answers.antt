@@ -1,4 +1,4 @@
-use Rattle.std.proofs.Common.{◌≡◌, ◌∙◌, ap, sym}
+use Rattle.std.proofs.Common.{◌∙◌, ap, sym}
 use Rattle.cx_region_state.specs.Facts.Room.{have_room_is}
 use Rattle.cx_region_state.specs.Parts.Room.{have_room}
 use Rattle.cx_region_state.proofs.outputs.have_room.Goals as goal

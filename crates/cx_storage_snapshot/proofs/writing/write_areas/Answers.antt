@@ -1,4 +1,4 @@
-use Rattle.std.proofs.Common.{◌≡◌, ◌≤◌, ◌^◌, ◌∙◌, sym, ap, arith, length, refl}
+use Rattle.std.proofs.Common.{◌≡◌, ◌≤◌, ◌^◌, ◌∙◌, sym, ap, arith, length}
 use Rattle.cx_storage.specs.Storage.{Held, end_of}
 use Rattle.cx_storage.specs.declared.areas.Area.{Area}
 use Rattle.cx_storage_snapshot.proofs.OverLemmas.{all_written, area_written, copy_bounds}

@@ -1,4 +1,4 @@
-use Rattle.std.proofs.Common.{◌≡◌, ℕ, Option, Some, None, Result, Ok, Err, IfOk, OnErr}
+use Rattle.std.proofs.Common.{◌≡◌, ℕ, Option, Result, Ok, Err, IfOk, OnErr}
 use Rattle.cx_storage.specs.Aligned.{AreAligned}
 use Rattle.cx_storage.specs.Place.{IsLeastPlace}
 use Rattle.cx_storage.specs.Storage.{Storage, with_area}
