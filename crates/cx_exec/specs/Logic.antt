@@ -1,5 +1,5 @@
 -- Logic (GA22-7000, "And", "Or", "Exclusive Or", "Test under Mask"). A byte of the operand absent 5. Those of
--- strings are with the strings.
+-- format SS are with the strings.
 -- 17 XR [RR], 94 NI, 96 OI [SI]: R1, or the byte, joined with the second operand; code 0 zero, 1 not zero.
 -- 91 TM [SI]  Test under Mask: code 0 all selected bits zero or none selected, 1 mixed, 3 all one.
 use Rattle.std.specs.Prelude.{ℕ, [], ◌∷◌, ◌==◌, bit_and, bit_or, bit_xor, if◌then◌else◌}

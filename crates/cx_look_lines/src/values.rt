@@ -73,7 +73,7 @@ pub fn first_bytes<T>(bytes: &[T], count: usize) -> &[T]
     bytes.split_at(count.min(bytes.len())).0
 }
 
-/// Bytes of which none is absent, as those that may be.
+/// These bytes as a row has them, in which any may be absent: here none is.
 ///
 /// An error comes only where memory for them was refused.
 pub fn present(alloc: Global, bytes: &[u8]) -> Result<Vec<Option<u8>>, AllocError>

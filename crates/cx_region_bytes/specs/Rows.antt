@@ -8,7 +8,7 @@ use Rattle.cx_storage.specs.Storage.{Storage, byte_at}
 use Rattle.cx_base.specs.Digits.{digits}
 use Rattle.cx_base.specs.Texts.{in_columns, join}
 
--- n bytes from an address on, each where it isn't absent
+-- n bytes from an address on, any of which may be absent
 unfoldable pub bytes_at : Storage → ℕ → ℕ → List (Option ℕ)
 bytes_at storage address n = map (λ k. byte_at storage (address_after address k)) (range_with_len 0 n)
 
