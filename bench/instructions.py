@@ -1,5 +1,5 @@
 """Sees that no loop, and no move of ORDERS, takes 5 % more machine instructions than bench/RESULTS.md says, on a machine like the one that it
-names. It counts how many the built tool_bench takes for one instruction of each loop of bench/loop-images, as callgrind counts them, which a
+names. It counts how many the built tool_machine takes for one instruction of each loop of bench/loop-images, as callgrind counts them, which a
 loaded machine doesn't change: the difference of runs of four slices and of two. Of ORDERS it is the difference of three tasks of 12
 half-turns and of two, as bench/orders makes them.
 
@@ -96,7 +96,7 @@ def table() -> Table:
 
 
 def main(words: list[str]) -> int:
-    check = Check(__name__, __doc__, words, "tool_bench", "cicslook", texts={"write": "add a column of this commit"})
+    check = Check(__name__, __doc__, words, "tool_machine", "cicslook", texts={"write": "add a column of this commit"})
     program, valgrind, commit, results = check.program(), shutil.which("valgrind"), check.text("write"), table()
     if not valgrind:
         say("valgrind isn't installed: nothing is counted")

@@ -1,4 +1,4 @@
-"""The loops of bench/loop-images, and runs of them by tool_bench, or by a program that it was before."""
+"""The loops of bench/loop-images, and runs of them by tool_machine, or by a program that it was before."""
 import glob
 import os
 from collections.abc import Sequence
@@ -9,6 +9,7 @@ from checks.measuring import Taken, failing, taken
 
 FOLDER = os.path.join(TOP, "bench/loop-images")
 NOTHING = b"not performed\n"
+HEADINGS = {"tool_machine": ["MEASURE loops"], "tool_bench": ["loops"]}  # a program that was before reads none
 
 
 def names() -> list[str]:
@@ -21,8 +22,8 @@ def image_of(name: str) -> str:
 
 def performed(program: str, name: str, slices: int, front: Sequence[str] = ()) -> tuple[int, Taken]:
     """How many instructions a run performs of a loop, and what it takes, over the store that keeps what it fetches, where the program has
-    it. Words in front of the program start it. Before the program was tool_bench, it read no heading."""
-    heading = ["loops"] if os.path.basename(program) == "tool_bench" else []
+    it. Words in front of the program start it."""
+    heading = HEADINGS.get(os.path.basename(program), [])
     for store in ("kept", "paged"):
         it = taken([*front, program], text_of([*heading, f"{store} {slices} {image_of(name)}"]))
         if it.ended.out != NOTHING:

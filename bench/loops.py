@@ -19,7 +19,7 @@ from checks.measuring import failing
 
 SECONDS = 0.3  # about so long a run takes
 FIRST = 20  # slices of a run whose time is left out
-CRATES = ("tool_bench", "tool_bench_loops", "cx_loops")  # the loops' crate, and what it was before
+CRATES = ("tool_machine", "tool_bench", "tool_bench_loops", "cx_loops")  # the loops' crate, and what it was before
 CONFIGURATION = "ARCHMODE S/370\nMAINSIZE 2\nNUMCPU 1\nCPUSERIAL 000001\nCPUMODEL 3090\n0009 3215-C / noprompt\n"
 
 

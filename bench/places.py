@@ -1,4 +1,4 @@
-"""Has tool_bench place sources of each kind of 1,250 to 10,000 lines, and prints the user CPU of placing one once,
+"""Has tool_machine place sources of each kind of 1,250 to 10,000 lines, and prints the user CPU of placing one once,
 in milliseconds, with the growth for twice as many. No part of the gate."""
 from collections.abc import Callable
 
@@ -33,12 +33,12 @@ def pools(count: int) -> list[str]:
 def once(program: str, kind: Kind, count: int) -> tuple[float, str]:
     """The milliseconds of placing a source once, and what the program says of it."""
     lines, turns = [line("P", "CSECT"), *kind(count - 2), line("", "END")], max(2, LINES_IN_ALL // count)
-    few, many = (well("places", taken([program], text_of(["pass1", str(times), *lines]))) for times in (0, turns))
+    few, many = (well("places", taken([program], text_of(["MEASURE pass1", str(times), *lines]))) for times in (0, turns))
     return (many.user - few.user) / turns * 1000, many.ended.lines()[-1]
 
 
 def main(words: list[str]) -> int:
-    program = Check(__name__, __doc__, words, "tool_bench").program()
+    program = Check(__name__, __doc__, words, "tool_machine").program()
     head("")
     for kind in (labels, literals, sections, items, pools, equates):
         found = [once(program, kind, count) for count in SIZES]

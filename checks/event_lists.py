@@ -1,4 +1,4 @@
-"""Runs lists of 5,000 events through tool_refusals, each by one call, which no script can do: of a region alone, and of one under EDF,
+"""Runs lists of 5,000 events through tool_region, each by one call, which no script can do: of a region alone, and of one under EDF,
 over each of the two stores. Each event has the answer that is due by the rules, and of each terminal ten displays must be kept at the end.
 
 The first events define what the others need. The others are rounds, each act at all sixteen terminals before the next, so that sixteen tasks
@@ -209,7 +209,7 @@ def under_edf() -> tuple[list[str], list[str]]:
 
 
 def tried(program: str, store: list[str], lines: list[str], due: list[str]) -> Counts:
-    ended = run([program], text_of([*store, *lines]))
+    ended = run([program], text_of(["LISTS", *store, *lines]))
     wrong = [f"line {number}: {one!r} is printed, not {other!r}" for number, (one, other) in enumerate(zip(ended.lines(), due), 1) if one != other]
     if wrong:
         raise Wrong(*wrong)
@@ -218,7 +218,7 @@ def tried(program: str, store: list[str], lines: list[str], due: list[str]) -> C
 
 
 def main(words: list[str]) -> int:
-    check = Check(__name__, __doc__, words, "tool_refusals")
+    check = Check(__name__, __doc__, words, "tool_region")
     program = check.program()
     lists, stores = {"alone": alone(), "under EDF": under_edf()}, {"pages": [], "areas": ["FLAT"]}
     cases = [Case(f"{name} over {store}", partial(tried, program, first, *both)) for name, both in lists.items() for store, first in stores.items()]

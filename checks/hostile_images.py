@@ -1,4 +1,4 @@
-"""Runs 10,000 hostile images by tool_hostile, which looks at the region after each event. It must end well, print no violation, and print
+"""Runs 10,000 hostile images by tool_region, which looks at the region after each event. It must end well, print no violation, and print
 of each answer that must come how often it came: at least of those that bytes of any values don't reach."""
 import os
 import re
@@ -9,16 +9,16 @@ from functools import partial
 from cics.child import TOP, Ended, read, run
 from checks.common import Case, Check, Counts, Wrong
 
-INPUT = os.path.join(TOP, "crates/tool_hostile/stdin")
+INPUT = os.path.join(TOP, "crates/tool_region/stdin")
 IMAGES = 10_000
 SECONDS = 280  # for all of them
 DUE = {"Waiting", "Returned", "ITEMERR", "NOSTG", "NOSPACE", "ENQBUSY", "QIDERR"}
 
 
 def material() -> bytes:
-    """The input of the program's crate, for a number of images: its first line is their number."""
-    _, examples = read(INPUT).split(b"\n", 1)
-    return b"%d\n" % IMAGES + examples
+    """The hostile programs of the crate's input, which a line LISTS ends, for a number of images: the line after HOSTILE is their number."""
+    lines = read(INPUT).split(b"\n")
+    return b"\n".join([b"HOSTILE", b"%d" % IMAGES, *lines[2 : lines.index(b"LISTS")], b""])
 
 
 def faults(ended: Ended, came: dict[str, int]) -> Iterator[str]:
@@ -41,5 +41,5 @@ def tried(program: str) -> Counts:
 
 
 def main(words: list[str]) -> int:
-    check = Check(__name__, __doc__, words, "tool_hostile")
+    check = Check(__name__, __doc__, words, "tool_region")
     return check.report([Case("hostile images", partial(tried, check.program()))])

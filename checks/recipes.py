@@ -64,8 +64,8 @@ RECIPES = [
     Recipe(
         "A command", "SUSPEND", r'\b(?:Suspend|suspend|judge_suspend|suspend_\w+)\b|"(?:CICS )?SUSPEND"',
         r'"SUSPEND":|^SUSPEND = |, SUSPEND,|`SUSPEND`|\| SUSPEND |# SUSPEND |COMMAND SUSPEND$|\("SUSPEND", "=', r"\btwenty\b|\bother nineteen\b",
-        uses={r"crates/test_region/src/arrival\.rt": TESTS, r"crates/test_translate/src/texts\.rt": TESTS, r"companions/tests/": TESTS,
-              r"crates/tool_hostile/src/calls\.rt": "where no command is drawn it takes this one"}),
+        uses={r"crates/test_region/src/arrival\.rt": TESTS, r"crates/test_sources/src/texts\.rt": TESTS, r"companions/tests/": TESTS,
+              r"crates/tool_region/src/calls\.rt": "where no command is drawn it takes this one"}),
     Recipe(
         "A type of constant", "D", r"""\bDoubleword\b|b"D", true|b"D'1'"|b"DL4\"""",
         r'"D": 8|"FHPXBAYDES"|"CXBFHPZAVDEYSQL"|kind == "D"|^\| D \| 8 \||"D[SC] D(?:"|L4|\x271)'),

@@ -1,4 +1,4 @@
-"""Has tool_bench place each of some sources while each allocation of the first pass is refused,
+"""Has tool_machine place each of some sources while each allocation of the first pass is refused,
 one in each run. The answer must then be Memory, and that of a second call, which has all memory, as without a refusal.
 """
 from collections import Counter
@@ -28,7 +28,7 @@ SOURCES = {
 def calls(path: str, program: str, name: str, turns: int) -> Sweep:
     """The sweep of a number of calls over a source, of which the last one's answer is printed."""
     answer, lines = SOURCES[name]
-    sweep = Sweep(path, [program], Ended(0, f"{answer}\n".encode(), b""), "memory", text_of(["pass1", str(turns), *lines]))
+    sweep = Sweep(path, [program], Ended(0, f"{answer}\n".encode(), b""), "memory", text_of(["MEASURE pass1", str(turns), *lines]))
     sweep.run_whole()
     return sweep
 
@@ -45,6 +45,6 @@ def swept(path: str, program: str, name: str) -> Counts:
 
 
 def main(words: list[str]) -> int:
-    check = Check(__name__, __doc__, words, "tool_bench")
+    check = Check(__name__, __doc__, words, "tool_machine")
     with library() as path:
         return check.report(each_of(SOURCES, partial(swept, path, check.program())), {"allocations refused": 1})

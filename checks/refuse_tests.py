@@ -14,10 +14,10 @@ PASSED = Ended(0, b"\ntest result: ok\n", b"")  # how a test program ends whose 
 AMPLE = "ample_memory_does_not_run_out"
 ASSERTION = b"assertion failed: "  # what a test that is stopped by one writes
 TESTS = {
-    ("test_asm", "expression_memory"): ["a_refused_allocation_is_no_other_answer"],
-    ("test_asm", "operand_memory"): ["a_refused_allocation_is_no_other_answer"],
-    ("test_asm", "image_row"): ["a_refused_allocation_is_no_other_answer"],
-    ("test_storage_pages", "stores"): ["a_large_area", "keeps_all_when_refused"],
+    ("test_sources", "expression_memory"): ["a_refused_allocation_is_no_other_answer"],
+    ("test_sources", "operand_memory"): ["a_refused_allocation_is_no_other_answer"],
+    ("test_sources", "image_row"): ["a_refused_allocation_is_no_other_answer"],
+    ("test_machine", "stores"): ["a_large_area", "keeps_all_when_refused"],
 }
 
 

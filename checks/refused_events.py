@@ -1,4 +1,4 @@
-"""Runs lists of events through tool_refusals, which gives an event that is answered Memory once more,
+"""Runs lists of events through tool_region, which gives an event that is answered Memory once more,
 with each of their allocations refused, one in each run (of more than 2,000 a fixed choice). What is printed, answers,
 tasks, screens and displays, must be what is printed without a refusal: so an event that was answered Memory was none.
 
@@ -17,7 +17,7 @@ from checks.common import Case, Check, Counts, require
 from checks.examples import examples, script_of, wanted
 from checks.refusing import ALL, Sweep, judge_same, library
 
-CRATE = os.path.join(TOP, "crates/tool_refusals")
+CRATE = os.path.join(TOP, "crates/tool_region")
 FILLING = {"cases/full-storage", "cases/getmain-without-a-place", "cases/no-storage-for-a-key", "cases/storage-exhausted"}
 SOURCES = {"sources/return", "sources/literals"}
 
@@ -34,18 +34,18 @@ def lists() -> Iterator[tuple[str, bytes, bytes, bool]]:
 
 def swept(path: str, program: str, is_sweep_of_all: bool, name: str, events: bytes, written: bytes, is_all: bool) -> Counts:
     """The answers of a list must be those that are written, over both stores, and with each allocation refused."""
-    ended = run([program], events)
+    ended = run([program], b"LISTS\n" + events)
     is_written = ended.out == written if is_all else ended.out.startswith(written)
     require(is_written and ended.is_well(), "the answers are not those that are written")
-    require(run([program], b"FLAT\n" + events) == ended, "the answers are not the same over both stores")
+    require(run([program], b"LISTS\nFLAT\n" + events) == ended, "the answers are not the same over both stores")
     if name in FILLING:
         return Counter()
-    words = Sweep(path, [program], ended, "memory", events).tried(judge_same, is_sweep_of_all)
+    words = Sweep(path, [program], ended, "memory", b"LISTS\n" + events).tried(judge_same, is_sweep_of_all)
     return Counter({"allocations refused": words.total()})
 
 
 def main(words: list[str]) -> int:
-    check = Check(__name__, __doc__, words, "tool_refusals", flags=ALL)
+    check = Check(__name__, __doc__, words, "tool_region", flags=ALL)
     with library() as path:
         sweep = partial(swept, path, check.program(), check.has("all"))
         return check.report((Case(name, partial(sweep, name, *rest)) for name, *rest in lists()), {"allocations refused": 1})
