@@ -27,7 +27,7 @@ from repository import Repository, logic, text_of, write
 
 RECORD = ".ci/wrong.record"
 DRAWN = 3
-BUDGET = 1_000  # processor seconds
+BUDGET = 500  # seconds of each processor
 RECENT = 4 * 60 * 60  # seconds: what changed in them is tried always
 REFUSED = re.compile(r"^rt: must-fail (\w+)/([\w.-]+)\.edit: refused, as it must be", re.M)
 TOOK = re.compile(r"^edit (\w+/[\w.-]+) took (\d+) s$", re.M)
@@ -192,9 +192,10 @@ class Edits(Repository):
             total += proof + own if len(its) > 1 else max(proof, own)
         return total
 
-    def choice(self, budget: int = BUDGET) -> Choice:
-        """Returns what a run of the gate tries. The oldest of those that are due goes in wherever anything is left of the budget, so none waits for
-        ever; each other one where it fits."""
+    def choice(self, budget: int | None = None) -> Choice:
+        """Returns what a run of the gate tries, by a budget of processor seconds, else by the share of each processor. The oldest of those that are
+        due goes in wherever anything is left of the budget, so none waits for ever; each other one where it fits."""
+        budget = BUDGET * measured.processors() if budget is None else budget
         drawn, changed = sorted(self.drawn()), self.changed()
         chosen, oldest = {*drawn, *changed}, list[str]()
         for it in [edit for edit in self.by_age() if edit not in chosen]:
