@@ -20,15 +20,27 @@ void *__libc_realloc(void *block, size_t size);
 
 static long calls;
 
+/* The settings. They are read once, since to read them takes longer than most calls. */
+static const char *counted;
+static long refused, is_short, most_moved;
+
 static long setting(const char *name) {
   const char *digits = getenv(name);
   return digits ? atol(digits) : 0;
 }
 
+static void settle(void) {
+  if (counted) return;
+  counted = getenv("REFUSE_CALLS");
+  refused = setting("REFUSE_NTH");
+  is_short = setting("REFUSE_SHORT");
+  most_moved = setting("REFUSE_PIECE");
+}
+
 /* Counts a call, and answers whether it is the one that fails. */
 static int is_refused(const char *name) {
-  const char *counted = getenv("REFUSE_CALLS");
-  return counted && strcmp(counted, name) == 0 && ++calls == setting("REFUSE_NTH");
+  settle();
+  return counted && strcmp(counted, name) == 0 && ++calls == refused;
 }
 
 void *malloc(size_t size) {
@@ -41,14 +53,12 @@ void *realloc(void *block, size_t size) {
 
 /* A read or a write, made by its system call. */
 static ssize_t moved(const char *name, long call, int file, const void *bytes, size_t count) {
-  size_t most = setting("REFUSE_PIECE");
-  if (is_refused(name)) {
-    if (!setting("REFUSE_SHORT")) {
-      errno = EIO;
-      return -1;
-    }
-    most = 1;
+  int fails = is_refused(name);
+  if (fails && !is_short) {
+    errno = EIO;
+    return -1;
   }
+  size_t most = fails ? 1 : most_moved;
   return syscall(call, file, bytes, most && count > most ? most : count);
 }
 

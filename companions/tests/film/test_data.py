@@ -4,11 +4,13 @@ import os
 import random
 import re
 import subprocess
+import unittest.mock
 from concurrent.futures import ThreadPoolExecutor
 
 from cics.child import TOP, Child, Gone, encoded
 from cics.film.command import filmed, filmed_alone, has_look
 from cics.film.page import film_data, fit
+from cics.film.recorder import MOST_EVENTS
 from cics.pages import json_of
 from cics.scripts import actions_of
 from checks.hostile_lines import HEAD
@@ -18,6 +20,7 @@ from tests.case import TestCase, expect
 from tests.film.trials import Data, data_of, lines_to, page, page_or_line, scripts, states_of, text_of
 
 DRAWN, CHANGED = 200, 150  # events; scripts of examples with changed lines
+ROOM = 7_000_000  # bytes of a page's data, in the place of four times as many
 HOSTILE = "</script><script>document.title='run'</script><img src=x onerror=\"document.title='run'\">&amp;&lt;'\"\\"
 
 
@@ -150,15 +153,17 @@ class DataTest(TestCase):
                 expect("a fault of a changed script", fault == reported, (fault, reported, text[-300:]))
 
     def test_long_runs_are_quick(self) -> None:
-        """1,000 events; the last 10,000 of more; and a page whose differences are large is cut to its size."""
-        for source, turns, limit, kept in ((QUIET, 1_000, 15, 1_004), (QUIET, 10_500, 150, 10_000), (BUSY, 3_800, 60, None)):
+        """1,000 events; the last ones of more, here 2,000 in the place of 10,000; and a page whose differences are large is cut to its size."""
+        expect("how many events are kept", MOST_EVENTS == 10_000, MOST_EVENTS)
+        for source, turns, limit, kept in ((QUIET, 1_000, 15, 1_004), (QUIET, 2_500, 40, 2_000), (BUSY, 950, 15, None)):
             began = seconds_taken()
-            film = filmed("long", loop(source) + "TURN T001\n" * turns, PROGRAM)
+            with unittest.mock.patch("cics.film.command.MOST_EVENTS", 2_000):
+                film = filmed("long", loop(source) + "TURN T001\n" * turns, PROGRAM)
             expect(f"{turns} turns are filmed", len(film.events) == (kept or turns + 4), len(film.events))
             expect("registers at lines", any(it.arrivals for it in film.events) == (turns < 2_000 and has_look(PROGRAM, "AHEAD TERM AT A 1")), turns)
-            left_out = fit(film, 29_000_000)
+            left_out = fit(film, ROOM)
             took, size = seconds_taken() - began, len(json_of(film_data(film)))
-            is_well = took < limit and size <= 29_000_000 and bool(left_out) == (kept is None)
+            is_well = took < limit and size <= ROOM and bool(left_out) == (kept is None)
             expect(f"{turns} turns in {took:.0f} s, {size / 1e6:.0f} MB", is_well, left_out)
             if kept is None:
                 last = [*states_of(film_data(film))][-1][1]

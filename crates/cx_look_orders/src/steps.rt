@@ -64,6 +64,24 @@ fn reply_from<S: Store + Drop>(
     Ok(reply)
 }
 
+/// What is told of a turn of a terminal from a state, by its reply.
+///
+/// An error comes only where memory was refused.
+fn told_by<S: Store + Drop, V: Seen<S>>(
+    alloc: Global,
+    seen: &V,
+    work: &mut Region<S>,
+    from: &OrdersState,
+    name: Name4,
+    reply: TurnReply,
+) -> Result<Option<List<u8>>, AllocError>
+    ensures { IfOk result (λ told. told ≡ V.tells seen.now from.now.region name reply) }
+{
+    from.region.restore(work)?;
+    let text = seen.told(alloc, work, name, reply)?;
+    Ok(text)
+}
+
 /// What is told of a turn of a terminal from a state.
 ///
 /// An error comes only where memory was refused.
@@ -79,9 +97,7 @@ fn told_of_turn<S: Store + Drop, V: Seen<S>>(
 {
     calls_decide();
     let reply = reply_from(work, from, name)?;
-    from.region.restore(work)?;
-    let text = seen.told(alloc, work, name, reply)?;
-    Ok(text)
+    told_by(alloc, seen, work, from, name, reply)
 }
 
 /// What is told of a turn of the terminal with that number from a state.

@@ -1,6 +1,7 @@
-//! The part `MEASURE loops` runs loops for measuring (`bench/loops`). A line has the word for a store, a number of slices (at least 2)
-//! and the digits of an image, whose word at offset 4 becomes that number. After each slice the program goes to the
-//! entry, and at the end once more. The line that is printed has the number of instructions that were performed.
+//! The part `MEASURE loops` runs loops for measuring (`bench/loops`). A line has the word for a store, a number of
+//! slices (at least 2) and the digits of an image, whose word at offset 4 becomes that number. After each slice the
+//! program goes to the entry, and at the end once more. The line that is printed has the number of instructions that
+//! were performed.
 
 use crate::slices::{Job, perform};
 use cx_storage::FlatStore;

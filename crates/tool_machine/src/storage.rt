@@ -1,6 +1,6 @@
-//! The part `MEASURE storage` times stores: areas of 16 bytes got and freed in an order of a fixed generator, addresses looked up, and the areas
-//! of 16 owners freed. The first word of a line is `flat`, `paged` or `kept`, the second the number of areas;
-//! the line that is printed has nanoseconds for each call.
+//! The part `MEASURE storage` times stores: areas of 16 bytes got and freed in an order of a fixed generator, addresses
+//! looked up, and the areas of 16 owners freed. The first word of a line is `flat`, `paged` or `kept`, the second the
+//! number of areas; the line that is printed has nanoseconds for each call.
 
 ghost use Rattle.std.specs.Prelude.{◌<◌, ◌^◌, ◌≤◌, length};
 

@@ -16,7 +16,6 @@ use crate::alone::first_halt;
 use crate::calls::of_calls;
 use crate::counts::{Counts, DUE};
 use crate::draws::Draws;
-use crate::lists::MOST_LINES;
 use crate::setup::{defined, image_of, other_image};
 use crate::stop::Stop;
 use crate::texts::{Subject, TURNS, all_rows, changed, of_rows, plain};
@@ -227,7 +226,7 @@ fn take_line(
 fn read(alloc: Global, material: &mut Material, text: &[u8]) -> Result<u32, AllocError> {
     let mut programs = 0;
     let mut rest = text;
-    for _ in 0..MOST_LINES {
+    for _ in 0..text.len() {
         let Some((line, after)) = split_line(rest) else {
             break;
         };

@@ -32,8 +32,8 @@ use cx_storage::Store;
 use std::alloc::AllocError;
 use std::io;
 
-/// No list has more lines.
-pub const MOST_LINES: usize = 65_536;
+/// The most bytes of input, and so the most of its lines.
+pub const MOST: usize = 524_288;
 
 /// The terminal that an event defined, if its answer is that it did.
 pub fn terminal_of(event: &EdfEvent, answer: &Answer) -> Option<Name4> {
@@ -162,7 +162,7 @@ impl<S: Store + Drop> List<S> {
     /// Does what lines ask.
     fn lines(&mut self, rt: &HostRuntime, lines: &[u8]) -> io::Result<()> {
         let mut rest = lines;
-        for _ in 0..MOST_LINES {
+        for _ in 0..MOST {
             let Some((line, after)) = split_line(rest) else {
                 break;
             };
@@ -240,7 +240,7 @@ fn do_each<S: Store + Drop>(
 /// The lines of a list, and those after it, which begin with the next one's heading.
 fn split_list(lines: &[u8]) -> (&[u8], &[u8]) {
     let mut rest = lines;
-    for _ in 0..MOST_LINES {
+    for _ in 0..MOST {
         let Some((_, after)) = split_line(rest) else {
             break;
         };
@@ -290,7 +290,7 @@ pub fn do_lists(rt: &HostRuntime, input: &[u8]) -> io::Result<()> {
         Some(lists) => (true, lists),
         None => (false, input),
     };
-    for _ in 0..MOST_LINES {
+    for _ in 0..MOST {
         if rest.is_empty() {
             break;
         }

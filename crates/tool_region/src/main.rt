@@ -5,7 +5,8 @@
 //! - `LISTS`: lists (`lists`).
 //!
 //! After hostile programs a line `LISTS` begins lists, too, which go to the end of the input. The status is 1 where a
-//! hostile program brings about what must not be, or an answer that must come doesn't; then no list is done.
+//! hostile program brings about what must not be, or an answer that must come doesn't; then no list is done. It is 1
+//! too where the first line is another one, the last line has no line feed, or the input has more than 524,288 bytes.
 //!
 //! `checks/hostile-images` turns 10,000 hostile programs by it. `checks/refused-events` has it do lists with each
 //! allocation refused in turn: what is printed must be as without a refusal. `checks/event-lists` runs lists of 5,000
@@ -37,14 +38,11 @@ mod texts;
 mod trial;
 
 use crate::hostile::turn_programs;
-use crate::lists::{MOST_LINES, do_lists};
+use crate::lists::{MOST, do_lists};
 use cx_script_io::split_line;
 use std::alloc::{AllocError, Global};
 use std::io;
 use std::io::Read;
-
-/// The most bytes of input.
-const MOST: usize = 524_288;
 
 /// Room for the input.
 fn room(alloc: Global) -> Result<Vec<u8>, AllocError> {
@@ -73,7 +71,7 @@ fn read_all<R: Read>(reader: &mut R, buffer: &mut [u8]) -> io::Result<Option<usi
 /// The lines before a line `LISTS`, and those after it.
 fn split_lists(lines: &[u8]) -> (&[u8], &[u8]) {
     let mut rest = lines;
-    for _ in 0..MOST_LINES {
+    for _ in 0..lines.len() {
         let Some((line, after)) = split_line(rest) else {
             break;
         };
@@ -100,15 +98,15 @@ fn do_part(rt: &HostRuntime, heading: &[u8], lines: &[u8]) -> io::Result<()> {
     } else if heading == b"LISTS".as_slice() {
         do_lists(rt, lines)
     } else {
-        println!(rt; "the first line is neither HOSTILE nor LISTS")
+        Err(io::Error::other("the first line is neither HOSTILE nor LISTS"))
     }
 }
 
 /// Does what the input says.
 fn do_input(rt: &HostRuntime, input: &[u8]) -> io::Result<()> {
     match split_line(input) {
-        Some((heading, lines)) => do_part(rt, heading, lines),
-        None => println!(rt; "the input has no line"),
+        Some((heading, lines)) if input.last() == Some(&b'\n') => do_part(rt, heading, lines),
+        _ => Err(io::Error::other("the last line has no line feed")),
     }
 }
 
@@ -119,6 +117,6 @@ fn main(rt: HostRuntime) -> io::Result<()> {
     };
     match read_all(&mut rt.reader(), buffer.as_mut_slice())? {
         Some(len) => do_input(&rt, buffer.as_slice().get(..len).unwrap_or(b"")),
-        None => println!(rt; "there is too much input"),
+        None => Err(io::Error::other("there is too much input")),
     }
 }

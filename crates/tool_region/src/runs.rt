@@ -8,7 +8,7 @@ ghost use Rattle.cx_region.specs.Events.{IsAllowed};
 use crate::answers::{print_answer, print_answer_of, print_kept};
 use crate::events::allowed_line;
 use crate::images::image_of;
-use crate::lists::{MOST_LINES, block_of, terminal_of};
+use crate::lists::{MOST, block_of, terminal_of};
 use cx_ebcdic::{Name4, Name8};
 use cx_edf::{Answer, Debugged, EdfEvent};
 use cx_edf_display::EdfDisplays;
@@ -221,7 +221,7 @@ fn put<'a, L: List>(
 /// Puts the events that lines ask last.
 fn put_all<L: List>(alloc: Global, list: &mut L, lines: &[u8]) -> Result<(), AllocError> {
     let mut rest = lines;
-    for _ in 0..MOST_LINES {
+    for _ in 0..MOST {
         let Some((line, after)) = split_line(rest) else {
             break;
         };
@@ -352,7 +352,7 @@ fn define_first<'a, S: Store + Drop>(
     lines: &'a [u8],
 ) -> io::Result<&'a [u8]> {
     let mut rest = lines;
-    for _ in 0..MOST_LINES {
+    for _ in 0..MOST {
         let Some((line, after)) = split_line(rest) else {
             break;
         };
