@@ -1,24 +1,35 @@
 """Tries wrong bodies of a crate together: a function's proof reads no other function's body, so edits in different functions
 are tried by one check, which reports each function that isn't proved. An edit is refused where that check fails in a function that it
 edits. Those of which no such failure is reported are tried together once more, without the others; where that tells nothing of any (one spoils
-what the others need, say), in halves. One that edits no function (a type, say) is tried alone."""
+what the others need, say), in halves. One that edits no function (a type, say) is tried alone.
+
+Where `rt ci` has proved the crate, a check is asked for the edited functions alone, with what these call."""
 import itertools
 import os
 import re
 import shutil
 import subprocess
 import tempfile
-from collections.abc import Collection, Sequence
+from collections.abc import Collection, Iterable, Sequence
 
 import interface
-from repository import libraries_of, text_of, write
+from repository import Repository, kit, libraries_of, text_of, write
 
 UNPROVED = re.compile(r"(?m)^note: (src/\S+):(\d+):\d+: it is not proved ")
 UNANSWERED = re.compile(r"(?m)^(?:\./)?proofs/(\S+)/Answers\.antt:\d+:\d+: error: (.*)")
+UNADMITTED = re.compile(r"(?m)^(?:\./)?proofs/\S+\.antt:\d+:\d+: error: (.*)")  # of any file of proofs, as of a lemma on a constant
 # a proof file that names what an edit took away says little of the contract
 NAMES = re.compile(r"has no field|is not in scope|has no `|(was|were) not (admitted|checked)")
 PROVED = re.compile(r"(?m)^logic=proved\b")
 NOT_PROVED = re.compile(r"(?m)^logic=not-proved\b")
+ASKED = re.compile(r"(?m)^only=(\d+) proved=(\d+)$")  # of a check of some functions: how many were asked for, and how many are proved
+NO_FUNCTION = re.compile(r"(?m)^rattle: error: `\w+` has no function `([^`]+)`")
+
+
+def is_unproved(said: str) -> bool:
+    """Returns whether a check, of a crate or of some functions of it, ends with something that isn't proved."""
+    asked = ASKED.search(said)
+    return bool(NOT_PROVED.search(said) or asked and int(asked[2]) < int(asked[1]))
 
 
 class Function:
@@ -30,6 +41,10 @@ class Function:
         self.lines = range(text.count("\n", 0, start) + 1, text.count("\n", 0, end) + 2)
         module = re.sub(r"(^|/)(lib|main|mod)$", "", path[len("src/") : -len(".rt")])
         self.module = [it for it in module.split("/") if it]
+
+    def paths(self) -> list[str]:
+        """The paths of which a check of the crate calls it by one: a trait's name stands after its type's, and no source tells which is which."""
+        return ["::".join(filter(None, (*self.module, owner, self.name))) for owner in sorted(self.owners)]
 
     def holds(self, path: str, line: int) -> bool:
         return path == self.path and line in self.lines
@@ -130,7 +145,7 @@ class Room:
         libraries = libraries_of(text_of(f"{root}/crates.txt"))
         write(f"{folder}/crates.txt", "".join(f"{name}: {' '.join(its)}\n" for name, its in libraries.items() if name in below))
 
-    def check(self) -> tuple[str, float]:
+    def check(self, _functions: Iterable[Function] = ()) -> tuple[str, float]:
         """What a check of the crate says, and the seconds that it takes."""
         return ran(["rt", "check", "--jobs", "1"], self.folder)[1:]
 
@@ -145,17 +160,18 @@ class Room:
     def said_of(self, edits: Collection[str]) -> str:
         """Returns what a check of the crate with these edits says, and nothing where it finds no goal that isn't proved."""
         texts: dict[str, str] = {}
+        functions = [it for its in edits.values() for it in its.values()] if isinstance(edits, dict) else []
         for path, old, new in [pair for edit in edits for pair in pairs_of(edit)]:
             texts[path] = texts.get(path, text_of(f"{self.folder}/{path}")).replace(old, new)
         were = {it: text_of(f"{self.folder}/{it}") for it in texts}
         try:
             self.write(texts)
-            said, seconds = self.check()
+            said, seconds = self.check(functions)
         finally:
             self.write(were)
         for it in edits:
             self.took[it] = self.took.get(it, 0) + seconds / len(edits)
-        return said if NOT_PROVED.search(said) else ""
+        return said if is_unproved(said) else ""
 
     def write(self, texts: dict[str, str]) -> None:
         for path, text in texts.items():
@@ -173,13 +189,51 @@ class Room:
         return told + [it for part in parts if part for it in self.refused_of({edit: batch[edit] for edit in part})]
 
     def is_any_refused(self, said: str) -> bool:
-        """Returns whether a report finds a goal that isn't proved, in whatever function."""
-        return bool(UNPROVED.search(said)) or any(not NAMES.search(it[2]) for it in UNANSWERED.finditer(said))
+        """Returns whether a report finds a goal that isn't proved, in whatever function or lemma."""
+        return bool(UNPROVED.search(said)) or any(not NAMES.search(it[1]) for it in UNADMITTED.finditer(said))
 
     def refused(self, edits: Sequence[str]) -> list[str]:
         """Returns those of the crate's edits that are refused; none where the crate itself isn't proved."""
-        if not PROVED.search(self.check()[0]):
-            return []
+        return self.refused_each(edits) if PROVED.search(self.check()[0]) else []
+
+    def refused_each(self, edits: Sequence[str]) -> list[str]:
+        """Returns those of the crate's edits that are refused, where the crate itself is proved."""
         batches, alone = batches_of(edits, self.folder)
         together = [edit for batch in batches for edit in self.refused_of(batch)]
         return together + [it for it in alone if self.is_any_refused(self.said_of([it]))]
+
+
+class Built(Room):
+    """A copy of a crate that `rt ci` has proved, with those below it, in a copy of the repository: its check reads the libraries that were
+    built there, and is of the edited functions alone."""
+
+    def __init__(self, repository: Repository, crate: str, folder: str) -> None:
+        self.folder, self.took = folder, {}
+        shutil.copytree(f"{repository.root}/crates/{crate}", folder, ignore=shutil.ignore_patterns("out"), dirs_exist_ok=True)
+        self.words = words_of(repository, crate)
+
+    def check(self, functions: Iterable[Function] = ()) -> tuple[str, float]:
+        """What a check of these functions says, or of the crate, where there are none or one of them has no path; and the seconds that it takes."""
+        paths, taken = [it.paths() for it in functions], 0.0
+        while all(paths):
+            asked = [word for it in paths for word in ("--only", it[0])]
+            _, said, seconds = ran([*self.words, *asked], self.folder)
+            taken, unknown = taken + seconds, NO_FUNCTION.search(said)
+            if not unknown:
+                return said, taken
+            paths = [it[1:] if it[0] == unknown[1] else it for it in paths]
+        _, said, seconds = ran(self.words, self.folder)
+        return said, taken + seconds
+
+
+def words_of(repository: Repository, crate: str) -> list[str]:
+    """Returns the command that checks a crate over the libraries that `rt ci` has built, as `rt ci` writes it."""
+    its_kit, root = kit(), os.path.abspath(repository.root)
+    built = {it: f"{root}/crates/{it}/out/rlib" for it in repository.below(crate) - {crate}}
+    libraries = {it: f"{built.get(it, f'{its_kit}/rlibs')}/{it}.rlib" for it in ("std", *repository.libraries[crate])}
+    source = "src/main.rt" if os.path.exists(f"{root}/crates/{crate}/src/main.rt") else "src/lib.rt"
+    words = [f"{its_kit}/bin/rattle", "check", "--crate-name", crate, source]
+    words += [word for name, path in libraries.items() for word in ("--extern", f"{name}={path}")]
+    words += [word for folder in (*built.values(), f"{its_kit}/rlibs") for word in ("-L", f"dependency={folder}")]
+    words += ["--antt-project", f"{its_kit}/rattle/logic/antt-project.json", "--logic-built", f"{its_kit}/logic_built"]
+    return [*words, "--links", f"{crate}=", "--jobs", "1"]

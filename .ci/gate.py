@@ -1,9 +1,9 @@
 """The merge gate, which .ci/run begins.
 
-In a copy of the repository `rt ci` proves every crate and tries wrong bodies. Beside it run the steps that need no proof, and each other step
-from when `rt ci` says that the programs which it needs are proved; `.ci/steps.py` has them. While `rt ci` runs, a quarter as many others do as
-there are processors, and then one fewer than there are. A step's output is printed whole when it ends. The first step that fails is named
-at once; the others are ended then, unless --go-on is given.
+In a copy of the repository `rt ci` proves every crate. Beside it run the steps that need no proof, and each other step from when `rt ci`
+says that the programs which it needs are proved; `.ci/steps.py` has them. Wrong bodies are tried once their crate is proved. While `rt ci`
+runs, a quarter as many others do as there are processors, and then one fewer than there are. A step's output is printed whole when it ends.
+The first step that fails is named at once; the others are ended then, unless --go-on is given.
 
 With --record the lines of the wrong bodies that are refused are written into the record."""
 import json
@@ -22,9 +22,9 @@ from types import FrameType
 import measured
 from progress import Progress
 from repository import text_of
-from steps import BUILT, OWN, PROOF, PROVING, Step
+from steps import BUILT, OWN, PROOF, PROVING, Step, Trial
 from supervised import STOPPED, STOPS, Ended, adopt, end_all
-from wrong_bodies import Choice, Edits, refused_in
+from wrong_bodies import Choice, Edits, by_crate, refused_in
 
 SUPERVISED = os.path.join(os.path.dirname(os.path.realpath(__file__)), "supervised.py")
 JOB = 6e9  # bytes that a process may hold
@@ -177,17 +177,18 @@ def expected(choice: Choice, costs: measured.Measured, edits: Edits, processors:
 
 
 def table(results: list[Result]) -> str:
-    """Returns what the steps took but the proof, which has a table of its own."""
-    rows = [it for it in results if it.job.step != PROVING]
+    """Returns what the steps took but the proof, which has a table of its own, and the trials of wrong bodies, which are others each time."""
+    rows = [it for it in results if it.job.step != PROVING and not isinstance(it.job.step, Trial)]
     lines = [f"| `{it.job.step.command}` | {it.ended.seconds:.0f} | {it.elapsed:.0f} |\n" for it in rows]
     return "\n| Step | Processor, s | Elapsed, s |\n|---|---|---|\n" + "".join(lines)
 
 
 def counts(results: list[Result], is_red: bool) -> str:
-    """Returns the last line: the steps, and what `rt ci` counts, crates and wrong bodies."""
+    """Returns the last line: the steps, and what others count: `rt ci` crates, and trials wrong bodies."""
     passed = failed = 0
     for it in results:
-        its = COUNTED.findall(text_of(it.job.output, "replace")) if it.job.step == PROVING else []
+        counts_itself = it.job.step == PROVING or isinstance(it.job.step, Trial)
+        its = COUNTED.findall(text_of(it.job.output, "replace")) if counts_itself else []
         if its:
             passed, failed = passed + int(its[-1][0]), failed + max(int(its[-1][1]), not it.is_well())
         else:
@@ -206,13 +207,15 @@ class Gate:
         os.mkdir(self.runner.room)
         os.chmod(self.runner.room, 0o1777)
 
-    def jobs(self) -> list[Job]:
+    def jobs(self, edits: list[str]) -> list[Job]:
         root = os.getcwd()
         own = [Job(it, root, f"{self.folder}/{number}.own") for number, it in enumerate(OWN)]
         built = [Job(it, self.copy, f"{self.folder}/{number}.built") for number, it in enumerate(BUILT)]
         costs = measured.noted()
         built.sort(key=lambda it: -costs.steps.get(it.step.command, it.step.limit))
-        return [Job(PROVING, self.copy, self.log), *own, *built]
+        trials = [Trial(f".ci/wrong --built {' '.join(its)}", 5_000, (crate,)) for crate, its in by_crate(edits).items()]
+        tried = [Job(it, self.copy, f"{self.folder}/{number}.tried") for number, it in enumerate(trials)]
+        return [Job(PROVING, self.copy, self.log), *own, *tried, *built]
 
     def stopped(self, number: int, _frame: FrameType | None) -> None:
         self.runner.signal = number
@@ -224,13 +227,14 @@ class Gate:
         choice = edits.choice()
         print(expected(choice, costs, edits, self.runner.processors))
         print(f"{choice.words()}\n{' '.join(choice.tried())}\n{edits.words_on(choice.left)}", flush=True)
-        edits.copy_with(self.copy, choice.tried())
+        edits.copy(self.copy)
         try:
-            self.runner.run(self.jobs())
+            self.runner.run(self.jobs(choice.tried()))
         finally:
             self.runner.stop()
-        if self.records and os.path.exists(self.log):
-            edits.write(refused_in(text_of(self.log, "replace")), edits.now())
+        if self.records:
+            tried = [it.job.output for it in self.runner.results if isinstance(it.job.step, Trial)]
+            edits.write(refused_in("".join(text_of(it, "replace") for it in tried)), edits.now())
         return self.end(edits.words_on(choice.left))
 
     def end(self, on_edits: str) -> int:

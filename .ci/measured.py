@@ -8,8 +8,7 @@ from repository import Repository, text_of, write
 NOTED = os.path.join(os.path.dirname(os.path.realpath(__file__)), "MEASURED.md")
 CRATES = re.compile(r"^\| Crate \| Proof, s \|.*\n(?:\|.*\n)+processor seconds: (\d+).*\n", re.M)
 STEPS = re.compile(r"^\| Step \| Processor, s \|.*\n(?:\|.*\n)+", re.M)
-EDITS = re.compile(r"^\| in all \| \d+ \| \d+ \| (\d+) \|", re.M)
-ROW = re.compile(r"^\| (\w+) \| (\d+) \| (\d+) \| (\d+) \| ([\d.]+) \|$", re.M)
+ROW = re.compile(r"^\| (\w+) \| (\d+) \| (\d+) \| ([\d.]+) \|$", re.M)
 STEP = re.compile(r"^\| `([^`]+)` \| (\d+) \|", re.M)
 
 
@@ -24,7 +23,7 @@ class Cost:
 
 @dataclass(frozen=True)
 class Measured:
-    """What crates and steps took: processor seconds of all of `rt ci` but wrong bodies, and of each step beside it."""
+    """What crates and steps took: processor seconds of all of `rt ci`, and of each step beside it but trials of wrong bodies."""
 
     crates: dict[str, Cost] = field(default_factory=dict)
     whole: int = 0
@@ -45,10 +44,8 @@ class Measured:
 
 def read(page: str) -> Measured:
     crates, steps = CRATES.search(page), STEPS.search(page)
-    costs = {name: Cost(int(proof), int(tests), float(memory)) for name, proof, tests, _, memory in ROW.findall(crates[0] if crates else "")}
-    edits = EDITS.search(crates[0]) if crates else None
-    whole = int(crates[1]) - (int(edits[1]) if edits else 0) if crates else 0
-    return Measured(costs, whole, {name: int(seconds) for name, seconds in STEP.findall(steps[0] if steps else "")})
+    costs = {name: Cost(int(proof), int(tests), float(memory)) for name, proof, tests, memory in ROW.findall(crates[0] if crates else "")}
+    return Measured(costs, int(crates[1]) if crates else 0, {name: int(seconds) for name, seconds in STEP.findall(steps[0] if steps else "")})
 
 
 def noted(path: str = NOTED) -> Measured:

@@ -28,6 +28,11 @@ def toolchain() -> str:
     return subprocess.run(["rt", "version"], capture_output=True, text=True, check=True).stdout.strip()
 
 
+def kit() -> str:
+    """Returns the folder of the toolchain: that of the page which is read first."""
+    return os.path.dirname(subprocess.run(["rt", "doc"], capture_output=True, text=True, check=True).stdout.strip())
+
+
 def logic() -> str:
     """Returns the sum of the toolchain's logic, by which each verdict names what it is proved in."""
     return toolchain().partition(" logic ")[2] or toolchain()

@@ -34,7 +34,11 @@ class Sweep(Step):
         return {*PROGRAMS, *super().needs()}
 
 
-# Every crate is proved, from nothing except what the toolchain keeps of earlier runs on the machine, and wrong bodies are tried.
+class Trial(Step):
+    """A step that tries wrong bodies of a crate, once that is proved."""
+
+
+# Every crate is proved, from nothing except what the toolchain keeps of earlier runs on the machine.
 PROVING = Step(".ci/time-and-memory rt ci", limit=40_000, idle=1_800)
 
 # What the repository says of itself. None of this needs a proof or a built program.

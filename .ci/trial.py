@@ -1,5 +1,5 @@
 """Tries wrong bodies in a copy of the repository: what their crates use is built, then each crate's edits are tried, as many crates at once
-as processors and memory allow."""
+as processors and memory allow; or those of crates that `rt ci` has proved, over what it has built."""
 import contextlib
 import os
 import tempfile
@@ -9,7 +9,7 @@ from concurrent.futures import Future, ThreadPoolExecutor
 from typing import TypeVar
 
 import measured
-from batch_edits import Room
+from batch_edits import Built, Room
 from wrong_bodies import Edits, by_crate
 
 Result = TypeVar("Result")
@@ -87,3 +87,15 @@ def attempt(repository: Edits, edits: Collection[str]) -> int:
     left = sorted({*edits} - refused.keys())
     print("\n".join([*(f"{it}: NOT REFUSED" for it in left), f"{len(refused)} of {len(edits)} edits refused"]))
     return 1 if left else 0
+
+
+def attempt_built(repository: Edits, edits: Collection[str]) -> int:
+    """Tries these edits over what `rt ci` has built in the repository's folder, and says of each whether it is refused; returns the status."""
+    refused: dict[str, int] = {}
+    for crate, its in by_crate(edits).items():
+        with tempfile.TemporaryDirectory(prefix="wrong-bodies-") as folder:
+            room, names = Built(repository, crate, folder), {repository.edits[it]: it for it in its}
+            refused |= {names[it]: round(room.took[it]) for it in room.refused_each([*names])}
+    print("\n".join(f"wrong body {it}: {f'refused, {refused[it]} s' if it in refused else 'NOT REFUSED'}" for it in edits))
+    print(f"{len(refused)} passed, {len(edits) - len(refused)} failed")
+    return int(len(refused) < len(edits))

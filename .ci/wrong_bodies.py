@@ -27,10 +27,10 @@ from repository import Repository, logic, text_of, write
 
 RECORD = ".ci/wrong.record"
 DRAWN = 3
-BUDGET = 500  # seconds of each processor
+BUDGET = 250  # seconds of each processor
+PART = 3  # a trial takes as many times less than its crate's proof
 RECENT = 4 * 60 * 60  # seconds: what changed in them is tried always
-REFUSED = re.compile(r"^rt: must-fail (\w+)/([\w.-]+)\.edit: refused, as it must be", re.M)
-TOOK = re.compile(r"^edit (\w+/[\w.-]+) took (\d+) s$", re.M)
+REFUSED = re.compile(r"^wrong body (\w+/[\w.-]+): refused, (\d+) s$", re.M)
 WRONG = "crates/*/wrong/*.edit"
 
 
@@ -181,16 +181,10 @@ class Edits(Repository):
         return sorted(self.due, key=lambda it: (self.recorded[it].tried if it in self.recorded else "", it))
 
     def seconds_of(self, edits: Collection[str]) -> int:
-        """Returns the processor seconds that a trial of these edits by `rt ci` is likely to take. Each takes what it took when it was last tried,
-        and as long as its crate's proof where that isn't known. A crate of which several are tried is proved once more for them all; one that
-        is tried alone is tried from nothing."""
-        total = 0
-        for crate, its in by_crate(edits).items():
-            proof = self.costs.of(crate).proof
-            lines = [self.recorded.get(it, Line("")) for it in its]
-            own = sum(proof if it.seconds is None else it.seconds for it in lines)
-            total += proof + own if len(its) > 1 else max(proof, own)
-        return total
+        """Returns the processor seconds that a trial of these edits is likely to take, once their crates are proved: of each what it took when it was
+        last tried, and a part of its crate's proof where that isn't known."""
+        lines = {it: self.recorded.get(it, Line("")) for it in edits}
+        return sum(self.costs.of(crate_of(it)).proof // PART if line.seconds is None else line.seconds for it, line in lines.items())
 
     def choice(self, budget: int | None = None) -> Choice:
         """Returns what a run of the gate tries, by a budget of processor seconds, else by the share of each processor. The oldest of those that are
@@ -292,6 +286,5 @@ def name_of(path: str) -> str:
 
 
 def refused_in(said: str) -> dict[str, int | None]:
-    """Returns the edits that a log of `rt ci` reports as refused, with the seconds that .ci/time-and-memory says of them."""
-    took = {edit: int(seconds) for edit, seconds in TOOK.findall(said)}
-    return {it: took.get(it) for crate, name in REFUSED.findall(said) for it in [f"{crate}/{name}"]}
+    """Returns the edits that are refused by what a run of the gate says, with the seconds that each took."""
+    return {edit: int(seconds) for edit, seconds in REFUSED.findall(said)}
