@@ -6,6 +6,7 @@ runs, a quarter as many others do as there are processors, and then one fewer th
 The first step that fails is named at once; the others are ended then, unless --go-on is given.
 
 With --record the lines of the wrong bodies that are refused are written into the record."""
+import compileall
 import json
 import os
 import re
@@ -30,6 +31,7 @@ SUPERVISED = os.path.join(os.path.dirname(os.path.realpath(__file__)), "supervis
 JOB = 6e9  # bytes that a process may hold
 ROOM = 10e9  # bytes of disk that must be free
 LOG = "proof.log"  # in a step's words the log of `rt ci`
+PYTHON = ("companions", "checks", ".ci", "bench")  # the folders of modules
 COUNTED = re.compile(r"^(\d+) passed, (\d+) failed", re.M)
 
 
@@ -64,6 +66,7 @@ class Runner:
 
     def __init__(self, room: str, processors: int, goes_on: bool = False) -> None:
         self.room, self.processors, self.goes_on = room, processors, goes_on
+        self.environment = {**os.environ, "TMPDIR": room}
         self.began, self.signal = time.monotonic(), 0
         self.children: set[subprocess.Popen[bytes]] = set()
         self.results: list[Result] = []
@@ -81,7 +84,7 @@ class Runner:
         words = [os.path.join(os.path.dirname(job.output), LOG) if it == LOG else it for it in job.step.words()]
         with open(job.output, "wb") as output:
             child = subprocess.Popen([sys.executable, "-B", SUPERVISED, told, str(os.getpid()), *limits, *words], cwd=job.folder,
-                                     env={**os.environ, "TMPDIR": self.room}, stdin=subprocess.DEVNULL, stdout=output,
+                                     env=self.environment, stdin=subprocess.DEVNULL, stdout=output,
                                      stderr=subprocess.STDOUT, start_new_session=True)
         self.children.add(child)
         status = child.wait()
@@ -206,6 +209,14 @@ class Gate:
         os.chmod(folder, 0o711)  # `rt ci` runs programs as nobody
         os.mkdir(self.runner.room)
         os.chmod(self.runner.room, 0o1777)
+        self.own_python()
+
+    def own_python(self) -> None:
+        """Has steps find the Python that runs the gate in front of what a manager of versions puts there, which takes longer to begin than most
+        scripts."""
+        os.mkdir(f"{self.folder}/bin")
+        os.symlink(sys.executable, f"{self.folder}/bin/python3")
+        self.runner.environment["PATH"] = f"{self.folder}/bin{os.pathsep}{os.environ['PATH']}"
 
     def jobs(self, edits: list[str]) -> list[Job]:
         root = os.getcwd()
@@ -228,6 +239,8 @@ class Gate:
         print(expected(choice, costs, edits, self.runner.processors))
         print(f"{choice.words()}\n{' '.join(choice.tried())}\n{edits.words_on(choice.left)}", flush=True)
         edits.copy(self.copy)
+        for folder in filter(os.path.isdir, (f"{self.copy}/{it}" for it in PYTHON)):
+            compileall.compile_dir(folder, quiet=2)  # hundreds of processes begin with these modules
         try:
             self.runner.run(self.jobs(choice.tried()))
         finally:
