@@ -1,6 +1,8 @@
-//! The instructions of a System/370 subset: their table, their spelling as bytes, and disassembly.
+//! The instructions of a System/370 subset: their table, their spelling as bytes, and disassembly; and the state of the
+//! processor that performs them.
 #![tactic(auto)]
 
+mod cpu;
 mod disassembly;
 mod image;
 mod instruction;
@@ -9,6 +11,7 @@ mod spelling;
 mod table;
 mod text;
 
+pub use cpu::Cpu;
 pub use disassembly::{Line, LineContent, disassemble};
 pub use image::{Bytes, Image, Offsets, Span, SpanKind};
 pub use instruction::{Fields, Inst};

@@ -2,7 +2,7 @@
 use Rattle.cx_storage.specs.Address.{address_in}
 use Rattle.std.specs.Prelude.{ℕ, ◌+◌, List, ◌==◌, slice_index, if◌then◌else◌}
 use Rattle.cx_storage.specs.Storage.{Storage}
-use Rattle.cx_exec.specs.declared.machine.Cpu.{Cpu}
+use Rattle.cx_code.specs.declared.cpu.Cpu.{Cpu}
 use Rattle.cx_exec.specs.declared.machine.Interruption.{Interruption}
 use Rattle.cx_exec.specs.declared.machine.Interruption.TheVariants as interruption
 

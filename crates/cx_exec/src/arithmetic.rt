@@ -3,9 +3,10 @@
 ghost use Rattle.std.specs.Prelude.{◌≡◌, false, ◌<◌, ◌^◌, ◌+ℤ◌, ◌-ℤ◌, neg_ℤ, Ok, slice_set};
 ghost use Rattle.cx_exec.specs.Numbers.{signed_word, word_of, fits_word, sum_code};
 
-use crate::machine::{Cpu, Performed, Updated};
+use crate::machine::{Performed, Updated};
 use crate::numbers::{sign_code, word_of};
 use crate::results::load_coded;
+use cx_code::Cpu;
 
 /// The exact sum of two words.
 pub(crate) fn sum(first: u32, second: u32) -> i64

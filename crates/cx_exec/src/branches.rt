@@ -4,7 +4,8 @@ ghost use Rattle.std.specs.Prelude.{◌≡◌, ◌<◌, ◌≤◌, ◌^◌, Ok, 
 ghost use Rattle.cx_exec.specs.Branches.{less_one};
 ghost use Rattle.cx_exec.specs.Branches.{mask_bit, selects, link_word, branch_address};
 
-use crate::machine::{Cpu, Performed, Updated};
+use crate::machine::{Performed, Updated};
+use cx_code::Cpu;
 use cx_storage::address_in;
 
 /// Whether a mask has the bit of a condition code.

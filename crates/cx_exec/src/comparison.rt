@@ -7,10 +7,11 @@ ghost use Rattle.cx_exec.specs.Numbers.{signed_word, order_code};
 ghost use Rattle.cx_exec.specs.Comparison.{ComparesStrings};
 
 use crate::addresses::Addresses;
-use crate::machine::{Cpu, Interruption, Performed, Updated};
+use crate::machine::{Interruption, Performed, Updated};
 use crate::numbers::{eight_at, order_code};
 use crate::operands::of_length;
 use crate::results::set_code;
+use cx_code::Cpu;
 use cx_storage::Store;
 
 /// The code of two words compared as signed numbers.

@@ -6,9 +6,10 @@ ghost use Rattle.cx_exec.specs.Machine.{machine};
 ghost use Rattle.cx_exec.specs.Numbers.{signed_word, fits_word};
 ghost use Rattle.cx_exec.specs.Decimal.{half, AreDigits, IsDecimal, first_digits, is_minus, decimal_number, IsReadAs, Converts, CvbEffect, decimal_bytes, CvdEffect};
 
-use crate::machine::{Cpu, Interruption, Performed, Updated};
+use crate::machine::{Interruption, Performed, Updated};
 use crate::numbers::word_of;
 use crate::operands::put_bytes;
+use cx_code::Cpu;
 use cx_storage::Store;
 
 /// The `i`-th half byte (`i` is below 16) of 8 bytes, from the left.

@@ -5,9 +5,10 @@ ghost use Rattle.cx_storage.specs.Storage.{Storage};
 ghost use Rattle.cx_exec.specs.Machine.{machine};
 ghost use Rattle.cx_exec.specs.Division.{IsDivision, DividesRegisters};
 
-use crate::machine::{Cpu, Interruption, Performed, Updated};
+use crate::machine::{Interruption, Performed, Updated};
 use crate::numbers::{signed, signed_double, word_of};
 use crate::results::pair;
+use cx_code::Cpu;
 
 /// The quotient and the remainder; None where no quotient that a word holds exists, as for a divisor
 /// of zero.

@@ -34,7 +34,8 @@ mod watched;
 mod words;
 mod zoned;
 
-pub use machine::{Cpu, ENTRY, Halt, Interruption, Step, Updated};
+pub use cx_code::Cpu;
+pub use machine::{ENTRY, Halt, Interruption, Step, Updated};
 pub use runs::advance;
 pub use stepping::step;
 pub use tallied::{Tally, advance_tallied};

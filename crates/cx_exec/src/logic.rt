@@ -5,8 +5,9 @@ ghost use Rattle.cx_exec.specs.Numbers.{number_of};
 ghost use Rattle.cx_exec.specs.Machine.{machine};
 ghost use Rattle.cx_exec.specs.Logic.{logical_code, test_code, StoresLogical};
 
-use crate::machine::{Cpu, Performed, Updated};
+use crate::machine::{Performed, Updated};
 use crate::operands::{put_apart, put_coded_at_hand};
+use cx_code::Cpu;
 use cx_storage::Store;
 
 /// The condition code of a logical result.

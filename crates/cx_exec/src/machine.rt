@@ -1,24 +1,9 @@
-//! The processor's state, and how a step or a run can end.
-
-ghost use Rattle.std.specs.Prelude.{◌<◌, ◌≤◌, ◌^◌};
+//! How a step or a run can end, and what an instruction updates.
 
 use std::marker::Model;
 
 /// The address at which execution stops: the entry to the region. No storage is there.
 pub const ENTRY: u32 = 0x800;
-
-/// A processor: sixteen registers of 32 bits, the condition code (0 to 3), and the address of the next
-/// instruction (below 2^24).
-///
-/// Principles of Operation, GA22-7000, "Program Status Word", "General Registers".
-#[derive(Drop)]
-pub struct Cpu {
-    pub regs: [u32; 16],
-    pub cc: u8,
-    pub next: u32,
-    pub ghost code: { cc ≤ 3 },
-    pub ghost address: { next < 2 ^ 24 },
-}
 
 /// A program interruption (Principles of Operation, GA22-7000, "Program Interruption"). Of several causes `step` says
 /// which is taken.

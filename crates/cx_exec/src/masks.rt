@@ -5,9 +5,10 @@ ghost use Rattle.cx_exec.specs.Machine.{machine};
 ghost use Rattle.cx_exec.specs.Masks.{byte_of, mask_selects, selected_bytes, inserted_byte, word_inserted, insert_code, IcmEffect, StcmEffect};
 
 use crate::logic::is_zero;
-use crate::machine::{Cpu, Interruption, Performed, Updated};
+use crate::machine::{Interruption, Performed, Updated};
 use crate::operands::{put_bytes, put_fast};
 use crate::results::load_coded;
+use cx_code::Cpu;
 use cx_storage::Store;
 
 /// A register, below 16, and the mask of its bytes: 8 stands for the leftmost byte, 4, 2 and 1 for those after it.

@@ -4,9 +4,10 @@ ghost use Rattle.std.specs.Prelude.{◌≡◌, ◌<◌, ◌^◌, ◌+◌, ◌*�
 ghost use Rattle.cx_exec.specs.Numbers.{signed_word, double_of};
 ghost use Rattle.cx_exec.specs.Results.{with_pair};
 
-use crate::machine::{Cpu, Performed, Updated};
+use crate::machine::{Performed, Updated};
 use crate::numbers::double_of;
 use crate::results::load_pair;
+use cx_code::Cpu;
 
 /// The exact product of two words.
 fn product(first: u32, second: u32) -> i64

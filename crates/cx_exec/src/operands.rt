@@ -9,9 +9,10 @@ ghost use Rattle.cx_exec.specs.Machine.{machine};
 ghost use Rattle.cx_exec.specs.Operands.{extended_at, Stores};
 ghost use Rattle.cx_exec.specs.Parts.{IsPresentOperand};
 
-use crate::machine::{Cpu, Interruption, Performed, Updated};
+use crate::machine::{Interruption, Performed, Updated};
 use crate::numbers::extended;
 use byteorder::{BigEndian, ByteOrder};
+use cx_code::Cpu;
 use cx_storage::Store;
 
 /// The byte at an address, or interruption 5.

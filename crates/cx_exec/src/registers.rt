@@ -7,9 +7,10 @@ ghost use Rattle.cx_exec.specs.Machine.{machine};
 ghost use Rattle.cx_exec.specs.Operands.{Stores};
 ghost use Rattle.cx_exec.specs.Registers.{place_after, register_count, words_at, loaded_registers, register_bytes, LoadsRegisters};
 
-use crate::machine::{Cpu, Performed, Updated};
+use crate::machine::{Performed, Updated};
 use crate::operands::{put_bytes, word_at};
 use byteorder::{BigEndian, ByteOrder};
+use cx_code::Cpu;
 use cx_storage::{Store, address_after};
 
 /// How many registers after the first one a given one comes, 0 following 15.

@@ -4,7 +4,8 @@
 ghost use Rattle.std.specs.Prelude.{◌≡◌, ◌<◌, ◌≤◌, ◌^◌, Ok, slice_set};
 ghost use Rattle.cx_exec.specs.Results.{pair, with_pair};
 
-use crate::machine::{Cpu, Performed, Updated};
+use crate::machine::{Performed, Updated};
+use cx_code::Cpu;
 
 /// Changes a register.
 pub(crate) fn load(cpu: &mut Cpu, r: u8, word: u32, updated: Updated) -> Performed

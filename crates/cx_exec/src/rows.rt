@@ -20,7 +20,7 @@ use crate::decimal::{cvb, cvd};
 use crate::division::divide;
 use crate::loads::inserted;
 use crate::logic::{logical_code, put_logical, test_code};
-use crate::machine::{Cpu, Interruption, Performed, Updated};
+use crate::machine::{Interruption, Performed, Updated};
 use crate::masks::{Masked, icm, stcm};
 use crate::multiplication::multiply;
 use crate::numbers::sign_code;
@@ -34,7 +34,7 @@ use crate::strings::{mvc, xc};
 use crate::translation::{tr, trt};
 use crate::words::{Row, second_row};
 use crate::zoned::{pack, unpk};
-use cx_code::Op;
+use cx_code::{Cpu, Op};
 use cx_storage::{Store, address_after};
 
 /// An address and what a register gives to it: register 0 gives zero.

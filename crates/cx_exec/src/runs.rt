@@ -5,14 +5,14 @@ ghost use Rattle.cx_exec.specs.Machine.{machine};
 ghost use Rattle.cx_exec.specs.Advance.{Passes, Advances};
 ghost use Rattle.cx_exec.specs.declared.machine.Halt.TheVariants as halt;
 
-use crate::machine::{Cpu, ENTRY, Halt};
+use crate::machine::{ENTRY, Halt};
 use crate::places::Place;
 use crate::rows::{
     half_rows, immediate_rows, in_group, indexed_rows, register_rows, register_storage_rows,
     strings_effect, word_result_rows, word_rows,
 };
 use crate::stepping::{execute_found, fetch_fast, step_slow};
-use cx_code::Op;
+use cx_code::{Cpu, Op};
 use cx_storage::Store;
 
 /// The most steps of a round.

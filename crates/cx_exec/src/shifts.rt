@@ -5,9 +5,10 @@ ghost use Rattle.cx_exec.specs.Numbers.{signed_word, word_of, sign_code, sum_cod
 ghost use Rattle.cx_exec.specs.Results.{pair, with_pair};
 ghost use Rattle.cx_exec.specs.Shifts.{shifted_right, shifted_left, floor_shifted, times_power, shifted_arithmetic};
 
-use crate::machine::{Cpu, Performed, Updated};
+use crate::machine::{Performed, Updated};
 use crate::numbers::{double_of, order_code, signed, signed_double, sum_code, word_of};
 use crate::results::{load_coded, load_pair, pair};
+use cx_code::Cpu;
 
 /// 2 to the power n.
 fn power(n: u8) -> u64

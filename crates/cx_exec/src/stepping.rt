@@ -15,11 +15,11 @@ ghost use Rattle.cx_exec.specs.Passages.{following, operand_in, target_of};
 ghost use Rattle.cx_exec.specs.Step.{entry, changed_copy, is_execute, target_at, updated_by, instruction_to_perform, Runs, Steps};
 
 use crate::fetch::code_at;
-use crate::machine::{Cpu, ENTRY, Interruption, Performed, Step, Updated};
+use crate::machine::{ENTRY, Interruption, Performed, Step, Updated};
 use crate::places::Place;
 use crate::prefix::{Prefix, fetched_prefix, op_in};
 use crate::rows::{effect, effective, indexed_of, strings_effect};
-use cx_code::{Fields, Inst, Op};
+use cx_code::{Cpu, Fields, Inst, Op};
 use cx_storage::{Store, address_after};
 
 /// An instruction to be performed, and what comes after it.

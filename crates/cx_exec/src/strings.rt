@@ -9,10 +9,11 @@ ghost use Rattle.cx_exec.specs.Strings.{moved_byte, xored_byte, MvcEffect, XcEff
 
 use crate::addresses::Addresses;
 use crate::logic::string_code;
-use crate::machine::{Cpu, Interruption, Performed, Updated};
+use crate::machine::{Interruption, Performed, Updated};
 use crate::operands::{fill_fast, of_length, put_bytes, put_coded, put_fast};
 use crate::repeats::repeat;
 use crate::sequence::{content_at, distance, is_present, seen};
+use cx_code::Cpu;
 use cx_storage::{Store, address_after};
 
 /// Puts the bytes that MVC stores at the front of the buffer.

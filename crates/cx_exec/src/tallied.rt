@@ -9,7 +9,7 @@ ghost use Rattle.cx_exec.specs.Passages.{following, operand_in, passage, target_
 ghost use Rattle.cx_exec.specs.Step.{Steps};
 ghost use Rattle.cx_exec.specs.Tallies.{IsTallied, tally_after, with_run};
 
-use crate::machine::{Cpu, ENTRY, Halt, Step};
+use crate::machine::{ENTRY, Halt, Step};
 use crate::places::Place;
 use crate::rows::{
     effective, half_rows, immediate_rows, in_group, indexed_of, indexed_rows, register_rows,
@@ -17,7 +17,7 @@ use crate::rows::{
 };
 use crate::stepping::{execute_found, fetch_fast, step_slow};
 use byteorder::{BigEndian, ByteOrder};
-use cx_code::{Op, instruction_length};
+use cx_code::{Cpu, Op, instruction_length};
 use cx_storage::{Store, address_after};
 
 /// The operation code of EX.

@@ -8,8 +8,9 @@ ghost use Rattle.cx_exec.specs.Translation.{table_byte, HasTable, translated_byt
 
 use crate::addresses::Addresses;
 use crate::loads::inserted;
-use crate::machine::{Cpu, Interruption, Performed, Updated};
+use crate::machine::{Interruption, Performed, Updated};
 use crate::sequence::{content_at, distance, is_present, seen};
+use cx_code::Cpu;
 use cx_storage::{Store, address_after};
 
 /// The table's byte for the `k`-th argument byte (`k` is at most 256), where both are present.

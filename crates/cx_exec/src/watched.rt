@@ -8,14 +8,14 @@ ghost use Rattle.cx_exec.specs.Parts.{IsNoted, NotesAll, NotesOn, NotesStep};
 ghost use Rattle.cx_exec.specs.Step.{Steps};
 ghost use Rattle.cx_exec.specs.Watches.{IsWatched};
 
-use crate::machine::{Cpu, ENTRY, Halt, Interruption, Step};
+use crate::machine::{ENTRY, Halt, Interruption, Step};
 use crate::places::Place;
 use crate::rows::{
     half_rows, immediate_rows, in_group, indexed_rows, register_rows, register_storage_rows,
     strings_effect, word_result_rows, word_rows,
 };
 use crate::stepping::{execute_found, fetch_fast, step_slow};
-use cx_code::Op;
+use cx_code::{Cpu, Op};
 use cx_storage::Store;
 use cx_storage::laws::store_is_sound;
 use std::alloc::AllocError;

@@ -7,11 +7,11 @@ ghost use Rattle.cx_exec.specs.Parts.{IsPresentOperand, takes_second, second_at}
 
 use crate::arithmetic::{difference, put_sum, sum};
 use crate::comparison::{logical_order, signed_order};
-use crate::machine::{Cpu, Interruption, Performed, Updated};
+use crate::machine::{Interruption, Performed, Updated};
 use crate::numbers::extended;
 use crate::operands::{halfword_slow, lent_halfword, lent_word, word_slow};
 use crate::results::{load, set_code};
-use cx_code::Op;
+use cx_code::{Cpu, Op};
 use cx_storage::Store;
 
 /// A row, and its register, which is below 16.

@@ -9,9 +9,10 @@ ghost use Rattle.cx_exec.specs.Zoned.{address_before, source, swap_halves, packe
 
 use crate::addresses::{Addresses, Ends, Lengths};
 use crate::digits::{align, pack_aligned, unpack_aligned};
-use crate::machine::{Cpu, Interruption, Performed, Updated};
+use crate::machine::{Interruption, Performed, Updated};
 use crate::operands::put_bytes;
 use crate::sequence::{distance, seen};
+use cx_code::Cpu;
 use cx_storage::{Store, address_after};
 
 /// The address `k` bytes (at most 256) before `a` (below 2^24); before 0 comes X'FFFFFF'.

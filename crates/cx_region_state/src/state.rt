@@ -2,8 +2,8 @@
 ghost use Rattle.std.specs.Prelude.{◌≡◌, ◌≤◌};
 
 use cx_base::List;
+use cx_code::Cpu;
 use cx_ebcdic::{Aid, Name4, Name8};
-use cx_exec::Cpu;
 use cx_load::Loaded;
 use cx_program::LevelStack;
 use cx_service::{Enqueues, Queues, Screen};
