@@ -66,7 +66,7 @@ class Runner:
 
     def __init__(self, room: str, processors: int, goes_on: bool = False) -> None:
         self.room, self.processors, self.goes_on = room, processors, goes_on
-        self.environment = {**os.environ, "TMPDIR": room}
+        self.environment = {**os.environ, **measured.one_job_each(), "TMPDIR": room}
         self.began, self.signal = time.monotonic(), 0
         self.children: set[subprocess.Popen[bytes]] = set()
         self.results: list[Result] = []

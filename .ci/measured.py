@@ -5,6 +5,7 @@ from dataclasses import dataclass, field
 
 from repository import Repository, text_of, write
 
+HELD = 4.5  # GB, of which a proof that has one job holds less
 NOTED = os.path.join(os.path.dirname(os.path.realpath(__file__)), "MEASURED.md")
 CRATES = re.compile(r"^\| Crate \| Proof, s \|.*\n(?:\|.*\n)+processor seconds: (\d+).*\n", re.M)
 STEPS = re.compile(r"^\| Step \| Processor, s \|.*\n(?:\|.*\n)+", re.M)
@@ -77,3 +78,9 @@ def available() -> float:
 
 def processors() -> int:
     return len(os.sched_getaffinity(0))
+
+
+def one_job_each() -> dict[str, str]:
+    """Returns the setting by which `rt ci` gives each proof one job, as many proofs at once as processors and memory allow. Without it a proof
+    that begins gets the processors that are idle then: each of its jobs loads all for itself, and a longer chain waits for them."""
+    return {"RT_JOBS": str(max(1, min(processors(), int(available() / HELD))))}

@@ -20,7 +20,7 @@ from tests.case import TestCase, expect
 from tests.film.trials import Data, data_of, lines_to, page, page_or_line, scripts, states_of, text_of
 
 DRAWN, CHANGED = 200, 150  # events; scripts of examples with changed lines
-ROOM = 7_000_000  # bytes of a page's data, in the place of four times as many
+ROOM = 16_000_000  # bytes of a page's data
 HOSTILE = "</script><script>document.title='run'</script><img src=x onerror=\"document.title='run'\">&amp;&lt;'\"\\"
 
 
@@ -155,9 +155,9 @@ class DataTest(TestCase):
     def test_long_runs_are_quick(self) -> None:
         """1,000 events; the last ones of more, here 2,000 in the place of 10,000; and a page whose differences are large is cut to its size."""
         expect("how many events are kept", MOST_EVENTS == 10_000, MOST_EVENTS)
-        for source, turns, limit, kept in ((QUIET, 1_000, 15, 1_004), (QUIET, 2_500, 40, 2_000), (BUSY, 950, 15, None)):
+        for source, turns, most, limit, kept in ((QUIET, 1_000, MOST_EVENTS, 15, 1_004), (QUIET, 2_500, 2_000, 40, 2_000), (BUSY, 2_100, MOST_EVENTS, 35, None)):
             began = seconds_taken()
-            with unittest.mock.patch("cics.film.command.MOST_EVENTS", 2_000):
+            with unittest.mock.patch("cics.film.command.MOST_EVENTS", most):
                 film = filmed("long", loop(source) + "TURN T001\n" * turns, PROGRAM)
             expect(f"{turns} turns are filmed", len(film.events) == (kept or turns + 4), len(film.events))
             expect("registers at lines", any(it.arrivals for it in film.events) == (turns < 2_000 and has_look(PROGRAM, "AHEAD TERM AT A 1")), turns)

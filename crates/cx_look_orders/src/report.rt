@@ -1,11 +1,11 @@
 //! The report of ORDERS.
 
-ghost use Rattle.std.specs.Prelude.{◌≡◌, ◌≤◌, ◌++◌, IfOk, MatchBool, None, OnOk, length};
+ghost use Rattle.std.specs.Prelude.{◌≡◌, ◌≤◌, ◌++◌, IfOk, MatchBool, MatchOption, None, OnOk, length};
 ghost use Rattle.cx_look_orders.specs.Outcomes.{AllCanRest, AreOutcomes, HasStates, IsStuck, MayLoop};
 ghost use Rattle.cx_look_orders.specs.Report.{OrdersText, cut_line, loop_lines, outcome_lines, number_line, outcomes_lines, stuck_line, when_words, whole_line};
 ghost use Rattle.std.specs.Option.{option_copied};
 ghost use Rattle.cx_orders.specs.Moves.{Moves, begun};
-ghost use Rattle.cx_search.specs.Finds.{Finds, IsWhole};
+ghost use Rattle.cx_search.specs.Finds.{Finds, FindsNearest, IsWhole};
 
 use crate::outcomes::{Outcome, Searched, outcomes_of};
 use crate::script::script_lines;
@@ -299,6 +299,72 @@ fn cut_report<S: Store + Drop>(
     Ok(report)
 }
 
+/// What is written of the states that a search from a region's state found: of all, or, where it was cut, of those of the
+/// lists of at most so many moves.
+///
+/// An error comes only where memory was refused.
+fn found_text<S: Store + Drop, V: Seen<S>>(
+    searched: &Searched<S, V>,
+    work: &mut Region<S>,
+    edf: &[Name4],
+    most: usize,
+    cut: Option<usize>,
+) -> Result<Report, AllocError>
+    requires finds { Finds (Moves searched.now.orders.now.keys) (begun searched.now.region.now)
+        searched.now.found.now.states.entries }
+    requires reaches { MatchOption cut
+        (IsWhole (Moves searched.now.orders.now.keys) (begun searched.now.region.now)
+        searched.now.found.now.states.entries searched.now.found.now.links.items)
+        (λ moves. FindsNearest (Moves searched.now.orders.now.keys) (begun searched.now.region.now)
+        searched.now.found.now.states.entries most moves) }
+    requires few { length searched.now.found.now.states.entries ≤ most }
+    ensures { IfOk result (OrdersText (V.shows searched.now.seen.now) (V.tells searched.now.seen.now)
+        searched.now.orders.now.keys searched.now.region.now edf.now most) }
+{
+    one_list_is_sooner();
+    let Some(moves) = cut else {
+        let whole = whole_of(searched, work)?;
+        return whole_report(searched.region, searched.orders, edf, &whole);
+    };
+    let outcomes = outcomes_of(searched, work, Some(moves))?;
+    cut_report(
+        searched.region,
+        searched.orders,
+        edf,
+        most,
+        moves,
+        outcomes.as_slice(),
+    )
+}
+
+// What a function owns is dropped at each of its ends, by a proof of its own: what owns a region has few ends.
+
+/// What is written of a search from a snapshot of a region, in a working region.
+///
+/// An error comes only where memory was refused.
+fn searched_text<S: Store + Drop, V: Seen<S>>(
+    region: &Region<S>,
+    orders: &Orders<S>,
+    most: usize,
+    edf: &[Name4],
+    seen: &V,
+    start: RegionSnapshot,
+    work: &mut Region<S>,
+) -> Result<Report, AllocError>
+    requires most { 1 ≤ most }
+    requires same { start ≡ region.now }
+    ensures { IfOk result (OrdersText (V.shows seen.now) (V.tells seen.now) orders.now.keys region.now edf.now most) }
+{
+    let end = orders.search(start, most, work)?;
+    let searched = Searched {
+        region,
+        orders,
+        found: &end.found,
+        seen,
+    };
+    found_text(&searched, work, edf, most, end.cut)
+}
+
 /// What is written of every order of a region's turns and the keys of `orders`, of at most `most` states, 1 or more:
 /// how many states can be come to and how many outcomes there are; of each outcome what is to be seen, and a script
 /// that leads there; and whether some orders never rest, and some can't. The script begins with a line that ends EDF at
@@ -315,20 +381,7 @@ pub fn orders_text<S: Store + Drop, V: Seen<S>>(
     requires { 1 ≤ most }
     ensures { IfOk result (OrdersText (V.shows seen.now) (V.tells seen.now) orders.now.keys region.now edf.now most) }
 {
-    one_list_is_sooner();
     let start = RegionSnapshot::take(orders.alloc, region, None)?;
     let mut work = start.region_in(orders.alloc, region.shared().store.emptied())?;
-    let end = orders.search(start, most, &mut work)?;
-    let searched = Searched {
-        region,
-        orders,
-        found: &end.found,
-        seen,
-    };
-    let Some(moves) = end.cut else {
-        let whole = whole_of(&searched, &mut work)?;
-        return whole_report(region, orders, edf, &whole);
-    };
-    let outcomes = outcomes_of(&searched, &mut work, Some(moves))?;
-    cut_report(region, orders, edf, most, moves, outcomes.as_slice())
+    searched_text(region, orders, most, edf, seen, start, &mut work)
 }
