@@ -1,6 +1,6 @@
 //! Steps: what each move of a list is.
 
-ghost use Rattle.std.specs.Prelude.{◌≡◌, IfOk, None, option_map, slice_get};
+ghost use Rattle.std.specs.Prelude.{◌≡◌, IfOk, None, get_or, option_map, slice_get};
 ghost use Rattle.cx_look_orders.specs.Parts.Ways.{AreFirstSteps, AreStepsOf, IsStepBetween, IsTold, came_between};
 ghost use Rattle.cx_orders.specs.Moves.{Moves, begun};
 ghost use Rattle.cx_orders.specs.declared.states.OrdersState.{OrdersState as TheState};
@@ -31,14 +31,24 @@ pub struct Step {
     pub told: Option<List<u8>>,
 }
 
+/// How many keys of the terminal with that number came: none, where it has no count.
+fn many_came(come: &[usize], number: usize) -> usize
+    ensures { result ≡ get_or come.now number 0 }
+{
+    come.get(number).copied().unwrap_or(0)
+}
+
 /// How many keys of a terminal had come before one that came between, by how many of each terminal came before and
 /// after; `None` where none did.
 fn came_between(before: &[usize], after: &[usize], number: usize) -> Option<usize>
     ensures { result ≡ came_between before.now after.now number }
 {
     let came = *before.get(number)?;
-    let now = after.get(number).copied().unwrap_or(0);
-    if now == came { None } else { Some(came) }
+    if many_came(after, number) == came {
+        None
+    } else {
+        Some(came)
+    }
 }
 
 /// The name of the terminal with that number.
