@@ -1,12 +1,15 @@
 //! The report of CHOICES.
 
-ghost use Rattle.std.specs.Prelude.{◌≡◌, ◌<◌, ◌≤◌, ◌+◌, ◌++◌, ◌^◌, IfOk, OnOk, slice_get};
+ghost use Rattle.std.specs.Prelude.{◌≡◌, ◌<◌, ◌≤◌, ◌+◌, ◌++◌, ◌^◌, IfOk, OnOk, length, slice_get};
 ghost use Rattle.std.specs.Fmt.{decimal};
 ghost use Rattle.std.specs.List.{flat_map};
 ghost use Rattle.std.specs.Option.{option_copied};
+ghost use Rattle.cx_choices.specs.Moves.{Goes, begun};
 ghost use Rattle.cx_look_choices.specs.Parts.Ways.{arrow_line, cut_report, limit_of, report_of, whole_report};
 ghost use Rattle.cx_look_choices.specs.Report.{ChoicesText, arrow_lines, came_after, closed_words, cut_line, number_words, row_lines, rows_lines, screen_lines, screens_words, state_line, states_lines, target_word, trouble_lines, troubles_lines, whole_line};
 ghost use Rattle.cx_look_lines.specs.Words.{with_blanks};
+ghost use Rattle.cx_search.specs.Finds.{Finds};
+ghost use Rattle.cx_search.specs.Within.{Reaches};
 
 use crate::lists::list_lines;
 use crate::rows::{Arrow, Rows, StateRow, rows_of};
@@ -16,7 +19,7 @@ use cx_look_lines::{Report, decimal, push_words};
 use cx_look_orders::{Seen, incident_lines};
 use cx_region::Region;
 use cx_region_snapshot::RegionSnapshot;
-use cx_search::Reach;
+use cx_search::{Found, Reach};
 use cx_storage::Store;
 use std::alloc::{AllocError, Global};
 
@@ -378,6 +381,73 @@ fn report_of<S: Store + Drop>(
     }
 }
 
+/// What is written of the states that a search from a region's state found, and how far it came.
+///
+/// An error comes only where memory was refused.
+fn found_text<S: Store + Drop, V: Seen<S>>(
+    region: &Region<S>,
+    choices: &Choices<S>,
+    keys: usize,
+    most: usize,
+    edf: &[Name4],
+    seen: &V,
+    found: &Found<Choices<S>>,
+    reach: Reach,
+    work: &mut Region<S>,
+) -> Result<Report, AllocError>
+    requires finds { Finds (Goes choices.now.choices.items choices.now.one_number) (begun region.now)
+        found.now.states.entries }
+    requires few { length found.now.states.entries ≤ most }
+    requires reaches { Reaches (Goes choices.now.choices.items choices.now.one_number) (begun region.now)
+        found.now.states.entries found.now.links.items most keys reach }
+    ensures { IfOk result (ChoicesText (V.shows seen.now) choices.now.choices.items choices.now.one_number region.now
+        edf.now keys most) }
+{
+    let at = limit_of(reach, keys);
+    let rows = rows_of(region, choices, found, at, seen, work)?;
+    let written = Written {
+        region,
+        choices,
+        edf,
+        rows: &rows,
+    };
+    report_of(&written, reach, keys, most)
+}
+
+// What a function owns is dropped at each of its ends, by a proof of its own: what owns a region has few ends.
+
+/// What is written of a search from a snapshot of a region, in a working region.
+///
+/// An error comes only where memory was refused.
+fn searched_text<S: Store + Drop, V: Seen<S>>(
+    region: &Region<S>,
+    choices: &Choices<S>,
+    keys: usize,
+    most: usize,
+    edf: &[Name4],
+    seen: &V,
+    start: RegionSnapshot,
+    work: &mut Region<S>,
+) -> Result<Report, AllocError>
+    requires most { 1 ≤ most }
+    requires same { start ≡ region.now }
+    ensures { IfOk result (ChoicesText (V.shows seen.now) choices.now.choices.items choices.now.one_number region.now
+        edf.now keys most) }
+{
+    let near = choices.search(start, most, keys, work)?;
+    found_text(
+        region,
+        choices,
+        keys,
+        most,
+        edf,
+        seen,
+        &near.found,
+        near.reach,
+        work,
+    )
+}
+
 /// What is written of every list of at most `keys` of the keys of `choices`, from a region on, of at most `most`
 /// states, 1 or more: how many states they lead to, and whether longer lists lead to more; the keys that abend a task
 /// or are refused; and of each state the soonest list that leads there, as a script, where each key leads from there,
@@ -398,14 +468,5 @@ pub fn choices_text<S: Store + Drop, V: Seen<S>>(
 {
     let start = RegionSnapshot::take(choices.alloc, region, None)?;
     let mut work = start.region_in(choices.alloc, region.shared().store.emptied())?;
-    let near = choices.search(start, most, keys, &mut work)?;
-    let at = limit_of(near.reach, keys);
-    let rows = rows_of(region, choices, &near.found, at, seen, &mut work)?;
-    let written = Written {
-        region,
-        choices,
-        edf,
-        rows: &rows,
-    };
-    report_of(&written, near.reach, keys, most)
+    searched_text(region, choices, keys, most, edf, seen, start, &mut work)
 }

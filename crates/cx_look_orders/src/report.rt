@@ -299,8 +299,8 @@ fn cut_report<S: Store + Drop>(
     Ok(report)
 }
 
-/// What is written of the states that a search from a region's state found: of all, or, where it was cut, of those of the
-/// lists of at most so many moves.
+/// What is written of the states that a search from a region's state found: of all, or, where it was cut, of those of
+/// the lists of at most so many moves.
 ///
 /// An error comes only where memory was refused.
 fn found_text<S: Store + Drop, V: Seen<S>>(
