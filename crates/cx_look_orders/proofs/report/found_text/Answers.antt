@@ -1,4 +1,4 @@
-use Rattle.std.proofs.Common.{◌≡◌, ℕ, ◌++◌, Option, None, Some, inl, inr, length, arith, subst}
+use Rattle.std.proofs.Common.{◌≡◌, ℕ, ◌++◌, Option, inl, inr, length, arith, subst}
 use Rattle.std.specs.Prelude.{MatchOption}
 use Rattle.cx_search.specs.Finds.{FindsNearest, IsWhole}
 use Rattle.cx_orders.specs.Moves.{Moves, begun}
