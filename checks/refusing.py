@@ -156,7 +156,8 @@ class Tries:
 
     def ended(self, nth: int) -> Ended:
         """How the run ends if the call of that number fails, which comes after the one that was asked for last."""
-        os.write(self.asks, b"%d\n" % nth)
+        with contextlib.suppress(BrokenPipeError):  # it has ended: then there is no answer
+            os.write(self.asks, b"%d\n" % nth)
         line = os.read(self.answers, 64) if select.select([self.answers], [], [], SECONDS)[0] else None
         if not line:
             why = f"no end within {SECONDS:g} seconds" if line is None else "the run ended in front of it"
