@@ -11,8 +11,8 @@ use Rattle.cx_orders.specs.declared.states.KeyLine.{KeyLine}
 use Rattle.cx_choices.specs.Moves.{Goes, begun}
 use Rattle.cx_choices.specs.declared.states.ChoicesState.{ChoicesState}
 use Rattle.cx_look_lines.specs.Words.{Lines}
-use Rattle.cx_look_orders.specs.Facts.Items.{item_too}
-use Rattle.cx_look_orders.specs.Laws.{ScriptsAskForSteps}
+use Rattle.cx_look_steps.specs.Facts.Items.{item_too}
+use Rattle.cx_look_steps.specs.Laws.{ScriptsAskForSteps}
 use Rattle.cx_look_choices.specs.Laws.{PressesAreRuns, PressesLead}
 use Rattle.cx_look_choices.specs.Presses.{ArePresses, IsPress, key_pressed, keys_pressed, moves_of, steps_of}
 use Rattle.cx_look_choices.specs.Rows.{AreRows, IsArrow, IsOneOf, IsPlace, IsRow}

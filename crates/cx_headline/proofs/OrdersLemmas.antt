@@ -14,11 +14,12 @@ use Rattle.cx_orders.specs.declared.states.Keys.{Keys}
 use Rattle.cx_orders.specs.declared.states.OrdersState.{OrdersState}
 use Rattle.cx_look_lines.specs.Words.{Lines}
 use Rattle.cx_look_orders.specs.Facts.Outcomes.{texts_stand_once}
-use Rattle.cx_look_orders.specs.Laws.{LoopsAreEndless, ScriptsAskForSteps, StepsAreRuns}
+use Rattle.cx_look_orders.specs.Laws.{LoopsAreEndless}
+use Rattle.cx_look_steps.specs.Laws.{ScriptsAskForSteps, StepsAreRuns}
 use Rattle.cx_look_orders.specs.Outcomes.{AllCanRest, AreOutcomes, IsOutcome, IsStuck, MayLoop}
-use Rattle.cx_look_orders.specs.Steps.{Telling}
+use Rattle.cx_look_steps.specs.Steps.{Telling}
 use Rattle.cx_look_orders.specs.declared.outcomes.Outcome.{Outcome}
-use Rattle.cx_look_orders.specs.declared.steps.Step.{Step}
+use Rattle.cx_look_steps.specs.declared.steps.Step.{Step}
 use Rattle.cx_headline.specs.Laws.Orders.{AreAll, AreTrue, IsReal, LinesLeadThere}
 use Rattle.cx_look.specs.Laws.{KeysAreAskedByTheirLines}
 use Rattle.cx_look.specs.Orders.{orders_block}

@@ -21,7 +21,7 @@ ghost use Rattle.cx_look_script.specs.Laws.Orders.{OrdersAreReportedOnce};
 ghost use Rattle.cx_look_script.specs.Laws.Outcomes.{LookInputsDecide};
 ghost use Rattle.cx_region.specs.Defining.{fresh_region};
 
-use cx_look_orders::Seen;
+use cx_look_steps::Seen;
 use cx_storage::Store;
 
 /// Each event of a run changes the region exactly as its row says. A turn is one half-turn of the terminal's task: the
@@ -117,8 +117,8 @@ pub fn no_order_is_missed<S: Store + Drop, V: Seen<S>>()
 {
     cx_edf::laws::off_is_the_region();
     cx_look::laws::keys_are_asked_by_their_lines();
-    cx_look_orders::laws::steps_are_runs();
-    cx_look_orders::laws::scripts_ask_for_steps();
+    cx_look_steps::laws::steps_are_runs();
+    cx_look_steps::laws::scripts_ask_for_steps();
     cx_look_orders::laws::loops_are_endless();
     cx_look_script::laws::scripts_lead_there();
     cx_look_script::laws::scripts_name_their_terminals();
@@ -147,7 +147,7 @@ pub fn no_choice_is_missed<S: Store + Drop, V: Seen<S>>()
     cx_edf::laws::off_is_the_region();
     cx_look::laws::keys_are_asked_by_their_lines();
     cx_look_choices::laws::presses_are_runs();
-    cx_look_orders::laws::scripts_ask_for_steps();
+    cx_look_steps::laws::scripts_ask_for_steps();
     cx_look_script::laws::choices_are_reported_once();
     cx_look_script::laws::scripts_lead_there();
     cx_look_script::laws::scripts_name_their_terminals();

@@ -11,7 +11,7 @@ use Rattle.cx_choices.specs.declared.states.Passage.{Passage}
 use Rattle.cx_look_choices.specs.Parts.Ways.{AreFirstArrows, IsArrowOf}
 use Rattle.cx_look_choices.specs.Rows.{AreArrows, HasArrow, IsArrow}
 use Rattle.cx_look_choices.specs.declared.rows.Arrow.{Arrow}
-use Rattle.cx_look_choices.proofs.ListLemmas.{below_next}
+use Rattle.cx_look_steps.specs.Facts.Lists.{below_next}
 
 module _ (choices : List KeyLine) (one_number : Option ℕ) (region : RegionState) (states : List ChoicesState) (from : ChoicesState) where
   abbrev First : ℕ → List Arrow → Type 0

@@ -7,7 +7,8 @@ use Rattle.cx_search.specs.Found.{IsAt}
 use Rattle.cx_choices.specs.declared.states.ChoicesState.{ChoicesState}
 use Rattle.cx_look_choices.specs.Parts.Ways.{StandOnce, states_of}
 use Rattle.cx_look_choices.specs.Rows.{IsOneOf, IsPlace}
-use Rattle.cx_look_choices.proofs.ListLemmas.{mapped_item, of_mapped, of_taken, taken}
+use Rattle.cx_look_steps.specs.Facts.Lists.{mapped_item, of_mapped}
+use Rattle.cx_look_choices.proofs.ListLemmas.{of_taken, taken}
 
 module _ (found : List (ChoicesState × Origin)) where
   -- one state is at a place

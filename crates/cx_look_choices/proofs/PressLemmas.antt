@@ -14,7 +14,7 @@ use Rattle.cx_choices.specs.declared.states.Passage.{Passage}
 use Rattle.cx_look_choices.specs.Parts.Ways.{AreFirstPresses, ArePressesOf, IsPressed}
 use Rattle.cx_look_choices.specs.Presses.{ArePresses, IsPress, key_pressed, moves_of}
 use Rattle.cx_look_choices.specs.declared.presses.Press.{Press}
-use Rattle.cx_look_choices.proofs.ListLemmas.{drop_item, drop_none}
+use Rattle.cx_look_steps.specs.Facts.Lists.{drop_item, drop_none}
 
 -- the choice with a number, as a list
 pub key_none : (choices : List KeyLine) (number : ℕ) → slice_get choices number ≡ None → key_pressed choices number ≡ []

@@ -30,8 +30,8 @@ use Rattle.cx_choices.specs.Settling.{CanAct, MakesTurns}
 use Rattle.cx_choices.specs.declared.states.ChoicesState.{ChoicesState}
 use Rattle.cx_choices.specs.declared.states.Passage.{Passage}
 use Rattle.cx_choices.specs.declared.states.TurnMade.{TurnMade}
-use Rattle.cx_look_orders.specs.Laws.{IsMoveReply, event_at, event_of_step}
-use Rattle.cx_look_orders.specs.declared.steps.Step.{Step}
+use Rattle.cx_look_steps.specs.Laws.{IsMoveReply, event_at, event_of_step}
+use Rattle.cx_look_steps.specs.declared.steps.Step.{Step}
 use Rattle.cx_look_choices.specs.Laws.{PressesAreRuns}
 use Rattle.cx_look_choices.specs.Presses.{ArePresses, key_pressed, key_step, keys_pressed, press_steps, steps_after, turn_step}
 use Rattle.cx_look_choices.specs.declared.presses.Press.{Press}

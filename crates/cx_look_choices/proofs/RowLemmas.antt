@@ -14,7 +14,7 @@ use Rattle.cx_region.specs.State.{RegionState}
 use Rattle.cx_orders.specs.declared.states.KeyLine.{KeyLine}
 use Rattle.cx_choices.specs.Moves.{Goes, begun}
 use Rattle.cx_choices.specs.declared.states.ChoicesState.{ChoicesState}
-use Rattle.cx_look_orders.specs.Outcomes.{NoLater}
+use Rattle.cx_look_steps.specs.Steps.{NoLater}
 use Rattle.cx_look_choices.specs.Parts.Ways.{AreFirstPresses, AreFirstRows, AreFirstWithin, HasFound, IsRowAt, Numbers, StandOnce, states_of}
 use Rattle.cx_look_choices.specs.Presses.{moves_of}
 use Rattle.cx_look_choices.specs.Rows.{AreArrows, AreNear, AreRows, AreScreens, HasNear, HasScreen, IsRow}

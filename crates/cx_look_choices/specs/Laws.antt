@@ -10,7 +10,7 @@ use Rattle.cx_orders.specs.declared.states.KeyLine.{KeyLine}
 use Rattle.cx_choices.specs.Moves.{Goes, begun}
 use Rattle.cx_choices.specs.declared.states.ChoicesState.{ChoicesState}
 use Rattle.cx_search.specs.Moves.{Leads}
-use Rattle.cx_look_orders.specs.Laws.{IsRunOf}
+use Rattle.cx_look_steps.specs.Laws.{IsRunOf}
 use Rattle.cx_look_choices.specs.Presses.{ArePresses, keys_pressed, moves_of, steps_of}
 use Rattle.cx_look_choices.specs.Report.{ChoicesText}
 use Rattle.cx_look_choices.specs.declared.presses.Press.{Press}

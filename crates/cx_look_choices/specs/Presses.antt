@@ -13,8 +13,8 @@ use Rattle.cx_choices.specs.Moves.{Chooses, numbered}
 use Rattle.cx_choices.specs.declared.states.ChoicesState.{ChoicesState}
 use Rattle.cx_choices.specs.declared.states.Passage.{Passage}
 use Rattle.cx_choices.specs.declared.states.TurnMade.{TurnMade}
-use Rattle.cx_look_orders.specs.Script.{script_lines}
-use Rattle.cx_look_orders.specs.declared.steps.Step.{Step}
+use Rattle.cx_look_steps.specs.Script.{script_lines}
+use Rattle.cx_look_steps.specs.declared.steps.Step.{Step}
 use Rattle.cx_look_choices.specs.declared.presses.Press.{Press}
 
 -- ---- what a list of presses is

@@ -9,7 +9,7 @@ use Rattle.cx_search.specs.Within.{IsClosed, IsOpen}
 use Rattle.cx_orders.specs.declared.states.KeyLine.{KeyLine}
 use Rattle.cx_choices.specs.Moves.{Goes, begun}
 use Rattle.cx_choices.specs.declared.states.ChoicesState.{ChoicesState}
-use Rattle.cx_look_orders.specs.Rest.{incident_line}
+use Rattle.cx_look_steps.specs.Incidents.{incident_line}
 use Rattle.cx_look_choices.specs.Presses.{list_lines}
 use Rattle.cx_look_choices.specs.Rows.{AreNear, AreRows, HasNear}
 use Rattle.cx_look_choices.specs.declared.rows.Arrow.{Arrow}

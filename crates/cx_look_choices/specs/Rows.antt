@@ -14,7 +14,7 @@ use Rattle.cx_orders.specs.declared.states.KeyLine.{KeyLine}
 use Rattle.cx_choices.specs.Moves.{Chooses, Goes, begun, numbered}
 use Rattle.cx_choices.specs.declared.states.ChoicesState.{ChoicesState}
 use Rattle.cx_choices.specs.declared.states.Passage.{Passage}
-use Rattle.cx_look_orders.specs.Outcomes.{NoLater}
+use Rattle.cx_look_steps.specs.Steps.{NoLater}
 use Rattle.cx_look_choices.specs.Presses.{ArePresses, key_pressed, moves_of, terminal_number}
 use Rattle.cx_look_choices.specs.States.{StateText}
 use Rattle.cx_look_choices.specs.declared.rows.Arrow.{Arrow}

@@ -3,7 +3,7 @@
 ghost use Rattle.cx_look_choices.specs.Laws.{PressesAreRuns, PressesLead, ReportsDecide};
 
 use cx_choices::laws::choices_decide;
-use cx_look_orders::Seen;
+use cx_look_steps::Seen;
 use cx_look_tasks::laws::texts_decide;
 use cx_orders::laws::acting_turns_move;
 use cx_region_laws::laws::{a_key_keeps_to_its_terminal, a_turn_keeps_to_its_task};

@@ -10,7 +10,7 @@ use cx_choices::TurnMade;
 use cx_code::Bytes;
 use cx_ebcdic::Name4;
 use cx_look_lines::Report;
-use cx_look_orders::{Step, many_of, script_lines};
+use cx_look_steps::{Step, many_of, script_lines};
 use cx_orders::KeyLine;
 use cx_region::Region;
 use cx_storage::Store;

@@ -16,7 +16,7 @@ use crate::rows::{Arrow, Rows, StateRow, rows_of};
 use cx_choices::Choices;
 use cx_ebcdic::Name4;
 use cx_look_lines::{Report, decimal, push_words};
-use cx_look_orders::{Seen, incident_lines};
+use cx_look_steps::{Seen, incident_lines};
 use cx_region::Region;
 use cx_region_snapshot::RegionSnapshot;
 use cx_search::{Found, Reach};

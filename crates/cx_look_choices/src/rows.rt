@@ -12,7 +12,7 @@ use crate::screens::{screen_of, state_text};
 use cx_base::List;
 use cx_choices::Choices;
 use cx_look_lines::Report;
-use cx_look_orders::Seen;
+use cx_look_steps::Seen;
 use cx_orders::IncidentAt;
 use cx_region::Region;
 use cx_search::Found;

@@ -6,7 +6,7 @@ ghost use Rattle.cx_look_choices.specs.States.{StateText, running_line};
 
 use cx_choices::{ChoicesState, is_at_rest};
 use cx_look_lines::Report;
-use cx_look_orders::Seen;
+use cx_look_steps::Seen;
 use cx_look_tasks::waits_text;
 use cx_region::Region;
 use cx_storage::Store;

@@ -17,14 +17,15 @@ use Rattle.cx_orders.specs.Moves.{Moves}
 use Rattle.cx_orders.specs.declared.states.KeyLine.{KeyLine}
 use Rattle.cx_orders.specs.declared.states.Keys.{Keys}
 use Rattle.cx_orders.specs.declared.states.OrdersState.{OrdersState}
-use Rattle.cx_look_orders.specs.Outcomes.{AreOutcomes, EndsWith, HasText, IsWritten, NoLater}
+use Rattle.cx_look_orders.specs.Outcomes.{AreOutcomes, EndsWith, HasText, IsWritten}
+use Rattle.cx_look_steps.specs.Steps.{NoLater, Telling, moves_of}
 use Rattle.cx_look_orders.specs.Parts.Ways.{AreFirstSteps, AreOfFirst, AreSorted, IsOfFirst, IsTextAt, Reaches}
-use Rattle.cx_look_orders.specs.Rest.{RestText, incident_line, keys_text}
-use Rattle.cx_look_orders.specs.Steps.{Telling, moves_of}
+use Rattle.cx_look_orders.specs.Rest.{RestText, keys_text}
+use Rattle.cx_look_steps.specs.Incidents.{incident_line}
 use Rattle.cx_look_orders.specs.declared.outcomes.Outcome.{Outcome}
-use Rattle.cx_look_orders.specs.declared.steps.Step.{Step}
+use Rattle.cx_look_steps.specs.declared.steps.Step.{Step}
 use Rattle.cx_search.specs.Facts.Items.{item_appended, item_kept, item_last}
-use Rattle.cx_look_orders.proofs.ListLemmas.{below_next}
+use Rattle.cx_look_steps.specs.Facts.Lists.{below_next}
 use Rattle.cx_look_orders.proofs.PlaceLemmas.{kept_least, kept_moves, no_later, one_state}
 use Rattle.std.specs.List.{flat_map}
 use Rattle.cx_look_orders.specs.Facts.Outcomes.{many_moves, near_less}

@@ -13,13 +13,13 @@ use Rattle.cx_search.specs.Rest.{IsNear}
 use Rattle.cx_orders.specs.Moves.{Moves}
 use Rattle.cx_orders.specs.declared.states.Keys.{Keys}
 use Rattle.cx_orders.specs.declared.states.OrdersState.{OrdersState}
-use Rattle.cx_look_orders.specs.Outcomes.{AllCanRest, AreReached, HasReached, HasStates, IsCutAt, IsReached, IsStuck, LoopsFirst, NoLater}
+use Rattle.cx_look_orders.specs.Outcomes.{AllCanRest, AreReached, HasReached, HasStates, IsCutAt, IsReached, IsStuck, LoopsFirst}
+use Rattle.cx_look_steps.specs.Steps.{NoLater, Telling, moves_of}
 use Rattle.cx_look_orders.specs.Parts.Ways.{AreFirstSteps, Reaches}
-use Rattle.cx_look_orders.specs.Steps.{Telling, moves_of}
-use Rattle.cx_look_orders.specs.declared.steps.Step.{Step}
+use Rattle.cx_look_steps.specs.declared.steps.Step.{Step}
 use Rattle.std.proofs.lemmas.List.{length-map}
 use Rattle.cx_search.specs.Facts.Items.{item_appended}
-use Rattle.cx_look_orders.proofs.ListLemmas.{mapped_item, of_mapped}
+use Rattle.cx_look_steps.specs.Facts.Lists.{mapped_item, of_mapped}
 
 -- a list that is no later is no longer
 pub no_longer : (ms ns : List ℕ) → NoLater ms ns → length ms ≤ length ns

@@ -6,10 +6,10 @@ use Rattle.cx_orders.specs.Moves.{Moves}
 use Rattle.cx_orders.specs.declared.states.Keys.{Keys}
 use Rattle.cx_orders.specs.declared.states.OrdersState.{OrdersState}
 use Rattle.cx_look_orders.specs.Parts.Ways.{AreFirstSteps, AreStepsOf, IsStepBetween, IsTold, came_between}
-use Rattle.cx_look_orders.specs.Steps.{AreSteps, IsStep, Telling, move_number, moves_of}
-use Rattle.cx_look_orders.specs.declared.steps.Step.{Step}
+use Rattle.cx_look_steps.specs.Steps.{AreSteps, IsStep, Telling, move_number, moves_of}
+use Rattle.cx_look_steps.specs.declared.steps.Step.{Step}
 use Rattle.std.proofs.lemmas.List.{drop_all}
-use Rattle.cx_look_orders.proofs.ListLemmas.{drop_item, drop_none}
+use Rattle.cx_look_steps.specs.Facts.Lists.{drop_item, drop_none}
 use Rattle.cx_look_orders.specs.Facts.Steps.{IsToldBetween, step_between, step_is, step_numbered}
 
 -- ---- what is told of a key, and of a turn

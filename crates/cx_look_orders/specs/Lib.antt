@@ -1,8 +1,6 @@
 -- The definitions, in reading order.
 pub mod Rest
-pub mod Steps
 pub mod Outcomes
-pub mod Script
 pub mod Report
 pub mod Laws
 pub mod Facts

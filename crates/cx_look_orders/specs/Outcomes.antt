@@ -1,5 +1,5 @@
 -- The outcomes of orders: what is to be seen of the states at rest that they lead to (this product's own).
-use Rattle.std.specs.Prelude.{◌≡◌, ◌⊎◌, ℕ, ◌+◌, ◌<◌, ◌≤◌, List, Option, Some, None, length, slice_get}
+use Rattle.std.specs.Prelude.{◌≡◌, ℕ, ◌+◌, ◌<◌, ◌≤◌, List, Option, Some, None, length, slice_get}
 use Rattle.cx_search.specs.Forever.{AtRest, CanRest, IsBounded, Loops}
 use Rattle.cx_search.specs.Moves.{IsSooner, Leads}
 use Rattle.cx_search.specs.Rest.{IsNear}
@@ -10,13 +10,9 @@ use Rattle.cx_orders.specs.declared.states.KeyLine.{KeyLine}
 use Rattle.cx_orders.specs.declared.states.Keys.{Keys}
 use Rattle.cx_orders.specs.declared.states.OrdersState.{OrdersState}
 use Rattle.cx_look_orders.specs.Rest.{RestText}
-use Rattle.cx_look_orders.specs.Steps.{AreSteps, Telling, moves_of}
-use Rattle.cx_look_orders.specs.declared.steps.Step.{Step}
+use Rattle.cx_look_steps.specs.Steps.{AreSteps, NoLater, Telling, moves_of}
+use Rattle.cx_look_steps.specs.declared.steps.Step.{Step}
 use Rattle.cx_look_orders.specs.declared.outcomes.Outcome.{Outcome}
-
--- the list is the same as the other, or sooner
-abbrev pub NoLater : List ℕ → List ℕ → Type 0
-NoLater one other = (one ≡ other) ⊎ IsSooner one other
 
 -- one of the outcomes has that text
 pub record HasText (outcomes : List Outcome) (text : Lines) : Type 0 where

@@ -8,10 +8,10 @@ use Rattle.cx_orders.specs.Moves.{begun}
 use Rattle.cx_orders.specs.declared.states.KeyLine.{KeyLine}
 use Rattle.cx_orders.specs.declared.states.Keys.{Keys}
 use Rattle.cx_look_orders.specs.Outcomes.{AllCanRest, AreOutcomes, HasStates, IsCutAt, IsStuck, MayLoop}
-use Rattle.cx_look_orders.specs.Script.{script_lines}
-use Rattle.cx_look_orders.specs.Steps.{Telling}
+use Rattle.cx_look_steps.specs.Script.{script_lines}
+use Rattle.cx_look_steps.specs.Steps.{Telling}
 use Rattle.cx_look_orders.specs.declared.outcomes.Outcome.{Outcome}
-use Rattle.cx_look_orders.specs.declared.steps.Step.{Step}
+use Rattle.cx_look_steps.specs.declared.steps.Step.{Step}
 
 -- when keys may come, where there are some
 abbrev pub when_words : Bool → List ℕ

@@ -1,10 +1,10 @@
 //! What holds of the report of every order.
 
-ghost use Rattle.cx_look_orders.specs.Laws.{LoopsAreEndless, ReportsDecide, ScriptsAskForSteps, StepsAreRuns, TextsStandOnce};
-ghost use Rattle.cx_look_orders.specs.Steps.{Telling};
+ghost use Rattle.cx_look_orders.specs.Laws.{LoopsAreEndless, ReportsDecide, TextsStandOnce};
+ghost use Rattle.cx_look_steps.specs.Steps.{Telling};
 ghost use Rattle.cx_orders.specs.declared.states.Keys.{Keys as TheKeys};
 
-use crate::seen::Seen;
+use cx_look_steps::Seen;
 use cx_orders::laws::moves_decide;
 use cx_region_laws::laws::{a_key_keeps_to_its_terminal, a_turn_keeps_to_its_task, calls_decide};
 use cx_search::laws::one_list_is_sooner;
@@ -25,18 +25,4 @@ pub fn reports_decide<S: Store + Drop, V: Seen<S>>()
 /// ORDERS writes that some orders never rest exactly where there are lists of moves of any length.
 pub fn loops_are_endless()
     ensures { (tells : Telling) (keys : TheKeys) → LoopsAreEndless tells keys }
-{}
-
-/// Steps lead a region where the run of their turns and keys leads it, without EDF.
-pub fn steps_are_runs()
-    ensures { StepsAreRuns }
-{
-    a_turn_keeps_to_its_task();
-    a_key_keeps_to_its_terminal();
-}
-
-/// The lines that ORDERS writes of steps ask for these, one after another: each line for a key, or for 1 to 4,096 turns
-/// in a row, of which comment lines behind it tell.
-pub fn scripts_ask_for_steps()
-    ensures { ScriptsAskForSteps }
 {}

@@ -7,10 +7,10 @@ ghost use Rattle.cx_orders.specs.Moves.{Moves, begun};
 ghost use Rattle.cx_search.specs.Finds.{Finds};
 
 use crate::rest::rest_text;
-use crate::seen::Seen;
-use crate::steps::{Step, steps_to};
+use crate::steps::steps_to;
 use cx_base::List;
 use cx_look_lines::Report;
+use cx_look_steps::{Seen, Step};
 use cx_look_tasks::laws::texts_decide;
 use cx_orders::Orders;
 use cx_region::Region;

@@ -8,12 +8,11 @@ ghost use Rattle.cx_orders.specs.Moves.{Moves, begun};
 ghost use Rattle.cx_search.specs.Finds.{Finds, FindsNearest, IsWhole};
 
 use crate::outcomes::{Outcome, Searched, outcomes_of};
-use crate::script::script_lines;
-use crate::seen::Seen;
-use crate::steps::{Step, steps_to};
+use crate::steps::steps_to;
 use cx_base::List;
 use cx_ebcdic::Name4;
 use cx_look_lines::{Report, decimal};
+use cx_look_steps::{Seen, Step, script_lines};
 use cx_orders::{KeyLine, Keys, Orders};
 use cx_region::Region;
 use cx_region_snapshot::RegionSnapshot;

@@ -11,9 +11,9 @@ ghost use Rattle.cx_search.specs.Finds.{Finds};
 ghost use Rattle.cx_search.specs.Found.{IsAt};
 ghost use Rattle.cx_search.specs.Moves.{Leads};
 
-use crate::seen::Seen;
 use cx_base::List;
 use cx_ebcdic::Name4;
+use cx_look_steps::{Seen, Step};
 use cx_orders::{Orders, OrdersState, begin};
 use cx_region::{Region, TurnReply};
 use cx_region_laws::laws::calls_decide;
@@ -21,15 +21,6 @@ use cx_region_snapshot::RegionSnapshot;
 use cx_search::{Found, Space};
 use cx_storage::Store;
 use std::alloc::{AllocError, Global};
-
-/// A move of a terminal: its number, from 0, in the order of their definition, and of a key how many of its keys came
-/// before; None of a turn. And what is told of it.
-#[derive(Drop)]
-pub struct Step {
-    pub number: usize,
-    pub key: Option<usize>,
-    pub told: Option<List<u8>>,
-}
 
 /// How many keys of the terminal with that number came: none, where it has no count.
 fn many_came(come: &[usize], number: usize) -> usize

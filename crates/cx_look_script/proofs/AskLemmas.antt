@@ -33,10 +33,10 @@ use Rattle.cx_look.specs.Laws.{IsAskedByItsLine}
 use Rattle.cx_look.specs.Looks.{count_up_to, subject_of}
 use Rattle.cx_look.specs.declared.look.Subject.TheVariants as subject
 use Rattle.cx_look_lines.specs.Words.{Lines, joined_line as words_line, look_line}
-use Rattle.cx_look_orders.specs.Laws.{IsStepAsked, IsTurnOf, ScriptsAskForSteps, asked_lines, asked_row, asked_steps, event_at, event_of_step}
-use Rattle.cx_look_orders.specs.Rest.{terminal_name_at}
-use Rattle.cx_look_orders.specs.Script.{comment_lines, comments_on, key_at, off_line, script_lines, steps_lines, with_text}
-use Rattle.cx_look_orders.specs.declared.steps.Step.{Step}
+use Rattle.cx_look_steps.specs.Laws.{IsStepAsked, IsTurnOf, ScriptsAskForSteps, asked_lines, asked_row, asked_steps, event_at, event_of_step}
+use Rattle.cx_look_steps.specs.Incidents.{terminal_name_at}
+use Rattle.cx_look_steps.specs.Script.{comment_lines, comments_on, key_at, off_line, script_lines, steps_lines, with_text}
+use Rattle.cx_look_steps.specs.declared.steps.Step.{Step}
 use Rattle.cx_look_script.specs.Laws.Orders.{AskForEvents, HasSpelling, ScriptsAskForEvents, asked_events, asking_lines}
 use Rattle.cx_look_script.specs.Reading.{line_by, line_of_subject, look_line_of, own_line, run_of, run_with, turns_of}
 use Rattle.cx_look_script.specs.Runs.{turn_of}

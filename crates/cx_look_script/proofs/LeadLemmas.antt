@@ -45,8 +45,8 @@ use Rattle.cx_look.specs.declared.look.Look.{Look}
 use Rattle.cx_look.specs.declared.orders.Sight.{Sight}
 use Rattle.cx_look.specs.declared.orders.Sight.TheVariants as sight
 use Rattle.cx_look_lines.specs.Words.{Lines}
-use Rattle.cx_look_orders.specs.Laws.{IsMoveReply, ScriptsAskForSteps, event_at, event_of_step}
-use Rattle.cx_look_orders.specs.declared.steps.Step.{Step}
+use Rattle.cx_look_steps.specs.Laws.{IsMoveReply, ScriptsAskForSteps, event_at, event_of_step}
+use Rattle.cx_look_steps.specs.declared.steps.Step.{Step}
 use Rattle.cx_look_script.specs.Laws.Looks.{turn_action}
 use Rattle.cx_look_script.specs.Laws.Orders.{HasSpelling, IsOfRegion, ScriptsLeadThere, asked_events, is_of_region}
 use Rattle.cx_look_script.specs.Looking.{Acts, AreLookLines, LookPerforms, NotedPerforms, TakesOneMore, at_region}

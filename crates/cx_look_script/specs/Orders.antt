@@ -11,7 +11,7 @@ use Rattle.cx_look.specs.declared.orders.OrdersBlock.{OrdersBlock}
 use Rattle.cx_look.specs.declared.orders.Sight.{Sight}
 use Rattle.cx_look.specs.declared.orders.Sight.TheVariants as sight
 use Rattle.cx_look_orders.specs.Report.{OrdersText}
-use Rattle.cx_look_orders.specs.Steps.{Telling}
+use Rattle.cx_look_steps.specs.Steps.{Telling}
 use Rattle.cx_orders.specs.declared.states.Keys.{Keys}
 use Rattle.cx_look_lines.specs.Words.{Lines, marked}
 

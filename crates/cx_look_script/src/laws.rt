@@ -66,7 +66,7 @@ pub fn scripts_ask_for_events()
     ensures { ScriptsAskForEvents }
 {
     cx_ebcdic::laws::shown_as_itself();
-    cx_look_orders::laws::scripts_ask_for_steps();
+    cx_look_steps::laws::scripts_ask_for_steps();
 }
 
 /// The actions of a RUN are turns of its terminal, one after another: up to one that isn't to be followed by one more
@@ -83,7 +83,7 @@ pub fn scripts_lead_there()
     ensures { ScriptsLeadThere }
 {
     cx_ebcdic::laws::shown_as_itself();
-    cx_look_orders::laws::scripts_ask_for_steps();
+    cx_look_steps::laws::scripts_ask_for_steps();
     cx_region_laws::laws::events_decide();
     cx_edf::laws::what_is_erased_changes_nothing();
     cx_edf::laws::sessions_keep_apart();

@@ -14,9 +14,9 @@ use Rattle.cx_orders.specs.declared.states.KeyLine.{KeyLine}
 use Rattle.cx_choices.specs.Moves.{Goes, begun}
 use Rattle.cx_choices.specs.declared.states.ChoicesState.{ChoicesState}
 use Rattle.cx_look_lines.specs.Words.{Lines}
-use Rattle.cx_look_orders.specs.Laws.{AskFor, IsRunOf}
-use Rattle.cx_look_orders.specs.Outcomes.{NoLater}
-use Rattle.cx_look_orders.specs.Script.{steps_lines}
+use Rattle.cx_look_steps.specs.Laws.{AskFor, IsRunOf}
+use Rattle.cx_look_steps.specs.Steps.{NoLater}
+use Rattle.cx_look_steps.specs.Script.{steps_lines}
 use Rattle.cx_look_choices.specs.Presses.{ArePresses, keys_pressed, list_lines, moves_of, steps_of}
 use Rattle.cx_look_choices.specs.Report.{CutText, HasMany, WholeText}
 use Rattle.cx_look_choices.specs.Rows.{AreArrows, IsOneOf, IsPlace}

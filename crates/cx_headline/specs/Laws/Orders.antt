@@ -11,14 +11,14 @@ use Rattle.cx_orders.specs.Moves.{Moves, begun}
 use Rattle.cx_orders.specs.declared.states.Keys.{Keys}
 use Rattle.cx_orders.specs.declared.states.OrdersState.{OrdersState}
 use Rattle.cx_look_lines.specs.Words.{Lines}
-use Rattle.cx_look_orders.specs.Laws.{AskFor, IsRunOf}
-use Rattle.cx_look_orders.specs.Outcomes.{EndsWith, HasText, IsStuck, IsWritten, NoLater}
+use Rattle.cx_look_steps.specs.Laws.{AskFor, IsRunOf}
+use Rattle.cx_look_orders.specs.Outcomes.{EndsWith, HasText, IsStuck, IsWritten}
+use Rattle.cx_look_steps.specs.Steps.{AreSteps, NoLater, Telling, moves_of}
 use Rattle.cx_look_orders.specs.Report.{CutText, WholeText}
 use Rattle.cx_look_orders.specs.Rest.{RestText}
-use Rattle.cx_look_orders.specs.Script.{script_lines, steps_lines}
-use Rattle.cx_look_orders.specs.Steps.{AreSteps, Telling, moves_of}
+use Rattle.cx_look_steps.specs.Script.{script_lines, steps_lines}
 use Rattle.cx_look_orders.specs.declared.outcomes.Outcome.{Outcome}
-use Rattle.cx_look_orders.specs.declared.steps.Step.{Step}
+use Rattle.cx_look_steps.specs.declared.steps.Step.{Step}
 use Rattle.cx_look.specs.Orders.{orders_block}
 use Rattle.cx_look.specs.declared.orders.OrdersAsked.{OrdersAsked}
 use Rattle.cx_look.specs.declared.orders.OrdersBlock.{OrdersBlock}

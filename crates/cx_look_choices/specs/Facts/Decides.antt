@@ -12,7 +12,7 @@ use Rattle.cx_choices.specs.Facts.Same.{same_choices, same_equivalence, same_is}
 use Rattle.cx_choices.specs.Laws.{PassagesDecide}
 use Rattle.cx_choices.specs.Moves.{Goes, begun}
 use Rattle.cx_choices.specs.declared.states.ChoicesState.{ChoicesState}
-use Rattle.cx_look_orders.specs.Facts.Items.{at_most}
+use Rattle.cx_look_steps.specs.Facts.Items.{at_most}
 use Rattle.cx_look_choices.specs.Laws.{ReportsDecide}
 use Rattle.cx_look_choices.specs.Report.{ChoicesText, CutText, HasFew, HasMany, WholeText, cut_line, states_lines, whole_line}
 use Rattle.cx_look_choices.specs.Rows.{AreRows}

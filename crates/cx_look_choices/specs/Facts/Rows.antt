@@ -14,9 +14,9 @@ use Rattle.cx_choices.specs.Moves.{Chooses, Goes, begun, numbered}
 use Rattle.cx_choices.specs.Settling.{IsAtRest}
 use Rattle.cx_choices.specs.declared.states.ChoicesState.{ChoicesState}
 use Rattle.cx_choices.specs.declared.states.Passage.{Passage}
-use Rattle.cx_look_orders.specs.Facts.Decides.{same_lists}
-use Rattle.cx_look_orders.specs.Facts.Items.{item_too, same_items}
-use Rattle.cx_look_orders.specs.Facts.Outcomes.{both_soonest}
+use Rattle.cx_look_steps.specs.Facts.Lists.{same_lists}
+use Rattle.cx_look_steps.specs.Facts.Items.{item_too, same_items}
+use Rattle.cx_look_steps.specs.Facts.Soonest.{both_soonest}
 use Rattle.cx_look_choices.specs.Presses.{moves_of}
 use Rattle.cx_look_choices.specs.Rows.{AreArrows, AreRows, AreScreens, IsArrow, IsPlace, IsRow, passage_incidents}
 use Rattle.cx_look_choices.specs.States.{StateText, running_line}

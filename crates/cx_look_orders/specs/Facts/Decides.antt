@@ -1,5 +1,5 @@
 -- One text is written of a region.
-use Rattle.std.proofs.Common.{◌≡◌, ℕ, zero, suc, ◌+◌, ◌/◌, ◌<◌, ◌≤◌, List, [], ◌∷◌, ◌++◌, length, drop, Bool, true, false, Option, Some, None, inl, inr, ap, refl, sym, subst, ◌∙◌, arith}
+use Rattle.std.proofs.Common.{◌≡◌, ℕ, ◌+◌, ◌/◌, ◌<◌, ◌≤◌, List, [], ◌∷◌, ◌++◌, length, drop, Bool, true, false, Option, Some, None, inl, inr, ap, refl, sym, subst, ◌∙◌, arith}
 use Rattle.std.specs.Prelude.{MatchBool, slice_get}
 use Rattle.std.specs.List.{IsDistinct}
 use Rattle.std.specs.Map.{keys_of as names_of}
@@ -20,55 +20,14 @@ use Rattle.cx_look_orders.specs.Laws.{ReportsDecide}
 use Rattle.cx_look_orders.specs.Outcomes.{AllCanRest, AreOutcomes, AreReached, HasReached, HasStates, IsCutAt, IsOutcome, IsReached, IsStuck, MayLoop}
 use Rattle.cx_look_orders.specs.Parts.Ways.{came_between}
 use Rattle.cx_look_orders.specs.Report.{cut_line, loop_lines, outcomes_lines, stuck_line, whole_line}
-use Rattle.cx_look_orders.specs.Steps.{AreSteps, Telling, move_number, moves_of}
+use Rattle.cx_look_steps.specs.Steps.{AreSteps, Telling, move_number, moves_of}
 use Rattle.cx_look_orders.specs.declared.outcomes.Outcome.{Outcome}
-use Rattle.cx_look_orders.specs.declared.steps.Step.{Step}
-use Rattle.cx_look_orders.specs.Facts.Items.{at_most as items_at_most}
-use Rattle.cx_look_orders.specs.Facts.Outcomes.{both_soonest, ends_with, many_moves, move_of, near_less, same_moves, steps_lead}
+use Rattle.cx_look_steps.specs.declared.steps.Step.{Step}
+use Rattle.cx_look_steps.specs.Facts.Items.{at_most as items_at_most}
+use Rattle.cx_look_steps.specs.Facts.Lists.{same_lists}
+use Rattle.cx_look_steps.specs.Facts.Soonest.{both_soonest}
+use Rattle.cx_look_orders.specs.Facts.Outcomes.{ends_with, many_moves, move_of, near_less, same_moves, steps_lead}
 use Rattle.cx_look_orders.specs.Facts.Steps.{half_of_step, key_of_step, told_of_step}
-
--- ---- two sorted lists with the same items
-module _ {X : Type 0} (Less : X → X → Type 0) (never : (x : X) → Less x x → ⊥)
-    (onward : (x y z : X) → Less x y → Less y z → Less x z) where
-  abbrev Sorted : List X → Type 0
-  Sorted xs = (j k : ℕ) (x y : X) → j < k → slice_get xs j ≡ Some x → slice_get xs k ≡ Some y → Less x y
-
-  abbrev Within : List X → List X → Type 0
-  Within xs ys = (k : ℕ) (x : X) → slice_get xs k ≡ Some x → (j : ℕ) × (slice_get ys j ≡ Some x)
-
-  later_sorted : (x : X) (xs : List X) → Sorted (x ∷ xs) → Sorted xs
-  later_sorted x xs sorted j k y z l one other = sorted (suc j) (suc k) y z (omega (arith, l)) one other
-
-  -- the first of two sorted lists is the same
-  same_first : (x y : X) (xs ys : List X) → Sorted (x ∷ xs) → Sorted (y ∷ ys) → Within (x ∷ xs) (y ∷ ys)
-      → Within (y ∷ ys) (x ∷ xs) → x ≡ y
-  same_first x y xs ys one other there back = by (there 0 x refl) (back 0 y refl)
-    where
-      by : (j : ℕ) × (slice_get (y ∷ ys) j ≡ Some x) → (k : ℕ) × (slice_get (x ∷ xs) k ≡ Some y) → x ≡ y
-      by (zero, e) k = sym (same_Some y x e)
-      by (suc j, e) (zero, d) = same_Some x y d
-      by (suc j, e) (suc k, d) =
-          absurd (never x
-          (onward x y x (one 0 (suc k) x y (omega arith) refl d) (other 0 (suc j) y x (omega arith) refl e)))
-
-  later_within : (x y : X) (xs ys : List X) → x ≡ y → Sorted (x ∷ xs) → Within (x ∷ xs) (y ∷ ys) → Within xs ys
-  later_within x y xs ys e sorted there k z is = by (there (suc k) z is)
-    where
-      by : (j : ℕ) × (slice_get (y ∷ ys) j ≡ Some z) → (j : ℕ) × (slice_get ys j ≡ Some z)
-      by (zero, d) =
-          absurd (never x (subst (Less x) (sym (e ∙ same_Some y z d)) (sorted 0 (suc k) x z (omega arith) refl is)))
-      by (suc j, d) = (j, d)
-
-  pub same_lists : (xs ys : List X) → Sorted xs → Sorted ys → Within xs ys → Within ys xs → xs ≡ ys
-  same_lists [] [] one other there back = refl
-  same_lists [] (y ∷ ys) one other there back = absurd (none-some y (back 0 y refl).1)
-  same_lists (x ∷ xs) [] one other there back = absurd (none-some x (there 0 x refl).1)
-  same_lists (x ∷ xs) (y ∷ ys) one other there back =
-      let e = same_first x y xs ys one other there back in
-      ap (λ z. z ∷ xs) e
-      ∙ ap (λ zs. y ∷ zs)
-      (same_lists xs ys (later_sorted x xs one) (later_sorted y ys other) (later_within x y xs ys e one there)
-      (later_within y x ys xs (sym e) other back))
 
 module _ (decide : MovesDecide) (turns : TurnsDecide) (turned : TurnsKeepToTheirTask)
     (keyed : KeysKeepToTheirTerminal) (tells : Telling) (keys : Keys) where

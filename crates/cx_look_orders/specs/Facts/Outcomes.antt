@@ -10,11 +10,12 @@ use Rattle.cx_orders.specs.declared.states.Keys.{Keys}
 use Rattle.cx_orders.specs.declared.states.OrdersState.{OrdersState}
 use Rattle.cx_look_lines.specs.Words.{Lines}
 use Rattle.cx_look_orders.specs.Laws.{TextsStandOnce}
-use Rattle.cx_look_orders.specs.Outcomes.{EndsWith, IsOutcome, NoLater}
+use Rattle.cx_look_orders.specs.Outcomes.{EndsWith, IsOutcome}
+use Rattle.cx_look_steps.specs.Facts.Soonest.{both_soonest}
+use Rattle.cx_look_steps.specs.Steps.{AreSteps, IsStep, Telling, TurnIsTold, move_number, moves_of}
 use Rattle.cx_look_orders.specs.Rest.{RestText}
-use Rattle.cx_look_orders.specs.Steps.{AreSteps, IsStep, Telling, TurnIsTold, move_number, moves_of}
 use Rattle.cx_look_orders.specs.declared.outcomes.Outcome.{Outcome}
-use Rattle.cx_look_orders.specs.declared.steps.Step.{Step}
+use Rattle.cx_look_steps.specs.declared.steps.Step.{Step}
 use Rattle.cx_search.specs.Rest.{IsNear}
 
 -- ---- steps
@@ -68,12 +69,6 @@ many_moves (step ∷ steps) = omega (arith, many_moves steps)
 pub near_less : (cut : Option ℕ) (m n : ℕ) → m ≤ n → IsNear cut n → IsNear cut m
 near_less None m n l near = tt
 near_less (Some most) m n l near = omega (arith, l, near)
-
--- of two lists neither is later
-pub both_soonest : SoonerOrders → (ms ns : List ℕ) → NoLater ms ns → NoLater ns ms → ms ≡ ns
-both_soonest sooner ms ns (inl e) later = e
-both_soonest sooner ms ns (inr l) (inl e) = sym e
-both_soonest sooner ms ns (inr l) (inr m) = absurd (sooner.not_self ms (sooner.onward ms ns ms l m))
 
 -- ---- outcomes of one text
 module _ (Shows : RegionState → Lines → Type 0) (tells : Telling) (keys : Keys) (start : OrdersState)

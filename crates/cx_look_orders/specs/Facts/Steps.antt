@@ -12,8 +12,8 @@ use Rattle.cx_orders.specs.Moves.{KeyMoves, Moves, TurnMoves, key_number, turn_n
 use Rattle.cx_orders.specs.declared.states.Keys.{Keys}
 use Rattle.cx_orders.specs.declared.states.OrdersState.{OrdersState}
 use Rattle.cx_look_orders.specs.Parts.Ways.{IsTold, came_between}
-use Rattle.cx_look_orders.specs.Steps.{IsStep, Telling, TurnIsTold, move_number}
-use Rattle.cx_look_orders.specs.declared.steps.Step.{Step}
+use Rattle.cx_look_steps.specs.Steps.{IsStep, Telling, TurnIsTold, move_number}
+use Rattle.cx_look_steps.specs.declared.steps.Step.{Step}
 
 same_number : (n : ℕ) → (n == n) ≡ true
 same_number n = eq-eqb n n refl

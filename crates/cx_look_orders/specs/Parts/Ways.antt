@@ -14,9 +14,9 @@ use Rattle.cx_orders.specs.declared.states.Keys.{Keys}
 use Rattle.cx_orders.specs.declared.states.OrdersState.{OrdersState}
 use Rattle.cx_look_orders.specs.Outcomes.{HasText, IsWritten}
 use Rattle.cx_look_orders.specs.Rest.{RestText}
-use Rattle.cx_look_orders.specs.Steps.{AreSteps, Telling, moves_of}
+use Rattle.cx_look_steps.specs.Steps.{AreSteps, Telling, moves_of}
 use Rattle.cx_look_orders.specs.declared.outcomes.Outcome.{Outcome}
-use Rattle.cx_look_orders.specs.declared.steps.Step.{Step}
+use Rattle.cx_look_steps.specs.declared.steps.Step.{Step}
 
 -- how many keys had come before one that came between, by how many of each terminal came before and after
 abbrev pub came_between : List ℕ → List ℕ → ℕ → Option ℕ

@@ -21,9 +21,9 @@ use Rattle.cx_look.specs.declared.orders.OrdersBlock.{OrdersBlock}
 use Rattle.cx_look.specs.declared.orders.Sight.{Sight}
 use Rattle.cx_look.specs.declared.orders.Sight.TheVariants as sight
 use Rattle.cx_look_lines.specs.Words.{Lines}
-use Rattle.cx_look_orders.specs.Laws.{IsRunOf, event_of_step}
-use Rattle.cx_look_orders.specs.Script.{script_lines}
-use Rattle.cx_look_orders.specs.declared.steps.Step.{Step}
+use Rattle.cx_look_steps.specs.Laws.{IsRunOf, event_of_step}
+use Rattle.cx_look_steps.specs.Script.{script_lines}
+use Rattle.cx_look_steps.specs.declared.steps.Step.{Step}
 use Rattle.cx_script.specs.Transcript.{PerformsAll}
 use Rattle.cx_look_script.specs.Looking.{AreLookLines, LookPerforms, ShowsOrders, at_region}
 use Rattle.cx_look_script.specs.Orders.{AreSeen, names_with_edf}

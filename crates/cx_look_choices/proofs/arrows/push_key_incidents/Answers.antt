@@ -4,7 +4,7 @@ use Rattle.std.specs.Option.{option_copied}
 use Rattle.cx_orders.specs.Incidents.{incident_of_key}
 use Rattle.cx_look_choices.specs.Presses.{key_pressed, terminal_number}
 use Rattle.cx_look_choices.specs.Rows.{incident_at, key_incidents}
-use Rattle.cx_look_choices.proofs.ListLemmas.{ok_on}
+use Rattle.cx_look_steps.specs.Facts.Lists.{ok_on}
 use Rattle.cx_look_choices.proofs.PressLemmas.{key_none, key_some}
 use Rattle.cx_look_choices.proofs.arrows.push_key_incidents.Goals as goal
 

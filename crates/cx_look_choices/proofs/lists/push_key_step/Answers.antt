@@ -1,6 +1,6 @@
 use Rattle.std.proofs.Common.{◌∙◌, ◌++◌, [], ◌∷◌, ℕ, None, Some, ap, append-nil, map, sym}
 use Rattle.std.specs.Option.{option_copied}
-use Rattle.cx_look_orders.specs.declared.steps.Step.{Step}
+use Rattle.cx_look_steps.specs.declared.steps.Step.{Step}
 use Rattle.cx_look_choices.specs.Presses.{key_step, terminal_number}
 use Rattle.cx_look_choices.proofs.PressLemmas.{key_none, key_some}
 use Rattle.cx_look_choices.proofs.lists.push_key_step.Goals as goal

@@ -3,7 +3,7 @@ use Rattle.cx_search.specs.Moves.{Leads}
 use Rattle.cx_choices.specs.Moves.{Goes, begun}
 use Rattle.cx_choices.specs.declared.states.ChoicesState.{ChoicesState}
 use Rattle.cx_look_choices.specs.Parts.Ways.{AreFirstPresses, ArePressesOf}
-use Rattle.cx_look_choices.proofs.ListLemmas.{ok_on}
+use Rattle.cx_look_steps.specs.Facts.Lists.{ok_on}
 use Rattle.cx_look_choices.proofs.PressLemmas.{first_presses}
 use Rattle.cx_look_choices.proofs.presses.presses_to.Goals as goal
 

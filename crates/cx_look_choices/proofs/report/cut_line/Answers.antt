@@ -2,7 +2,7 @@ use Rattle.std.proofs.Common.{◌≡◌, ◌∙◌, ◌++◌, [], ◌∷◌, ap,
 use Rattle.std.specs.Fmt.{decimal}
 use Rattle.cx_look_lines.specs.Words.{joined_line}
 use Rattle.cx_look_choices.specs.Report.{number_words, screens_words}
-use Rattle.cx_look_choices.proofs.ListLemmas.{ok_on}
+use Rattle.cx_look_steps.specs.Facts.Lists.{ok_on}
 use Rattle.cx_look_choices.proofs.ReportLemmas.{three_added}
 use Rattle.cx_look_choices.proofs.report.cut_line.Goals as goal
 

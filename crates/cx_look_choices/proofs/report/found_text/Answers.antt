@@ -2,7 +2,7 @@ use Rattle.std.proofs.Common.{◌≡◌, subst, sym}
 use Rattle.cx_look_choices.specs.Parts.Ways.{HasFound, report_of}
 use Rattle.cx_look_choices.specs.Report.{ChoicesText}
 use Rattle.cx_look_choices.specs.Rows.{AreRows}
-use Rattle.cx_look_choices.proofs.ListLemmas.{ok_on}
+use Rattle.cx_look_steps.specs.Facts.Lists.{ok_on}
 use Rattle.cx_look_choices.proofs.TextLemmas.{has_found, text_of}
 use Rattle.cx_look_choices.proofs.report.found_text.Goals as goal
 

@@ -2,7 +2,7 @@ use Rattle.std.proofs.Common.{◌≡◌, ◌∙◌, ◌++◌, [], ap, append-nil
 use Rattle.std.specs.Option.{option_copied}
 use Rattle.std.specs.Prelude.{unwrap_or}
 use Rattle.cx_look_choices.specs.Report.{screen_lines}
-use Rattle.cx_look_choices.proofs.ListLemmas.{ok_on}
+use Rattle.cx_look_steps.specs.Facts.Lists.{ok_on}
 use Rattle.cx_look_choices.proofs.ReportLemmas.{screen_is}
 use Rattle.cx_look_choices.proofs.report.screen_lines.Goals as goal
 

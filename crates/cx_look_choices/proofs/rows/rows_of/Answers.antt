@@ -1,7 +1,7 @@
 use Rattle.cx_look_choices.specs.Parts.Ways.{AreFirstRows}
 use Rattle.cx_look_choices.specs.Rows.{AreRows}
 use Rattle.cx_look_choices.specs.declared.rows.Rows.{Rows}
-use Rattle.cx_look_choices.proofs.ListLemmas.{ok_on}
+use Rattle.cx_look_steps.specs.Facts.Lists.{ok_on}
 use Rattle.cx_look_choices.proofs.RowLemmas.{all_rows}
 use Rattle.cx_look_choices.proofs.rows.rows_of.Goals as goal
 

@@ -1,6 +1,6 @@
 use Rattle.std.proofs.Common.{◌+◌, arith}
 use Rattle.cx_orders.specs.Moves.{Moves}
-use Rattle.cx_look_orders.specs.Steps.{moves_of}
+use Rattle.cx_look_steps.specs.Steps.{moves_of}
 use Rattle.cx_search.specs.Facts.Loops.{loop_leads_on}
 use Rattle.cx_look_orders.specs.Facts.Outcomes.{steps_lead}
 use Rattle.cx_look_orders.proofs.laws.loops_are_endless.Goals as goal

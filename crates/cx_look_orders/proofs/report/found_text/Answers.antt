@@ -3,7 +3,7 @@ use Rattle.std.specs.Prelude.{MatchOption}
 use Rattle.cx_search.specs.Finds.{FindsNearest, IsWhole}
 use Rattle.cx_orders.specs.Moves.{Moves, begun}
 use Rattle.cx_look_orders.specs.Report.{OrdersText, cut_line, loop_lines, outcomes_lines, stuck_line, whole_line}
-use Rattle.cx_look_orders.proofs.ListLemmas.{ok_on}
+use Rattle.cx_look_steps.specs.Facts.Lists.{ok_on}
 use Rattle.cx_look_orders.proofs.PlaceLemmas.{cut_at, cut_reaches}
 use Rattle.cx_look_orders.proofs.report.found_text.Goals as goal
 

@@ -2,8 +2,8 @@ use Rattle.std.proofs.Common.{◌≡◌, ◌∙◌, ◌++◌, [], ◌∷◌, ap,
 use Rattle.std.specs.Option.{option_copied}
 use Rattle.cx_look_lines.specs.Words.{look_line}
 use Rattle.cx_look_orders.specs.Report.{loop_lines}
-use Rattle.cx_look_orders.specs.Script.{script_lines}
-use Rattle.cx_look_orders.proofs.ListLemmas.{ok_on}
+use Rattle.cx_look_steps.specs.Script.{script_lines}
+use Rattle.cx_look_steps.specs.Facts.Lists.{ok_on}
 use Rattle.cx_look_orders.proofs.report.loop_lines.Goals as goal
 
 pub returns : goal.returns

@@ -2,7 +2,7 @@ use Rattle.std.proofs.Common.{subst, sym}
 use Rattle.cx_search.specs.Moves.{Leads}
 use Rattle.cx_orders.specs.Moves.{Moves, begun}
 use Rattle.cx_look_orders.specs.Parts.Ways.{AreFirstSteps, AreStepsOf}
-use Rattle.cx_look_orders.proofs.ListLemmas.{ok_on}
+use Rattle.cx_look_steps.specs.Facts.Lists.{ok_on}
 use Rattle.cx_look_orders.proofs.StepLemmas.{first_steps}
 use Rattle.cx_look_orders.proofs.steps.steps_to.Goals as goal
 

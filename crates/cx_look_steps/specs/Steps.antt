@@ -1,11 +1,12 @@
 -- What each move of a list is: a turn of a terminal, or its next key (this product's own).
-use Rattle.std.specs.Prelude.{◌≡◌, ℕ, if◌then◌else◌, is_none, List, [], ◌∷◌, MatchOption, Option, Some, None, map, slice_get}
+use Rattle.std.specs.Prelude.{◌≡◌, ◌⊎◌, ℕ, if◌then◌else◌, is_none, List, [], ◌∷◌, MatchOption, Option, Some, None, map, slice_get}
+use Rattle.cx_search.specs.Moves.{IsSooner}
 use Rattle.cx_region.specs.State.{RegionState, TerminalState}
 use Rattle.cx_region_state.specs.declared.replies.TurnReply.{TurnReply}
 use Rattle.cx_orders.specs.Moves.{KeyMoves, TurnMoves, key_number, turn_number}
 use Rattle.cx_orders.specs.declared.states.Keys.{Keys}
 use Rattle.cx_orders.specs.declared.states.OrdersState.{OrdersState}
-use Rattle.cx_look_orders.specs.declared.steps.Step.{Step}
+use Rattle.cx_look_steps.specs.declared.steps.Step.{Step}
 
 -- what is told of a turn, by the region before it, the terminal's name and its reply
 abbrev pub Telling : Type 0
@@ -47,3 +48,7 @@ move_number step = if is_none step.key then turn_number step.number else key_num
 -- as a list of moves
 abbrev pub moves_of : List Step → List ℕ
 moves_of steps = map (λ (step : Step). move_number step) steps
+
+-- the list is the same as the other, or sooner
+abbrev pub NoLater : List ℕ → List ℕ → Type 0
+NoLater one other = (one ≡ other) ⊎ IsSooner one other

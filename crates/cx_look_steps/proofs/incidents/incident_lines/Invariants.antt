@@ -1,7 +1,7 @@
 use Rattle.std.proofs.Common.{◌≡◌, ◌++◌, drop}
 use Rattle.std.specs.List.{flat_map}
-use Rattle.cx_look_orders.specs.Rest.{incident_line}
-use Rattle.cx_look_orders.proofs.rest.incident_lines.Given as goal
+use Rattle.cx_look_steps.specs.Incidents.{incident_line}
+use Rattle.cx_look_steps.proofs.incidents.incident_lines.Given as goal
 
 abbrev pub invariant-loop-one : goal.invariant-loop-one
 invariant-loop-one g l =

@@ -1,9 +1,9 @@
 use Rattle.std.proofs.Common.{◌∙◌, ◌≡◌, ◌++◌, [], ◌∷◌, ap, sym}
 use Rattle.std.proofs.lemmas.List.{drop_all}
-use Rattle.cx_look_orders.specs.Script.{comment_lines, comments_on}
-use Rattle.cx_look_orders.proofs.CommentLemmas.{none_left}
-use Rattle.cx_look_orders.proofs.ListLemmas.{ok_on}
-use Rattle.cx_look_orders.proofs.script.comment_lines.Goals as goal
+use Rattle.cx_look_steps.specs.Script.{comment_lines, comments_on}
+use Rattle.cx_look_steps.proofs.CommentLemmas.{none_left}
+use Rattle.cx_look_steps.specs.Facts.Lists.{ok_on}
+use Rattle.cx_look_steps.proofs.script.comment_lines.Goals as goal
 
 pub returns : goal.returns
 returns c =

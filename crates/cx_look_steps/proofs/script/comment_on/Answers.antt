@@ -1,7 +1,7 @@
 use Rattle.std.proofs.Common.{◌∙◌, ap, length, nat_le, sym}
-use Rattle.cx_look_orders.specs.Script.{with_text}
-use Rattle.cx_look_orders.proofs.CommentLemmas.{beginning, fitting}
-use Rattle.cx_look_orders.proofs.script.comment_on.Goals as goal
+use Rattle.cx_look_steps.specs.Script.{with_text}
+use Rattle.cx_look_steps.proofs.CommentLemmas.{beginning, fitting}
+use Rattle.cx_look_steps.proofs.script.comment_on.Goals as goal
 
 pub returns-then-fits : goal.returns-then-fits
 returns-then-fits c = λ texts.

@@ -8,9 +8,9 @@ use Rattle.cx_look_lines.specs.Words.{Lines, look_line}
 use Rattle.cx_region.specs.State.{RegionState}
 use Rattle.cx_orders.specs.Moves.{keys_of}
 use Rattle.cx_orders.specs.declared.states.KeyLine.{KeyLine}
-use Rattle.cx_look_orders.specs.Rest.{terminal_name_at}
-use Rattle.cx_look_orders.specs.declared.script.Row.{Row}
-use Rattle.cx_look_orders.specs.declared.steps.Step.{Step}
+use Rattle.cx_look_steps.specs.Incidents.{terminal_name_at}
+use Rattle.cx_look_steps.specs.declared.script.Row.{Row}
+use Rattle.cx_look_steps.specs.declared.steps.Step.{Step}
 
 -- ---- what is told of turns, as comments
 abbrev pub with_text : List ℕ → List ℕ → List ℕ

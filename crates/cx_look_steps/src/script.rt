@@ -1,11 +1,11 @@
 //! Steps as the lines of a script.
 
-ghost use Rattle.std.specs.Prelude.{◌≡◌, ◌<◌, ◌∷◌, ◌++◌, List as Elements, None, OnOk, IfOk, codes, length, nat_le, ℕ};
+ghost use Rattle.std.specs.Prelude.{◌≡◌, ◌<◌, ◌∷◌, ◌++◌, List as Elements, None, OnOk, IfOk, length, nat_le, ℕ};
 ghost use Rattle.std.specs.Option.{option_copied};
 ghost use Rattle.std.specs.List.{flat_map};
-ghost use Rattle.cx_look_orders.specs.Script.{comment_lines, comments_on, key_at, key_line, no_turns, off_line, row_after, row_before, row_goes_on, row_lines, script_lines, step_lines, steps_lines, with_text, with_turn};
+ghost use Rattle.cx_look_steps.specs.Script.{comment_lines, comments_on, key_at, key_line, no_turns, off_line, row_after, row_before, row_goes_on, row_lines, script_lines, step_lines, steps_lines, with_text, with_turn};
 
-use crate::rest::terminal_name_at;
+use crate::incidents::terminal_name_at;
 use crate::steps::Step;
 use cx_base::{List, shown_name};
 use cx_ebcdic::Name4;

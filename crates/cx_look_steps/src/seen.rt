@@ -2,7 +2,7 @@
 
 ghost use Rattle.std.specs.Prelude.{◌≡◌, IfOk};
 ghost use Rattle.cx_look_lines.specs.Words.{Lines};
-ghost use Rattle.cx_look_orders.specs.Steps.{Telling};
+ghost use Rattle.cx_look_steps.specs.Steps.{Telling};
 ghost use Rattle.cx_region.specs.State.{RegionState};
 
 use cx_base::List;

@@ -1,6 +1,6 @@
 use Rattle.std.proofs.Common.{◌≡◌, ◌++◌, None, drop}
-use Rattle.cx_look_orders.specs.Script.{steps_lines}
-use Rattle.cx_look_orders.proofs.script.steps_lines.Given as goal
+use Rattle.cx_look_steps.specs.Script.{steps_lines}
+use Rattle.cx_look_steps.proofs.script.steps_lines.Given as goal
 
 abbrev pub invariant-loop-step : goal.invariant-loop-step
 invariant-loop-step g l =

@@ -8,10 +8,10 @@ use Rattle.std.proofs.lemmas.Option.{none-some}
 use Rattle.cx_look_lines.specs.Words.{Lines}
 use Rattle.cx_region.specs.State.{RegionState}
 use Rattle.cx_orders.specs.declared.states.KeyLine.{KeyLine}
-use Rattle.cx_look_orders.specs.Laws.{AskFor, IsTurnOf, ScriptsAskForSteps, asked_row, asked_steps}
-use Rattle.cx_look_orders.specs.Script.{key_line, no_turns, row_goes_on, row_lines, steps_lines, with_turn}
-use Rattle.cx_look_orders.specs.declared.script.Row.{Row}
-use Rattle.cx_look_orders.specs.declared.steps.Step.{Step}
+use Rattle.cx_look_steps.specs.Laws.{AskFor, IsTurnOf, ScriptsAskForSteps, asked_row, asked_steps}
+use Rattle.cx_look_steps.specs.Script.{key_line, no_turns, row_goes_on, row_lines, steps_lines, with_turn}
+use Rattle.cx_look_steps.specs.declared.script.Row.{Row}
+use Rattle.cx_look_steps.specs.declared.steps.Step.{Step}
 
 both : (b c : Bool) → (b && c) ≡ true → (b ≡ true) × (c ≡ true)
 both true true is = (refl, refl)

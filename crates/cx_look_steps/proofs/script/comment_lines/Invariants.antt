@@ -1,6 +1,6 @@
 use Rattle.std.proofs.Common.{◌≡◌, ◌++◌, drop}
-use Rattle.cx_look_orders.specs.Script.{comment_lines, comments_on}
-use Rattle.cx_look_orders.proofs.script.comment_lines.Given as goal
+use Rattle.cx_look_steps.specs.Script.{comment_lines, comments_on}
+use Rattle.cx_look_steps.proofs.script.comment_lines.Given as goal
 
 abbrev pub invariant-loop-text : goal.invariant-loop-text
 invariant-loop-text l =

@@ -2,7 +2,7 @@
 use Rattle.std.proofs.Common.{◌≡◌, ℕ, List, [], ◌∷◌, ◌++◌, true, false, codes, length, ap, refl, sym, ◌∙◌, append_assoc}
 use Rattle.std.specs.Prelude.{if◌then◌else◌, nat_le}
 use Rattle.cx_look_lines.specs.Words.{Lines}
-use Rattle.cx_look_orders.specs.Script.{comments_on, with_text}
+use Rattle.cx_look_steps.specs.Script.{comments_on, with_text}
 
 -- a text that fits goes on with the line
 pub fitting : (report : Lines) (line longer text : List ℕ) (texts : List (List ℕ)) → nat_le (length (with_text line text)) 100 ≡ true

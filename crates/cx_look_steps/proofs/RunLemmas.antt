@@ -15,10 +15,10 @@ use Rattle.cx_orders.specs.Moves.{KeyMoves, keys_of}
 use Rattle.cx_orders.specs.declared.states.KeyLine.{KeyLine}
 use Rattle.cx_orders.specs.declared.states.Keys.{Keys}
 use Rattle.cx_orders.specs.declared.states.OrdersState.{OrdersState}
-use Rattle.cx_look_orders.specs.Laws.{IsMoveReply, IsRunOf, StepsAreRuns, event_at, event_of_step}
-use Rattle.cx_look_orders.specs.Steps.{AreSteps, Telling, TurnIsTold}
-use Rattle.cx_look_orders.specs.declared.steps.Step.{Step}
-use Rattle.cx_look_orders.proofs.ListLemmas.{mapped_item}
+use Rattle.cx_look_steps.specs.Laws.{IsMoveReply, IsRunOf, StepsAreRuns, event_at, event_of_step}
+use Rattle.cx_look_steps.specs.Steps.{AreSteps, Telling, TurnIsTold}
+use Rattle.cx_look_steps.specs.declared.steps.Step.{Step}
+use Rattle.cx_look_steps.specs.Facts.Lists.{mapped_item}
 
 module _ (turned : TurnsKeepToTheirTask) (keyed : KeysKeepToTheirTerminal) (tells : Telling) (keys : Keys) where
   abbrev names : OrdersState → List (List ℕ)

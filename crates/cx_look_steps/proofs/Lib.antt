@@ -1,0 +1,3 @@
+mod CommentLemmas
+mod RunLemmas
+mod ScriptLemmas

@@ -1,0 +1,4 @@
+-- Lemmas that other crates cite.
+pub mod Items
+pub mod Lists
+pub mod Soonest
