@@ -12,8 +12,8 @@ pub fn steps_are_runs()
     a_key_keeps_to_its_terminal();
 }
 
-/// The lines that ORDERS writes of steps ask for these, one after another: each line for a key, or for 1 to 4,096 turns
-/// in a row, of which comment lines behind it tell.
+/// The lines that are written of steps ask for these, one after another: each line for a key, or for 1 to 4,096 turns in
+/// a row, of which comment lines behind it tell.
 pub fn scripts_ask_for_steps()
     ensures { ScriptsAskForSteps }
 {}

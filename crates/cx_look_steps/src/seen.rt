@@ -1,4 +1,4 @@
-//! What is to be seen of an outcome, and what is told of the turns that lead there.
+//! What is to be seen of a state, and what is told of the turns that lead there.
 
 ghost use Rattle.std.specs.Prelude.{◌≡◌, IfOk};
 ghost use Rattle.cx_look_lines.specs.Words.{Lines};
