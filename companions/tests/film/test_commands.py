@@ -67,9 +67,9 @@ class CommandsTest(TestCase):
             os.mkfifo(f"{folder}/pipe")
             words = [COMMAND, f"{folder}/pipe", "-o", "/dev/null", "--cicslook", PROGRAM]
             with subprocess.Popen(words, stderr=subprocess.PIPE, text=True) as process:
-                with open(f"{folder}/pipe", "w", encoding="ascii"):  # it reads now
+                with open(f"{folder}/pipe", "w", encoding="ascii"):  # it reads now, or will: then the signal waits for the pipe's end
                     process.send_signal(signal.SIGINT)
-                    _, error = process.communicate(timeout=300)
+                _, error = process.communicate(timeout=300)
                 expect("a signal", (process.returncode, error) == (130, "cics-film: interrupted\n"), (process.returncode, error))
 
     def test_children_that_say_nothing(self) -> None:
