@@ -27,7 +27,7 @@ from repository import Repository, logic, text_of, write
 
 RECORD = ".ci/wrong.record"
 DRAWN = 3
-BUDGET = 250  # seconds of each processor
+BUDGET = 125  # seconds of each processor
 PART = 6  # a trial takes as many times less than its crate's proof
 RECENT = 4 * 60 * 60  # seconds: what changed in them is tried always
 REFUSED = re.compile(r"^wrong body (\w+/[\w.-]+): refused, (\d+) s$", re.M)

@@ -19,7 +19,7 @@ from tests.case import CICSLOOK as PROGRAM
 from tests.case import TestCase, expect
 from tests.film.trials import Data, data_of, lines_to, page, page_or_line, scripts, states_of, text_of
 
-DRAWN, CHANGED = 200, 150  # events; scripts of examples with changed lines
+CHANGED = 150  # scripts of examples with changed lines
 ROOM = 16_000_000  # bytes of a page's data
 HOSTILE = "</script><script>document.title='run'</script><img src=x onerror=\"document.title='run'\">&amp;&lt;'\"\\"
 
@@ -107,28 +107,29 @@ def seconds_taken() -> float:
 
 class DataTest(TestCase):
     def test_data_is_what_looks_write(self) -> None:
-        """Of events drawn of all examples and lessons, what the page has is what the looks write there; of terminals without an event too."""
-        generator, films = random.Random(78), []
-        paths = scripts()
+        """Of an event drawn of each example and lesson, what the page has is what the looks write there; of terminals without an event too."""
+        generator, paths = random.Random(78), scripts()
         with ThreadPoolExecutor(2) as pool:
             for path, data in zip(paths, pool.map(film_of, paths)):
                 expect(f"{path} has a fault, or none", bool(data["fault"]) == ends_it(reported_of(path)), data["fault"])
                 is_of_looks = not any(it.is_event for it in actions_of(text_of(path)))  # as a script of FAULTS alone
                 expect(f"{path} has events", data["events"] or data["fault"] or is_of_looks, data["script"][:9])
-                films += [(path, data, at) for at in range(len(data["events"]))]
-        for path, data, at in generator.sample(films, DRAWN):
-            event, shown = next(it for n, it in enumerate(states_of(data)) if n == at)
-            asked = {key: question(key, shown) for key in shown}
-            for terminal in data["terminals"]:
-                asked |= {f"{word} {terminal}": f"{word.upper()} {terminal}" for word in ("screen", "display", "abend", "task", "command")}
-            for key, lines in zip(asked, written(lines_to(data, event), [*asked.values()])):
-                lines = [] if len(lines) == 1 and lines[0].endswith(" NONE") else lines
-                expect(f"{path}, event {at + 1}, {key}", shown.get(key, []) == lines, (shown.get(key), lines))
-            if "arrivals" in event:
-                questions, due = arrivals_of(data, at)
-                answers = written(lines_to(data, data["events"][at - 1]), questions)
-                seen = [[line for line in answer if line.startswith(("> AHEAD ", "> R"))] for answer in answers]
-                expect(f"{path}, event {at + 1}, with what lines were come to", seen == due, (seen, due))
+                if data["events"]:
+                    self.is_what_looks_write(path, data, generator.randrange(len(data["events"])))
+
+    def is_what_looks_write(self, path: str, data: Data, at: int) -> None:
+        event, shown = next(it for n, it in enumerate(states_of(data)) if n == at)
+        asked = {key: question(key, shown) for key in shown}
+        for terminal in data["terminals"]:
+            asked |= {f"{word} {terminal}": f"{word.upper()} {terminal}" for word in ("screen", "display", "abend", "task", "command")}
+        for key, lines in zip(asked, written(lines_to(data, event), [*asked.values()])):
+            lines = [] if len(lines) == 1 and lines[0].endswith(" NONE") else lines
+            expect(f"{path}, event {at + 1}, {key}", shown.get(key, []) == lines, (shown.get(key), lines))
+        if "arrivals" in event:
+            questions, due = arrivals_of(data, at)
+            answers = written(lines_to(data, data["events"][at - 1]), questions)
+            seen = [[line for line in answer if line.startswith(("> AHEAD ", "> R"))] for answer in answers]
+            expect(f"{path}, event {at + 1}, with what lines were come to", seen == due, (seen, due))
 
     def test_texts_are_no_markup(self) -> None:
         """Texts with markup in a key, a comment, a source line and a bad line are data."""
