@@ -1,7 +1,7 @@
 """Puts looks at each place between the lines of each example, and of 600 with changed images, and sees that the rest stays. Examples are as
-`cicsedf` runs them, and a fixed draw changes the images. Without the looks' lines the transcript must be the example's, of a changed one
-that which `cicsedf` writes of the script without looks, and the end the same; a fault is reported of the same line, which has another
-number, and then the line is shown."""
+`cicsedf` runs them. A fixed draw changes the images of examples of fewer than 250 lines, since longer ones take a hundred times as long.
+Without the looks' lines the transcript must be the example's, of a changed one that which `cicsedf` writes of the script without looks, and
+the end the same; a fault is reported of the same line, which has another number, and then the line is shown."""
 import random
 import re
 from collections import Counter
@@ -16,8 +16,8 @@ CHANGED, TURNS = 600, 20
 SELDOM = 25  # one place in so many has the looks that take long where storage is full, or write much
 STATES, FEW = 300, 10  # of ORDERS; where images are changed a turn may be a loop of as many instructions as a turn has
 MUCH = "queue-of-34-items"  # examples of which a state has a megabyte of queues: of them ORDERS has few states too
-# Scripts of so many lines fill storage or queues, where a state takes some tenths of a second: they have no ORDERS, and the others a quarter
-# as often.
+# Scripts of so many lines fill storage or queues, where a state takes some tenths of a second, and a turn some hundredths: their images aren't
+# changed, they have no ORDERS, and the other looks that take long a quarter as often.
 LONG, FOUR = 250, 4
 PLACES = [0x000FF0, 0x001000, 0x010000, 0x1FFFF0, 0x200000, 0x200060, 0xFFFFF0]  # near areas, and where addresses wrap
 NAME = re.compile(r"(?<![A-Z0-9@#$])[A-Z0-9@#$]{1,8}(?![A-Z0-9@#$])")
@@ -112,7 +112,8 @@ def scripts(draw: random.Random) -> Iterator[tuple[str, list[str], Ended | None]
     for name in [*examples(), *lessons()]:
         script, due = plain(name)
         yield name, lines_of_script(script), due
-    sources = [lines for script, due in map(plain, examples()) for lines in [lines_of_script(script)] if digits_in(lines) and due.is_well()]
+    plain_ones = [(lines_of_script(script), due) for script, due in map(plain, examples())]
+    sources = [lines for lines, due in plain_ones if digits_in(lines) and due.is_well() and len(lines) < LONG]
     for number in range(1, CHANGED + 1):
         yield f"changed example {number}", changed(draw, sources), None
 
