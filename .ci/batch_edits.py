@@ -15,7 +15,7 @@ from collections.abc import Collection, Iterable, Sequence
 import interface
 from repository import Repository, kit, libraries_of, text_of, write
 
-UNPROVED = re.compile(r"(?m)^note: (src/\S+):(\d+):\d+: it is not proved ")
+UNPROVED = re.compile(r"(?m)^note: (src/\S+):(\d+):\d+: (?:it is not proved |`search` found no proof )")
 UNANSWERED = re.compile(r"(?m)^(?:\./)?proofs/(\S+)/Answers\.antt:\d+:\d+: error: (.*)")
 UNADMITTED = re.compile(r"(?m)^(?:\./)?proofs/\S+\.antt:\d+:\d+: error: (.*)")  # of any file of proofs, as of a lemma on a constant
 # a proof file that names what an edit took away says little of the contract
