@@ -108,16 +108,18 @@ def seconds_taken() -> float:
 class DataTest(TestCase):
     def test_data_is_what_looks_write(self) -> None:
         """Of an event drawn of each example and lesson, what the page has is what the looks write there; of terminals without an event too."""
-        generator, paths = random.Random(78), scripts()
+        generator, paths, with_arrivals = random.Random(78), scripts(), 0
         with ThreadPoolExecutor(2) as pool:
             for path, data in zip(paths, pool.map(film_of, paths)):
                 expect(f"{path} has a fault, or none", bool(data["fault"]) == ends_it(reported_of(path)), data["fault"])
                 is_of_looks = not any(it.is_event for it in actions_of(text_of(path)))  # as a script of FAULTS alone
                 expect(f"{path} has events", data["events"] or data["fault"] or is_of_looks, data["script"][:9])
                 if data["events"]:
-                    self.is_what_looks_write(path, data, generator.randrange(len(data["events"])))
+                    with_arrivals += self.is_what_looks_write(path, data, generator.randrange(len(data["events"])))
+        expect("events with lines that were come to", bool(with_arrivals) == has_look(PROGRAM, "AHEAD TERM AT A 1"), with_arrivals)
 
-    def is_what_looks_write(self, path: str, data: Data, at: int) -> None:
+    def is_what_looks_write(self, path: str, data: Data, at: int) -> bool:
+        """Sees that what the page has of an event is what the looks write after it, and returns whether it has lines that were come to."""
         event, shown = next(it for n, it in enumerate(states_of(data)) if n == at)
         asked = {key: question(key, shown) for key in shown}
         for terminal in data["terminals"]:
@@ -130,6 +132,7 @@ class DataTest(TestCase):
             answers = written(lines_to(data, data["events"][at - 1]), questions)
             seen = [[line for line in answer if line.startswith(("> AHEAD ", "> R"))] for answer in answers]
             expect(f"{path}, event {at + 1}, with what lines were come to", seen == due, (seen, due))
+        return "arrivals" in event
 
     def test_texts_are_no_markup(self) -> None:
         """Texts with markup in a key, a comment, a source line and a bad line are data."""
