@@ -211,10 +211,14 @@ class Edits(Repository):
         return (datetime.datetime.fromisoformat(now) - datetime.datetime.fromisoformat(tried)).days if now != "-" else 0
 
     def fault_of(self, edit: str) -> str | None:
-        """Returns why the edit doesn't apply, if so: each `old:` is once in what the pairs before it made."""
-        texts, path, pairs = dict[str, str](), "", 0
+        """Returns why the edit doesn't apply, if so: each `old:` is once in what the pairs before it made, and has its `new:` on the next line. Each
+        text is one line: of two that follow each other the first would not be read, and what is tried would be no Rust."""
+        texts, path, pairs, old, waits = dict[str, str](), "", 0, "", False
         for line in text_of(self.edits[edit]).splitlines():
             word, _, rest = line.partition(":")
+            if waits != (word == "new"):
+                return f"an old text has no new one: {old[:60]}" if waits else f"no old text stands in front of: {line[:60]}"
+            waits = word == "old"
             if word == "file":
                 path = f"{self.root}/crates/{crate_of(edit)}/{rest.strip()}"
                 if not rest.strip().startswith("src/") or not os.path.isfile(path):
@@ -226,7 +230,7 @@ class Edits(Repository):
                     return f"an old text stands {texts[path].count(old) if path else 0} times: {old[:60]}"
             elif word == "new":
                 texts[path], pairs = texts[path].replace(old, rest[1:]), pairs + 1
-        return None if pairs else "it has no pair of old and new"
+        return None if pairs and not waits else "it has no pair of old and new"
 
     def faults(self, none_due: bool = True) -> list[str]:
         """Returns what is wrong with the edits and their record; an edit that is due is a fault where none may be."""
