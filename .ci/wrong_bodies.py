@@ -211,8 +211,8 @@ class Edits(Repository):
         return (datetime.datetime.fromisoformat(now) - datetime.datetime.fromisoformat(tried)).days if now != "-" else 0
 
     def fault_of(self, edit: str) -> str | None:
-        """Returns why the edit doesn't apply, if so: each `old:` is once in what the pairs before it made, and has its `new:` on the next line. Each
-        text is one line: of two that follow each other the first would not be read, and what is tried would be no Rust."""
+        """Returns why the edit doesn't apply, if so: each `old:` is once in what the pairs before it made, and has its `new:` on the next
+        line. Each text is one line: of two that follow each other the first would not be read, and what is tried would be no Rust."""
         texts, path, pairs, old, waits = dict[str, str](), "", 0, "", False
         for line in text_of(self.edits[edit]).splitlines():
             word, _, rest = line.partition(":")
