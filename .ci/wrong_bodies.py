@@ -230,7 +230,9 @@ class Edits(Repository):
                     return f"an old text stands {texts[path].count(old) if path else 0} times: {old[:60]}"
             elif word == "new":
                 texts[path], pairs = texts[path].replace(old, rest[1:]), pairs + 1
-        return None if pairs and not waits else "it has no pair of old and new"
+        if waits:
+            return f"an old text has no new one: {old[:60]}"
+        return None if pairs else "it has no pair of old and new"
 
     def faults(self, none_due: bool = True) -> list[str]:
         """Returns what is wrong with the edits and their record; an edit that is due is a fault where none may be."""
