@@ -3,7 +3,8 @@ import os
 import re
 
 from cics.child import TOP
-from cics.cli import Failure, write_file
+from cics.cli import Failure
+from cics.files import put_file
 
 CHANGES = "docs/CHANGES.md"
 PLACES = {  # the files with expressions of what is in front of a version there; of the changes the first heading counts
@@ -58,6 +59,6 @@ def write_version(version: str) -> list[str]:
         old = text_of(path, TOP)
         new = UNRELEASED.sub("", old) if path == CHANGES else re.sub(front + NUMBER, version, old, flags=re.M)
         if new != old:
-            write_file(os.path.join(TOP, path), new.encode(), [])
+            put_file(os.path.join(TOP, path), new.encode())
             changed.append(path)
     return changed

@@ -22,7 +22,7 @@ from functools import partial
 from typing import NamedTuple
 
 from cics.child import TOP, lines_of, read
-from cics.cli import write_file
+from cics.files import put_file
 from cics.transcripts import is_of_page
 from checks.common import Case, Check, Counts, Wrong, require
 from checks.examples import FOLDER, text_of
@@ -101,7 +101,7 @@ def difference(old: str, new: str, name: str | None) -> list[str]:
     with tempfile.TemporaryDirectory() as folder:
         paths = [os.path.join(folder, "old"), os.path.join(folder, "new")]
         for path, file in zip(paths, (old, new)):
-            write_file(path, text_of(source(file, name)), [])
+            put_file(path, text_of(source(file, name)))
         return lines_of(subprocess.run(["diff", *paths], capture_output=True, text=True, check=False).stdout)
 
 
@@ -201,7 +201,7 @@ def counted(blocks: list[Block], wrong: list[str]) -> Counts:
 def written(path: str) -> Counts:
     """Writes a page with the blocks that are due."""
     made, blocks, wrong = judged(path)
-    write_file(path, text_of(made), [])
+    put_file(path, text_of(made))
     return counted(blocks, wrong)
 
 

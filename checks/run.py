@@ -13,9 +13,10 @@ from functools import partial
 from itertools import islice
 
 from cics.child import Ended, lines_of, read, run
-from cics.cli import say, write_file
+from cics.cli import say
 from checks.common import Case, Check, Counts, Wrong, require
 from checks.examples import FAULT, FOLDER, each_of, examples, has_looks, lessons, looks, path_of, plain, wanted
+from cics.files import put_file
 
 KINDS = ("transcript", "stderr", "status")
 SHOWN = 12  # lines of how a transcript differs
@@ -63,7 +64,7 @@ def written_anew(program: str, name: str) -> Counts:
         if text.strip() != old.strip() or (kind == "transcript" and text != old):
             say(*difference(f"{name}.{kind}", old, text))
             if text or kind == "transcript":
-                write_file(path, text, [])
+                put_file(path, text)
             else:
                 os.remove(path)
             changed += 1

@@ -9,9 +9,9 @@ from dataclasses import dataclass
 from functools import partial
 
 from cics.child import TOP, read, run
-from cics.cli import write_file
 from checks.common import Case, Check, Counts, require
 from checks.examples import FOLDER
+from cics.files import put_file
 
 CHANGING, LAYOUT = os.path.join(FOLDER, "lessons/changing"), os.path.join(FOLDER, "lessons/14-layout")
 OLD = read(f"{CHANGING}/pgm7.asm").decode()
@@ -58,7 +58,7 @@ LAYOUTS = {  # in which programs the layout is changed, and what is printed
 def source_tried(program: str, text: str, due: Due) -> Counts:
     with tempfile.TemporaryDirectory() as folder:
         path = os.path.join(folder, "new.asm")
-        write_file(path, text.encode(), [])
+        put_file(path, text.encode())
         return due.judge([f"{CHANGING}/pgm7.script", "PGM7", f"{CHANGING}/pgm7.asm", path, program])
 
 

@@ -8,10 +8,11 @@ from collections.abc import Callable
 from functools import partial
 from typing import NamedTuple
 
-from cics.cli import say, write_file
+from cics.cli import say
 from checks.common import Check, Counts, require
 from checks.examples import each_of
 from checks.measuring import Taken, taken
+from cics.files import put_file
 
 KIB, MIB = 1 << 10, 1 << 20
 SIZES = {"16 KiB": 16 * KIB, "1 MiB": MIB, "4 MiB": 4 * MIB, "16 MiB": 16 * MIB}
@@ -60,7 +61,7 @@ def measured(program: str, made: Made) -> Taken:
     """The one of three runs that takes least, which must end as they should."""
     with tempfile.TemporaryDirectory() as folder:
         path = os.path.join(folder, "script")
-        write_file(path, made.script, [])
+        put_file(path, made.script)
         runs = [taken([program, path]) for _ in range(3)]
     for it in runs:
         require((it.ended.status, it.ended.out.count(b"\n")) == (made.status, made.lines), f"it ends otherwise: {it.ended}")

@@ -8,9 +8,10 @@ from dataclasses import dataclass, field
 from functools import partial
 
 from cics.child import Ended, run
-from cics.cli import version, write_file
+from cics.cli import version
 from checks.common import Case, Check, Counts, Wrong, require
 from checks.examples import path_of, script_of, text_of, wanted
+from cics.files import put_file
 
 USAGE = b"cicsedf: usage: cicsedf [FILE]\n"
 LOOK_USAGE = b"cicslook: usage: cicslook [FILE]\n"
@@ -47,7 +48,7 @@ class Trial:
 def ended_in(program: str, trial: Trial) -> Ended:
     with tempfile.TemporaryDirectory() as folder:
         for name, text in trial.files.items():
-            write_file(os.path.join(folder, name), text, [])
+            put_file(os.path.join(folder, name), text)
         return run(["/bin/sh", "-c", f'cd "$0" && {trial.line}', folder, program, *trial.words], trial.given)
 
 

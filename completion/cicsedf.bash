@@ -8,16 +8,16 @@ _cics_names() {  # programs and transactions of the sources and scripts that sta
 _cics_words() {
   local word=${COMP_WORDS[COMP_CWORD]} before=${COMP_WORDS[COMP_CWORD - 1]} options=
   case ${COMP_WORDS[0]##*/} in
-    cics-adapt) options="-h --help --version --copy --keep --ebcdic --map --stand-in --bms --file --out" ;;
+    cics-adapt) options="-h --help --version --copy --keep --ebcdic --map --stand-in --bms --file --out --force" ;;
     cics-check) options="-h --help --version --script --explain --marks --watch --json --map --cicslook" ;;
-    cics-cover) options="-h --help --version --html --lcov --json --at-least --cicslook" ;;
-    cics-film) options="-h --help --version -o --map --open --cicslook" ;;
+    cics-cover) options="-h --help --version --html --lcov --force --json --at-least --cicslook" ;;
+    cics-film) options="-h --help --version -o --map --open --force --cicslook" ;;
     cics-look) options="-h --help --version --keep --keep-typed --cicslook" ;;
-    cics-map) options="-h --help --version -o --keys -n --states --one-number --script --tran --queue --json --open --cicslook" ;;
-    cics-run) options="-h --help --version --key --mixed --tran --queue --fields --script --json --cover --html --lcov --film --map --cicslook" ;;
+    cics-map) options="-h --help --version -o --keys -n --states --one-number --script --tran --queue --json --open --force --cicslook" ;;
+    cics-run) options="-h --help --version --key --mixed --tran --queue --fields --script --json --cover --html --lcov --force --film --map --cicslook" ;;
     cics-same) options="-h --help --version --source --shown --screens --orders --choices -n --states --one-number --even-unrun --json --queue --cicslook --cicsedf" ;;
     cics-terminals) options="-h --help --version --resume --back --tran --queue --port --session --mixed --clock --idle --any-user --cicslook" ;;
-    cics-test) options="-h --help --version --write --junit --cover --json --watch --jobs --cicslook" ;;
+    cics-test) options="-h --help --version --write --junit --cover --json --watch --jobs --force --cicslook" ;;
   esac
   case $before in
     --explain) mapfile -t COMPREPLY < <(compgen -W "TooLong BadCharacter BadContinuation BadName NoEnd BadOperand ValueOutOfRange NotRelocatable UnknownOperation UndefinedSymbol DuplicateSymbol NoAddressability TooLarge UnknownCommand UnknownOption BadArgument TooManyConditions Conflict MissingOption Memory BadLength EntryOutside StgLength Duplicate Full NoProgram NoRoom RelocOutside Overlap BadLine BadLook note" -- "$word"); return ;;

@@ -17,6 +17,8 @@ from functools import partial
 from types import TracebackType
 from typing import NamedTuple
 
+from cics.files import read as read
+
 TOP = os.path.dirname(os.path.dirname(os.path.dirname(os.path.abspath(__file__))))
 SECONDS = 20.0  # of a processor: no run may take longer, and no answer, but one that is given more
 BYTES = 1 << 25  # no answer may have more, and no run may write more to a file, where the system is asked to end it
@@ -78,11 +80,6 @@ def lines_of(text: str) -> list[str]:
     return lines if lines[-1] else lines[:-1]
 
 
-def read(path: str) -> bytes:
-    with open(path, "rb") as file:
-        return file.read()
-
-
 @functools.cache
 def files_of(_process: int, _thread: int) -> list[int]:
     """The three standard files of the runs of a thread, in memory."""
@@ -100,8 +97,7 @@ def emptied(file: int) -> bytes:
 def seconds_taken(child: int) -> float:
     """The processor seconds that a child took; all there are, of one that is gone."""
     try:
-        with open(f"/proc/{child}/stat", "rb") as file:
-            words = file.read().rpartition(b")")[2].split()
+        words = read(f"/proc/{child}/stat").rpartition(b")")[2].split()
     except OSError:
         return math.inf
     return (int(words[11]) + int(words[12])) / os.sysconf("SC_CLK_TCK")

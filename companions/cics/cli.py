@@ -1,7 +1,6 @@
-"""What the companions' commands have in common: their words, their files, their output, and how they end.
+"""What the companions' commands have in common: their words, their output, and how they end.
 
-Each fault is one line on standard error, `tool: what: why`. A file that is there is never harmed: a new one is written beside it, whole,
-and then has its name.
+Each fault is one line on standard error, `tool: what: why`.
 """
 import argparse
 import functools
@@ -10,26 +9,19 @@ import os
 import signal
 
 import sys
-import tempfile
-from collections.abc import Callable, Sequence
+from collections.abc import Callable
 from types import FrameType
 from typing import IO, NoReturn
 
 from cics.child import TOP, Overdue
+from cics.failure import FAILED as FAILED, Failure as Failure, why_of as why_of
+from cics.files import read_input, read_noted, read_own, write_all
 from cics.programs import Identity, found_program, identify, is_executable, places_of_program
 
-DONE, FOUND, MISUSED, FAILED = 0, 1, 2, 3  # statuses; of a signal it is 128 and its number
+DONE, FOUND, MISUSED = 0, 1, 2  # statuses, as FAILED is; of a signal it is 128 and its number
 UNRUN = 4  # that of what says how much was run, where it isn't all that is asked for
 STANDARD_INPUT = "-"
 VERSION_FILE = os.path.join(TOP, "VERSION")
-
-
-class Failure(Exception):
-    """Why a command ends, as a line, and its status."""
-
-    def __init__(self, line: str, status: int = FAILED) -> None:
-        super().__init__(line)
-        self.status = status
 
 
 class Interrupted(BaseException):
@@ -42,8 +34,7 @@ class Interrupted(BaseException):
 
 def version() -> str:
     try:
-        with open(VERSION_FILE, encoding="utf-8") as file:
-            return file.read().strip()
+        return read_own(VERSION_FILE).strip()
     except OSError:
         return "unknown"
 
@@ -59,6 +50,10 @@ class Words(argparse.ArgumentParser):
         """The words by which other programs are given than those that stand with the companions."""
         for name in names or ("cicslook",):
             self.add_argument(f"--{name}", metavar="PATH", help=f"the program {name}, where it isn't the one beside the companions")
+
+    def add_force(self) -> None:
+        """The word by which a file is replaced that the companion didn't write, or that was changed since."""
+        self.add_argument("--force", action="store_true", help="writes over a file that it didn't write, or that was changed since; not over one that is read")
 
     def error(self, message: str) -> NoReturn:
         usage = " ".join(self.format_usage().split()).removeprefix("usage: ")
@@ -104,72 +99,19 @@ def identity_of(path: str) -> Identity | None:
     try:
         return identify(path)
     except OSError as why:
-        raise Failure(f"{path}: {why.strerror}") from None
+        raise Failure(f"{path}: {why_of(why)}") from None
 
 
 def read_file(path: str) -> bytes:
     """The bytes of a file, or of standard input."""
     try:
-        if path == STANDARD_INPUT:
-            return sys.stdin.buffer.read()
-        with open(path, "rb") as file:
-            return file.read()
+        return read_input() if path == STANDARD_INPUT else read_noted(path)
     except (OSError, ValueError) as why:
         raise Failure(f"{name_of(path)}: {why_of(why)}") from None
 
 
 def name_of(path: str) -> str:
     return "standard input" if path == STANDARD_INPUT else path
-
-
-def why_of(why: Exception) -> str:
-    return (why.strerror if isinstance(why, OSError) else None) or str(why)
-
-
-def mode_of(paths: Sequence[str]) -> int:
-    """Who may read what is made of these files: who may read each of them."""
-    mask = os.umask(0)
-    os.umask(mask)
-    mode = 0o666 & ~mask
-    for path in paths:
-        mode &= os.stat(path).st_mode if os.path.exists(path) else 0o666
-    return mode | 0o600
-
-
-def write_file(path: str, data: bytes, inputs: Sequence[str]) -> None:
-    """Writes a file that was made of others, whole or not at all. None of them is written over, and who may not read them may not read it."""
-    for given in inputs:
-        if os.path.exists(path) and os.path.exists(given) and os.path.samefile(path, given):
-            raise Failure(f"{path}: it is read, so it isn't written")
-    try:
-        if os.path.exists(path) and not os.path.isfile(path):  # a device or a pipe; a folder can't be opened
-            with open(path, "wb", buffering=0) as file:
-                write_all(file.fileno(), data)
-        else:
-            write_beside(os.path.realpath(path), data, mode_of([*inputs, path]))
-    except (OSError, ValueError) as why:
-        raise Failure(f"{path}: {why_of(why)}") from None
-
-
-def write_beside(path: str, data: bytes, mode: int) -> None:
-    if os.path.exists(path):
-        with open(path, "r+b"):
-            pass  # whether it may be written
-    handle, made = tempfile.mkstemp(prefix=".cics-", dir=os.path.dirname(path))
-    try:
-        with os.fdopen(handle, "wb", buffering=0) as file:
-            write_all(file.fileno(), data)
-            os.fchmod(file.fileno(), mode)
-        os.replace(made, path)
-    except BaseException:
-        os.remove(made)
-        raise
-
-
-def write_all(file: int, data: bytes) -> None:
-    left = memoryview(data)
-    while left:
-        left = left[os.write(file, left) :]
 
 
 def write_out(data: bytes) -> None:

@@ -8,6 +8,7 @@ from dataclasses import dataclass
 
 from cics.child import TOP
 from cics.cli import MISUSED, Failure
+from cics.files import read_own
 from cics.from_cics import plain
 
 NOTE, OF_NOTES = "note", "LOOKS-SOURCES.md"
@@ -41,8 +42,7 @@ class Row:
 def page_lines(name: str) -> list[str]:
     path = os.path.join(TOP, "docs", name)
     try:
-        with open(path, encoding="utf-8") as file:
-            return file.read().splitlines()
+        return read_own(path).splitlines()
     except OSError as why:
         raise Failure(f"docs/{name}: {why.strerror}; the manual's pages say what a fault means") from None
 

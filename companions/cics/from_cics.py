@@ -4,6 +4,8 @@ import os
 import re
 from dataclasses import dataclass
 
+from cics.files import read_own
+
 PAGE = os.path.join(os.path.dirname(os.path.abspath(__file__)), "../../docs/FROM-CICS.md")
 
 
@@ -27,8 +29,7 @@ class Row:
 def rows() -> list[Row]:
     """All rows; none where the page isn't there."""
     try:
-        with open(PAGE, encoding="utf-8") as file:
-            lines = file.read().splitlines()
+        lines = read_own(PAGE).splitlines()
     except OSError:
         return []
     found, heading = [], ""

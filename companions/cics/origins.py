@@ -1,11 +1,14 @@
-"""Where the lines of an adapted source come from: a file with a line for each, `NUMBER FILE:LINE`."""
+"""Where the lines of an adapted source come from: a file with a line for each, `NUMBER FILE:LINE`, after its mark."""
 import re
 from collections.abc import Sequence
 from dataclasses import dataclass, field
 
 from cics.cli import Failure, read_file
+from cics.files import Mark
 from cics.statements import Origin
 
+MAP = Mark("cics-adapt", "* cics-adapt --map ")
+COMMENT = "* "
 NAMED = re.compile(r"\bLINE (\d{5})\b")
 LINE = re.compile(r"(\d+) (.+):(\d+)")
 
@@ -45,10 +48,12 @@ def read_origins(path: str | None) -> Origins:
     """What such a file says; nothing where none is given."""
     if path is None:
         return Origins()
-    places = {}
+    places: dict[int, Place] = {}
     for number, line in enumerate(read_file(path).decode("latin-1").splitlines(), 1):
+        if number == 1 and line.startswith(COMMENT):
+            continue
         found = LINE.fullmatch(line)
-        if found is None or int(found[1]) != number:
+        if found is None or int(found[1]) != len(places) + 1:
             raise Failure(f"{path}:{number}: {line[:40]}: not of a file that cics-adapt --map wrote")
-        places[number] = Place(found[2], int(found[3]))
+        places[len(places) + 1] = Place(found[2], int(found[3]))
     return Origins(places)

@@ -8,12 +8,14 @@ from collections.abc import Iterator, Sequence
 from dataclasses import asdict, dataclass, field
 
 from cics.child import decoded, lines_of
-from cics.cli import MISUSED, Failure, Paint, read_file, write_file
+from cics.cli import MISUSED, Failure, Paint, read_file
 from cics.cover.asking import Asked, as_alone, coverage_in, why_not
 from cics.cover.counts import Coverage
-from cics.shown import as_file, shown, with_screens
+from cics.files import Mark, old_bytes, write_file
+from cics.shown import as_file, shown, why_kept, with_screens
 from cics.together import Run, run_together
 
+JUNIT = Mark("cics-test", '<?xml version="1.0" encoding="utf-8"?><!-- cics-test ', " -->")
 SCRIPT, SCREENS = ".script", ".screens"
 UNWRITABLE = re.compile("[^\t\n\x20-\ud7ff\ue000-\ufffd]")  # what XML has no character for
 SAID = {"same": "ok", "written": "written", "unchanged": "unchanged", "differs": "differs", "missing": "has no .screens; write them by --write",
@@ -69,6 +71,7 @@ class Test:
     script: str
     text: str
     writes: bool
+    is_forced: bool = False  # over what has another form than screens
 
     def outcome(self, run: Run) -> Outcome:
         why = why_not(run.ended, run.why)
@@ -88,15 +91,16 @@ class Test:
 
     def kept(self, lines: list[str], seconds: float) -> Outcome:
         path, data = screens_of(self.script), as_file(lines)
-        is_there = os.path.exists(path) and read_file(path) == data
-        if not is_there:
-            write_file(path, data, [self.script])
-        return Outcome(self.script, "unchanged" if is_there else "written", seconds)
+        old = old_bytes(path, why_kept, f"what {self.script} shows", is_forced=self.is_forced)
+        if old != data:
+            write_file(path, data, why_kept, f"what {self.script} shows", is_forced=self.is_forced)
+        return Outcome(self.script, "unchanged" if old == data else "written", seconds)
 
 
-def tested(scripts: Sequence[str], cicslook: str, at_once: int, *, writes: bool, covered: dict[str, Coverage] | None = None) -> Iterator[Outcome]:
+def tested(scripts: Sequence[str], cicslook: str, at_once: int, *, writes: bool, is_forced: bool = False,
+           covered: dict[str, Coverage] | None = None) -> Iterator[Outcome]:
     """What comes of each script, where it is known; `covered` takes what each runs."""
-    tests = [Test(path, decoded(read_file(path)), writes) for path in scripts]
+    tests = [Test(path, decoded(read_file(path)), writes, is_forced) for path in scripts]
     asked = [Asked(test.script, with_screens(test.text)) for test in tests]
     for run in run_together([cicslook], [one.text if covered is None else one.script() for one in asked], at_once):
         if covered is not None:
@@ -135,4 +139,4 @@ def junit(outcomes: Sequence[Outcome]) -> bytes:
             found.text = writable("\n".join(one.difference))
     xml.indent(top)
     text = xml.tostring(top, encoding="unicode")
-    return f'<?xml version="1.0" encoding="utf-8"?>\n{text}\n'.encode()
+    return JUNIT.marked(f"{text}\n".encode())

@@ -2,7 +2,7 @@
 import re
 from collections.abc import Iterator, Sequence
 
-from cics.child import encoded, text_of
+from cics.child import decoded, encoded, text_of
 from cics.scripts import actions_of
 from cics.transcripts import is_of_page, reply_of
 
@@ -10,6 +10,7 @@ TAKEN = ("Attached", "Given")  # answers to a key that reaches a task
 OF_EDF = "ToEdf"  # the answer to a key that is EDF's
 TASK = re.compile(r"> (?P<terminal>\S+) .*TASK \d{7} LEVEL \d\d (?P<doing>.*)")
 WAITING = "WAITING"
+FIRST = re.compile(r"(?:KEY|SCREEN) \S{1,4}(?: .*)?|\S+ .* REFUSED .*|\S{1,4} (?:Abended|WAITING|is still running)\b.*")  # the forms of a first line
 
 
 def terminals_of(script: str) -> list[str]:
@@ -71,6 +72,12 @@ def lines_of_event(answer: list[str], keys: Iterator[str]) -> list[str]:
 def doing(said: str) -> str:
     """What a task does at the end: it waits, and for what; or goes on."""
     return said if said.startswith(WAITING) else "is still running"
+
+
+def why_kept(old: bytes) -> str:
+    """Why a file isn't replaced by what is shown: it begins as nothing that is shown does."""
+    first = decoded(old).partition("\n")[0].removesuffix("\r")
+    return "" if FIRST.fullmatch(first) else "it is there, and doesn't begin as screens do"
 
 
 def as_file(lines: Sequence[str]) -> bytes:

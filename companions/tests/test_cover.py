@@ -1,5 +1,6 @@
 """What cics-cover tells of what scripts run, and never do: counts of several added, files that are made of them, and what is never held clean."""
 import glob
+import hashlib
 import json
 import os
 import shutil
@@ -69,8 +70,7 @@ CALLS = [
          ["P: 1 of 2 statements run, 50 %; 0 of 0 branches both ways", "  never run: 3"],
          {"a.script": ENTER.replace(WAYS, "P        CSECT\n         L     2,0(7)\n         EXEC  CICS RETURN\n         END\n")}),
 ]
-LCOV = """TN:
-SF:e.script
+LCOV = """SF:e.script
 BRDA:4,0,0,0
 BRDA:4,0,1,1
 BRDA:6,0,0,1
@@ -137,7 +137,7 @@ class FilesTest(TestCase):
 
     def test_lcov(self) -> None:
         files, _ = self.made({"e.script": ENTER}, "--lcov", "p.info")
-        self.assertEqual(files, {"p.info": LCOV})
+        self.assertEqual(files, {"p.info": f"TN:cics_cover_{hashlib.sha256(LCOV.encode()).hexdigest()[:16]}\n{LCOV}"})
 
     def test_lcov_of_branches(self) -> None:
         """One that never ran has hyphens; of one that went one way in each of two scripts both counts are exact."""

@@ -12,7 +12,7 @@ import time
 
 from cics.child import TOP, Ended, lines_of, read
 from cics.scripts import LETTERS, free_name
-from tests.calling import FILES, SCRIPT, called, folder_of, program, put
+from tests.calling import FILES, SCRIPT, called, folder_of, program
 from tests.case import CICSEDF, COMPANIONS, PROGRAMS, TestCase
 
 CALLS = {  # of each companion one that writes something on standard output
@@ -55,8 +55,6 @@ class OutputTest(EndingTest):
 class FileTest(EndingTest):
     """Files that are there, and what is made of others."""
 
-    OLD = "<p>a page</p>"
-
     def film(self, folder: str, out: str, *, largest: int | None = None) -> Ended:
         return called("cics-film", ["s.script", "-o", out, *PROGRAMS], folder, largest=largest)
 
@@ -72,9 +70,10 @@ class FileTest(EndingTest):
 
     def test_a_page_for_which_there_is_no_room(self) -> None:
         with folder_of(FILES) as folder:
-            put(folder, {"page.html": self.OLD})
+            self.assertEqual(self.film(folder, "page.html").status, 0)
+            old = read(os.path.join(folder, "page.html"))
             self.ends_by_a_line(self.film(folder, "page.html", largest=4096), 3, "cics-film: page.html: File too large")
-            self.assertEqual(read(os.path.join(folder, "page.html")).decode(), self.OLD)
+            self.assertEqual(read(os.path.join(folder, "page.html")), old)
             self.assertEqual(sorted(os.listdir(folder)), ["f.asm", "p.asm", "page.html", "s.script"])
 
     def test_a_page_in_the_place_of_its_script(self) -> None:
@@ -94,8 +93,8 @@ class FileTest(EndingTest):
 
     def test_what_stands_beside(self) -> None:
         with folder_of(FILES) as folder:
-            put(folder, {"page.html": self.OLD})
-            self.assertEqual(self.film(folder, "page.html").status, 0)
+            for _ in range(2):
+                self.assertEqual(self.film(folder, "page.html").status, 0)
             self.assertEqual(sorted(os.listdir(folder)), ["f.asm", "p.asm", "page.html", "s.script"])
 
 

@@ -2,13 +2,14 @@
 import contextlib
 import os
 import sys
-from collections.abc import Iterator
+from collections.abc import Iterator, Sequence
 
-from cics.child import Child, decoded, encoded, lines_of
-from cics.cli import DONE, FOUND, STANDARD_INPUT, Failure, Paint, Words, ended, name_of, program_path, read_file, say, write_file
+from cics.child import Child, decoded, encoded, lines_of, text_of
+from cics.cli import DONE, FOUND, STANDARD_INPUT, Failure, Paint, Words, ended, name_of, program_path, read_file, say, why_of
 from cics.conversation.completion import Completion
 from cics.conversation.session import Session
 from cics.conversation.talk import OWN_LINE, Talk
+from cics.files import Record
 from cics.script_reading import bad_lines, bare_lines
 from cics.scripts import actions_of, free_name
 
@@ -25,21 +26,45 @@ def given_words(text: str) -> Words:
     return words
 
 
+class Kept:
+    """A new file in which a conversation is kept, line by line."""
+
+    def __init__(self, path: str, use: str, *, is_typed: bool) -> None:
+        self.path, self.use, self.is_typed, self.count = path, use, is_typed, 0
+        try:
+            self.record = Record(path, use)
+        except FileExistsError:
+            raise Failure(f"{path}: it is there, and a conversation is kept in a new file") from None
+        except OSError as why:
+            raise Failure(f"{path}: {why_of(why)}") from None
+
+    def follow(self, session: Session) -> None:
+        """Adds what was done since."""
+        lines = session.typed if self.is_typed else session.plain
+        try:
+            self.record.add(encoded(text_of(lines[self.count :])))
+        except OSError as why:
+            raise Failure(f"{self.path}: {why_of(why)}") from None
+        self.count = len(lines)
+
+
 class Keeper:
-    """The files in which a conversation is kept."""
+    """The files in which a conversation is kept: those that grow with it, and those that are asked for in it."""
 
-    def __init__(self, session: Session, kept: dict[str, bool], inputs: list[str]) -> None:
-        self.session, self.kept, self.inputs = session, kept, inputs
-
-    def write(self, path: str, *, is_typed: bool) -> None:
-        write_file(path, encoded(self.session.script(is_typed=is_typed)), self.inputs)
+    def __init__(self, session: Session, given: Sequence[tuple[str | None, str, bool]]) -> None:
+        self.session = session
+        self.kept = [Kept(path, use, is_typed=is_typed) for path, use, is_typed in given if path is not None]
+        self.asked_for: dict[str, Kept] = {}
 
     def all(self) -> None:
-        for path, is_typed in self.kept.items():
-            self.write(path, is_typed=is_typed)
+        for one in self.kept:
+            one.follow(self.session)
 
     def asked(self, path: str) -> str:
-        self.write(path, is_typed=False)
+        """Writes all that was done to a new file; asked once more, to the same one what was done since."""
+        if path not in self.asked_for:
+            self.asked_for[path] = Kept(path, "keep", is_typed=False)
+        self.asked_for[path].follow(self.session)
         return f"{path} is written, {len(self.session.plain)} lines"
 
 
@@ -112,13 +137,17 @@ def held(talk: Talk, lines: Iterator[str]) -> None:
     talk.end()
 
 
-def begun(session: Session, script: str, path: str) -> None:
-    """Does a script, from whose end the conversation goes on; one with bad lines is no beginning."""
+def refuse_bad(script: str, path: str) -> None:
+    """Refuses a script with bad lines, which is no beginning."""
     bad = bad_lines(bare_lines(script))
     for one in bad:
         ended(f"{name_of(path)}:{one.number}:{one.reason.column}: {one.reason}", FOUND)
     if bad:
         raise Failure(f"{name_of(path)}: a bad script is no beginning", FOUND)
+
+
+def begun(session: Session, script: str) -> None:
+    """Does a script, from whose end the conversation goes on."""
     number = 1
     for action in actions_of(script):
         for line in lines_of(script)[number - 1 : action.line - 1]:
@@ -129,22 +158,18 @@ def begun(session: Session, script: str, path: str) -> None:
 
 def main(text: str) -> int:
     given = given_words(text).parse_args()
-    kept = {path: is_typed for path, is_typed in ((given.keep, False), (given.keep_typed, True)) if path is not None}
-    inputs = [given.script] if given.script is not None and given.script != STANDARD_INPUT else []
     script = decoded(read_file(given.script)) if given.script is not None else ""
+    refuse_bad(script, given.script or "")
     with Child([program_path(given.cicslook, "cicslook")], free_name(script) or "") as child:
         session = Session(child)
-        keeper = Keeper(session, kept, inputs)
+        keeper = Keeper(session, [(given.keep, "--keep", False), (given.keep_typed, "--keep-typed", True)])
+        session.when_kept = keeper.all
         paint = Paint()
         talk = Talk(session, lambda lines: say(*(paint.of(line, "yellow") if line.startswith(OWN_LINE) else line for line in lines)), keeper.asked)
-        begun(session, script, given.script or "")
-        keeper.all()
-        try:
-            if is_terminal() and given.script != STANDARD_INPUT:
-                with editing(session, talk):
-                    held(talk, typed_at_terminal(talk))
-            else:
-                held(talk, given_lines())
-        finally:
-            keeper.all()
+        begun(session, script)
+        if is_terminal() and given.script != STANDARD_INPUT:
+            with editing(session, talk):
+                held(talk, typed_at_terminal(talk))
+        else:
+            held(talk, given_lines())
     return FOUND if talk.bad and not is_terminal() else DONE

@@ -1,6 +1,6 @@
 """What has been done in a conversation: each line by one child of cicslook, and kept so that it can be done again."""
 import re
-from collections.abc import Sequence
+from collections.abc import Callable, Sequence
 from dataclasses import dataclass, field
 
 from cics.child import Child, text_of
@@ -36,6 +36,7 @@ class Session:
     names: Names = field(default_factory=Names)
     events: int = 0  # lines that changed the region, or may have
     terminal: str = ""  # of the last event
+    when_kept: Callable[[], None] = lambda: None  # what is done whenever something is kept
 
     def done(self, lines: Sequence[str]) -> list[str]:
         """What is answered to a line, or a block, that is good; it is kept."""
@@ -63,15 +64,13 @@ class Session:
     def keep(self, typed: Sequence[str], plain: Sequence[str]) -> None:
         self.typed += typed
         self.plain += plain
+        self.when_kept()
 
     def avoid_mark(self, lines: Sequence[str]) -> None:
         """Has the child ask for another terminal, where a line names the one that it asks for."""
         mark = self.child.question.split(" ")[1]
         if any(mark in line for line in lines):
             self.child.marked(free_name(text_of([*self.typed, *lines])) or mark)
-
-    def script(self, *, is_typed: bool) -> str:
-        return text_of(self.typed if is_typed else self.plain)
 
 
 def renumbered(line: str, by: int) -> str:

@@ -2,9 +2,12 @@
 from collections.abc import Iterator, Sequence
 from itertools import groupby
 
-from cics.child import text_of
+from cics.child import encoded, text_of
 from cics.cover.counts import Branch, Coverage, Covered, Line
+from cics.files import Mark
 from cics.origins import Place
+
+LCOV = Mark("cics-cover", "TN:cics_cover_")
 
 
 def counted(count: int, what: str, several: str) -> str:
@@ -86,11 +89,12 @@ def record_of(file: str, lines: Sequence[Line]) -> list[str]:
             f"LH:{sum(not line.is_never_run() for line in lines)}", "end_of_record"]
 
 
-def lcov_of(coverage: Coverage) -> str:
-    """All of it in lcov's format: a record of each program's source, or of each file that it comes from."""
+def lcov_of(coverage: Coverage) -> bytes:
+    """All of it in lcov's format: a record of each program's source, or of each file that it comes from. The first record's test is named by
+    the mark."""
     found = []
     for one in coverage.programs:
         lines = sorted(one.statements(), key=lambda line: (line.place.file, line.place.line))
         for file, of_file in groupby(lines, key=lambda line: line.place.file):
             found += record_of(file, [*of_file])
-    return text_of(found)
+    return LCOV.marked(encoded(text_of(found[1:])))

@@ -4,6 +4,8 @@ import os
 import re
 from dataclasses import dataclass, field
 
+from cics.files import read_own
+
 FOLDER = os.path.dirname(os.path.abspath(__file__))
 FILES = ("common.asm", "logic.asm", "arithmetic.asm", "moves.asm", "swap.asm", "edit.asm", "decimal.asm")
 APART = ("logic.asm", "arithmetic.asm", "moves.asm")  # whose routines need none of the others', so that they may have their own constants
@@ -35,13 +37,12 @@ def blocks() -> list[Block]:
     """All blocks, with their macros expanded."""
     found: list[Block] = []
     for file in FILES:
-        with open(os.path.join(FOLDER, file), encoding="ascii") as opened:
-            for line in opened.read().splitlines():
-                if line.startswith(BEGIN):
-                    kind, _, name = line.removeprefix(BEGIN).partition(" ")
-                    found.append(Block(kind, name, file))
-                elif not line.startswith(COMMENT):
-                    found[-1].lines.append(line)
+        for line in read_own(os.path.join(FOLDER, file)).splitlines():
+            if line.startswith(BEGIN):
+                kind, _, name = line.removeprefix(BEGIN).partition(" ")
+                found.append(Block(kind, name, file))
+            elif not line.startswith(COMMENT):
+                found[-1].lines.append(line)
     macros = {block.name: block.lines for block in found if block.kind == "MACRO"}
     return [Block(block.kind, block.name, block.file, expanded(block.lines, macros)) for block in found if block.kind != "MACRO"]
 

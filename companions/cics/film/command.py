@@ -9,8 +9,9 @@ import webbrowser
 from collections.abc import Callable
 
 from cics.child import MARK, Child, Gone, decoded, lines_of
-from cics.cli import DONE, FOUND, MISUSED, STANDARD_INPUT, Failure, Words, ended, name_of, program_path, read_file, write_file, write_out
-from cics.film.page import page_of
+from cics.cli import DONE, FOUND, MISUSED, STANDARD_INPUT, Failure, Words, ended, name_of, program_path, read_file, write_out
+from cics.files import page_mark, write_file
+from cics.film.page import MAKER, page_of
 from cics.film.recorder import MOST_EVENTS, Film, Recorder
 from cics.origins import Origins, read_origins
 from cics.scripts import Action, actions_of, free_name
@@ -34,6 +35,7 @@ def words_of(name: str = NAME) -> Words:
     words.add_argument("--map", metavar="[PROGRAM=]FILE", action="append", default=[],
                        help="of a program's source, or of the only one, what cics-adapt wrote by --map: lines have the numbers of the old source")
     words.add_argument("--open", action="store_true", help="has the browser open it")
+    words.add_force()
     words.add_program()
     return words
 
@@ -137,19 +139,19 @@ def main() -> int:
             with_origins(film, program, origins)
     first = given.script[0]
     out = given.out or (STANDARD_INPUT if first == STANDARD_INPUT else f"{first.removesuffix('.script')}.html")
-    status = written(films, out, given.script)
+    status = written(films, out, is_forced=given.force)
     if given.open and out != STANDARD_INPUT:
         webbrowser.open(f"file://{os.path.abspath(out)}")
     return status
 
 
-def written(films: list[Film], out: str, scripts: list[str]) -> int:
+def written(films: list[Film], out: str, *, is_forced: bool = False) -> int:
     """Writes the page of films of scripts, and reports what it lacks."""
     page, left_out = page_of(films)
     if out == STANDARD_INPUT:
         write_out(page.encode())
     else:
-        write_file(out, page.encode(), scripts)
+        write_file(out, page.encode(), page_mark(MAKER).why_kept, "-o", is_forced=is_forced)
     for film, count in zip(films, left_out):
         if count:
             ended(f"{NAME}: {film.name}: the page has no room for its first {count:,} events", DONE)

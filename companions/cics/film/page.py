@@ -10,6 +10,7 @@ from cics.film.recorder import Event, Film, Lines, Search, Shown
 from cics.film.sources import Source
 from cics.pages import assembled, json_of
 
+MAKER = "cics-film"
 FOLDER = os.path.dirname(os.path.abspath(__file__))
 MOST_BYTES = 30_000_000  # of a page
 MOST_OF_LIST = 1_000_000  # of the film of a list of moves
@@ -105,4 +106,4 @@ def page_of(films: list[Film]) -> tuple[str, list[int]]:
     data = [film_data(it) for it in films]
     if len(films) == 2:
         data[0]["pairs"] = asdict(pairs_of(*films))
-    return assembled(FOLDER, {"DATA": json_of(data)}), left_out
+    return assembled(MAKER, FOLDER, {"DATA": json_of(data)}), left_out

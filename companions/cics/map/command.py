@@ -8,13 +8,13 @@ import webbrowser
 from cics.checking import sources_in
 from cics.child import encoded
 from cics.choices import DEPTH, MOST_DEPTH, MOST_STATES, choices_of, why_vacuous
-from cics.cli import DONE, FOUND, MISUSED, STANDARD_INPUT, UNRUN, Failure, Words, ended, program_path, say, write_file, write_out
+from cics.cli import DONE, FOUND, MISUSED, STANDARD_INPUT, UNRUN, Failure, Words, ended, program_path, say, write_out
+from cics.files import page_mark, write_file
 from cics.key_runs import faultless
 from cics.map.abends import abends_of
 from cics.map.asking import STATES, Given, Subject, subject_of
-from cics.map.page import page_of
+from cics.map.page import MAKER, page_of
 from cics.map.report import Map, data_of, lines_of_map
-from cics.queues import given_of
 from cics.same import Fault
 
 NAME = "cics-map"
@@ -35,6 +35,7 @@ def words_of(about: str) -> Words:
     words.add_argument("--queue", metavar="NAME=FILE", action="append", default=[], help="of sources: test data, each line an item of the queue")
     words.add_argument("--json", action="store_true", help="an object with screens, states, keys and abends, in place of lines")
     words.add_argument("--open", action="store_true", help="has the browser open the page")
+    words.add_force()
     words.add_program()
     return words
 
@@ -81,7 +82,7 @@ def mapped(subject: Subject, cicslook: str) -> Map:
     return Map(subject, choices, abends)
 
 
-def written(found: Map, given: argparse.Namespace, inputs: list[str]) -> None:
+def written(found: Map, given: argparse.Namespace) -> None:
     """Writes the page, or the map as an object or as lines."""
     if given.out is None:
         say(*([json.dumps(data_of(found), indent=1)] if given.json else lines_of_map(found)))
@@ -90,7 +91,7 @@ def written(found: Map, given: argparse.Namespace, inputs: list[str]) -> None:
     if given.out == STANDARD_INPUT:
         write_out(page)
         return
-    write_file(given.out, page, inputs)
+    write_file(given.out, page, page_mark(MAKER).why_kept, "-o", is_forced=given.force)
     if given.open:
         webbrowser.open(f"file://{os.path.abspath(given.out)}")
 
@@ -103,5 +104,5 @@ def main(about: str) -> int:
     subject = subject_of(given.files, given.keys, wanted, given.tran, given.queue, cicslook, is_script=given.script)
     tell_proposals(subject)
     found = mapped(subject, cicslook)
-    written(found, given, [*given.files, *([given.keys] if given.keys else []), *(one.path for one in given_of(given.queue))])
+    written(found, given)
     return FOUND if found.abends else UNRUN if found.choices.most is not None else DONE

@@ -1,11 +1,14 @@
 """What `cics-adapt --stand-in` does: sources adapted with what stands for maps and files, and the programs that do it, into a folder."""
 import os
+import re
 from dataclasses import dataclass, field
+from functools import partial
 
 from cics.adapting import Adapted, adapted, with_told
-from cics.child import decoded, encoded
-from cics.cli import DONE, FOUND, MISUSED, STANDARD_INPUT, Failure, ended, name_of, read_file, say, write_file
+from cics.child import decoded, encoded, lines_of
+from cics.cli import DONE, FOUND, MISUSED, STANDARD_INPUT, Failure, ended, name_of, say
 from cics.copying import Copying
+from cics.files import Judge, make_folder, old_bytes, read, sum_of, write_file
 from cics.layout import Layout
 from cics.log import Log
 from cics.origins import text_of
@@ -25,7 +28,8 @@ from cics.statements import statements_of
 
 STANDING = 4  # the status where nothing is left, and something stands in
 FOLDER = "stand-in"
-LIST = "stand-in.list"  # in the folder: the names of what was written there, which may be written again
+LIST = "stand-in.list"  # in the folder: the sums and names of what was written there, which may be written again as long as it has its sum
+LISTED = re.compile(r"([0-9a-f]{64})  (\S.*)")  # as sha256sum writes it, and takes it by --check
 
 
 @dataclass
@@ -39,6 +43,7 @@ class Asked:
     out: str
     is_kept: bool = False
     must_be_ebcdic: bool = False
+    is_forced: bool = False
 
 
 @dataclass
@@ -123,35 +128,41 @@ def adapted_source(path: str, setting: Setting, asked: Asked) -> Adapted:
     return adapted(source, name_of(path), asked.copy, is_kept=asked.is_kept, stand_ins=StandIns(setting))
 
 
-def written_before(folder: str) -> set[str]:
-    """The names of what an earlier run wrote into a folder."""
+def listed(data: bytes) -> dict[str, str]:
+    """The sums of what an earlier run wrote, by names; none, where the list isn't one."""
+    found = [LISTED.fullmatch(line) for line in lines_of(decoded(data))]
+    return {one[2]: one[1] for one in found if one} if all(found) else {}
+
+
+def why_list_kept(data: bytes) -> str:
+    return "" if listed(data) else "it is there, and isn't a list of names with their sums, as cics-adapt writes it"
+
+
+def written_before(folder: str) -> dict[str, str]:
+    """What an earlier run wrote into a folder."""
     path = os.path.join(folder, LIST)
-    return {*decoded(read_file(path)).split("\n")} if os.path.isfile(path) else set()
-
-
-def refuse_others(output: Output, asked: Asked) -> None:
-    """Refuses, before anything is written, to write over what is read, or over a file that is there and isn't of an earlier run."""
-    old = written_before(asked.out)
-    read = [os.path.realpath(path) for path in (*asked.sources, *asked.mapsets, *(GivenFile.of(word).path for word in asked.files))]
-    for name in (*output.texts, LIST):
-        path = os.path.join(asked.out, name)
-        if os.path.realpath(path) in read:
-            raise Failure(f"{path}: it is read, so it isn't written")
-        if os.path.lexists(path) and name not in old:
-            raise Failure(f"{path}: it is there, and {LIST} doesn't name it as written by an earlier run; write --out and another folder")
+    return listed(read(path)) if os.path.isfile(path) else {}
 
 
 def write_all(output: Output, asked: Asked) -> None:
-    """Writes all, and says how it is run."""
-    inputs = [*asked.sources, *asked.mapsets]
-    refuse_others(output, asked)
-    try:
-        os.makedirs(asked.out, exist_ok=True)
-    except OSError as why:
-        raise Failure(f"{asked.out}: {why.strerror}") from None
-    names = sorted({*output.texts, LIST, *(name for name in written_before(asked.out) if name)})
-    write_file(os.path.join(asked.out, LIST), encoded("".join(f"{name}\n" for name in names)), inputs)
-    for name, text in output.texts.items():
-        write_file(os.path.join(asked.out, name), text.encode("latin-1", errors="replace"), inputs)
+    """Writes all, and says how it is run. Before anything is written, each file is looked at that would be replaced."""
+    old = written_before(asked.out)
+
+    def why_kept(name: str, data: bytes) -> str:
+        if data == texts[name]:
+            return ""
+        if name not in old:
+            return f"it is there, and {LIST} doesn't name it as written by an earlier run"
+        return "" if sum_of(data) == old[name] else "it was changed since cics-adapt wrote it"
+
+    texts = {name: text.encode("latin-1", errors="replace") for name, text in output.texts.items()}
+    sums = old | {name: sum_of(data) for name, data in texts.items()}
+    judges: dict[str, Judge] = {name: partial(why_kept, name) for name in texts} | {LIST: why_list_kept}
+    texts[LIST] = encoded("".join(f"{sums[name]}  {name}\n" for name in sorted(sums)))
+    for name, judge in judges.items():
+        old_bytes(os.path.join(asked.out, name), judge, name, is_forced=asked.is_forced)
+    make_folder(asked.out)
+    for name, data in texts.items():
+        write_file(os.path.join(asked.out, name), data, judges[name], name, is_forced=asked.is_forced)
     queues = [word for name, file in output.queues.items() for word in ("--queue", f"{name}={os.path.join(asked.out, file)}")]
     say(" ".join(["cics-run", *(os.path.join(asked.out, name) for name in output.programs), *queues]))

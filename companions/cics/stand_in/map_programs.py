@@ -2,6 +2,7 @@
 import functools
 import os
 
+from cics.files import read_own
 from cics.queues import statement_lines
 from cics.stand_in.counts import MADE
 from cics.stand_in.mapsets import Field, Justified, Map, Mapset
@@ -15,8 +16,7 @@ CODES = range(0x40, 0x100, 16)
 
 @functools.cache
 def assembler_text(name: str) -> list[str]:
-    with open(os.path.join(FOLDER, name), encoding="ascii") as file:
-        return file.read().splitlines()
+    return read_own(os.path.join(FOLDER, name)).splitlines()
 
 
 def filled(name: str, given: dict[str, list[str]]) -> list[str]:

@@ -1,7 +1,6 @@
 """The command: its options, the session that it begins or goes on with, and how it ends."""
 import contextlib
 import math
-import os
 from argparse import ArgumentTypeError, Namespace
 
 from cics.assembler_files import encoded, sources_of_file
@@ -106,7 +105,7 @@ def end(service: Service, setup: SetUp, fault: Fault | None) -> int:
     reported = service.region.finish()
     fault = RegionEnded() if fault is None and reported else fault
     if not service.is_open:
-        os.remove(service.region.record.name)
+        service.region.record.remove()
         if fault:
             raise setup.failure_of(reported or "status 0") if isinstance(fault, RegionEnded) else Failure(f"{setup.path}: {fault}", FOUND)
         return DONE

@@ -13,6 +13,7 @@ from enum import Enum
 from collections.abc import Callable
 from typing import Any
 
+from cics.files import read
 from cics.terminals.data_stream import BLANK, Painting, free_rows
 from cics.terminals.region import MUCH, Fault, Region, Request, Work
 from cics.terminals.terminal import Terminal
@@ -60,10 +61,9 @@ def listed_user(here: tuple[str, int], there: tuple[str, int]) -> int | None:
     ends = [f"{int.from_bytes(socket.inet_aton(host), sys.byteorder):08X}:{port:04X}" for host, port in (there, here)]
     paths = [path for path in ("/proc/net/tcp", "/proc/net/tcp6") if os.path.exists(path)]
     for path in paths:
-        with open(path, encoding="ascii") as file:
-            for fields in map(str.split, file):
-                if fields[1].endswith(ends[0]) and fields[2].endswith(ends[1]):
-                    return int(fields[7]) if fields[9] != "0" else -1
+        for fields in map(str.split, read(path).decode("ascii").splitlines()):
+            if fields[1].endswith(ends[0]) and fields[2].endswith(ends[1]):
+                return int(fields[7]) if fields[9] != "0" else -1
     return -1 if paths else None
 
 class Cut(Exception):

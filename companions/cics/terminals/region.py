@@ -3,13 +3,13 @@ Looks are sent too, but neither kept nor digested: they change nothing, and cics
 import contextlib
 import hashlib
 import itertools
-import os
 import time
 from collections.abc import Generator
 from enum import Enum
 from typing import Any, NamedTuple
 
 from cics.child import Child, Gone, Overdue, encoded
+from cics.files import Record
 
 LARGEST, ROOM = 16 << 20, 64 << 10  # bytes of a script, and those of them that stay free
 MUCH = 14 << 20  # bytes, of which people are warned
@@ -36,23 +36,20 @@ class Full(Fault):
 class RegionEnded(Fault):
     """The child has ended."""
 
-def new_file(path: str | None) -> Any:
-    """The file of a session, which must be new. None but its owner may read it."""
+def new_record(path: str | None) -> Record:
+    """The record of a session: a new file."""
     for number in itertools.count(1):
-        try:
-            name = path or f"session-{number:03}.script"
-            return open(name, "xb", buffering=0, opener=lambda name, flags: os.open(name, flags, 0o600))
-        except FileExistsError:
-            if path:
-                raise
+        with contextlib.suppress(*(() if path else (FileExistsError,))):
+            return Record(path or f"session-{number:03}.script", "--session")
+    raise AssertionError  # numbers have no end
 
 class Region:
     """A child that is asked one thing after the other, without waiting for it."""
 
     def __init__(self, program: str, path: str | None, mark: str, digests: list[tuple[int, str]]) -> None:
-        self.kept, self.sent, self.request = 0, 0, Request("", Answer.NONE)
+        self.sent, self.request = 0, Request("", Answer.NONE)
         self.digest, self.received, self.digests = hashlib.sha256(), 0, list(digests)
-        self.record = new_file(path)
+        self.record = new_record(path)
         self.child = Child([program], mark)
 
     def ask(self, request: Request) -> None:
@@ -73,16 +70,10 @@ class Region:
 
     def keep(self, text: str) -> None:
         """Writes lines to the record, or nothing of them."""
-        view = memoryview(encoded(text))
-        size = len(view)
         try:
-            while view:
-                view = view[self.record.write(view) :]
+            self.record.add(encoded(text))
         except OSError as fault:
-            self.record.truncate(self.kept)
-            self.record.seek(self.kept)
             raise Fault(f"THE SESSION CAN'T BE KEPT: {fault}") from None
-        self.kept += size
 
     def has_answered(self) -> bool:
         """Whether the answer to what was asked is complete."""
