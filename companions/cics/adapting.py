@@ -6,7 +6,7 @@ from typing import Protocol
 from cics.areas import rewritten_exec
 from cics.bases import with_other_base
 from cics.commands import names_of_commands
-from cics.copying import Copying
+from cics.copying import Copying, refuse_long
 from cics.data import rewritten_data, rewritten_equate, with_addresses_joined
 from cics.exact.writing import Written, written_exactly
 from cics.from_cics import advice
@@ -92,6 +92,7 @@ def rewritten(statement: Statement, program: Program) -> list[Statement]:
 
 
 def adapted(source: SourceText, name: str, folders: list[str], *, is_kept: bool = False, stand_ins: Replacing | None = None) -> Adapted:
+    refuse_long(source.lines, name)
     log = Log()
     told_of_file(source, name, log)
     read = statements_of(without_tabs(source.lines, name, log), name)

@@ -234,4 +234,6 @@ class Record:
         self.size += len(data)
 
     def remove(self) -> None:
-        os.remove(self.name)
+        """Removes it, where nothing came of it."""
+        if self.is_file:
+            os.remove(self.name)

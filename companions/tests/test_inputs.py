@@ -1,4 +1,5 @@
 """Bad input of cics-adapt: each gives lines and a status, and none a traceback."""
+import os
 from dataclasses import dataclass, field
 
 from tests.calling import called, folder_of
@@ -31,6 +32,7 @@ def numbered(text: str) -> bytes:
     return "".join(f"{line:<72}{number:08}\n" for number, line in enumerate(text.splitlines(), 1)).encode()
 
 
+NO_MEMBERS = (b"../SECRET", b"/ETC/PASSWD", b"SUB/A", b"..", b"ABCDEFGHI", b"A.CPY")
 INPUTS = [
     Input("a good file", {"old.asm": PROGRAM.encode()}, ["old.asm"], 0, NEW.encode(), [CHANGED]),
     Input("no file", {}, ["old.asm"], 3, b"", ["old.asm: No such file"]),
@@ -87,6 +89,14 @@ INPUTS = [
     Input("COPY in 51 members", {"old.asm": b"P        CSECT\n         COPY  A0\n         END\n",
                                  **{f"m/A{at}": b"         COPY  A%d\n" % (at + 1) for at in range(60)}},
           ["old.asm", "--copy", "m"], 1, None, ["changed"] * 50 + ["m/A49:1: left: COPY A50: more than 50 members in one another"]),
+    Input("COPY of what isn't a member's name", {"old.asm": b"P        CSECT\n" + b"".join(b"         COPY  %s\n" % name for name in NO_MEMBERS) +
+                                                b"         END\n", "SECRET": b"PASSWORD\n", "m/SUB/A": b"* A\n", "m/ABCDEFGHI": b"* A\n"}, ["old.asm", "--copy", "m"],
+          1, None, [f"left: COPY {name.decode()}: a member's name has 1 to 8 letters" for name in NO_MEMBERS]),
+    Input("COPY of two members in each of 26", {"old.asm": b"P        CSECT\n         COPY  A0\n         END\n", "m/A26": b"* THE LAST\n",
+                                                **{f"m/A{at}": b"         COPY  A%d\n" % (at + 1) * 2 for at in range(26)}},
+          ["old.asm", "--copy", "m"], 1, b"", ["COPY A26: members of more than 20000 lines; a source has at most 10000"]),
+    Input("100,000 lines", {"old.asm": b"P        CSECT\n" + b"         BER   14\n" * 100_000 + b"         END\n"}, ["old.asm"], 1, b"",
+          ["cics-adapt: old.asm:20001: a source of more than 20000 lines; a source has at most 10000"]),
     Input("10,001 lines", {"old.asm": b"P        CSECT\n" + b"         BER   14\n" * 9999 + b"         END\n"}, ["old.asm"], 1, None,
           ["changed"] * 9999 + ["old.asm:10001: left: the source has more than 10000 lines"]),
 ]
@@ -104,6 +114,16 @@ def failure_of(one: Input) -> str | None:
 class InputsTest(TestCase):
     def test_inputs(self) -> None:
         self.none_of([failure for one in INPUTS if (failure := failure_of(one))])
+
+    def test_members_by_links(self) -> None:
+        """A link to a file of a folder of --copy is a member; one that leads elsewhere isn't read."""
+        source = "P        CSECT\n         COPY  IN\n         COPY  OUT\n         END\n"
+        with folder_of({"old.asm": source, "m/A": "* WITHIN\n", "n/B": "* WITHIN TOO\n", "secret": "* ELSEWHERE\n"}) as folder:
+            for name, path in (("m/IN", "../n/B"), ("m/OUT", "../secret")):
+                os.symlink(path, os.path.join(folder, name))
+            result = called("cics-adapt", ["old.asm", "--copy", "m", "--copy", "n"], folder)
+        self.assertEqual((result.status, result.out), (1, b"P        CSECT\n*        COPY  IN\n* WITHIN TOO\n         COPY  OUT\n         END\n"))
+        self.assertIn(b"old.asm:3: left: COPY OUT: m/OUT leads out of m, n", result.reported)
 
     def test_a_full_disk(self) -> None:
         with folder_of({"old.asm": PROGRAM}) as folder:

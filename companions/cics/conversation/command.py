@@ -53,8 +53,15 @@ class Keeper:
 
     def __init__(self, session: Session, given: Sequence[tuple[str | None, str, bool]]) -> None:
         self.session = session
-        self.kept = [Kept(path, use, is_typed=is_typed) for path, use, is_typed in given if path is not None]
+        self.kept: list[Kept] = []
         self.asked_for: dict[str, Kept] = {}
+        try:
+            for path, use, is_typed in given:
+                self.kept += [Kept(path, use, is_typed=is_typed)] if path is not None else []
+        except Failure:
+            for one in self.kept:
+                one.record.remove()
+            raise
 
     def all(self) -> None:
         for one in self.kept:

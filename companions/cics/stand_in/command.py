@@ -7,7 +7,7 @@ from functools import partial
 from cics.adapting import Adapted, adapted, with_told
 from cics.child import decoded, encoded, lines_of
 from cics.cli import DONE, FOUND, MISUSED, STANDARD_INPUT, Failure, ended, name_of, say
-from cics.copying import Copying
+from cics.copying import Copying, refuse_long
 from cics.files import Judge, make_folder, old_bytes, read, sum_of, write_file
 from cics.layout import Layout
 from cics.log import Log
@@ -104,10 +104,12 @@ def files_of(asked: Asked, setting: Setting) -> dict[str, FileDefinition]:
 def source_of(path: str, asked: Asked, setting: Setting) -> Source:
     """A source's statements with their places, its members copied."""
     log, name = Log(), name_of(path)
-    read = statements_of(without_tabs(read_source(path, must_be_ebcdic=asked.must_be_ebcdic).lines, name, log), name)
+    lines = read_source(path, must_be_ebcdic=asked.must_be_ebcdic).lines
+    refuse_long(lines, name)
+    statements = statements_of(without_tabs(lines, name, log), name)
     macros = Rewritings(Program(Layout([]), log))
-    statements = [new for one in Expansion(log).expanded(Copying(asked.copy, log, setting.members()).expanded(read)) for new in with_told(one,
-        macros, log)]
+    copied = Copying(asked.copy, log, setting.members()).expanded(statements)
+    statements = [new for one in Expansion(log).expanded(copied) for new in with_told(one, macros, log)]
     return Source(statements, Layout(statements))
 
 

@@ -31,7 +31,7 @@ def faulty_set_ups() -> None:
     with socket.create_server(("127.0.0.1", 0)) as taken:
         assert "Address already in use" in refused(RETURN, options=["--port", str(taken.getsockname()[1])], status=3)
     assert "/nowhere/cicslook: no program stands there" in refused(RETURN, options=["--cicslook", "/nowhere/cicslook"], status=3)
-    assert "setup.script: File exists" in refused(RETURN, options=["--session", "setup.script"], status=3)
+    assert "setup.script: it is read, so it isn't written" in refused(RETURN, options=["--session", "setup.script"], status=3)
 
 
 @test
