@@ -13,7 +13,7 @@ from cics.cli import Failure
 from manual import Page, one_page
 
 FOLDERS = ("companions/", "completion/", "docs/", "examples/")
-SINGLE = ("README.md", "VERSION")
+SINGLE = ("README.md", "VERSION", ".ci/MEASURED.md", ".ci/assumed.list")  # the last two since pages link to them
 LEFT_OUT = re.compile(r"companions/tests?(/|$)|docs/(man/|index$)")
 MAN = re.compile(r"docs/man/(?P<name>[a-z-]+\.1)$")
 VERSIONS = re.compile(r"\(?(GLIBC(?:XX)?_[0-9.]+|GCC_[0-9.]+)\)?")
@@ -41,6 +41,7 @@ def of_repository(paths: list[str]) -> list[Content]:
     for path in paths:
         if page := MAN.fullmatch(path):
             found.append(Content(f"man/man1/{page['name']}", file_content(path).data))
+            found.append(Content(path, f"../../man/man1/{page['name']}".encode(), is_link=True))  # where the manual's pages link to it
     return found
 
 

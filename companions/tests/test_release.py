@@ -1,9 +1,11 @@
 """The archive of a release: the same content gives the same bytes; from it alone, in an empty folder where the PATH has nothing but
-coreutils and Python, the first lesson runs, and the companions do; its sums are those of its files, each link of the manual's one page
-within it leads to a place of it, pages of man and the completion have each option, and that of `cicslook` each of its lines."""
+coreutils and Python, the first lesson runs, and the companions do; its sums are those of its files, each link of a page leads to a
+file of it, and each of the manual's one page within it to a place; pages of man and the completion have each option, and that of `cicslook`
+each of its lines."""
 import glob
 import io
 import os
+import posixpath
 import re
 import shutil
 import subprocess
@@ -37,6 +39,7 @@ class Command:
     has: str = ""
 
 
+TO_FILE = re.compile(r'\]\(([^)\s]+)\)|href="([^"]*)"')
 OPTION = re.compile(r"(?<![\w-])--[a-z-]+")
 
 COMMANDS = [
@@ -106,12 +109,28 @@ def failures_of_links(page: bytes) -> list[str]:
     return [f"the manual's one page has no place {link}" for link in sorted(set(re.findall(r'href="#([^"]*)"', text)) - places)]
 
 
+def failures_of_files(contents: list[Content]) -> list[str]:
+    """Links of the archive's pages, and of the one page, to files that it doesn't have."""
+    names = {one.path for one in contents}
+    folders = {path[:at] for path in names for at in range(len(path)) if path[at] == "/"}
+    found = []
+    for one in contents:
+        links = TO_FILE.findall(one.data.decode()) if one.path.endswith((".md", ".html")) and not one.is_link else []
+        for page, attribute in links:
+            link = (page or attribute).partition("#")[0]
+            target = posixpath.normpath(posixpath.join(posixpath.dirname(one.path), link))
+            if link and ":" not in link and target not in names | folders:
+                found.append(f"{one.path} links to {link}, which isn't in the archive")
+    return sorted({*found})
+
+
 class ReleaseTest(TestCase):
     def test_unpacked(self) -> None:
         contents = contents_of(CICSLOOK)
         archive = packed(FOLDER, contents, 500_000_000)
         self.none_of(failures_unpacked(archive))
         self.none_of([failure for one in contents if one.path == MANUAL for failure in failures_of_links(one.data)])
+        self.none_of(failures_of_files(contents))
         self.assertEqual(packed(FOLDER, list(reversed(contents)), 500_000_000), archive, "the same content gives other bytes")
 
     def test_pages(self) -> None:
