@@ -34,9 +34,9 @@ class Noted:
     def reading(self, file: int, *, is_own: bool = False) -> None:
         """Notes a file that is read; of one of the companions' own parts not who may read it."""
         found = os.fstat(file)
-        self.read.add(place_of(found))
-        if not is_own and stat.S_ISREG(found.st_mode):
-            self.mode &= found.st_mode
+        if stat.S_ISREG(found.st_mode):
+            self.read.add(place_of(found))
+            self.mode &= 0o666 if is_own else found.st_mode
 
     def writing(self, file: int, use: str) -> None:
         """Notes a file that is new in this run, whatever had its inode before."""
@@ -120,7 +120,9 @@ def status_of(path: str) -> os.stat_result | None:
 
 
 def refuse_used(path: str, found: os.stat_result, use: str) -> None:
-    """Refuses to write to what is read in this run, or is written for another use."""
+    """Refuses to write to what is read in this run, or is written for another use; a device or a pipe may be both."""
+    if not stat.S_ISREG(found.st_mode):
+        return
     if place_of(found) in NOTED.read:
         raise Failure(f"{path}: it is read, so it isn't written")
     other = NOTED.written.get(place_of(found), use)
@@ -215,7 +217,7 @@ class Record:
         if found is not None:
             refuse_used(path, found, use)
         is_new = found is None or stat.S_ISREG(found.st_mode) or stat.S_ISDIR(found.st_mode)
-        self.name, self.use, self.size, self.is_file = path, use, 0, is_new
+        self.name, self.size, self.is_file = path, 0, is_new
         self.file = open(path, "xb" if is_new else "wb", buffering=0, opener=lambda name, flags: os.open(name, flags, OWNER_ONLY))
         NOTED.writing(self.file.fileno(), use)
 

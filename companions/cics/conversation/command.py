@@ -30,7 +30,7 @@ class Kept:
     """A new file in which a conversation is kept, line by line."""
 
     def __init__(self, path: str, use: str, *, is_typed: bool) -> None:
-        self.path, self.use, self.is_typed, self.count = path, use, is_typed, 0
+        self.path, self.is_typed, self.count = path, is_typed, 0
         try:
             self.record = Record(path, use)
         except FileExistsError:

@@ -8,7 +8,7 @@ from cics.adapting import Adapted, adapted, with_told
 from cics.child import decoded, encoded, lines_of
 from cics.cli import DONE, FOUND, MISUSED, STANDARD_INPUT, Failure, ended, name_of, say
 from cics.copying import Copying, refuse_long
-from cics.files import Judge, make_folder, old_bytes, read, sum_of, write_file
+from cics.files import Judge, make_folder, old_bytes, sum_of, write_file
 from cics.layout import Layout
 from cics.log import Log
 from cics.origins import text_of
@@ -142,8 +142,7 @@ def why_list_kept(data: bytes) -> str:
 
 def written_before(folder: str) -> dict[str, str]:
     """What an earlier run wrote into a folder."""
-    path = os.path.join(folder, LIST)
-    return listed(read(path)) if os.path.isfile(path) else {}
+    return listed(old_bytes(os.path.join(folder, LIST), lambda _: "", LIST) or b"")
 
 
 def write_all(output: Output, asked: Asked) -> None:
