@@ -45,6 +45,17 @@ COUNTER = READER.replace("LENGTH(LAST)", "LENGTH(=H'7')").replace("SHOW     ", "
          OI    D+7,15
          UNPK  ITEM(7),D+4(4)
          """)  # shows how many there are
+STORER = """DFHEISTG DSECT
+COUNT    DS    F
+TEXT     DS    CL8
+STORER   CSECT
+         LA    4,7
+         ST    4,COUNT
+         MVC   TEXT,=CL8'HELLO'
+         DC    H'0'
+         EXEC  CICS RETURN
+         END
+"""
 CALLS = [
     Call("a text", "cics-run", ["h.asm", "--key", "HELLO YOU"], 0, ["KEY T001 ENTER HELLO YOU", "01|HELLO YOU"], {"h.asm": HELLO}),
     Call("an abend", "cics-run", ["h.asm", "--key", "HELL A", "--key", "PF3 B"], 1,
@@ -53,6 +64,10 @@ CALLS = [
     Call("the fields of an abend", "cics-run", ["h.asm", "--fields", "--key", "HELL A", "--key", "PF3 B"], 1,
          ["KEY T001 ENTER HELL A", "01|HELL A", "KEY T001 PF3 B", "T001 Abended ASRA", "01|HELL A", "ABEND T001 ASRA *", "NEXT *", *["R*"] * 4, "CC 0",
           "FIELD T001 'INLEN' AT 2000B0 LENGTH 2 0001 '..' VALUE 1", "FIELD T001 'INPUT' AT 2000B2 LENGTH 80 C240*"], {"h.asm": HELLO}),
+    Call("fields that the turn of an abend changes", "cics-run", ["s.asm", "--fields", "--key", "STOR"], 1,
+         ["KEY T001 ENTER STOR", "T001 Abended ASRA", "ABEND T001 ASRA *", "NEXT *", *["R*"] * 4, "CC 0",
+          "FIELD T001 'COUNT' AT 2000B0 LENGTH 4 00000007 '....' VALUE 7", "FIELD T001 'TEXT' AT 2000B4 LENGTH 8 C8C5D3D3D6404040 'HELLO   '"],
+         {"s.asm": STORER}),
     Call("another transaction", "cics-run", ["h.asm", "--tran", "AB=HELLO", "--key", "AB"], 0, ["KEY T001 ENTER AB", "01|AB"], {"h.asm": HELLO}),
     Call("no transaction", "cics-run", ["h.asm", "--key", "XX"], 1, ["KEY T001 ENTER XX", "T001 NoSuchTransaction: *"], {"h.asm": HELLO}),
     Call("a transaction of no program", "cics-run", ["h.asm", "--tran", "AB=NONE", "--key", "AB"], 2, [], {"h.asm": HELLO}, "write: --tran NAME=PROGRAM"),
