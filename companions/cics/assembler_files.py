@@ -6,6 +6,7 @@ from cics.cli import Failure, name_of
 from cics.scripts import BLOCK_END, LONGEST
 from cics.sources import read_source
 from cics.statements import Statement, is_comment_line, statements_of
+from cics.texts import is_name
 
 CUT = 100  # bytes of a longer line that are given: it has more columns than a source's line in any case
 
@@ -25,8 +26,8 @@ class Source:
 
 
 def section_of(statements: list[Statement]) -> str:
-    """The name of the control section; without one a name that no source has to have."""
-    names = (one.name for one in statements if one.operation in ("CSECT", "START", "DFHEIENT") and one.name)
+    """The name of the control section; without one, or where it can't be a program's, a name that no source has to have."""
+    names = (one.name for one in statements if one.operation in ("CSECT", "START", "DFHEIENT") and is_name(one.name))
     return next(names, "NONAME")
 
 

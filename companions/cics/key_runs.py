@@ -6,10 +6,10 @@ from dataclasses import dataclass, field
 
 from cics.assembler_files import Source, encoded, run_script
 from cics.cli import DONE, FOUND, MISUSED, Failure, ended, say, write_out
-from cics.faults import faults_of
+from cics.faults import all_faults_of
 from cics.key_names import AIDS
 from cics.origins import Origins
-from cics.queues import TERMINAL, Loader
+from cics.queues import TERMINAL, Loader, given_of, loaders_of
 from cics.scripts import MOST_TURNS
 from cics.stand_in.abends import request_line
 from cics.texts import CODED, is_name
@@ -86,11 +86,21 @@ def script_of(sources: list[Source], transactions: list[Transaction], loaders: l
 
 
 def faultless(sources: list[Source], cicslook: str, origins: Origins = Origins()) -> bool:
-    """Whether sources are faultless; their faults are told."""
-    faults = [fault.of(origins) for fault in faults_of(sources, cicslook) if not fault.is_note()]
+    """Whether sources are faultless, and are taken as programs; their faults are told."""
+    faults = [fault.of(origins) for fault in all_faults_of(sources, cicslook) if not fault.is_note()]
     for fault in faults:
         ended(str(fault), FOUND)
     return not faults
+
+
+def loaders_for(words: list[str], cicslook: str) -> list[Loader]:
+    """The programs that load test data. An item that isn't as the assembler has constants is a failure, told by its line."""
+    loaders = loaders_of(given_of(words))
+    for loader in loaders:
+        for fault in all_faults_of([Source(loader.name, 0, loader.lines, loader.name)], cicslook):
+            if not fault.is_note():
+                raise Failure(f"{loader.place(fault.line)}: {fault.kind}{f': {fault.text}' if fault.text else ''}")
+    return loaders
 
 
 @dataclass
