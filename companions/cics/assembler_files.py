@@ -1,5 +1,7 @@
 """Assembler files as the programs take them: the sources that stand in them one after the other, each for a block of a script."""
+from collections.abc import Sequence
 from dataclasses import dataclass
+from typing import NoReturn
 
 from cics.child import run
 from cics.cli import Failure, name_of
@@ -44,13 +46,22 @@ def sources_of_lines(path: str, lines: list[str]) -> list[Source]:
     return found
 
 
+def refuse_mark(name: str) -> NoReturn:
+    raise Failure(f"{name}:1: a byte order mark in front of the text, X'EFBBBF': take it out, as cics-adapt does")
+
+
+def refuse_block_end(name: str, lines: Sequence[str]) -> None:
+    """A line that ends a block would give the rest to the script that the source stands in."""
+    for number, line in enumerate(lines, 1):
+        if line.removesuffix("\r") == BLOCK_END:
+            raise Failure(f"{name}:{number}: a line /* ends the source's block: take it out")
+
+
 def sources_of_file(path: str) -> list[Source]:
     source, name = read_source(path), name_of(path)
     if source.has_mark:
-        raise Failure(f"{name}:1: a byte order mark in front of the text, X'EFBBBF': take it out, as cics-adapt does")
-    for number, line in enumerate(source.lines, 1):
-        if line == BLOCK_END:
-            raise Failure(f"{name}:{number}: a line /* ends the source's block: take it out")
+        refuse_mark(name)
+    refuse_block_end(name, source.lines)
     return sources_of_lines(name, source.lines) or [Source(name, 0, [], "NONAME")]
 
 

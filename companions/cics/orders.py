@@ -10,7 +10,7 @@ from dataclasses import dataclass, field
 
 from cics.child import Overdue
 from cics.queues import Loader
-from cics.same import Depth, Fault, Page, Region, Seen, child_of, why_of
+from cics.same import Depth, Fault, Page, Region, Seen, child_of, placed, why_of
 from cics.scripts import EVENTS, Action
 from cics.transcripts import reply_of
 
@@ -22,7 +22,6 @@ OUTCOME = re.compile(r"OUTCOME [0-9]+")
 NEVER, CANNOT = "ORDERS SOME NEVER REST", "ORDERS SOME CANNOT REST"
 MOVE = re.compile(r"EDF \S+ OFF|KEY .*|RUN \S+ [0-9]+")
 COMMENT = "* "  # behind the RUN of a list
-BAD = re.compile(r"line ([0-9]+): (.*)")
 
 
 @dataclass
@@ -85,7 +84,7 @@ def performed(region: Region, steps: list[Action], loaders: list[Loader]) -> lis
         if left and step.word in ("KEY", "TURN", "EDF", "ALTER", "RUN"):
             region.loaded(left)
             left = []
-        answers = region.defined(step.lines)
+        answers = region.defined(step)
         pages += [Page(step.line, step.lines[0], [])] if step.word == "KEY" else []
         if pages:
             pages[-1].seen.extend(Seen("", answer) for answer in answers if step.word == "KEY" or reply_of(answer) in ("Ended", "Abended"))
@@ -96,17 +95,12 @@ def performed(region: Region, steps: list[Action], loaders: list[Loader]) -> lis
 def answered(command: list[str], asked: Asked, loaders: list[Loader]) -> list[str]:
     """What a block writes where the script has come to it."""
     with child_of(command, [*asked.before, asked.block]) as child:
-        began = 0
         try:
             performed(Region(child, Depth.SCREENS), asked.before, loaders)
-            began = child.count
-            return child.ask(*asked.block.lines, seconds=SECONDS)
+            with placed(child, len(asked.block.lines), asked.block.place):
+                return child.ask(*asked.block.lines, seconds=SECONDS)
         except Overdue as why:
-            said = why_of(why)
-            bad = BAD.search(said)
-            if bad and began and int(bad[1]) > began:
-                said = f"line {asked.block.line + int(bad[1]) - began - 1}: {bad[2]}"
-            raise Fault(said) from None
+            raise Fault(why_of(why)) from None
 
 
 def searched(command: list[str], asked: Asked, loaders: list[Loader]) -> Orders:

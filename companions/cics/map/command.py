@@ -18,7 +18,7 @@ from cics.queues import given_of
 from cics.same import Fault
 
 NAME = "cics-map"
-OF_PROGRAM = re.compile(r"cicsedf: line \d+: ")  # how a program's line on a fault begins, which counts lines of its own
+OF_LINE = re.compile(r"line \d+: ")  # how it begins what is said of a line of the script
 
 
 def words_of(about: str) -> Words:
@@ -63,7 +63,7 @@ def tell_proposals(subject: Subject) -> None:
 
 def told(subject: Subject, cicslook: str, why: str) -> str:
     """Why a script can't be done. Faults of its sources are told by their lines."""
-    if OF_PROGRAM.match(why) and not faultless(sources_in(subject.name, "\n".join(subject.text)), cicslook):
+    if OF_LINE.match(why) and not faultless(sources_in(subject.name, "\n".join(subject.text)), cicslook):
         return "there are faults, so nothing is asked"
     return why
 
