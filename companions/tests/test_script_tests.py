@@ -99,8 +99,10 @@ class ScriptTestsTest(TestCase):
             lines = ["./a.script: isn't tested: ./a.script: No such file or directory", "./b.script: ok",
                      "./c.script: isn't tested: ./c.screens: Is a directory"]
             count = "3 scripts: 1 ok, 2 not tested"
-            for words, due in (([], [*lines, count]), (["--jobs", "1", "--junit", "f.xml"], [*lines, count]),
-                               (["--write"], [lines[0], "./b.script: unchanged", lines[2], "3 scripts: 1 unchanged, 2 not tested"])):
+            calls: list[tuple[list[str], list[str]]] = [
+                ([], [*lines, count]), (["--jobs", "1", "--junit", "f.xml"], [*lines, count]),
+                (["--write"], [lines[0], "./b.script: unchanged", lines[2], "3 scripts: 1 unchanged, 2 not tested"])]
+            for words, due in calls:
                 ended = called("cics-test", [".", *words, *PROGRAMS], folder)
                 self.assertEqual((ended.status, ended.lines(), ended.reported), (3, due, b""))
             self.assertEqual(xml.parse(os.path.join(folder, "f.xml")).getroot().get("errors"), "2")
