@@ -9,6 +9,7 @@ from cics.choices import Question, question_of, why_not
 from cics.cli import FOUND, MISUSED, Failure, name_of, read_file
 from cics.key_runs import AT, faultless, loaders_for, loading_lines, transactions_of
 from cics.line_forms import Search
+from cics.map.fields import fields_of
 from cics.map.proposals import Program, Proposed, proposed
 from cics.orders import Asked, asked_of
 from cics.queues import LOADER, TERMINAL, Loader
@@ -63,7 +64,7 @@ class Region:
                 for name, lines in self.sources.items() if not is_made(lines)]
 
     def proposals(self) -> Proposed:
-        return proposed(self.programs(), [*self.transactions], self.terminals, self.keys)
+        return proposed(self.programs(), [*self.transactions], self.terminals, self.keys, fields_of(self.sources.values()))
 
 
 def keys_pressed(steps: Sequence[Action]) -> list[str]:

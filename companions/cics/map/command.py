@@ -59,6 +59,8 @@ def tell_proposals(subject: Subject) -> None:
     for why, lines in subject.proposals.lines.items():
         for line in (f"* {why}", *lines):
             ended(line, DONE)
+    for what in subject.proposals.missing:
+        ended(f"* not proposed: {what}", DONE)
 
 
 def told(subject: Subject, cicslook: str, why: str) -> str:
