@@ -47,7 +47,7 @@ SOURCES = {  # what a new source is, its text, and what is printed
                 Due(1, ["line *, KEY T001 ENTER TICK:", "old: T001 Ended", "new: T001 doesn't come to rest within * turns"])),
     "a loop": (OLD.replace("L1       MVC", "L1       B     L1\n         MVC"),
                Due(1, ["line *, KEY T001 ENTER TICK:", "old: T001 Ended", "new: T001 Abended AICA"])),
-    "faulty": (OLD.replace("CVB ", "CVX "), Due(2, ["* can't be run: cicsedf: line *: UnknownOperation"])),
+    "faulty": (OLD.replace("CVB ", "CVX "), Due(2, ["* can't be run: *new.asm:*: UnknownOperation"])),
 }
 LAYOUTS = {  # in which programs the layout is changed, and what is printed
     ("ADD", "SHOW"): Due(4, ["same after 4 keys; * changed lines, *", SCREENS]),

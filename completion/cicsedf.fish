@@ -59,7 +59,7 @@ complete -c cics-run -l key -x -d 'a key that is pressed, as \'BAL 1002\' or PF3
 complete -c cics-run -l mixed -d 'the text of keys as it is, not in capitals'
 complete -c cics-run -l tran -x -d 'a transaction\'s name; else it is the first four characters of the program\'s'
 complete -c cics-run -l queue -x -d 'test data: each line an item of the queue'
-complete -c cics-run -l fields -d 'of an abend also the task\'s fields, as they are in front of it'
+complete -c cics-run -l fields -d 'of an abend also the fields of its working storage, as they were then'
 complete -c cics-run -l script -d 'the script is written instead, for cicslook; without keys, for cics-terminals'
 complete -c cics-run -l json -d 'a list of objects with key, answer, end, screen, cause and well; with --cover an object'
 complete -c cics-run -l cover -d 'also which lines were never run, and which branches went one way, as cics-cover says it'

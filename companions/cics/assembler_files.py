@@ -1,11 +1,14 @@
 """Assembler files as the programs take them: the sources that stand in them one after the other, each for a block of a script."""
+from collections.abc import Sequence
 from dataclasses import dataclass
+from typing import NoReturn
 
 from cics.child import run
 from cics.cli import Failure, name_of
 from cics.scripts import BLOCK_END, LONGEST
 from cics.sources import read_source
 from cics.statements import Statement, is_comment_line, statements_of
+from cics.texts import is_name
 
 CUT = 100  # bytes of a longer line that are given: it has more columns than a source's line in any case
 
@@ -25,8 +28,8 @@ class Source:
 
 
 def section_of(statements: list[Statement]) -> str:
-    """The name of the control section; without one a name that no source has to have."""
-    names = (one.name for one in statements if one.operation in ("CSECT", "START", "DFHEIENT") and one.name)
+    """The name of the control section; without one, or where it can't be a program's, a name that no source has to have."""
+    names = (one.name for one in statements if one.operation in ("CSECT", "START", "DFHEIENT") and is_name(one.name))
     return next(names, "NONAME")
 
 
@@ -43,13 +46,22 @@ def sources_of_lines(path: str, lines: list[str]) -> list[Source]:
     return found
 
 
+def refuse_mark(name: str) -> NoReturn:
+    raise Failure(f"{name}:1: a byte order mark in front of the text, X'EFBBBF': take it out, as cics-adapt does")
+
+
+def refuse_block_end(name: str, lines: Sequence[str]) -> None:
+    """A line that ends a block would give the rest to the script that the source stands in."""
+    for number, line in enumerate(lines, 1):
+        if line.removesuffix("\r") == BLOCK_END:
+            raise Failure(f"{name}:{number}: a line /* ends the source's block: take it out")
+
+
 def sources_of_file(path: str) -> list[Source]:
     source, name = read_source(path), name_of(path)
     if source.has_mark:
-        raise Failure(f"{name}:1: a byte order mark in front of the text, X'EFBBBF': take it out, as cics-adapt does")
-    for number, line in enumerate(source.lines, 1):
-        if line == BLOCK_END:
-            raise Failure(f"{name}:{number}: a line /* ends the source's block: take it out")
+        refuse_mark(name)
+    refuse_block_end(name, source.lines)
     return sources_of_lines(name, source.lines) or [Source(name, 0, [], "NONAME")]
 
 

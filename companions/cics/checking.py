@@ -7,7 +7,7 @@ from cics.assembler_files import Source, sources_of_file
 from cics.child import decoded, encoded
 from cics.cli import STANDARD_INPUT, Paint, name_of, read_file
 from cics.explaining import kinds
-from cics.faults import Fault, faults_of
+from cics.faults import Fault, all_faults_of
 from cics.origins import Origins
 from cics.script_reading import bad_lines, bare_lines
 from cics.scripts import actions_of
@@ -63,7 +63,7 @@ def faults_of_script(path: str, cicslook: str) -> list[Found]:
     text = decoded(read_file(path))
     lines, name = bare_lines(text), name_of(path)
     bad = [Fault(name, one.number, one.reason.column, one.reason.kind, one.reason.text, one.reason.length) for one in bad_lines(lines)]
-    faults = faults_of(sources_in(name, text), cicslook)
+    faults = all_faults_of(sources_in(name, text), cicslook)
     return [Found(fault, lines[fault.line - 1] if fault.line <= len(lines) else "") for fault in sorted([*bad, *faults], key=lambda one: one.line)]
 
 
@@ -71,7 +71,7 @@ def faults_of_sources(path: str, cicslook: str, origins: Origins) -> list[Found]
     found = []
     sources = sources_of_file(path)
     lines = {source.before + number: line for source in sources for number, line in enumerate(source.lines, 1)}
-    for fault in faults_of(sources, cicslook):
+    for fault in all_faults_of(sources, cicslook):
         place = fault.of(origins)
         found.append(Found(place, lines.get(fault.line) if place == fault else None))
     return found

@@ -3,7 +3,9 @@ import re
 from dataclasses import dataclass, replace
 
 from cics.assembler_files import Source, run_script
+from cics.layout import WORKING_STORAGE
 from cics.origins import Origins, Place
+from cics.statements import statements_of
 
 # A line of FAULTS: line and column, the fault, perhaps what is missing, and the text, in which >> and << stand around the part at fault;
 # or NOTE and what it says.
@@ -54,6 +56,46 @@ class Block:
         part = word["word"] if word else text.partition(" IS ")[0]
         number = self.source.before + min(line, max(len(self.source.lines), 1))
         return Fault(self.source.path, number, int(found["column"]), kind, shown, len(part))
+
+
+REFUSED = re.compile(r"PROGRAM (?P<name>\S+) (?:REFUSED (?P<kind>\S+)|AT .*)")
+
+
+def place_of(source: Source, kind: str) -> tuple[int, int, int]:
+    """The line by which a program is refused, with the column and the length of what it is called there: its working storage, its END, or
+    else its first statement."""
+    code = [one for one in statements_of(source.lines, "") if not one.is_comment]
+    fitting = {"StgLength": [one for one in code if one.name == WORKING_STORAGE], "EntryOutside": [one for one in code if one.operation == "END"]}
+    found = next(iter([*fitting.get(kind, []), *code]), None)
+    if found is None:
+        return source.before + 1, 1, 0
+    name = found.name or found.operation
+    return source.before + found.origin.number, found.lines[0].find(name) + 1, len(name)
+
+
+def refusals_of(sources: list[Source], cicslook: str) -> list[Fault]:
+    """The programs that the region refuses of faultless sources, which are defined one after the other: FAULTS loads none."""
+    script = [line for source in sources for line in source.block("SOURCE")]
+    replies = [found for found in map(REFUSED.fullmatch, run_script(script, cicslook)) if found] if script else []
+    found = []
+    for source, reply in zip(sources, replies):
+        if kind := reply["kind"]:
+            line, column, length = place_of(source, kind)
+            found.append(Fault(source.path, line, column, kind, f"the program {source.name} is refused", length))
+    return found
+
+
+def faultless_of(sources: list[Source], faults: list[Fault]) -> list[Source]:
+    """The sources that have no fault; notes are none."""
+    lines = {(fault.file, fault.line) for fault in faults if not fault.is_note()}
+    return [source for source in sources
+            if not any((source.path, source.before + number) in lines for number in range(1, max(len(source.lines), 1) + 1))]
+
+
+def all_faults_of(sources: list[Source], cicslook: str) -> list[Fault]:
+    """The faults and notes of sources, and which of those without a fault are refused as programs."""
+    faults = faults_of(sources, cicslook)
+    return [*faults, *refusals_of(faultless_of(sources, faults), cicslook)]
 
 
 def faults_of(sources: list[Source], cicslook: str) -> list[Fault]:

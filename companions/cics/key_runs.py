@@ -6,14 +6,14 @@ from dataclasses import dataclass, field
 
 from cics.assembler_files import Source, encoded, run_script
 from cics.cli import DONE, FOUND, MISUSED, Failure, ended, say, write_out
-from cics.faults import faults_of
+from cics.faults import all_faults_of
 from cics.key_names import AIDS
 from cics.origins import Origins
-from cics.queues import TERMINAL, Loader
+from cics.queues import TERMINAL, Loader, given_of, loaders_of
 from cics.scripts import MOST_TURNS
 from cics.stand_in.abends import request_line
 from cics.texts import CODED, is_name
-from cics.transcripts import is_of_page, of_look, place_in, reply_of, rows_of
+from cics.transcripts import LOOK, is_of_page, of_look, place_in, reply_of, rows_of
 
 KEY_NAME = re.compile(r"(?:PF|PA)\d+")
 MOST_TEXT = 1920  # characters of a key
@@ -86,11 +86,21 @@ def script_of(sources: list[Source], transactions: list[Transaction], loaders: l
 
 
 def faultless(sources: list[Source], cicslook: str, origins: Origins = Origins()) -> bool:
-    """Whether sources are faultless; their faults are told."""
-    faults = [fault.of(origins) for fault in faults_of(sources, cicslook) if not fault.is_note()]
+    """Whether sources are faultless, and are taken as programs; their faults are told."""
+    faults = [fault.of(origins) for fault in all_faults_of(sources, cicslook) if not fault.is_note()]
     for fault in faults:
         ended(str(fault), FOUND)
     return not faults
+
+
+def loaders_for(words: list[str], cicslook: str) -> list[Loader]:
+    """The programs that load test data. An item that isn't as the assembler has constants is a failure, told by its line."""
+    loaders = loaders_of(given_of(words))
+    for loader in loaders:
+        for fault in all_faults_of([Source(loader.name, 0, loader.lines, loader.name)], cicslook):
+            if not fault.is_note():
+                raise Failure(f"{loader.place(fault.line)}: {fault.kind}{f': {fault.text}' if fault.text else ''}")
+    return loaders
 
 
 @dataclass
@@ -137,22 +147,19 @@ def pressed_in(transcript: list[str], keys: list[str]) -> list[Pressed]:
     return found
 
 
-def fields_before(script: list[str], cicslook: str) -> list[str]:
-    """What FIELDS writes in front of the abend with which the last line of a script ends, a RUN; the program's own fields."""
-    asked = [*script[:-1], f"{script[-1]} BEFORE ABEND", f"FIELDS {AT}"]
-    found = [line for line in of_look(run_script(asked, cicslook)) if line.startswith("FIELD")]
-    end = next((at for at, line in enumerate(found) if f"{AT} 'DFHEIBLK' " in line), len(found))
-    return [line for line in found[:end] if not line.split(" ")[2].startswith("'DFHEI")]
+def fields_in(lines: list[str]) -> list[str]:
+    """The program's own fields, of what ABEND FIELDS writes: all but those of CICS; where it has none, what it says of them."""
+    return [line for line in lines[1:] if not line.startswith("FIELD ") or not line.split(" ")[2].startswith("'DFHEI")]
 
 
 def cause_of(until: list[str], cicslook: str, *, with_fields: bool) -> list[str]:
-    """Why the task of a script's last line abended, a RUN; with the fields where they are asked for."""
+    """Why the task of a script's last line abended, a RUN; where they are asked for with its fields, as they were then."""
     def looked(script: list[str]) -> list[str]:
-        return [line[2:] for line in run_script(script, cicslook) if line.startswith("> ")]
+        return of_look([line for line in run_script(script, cicslook) if line.startswith(LOOK)])
 
     lines = looked([*until, f"ABEND {AT}"])
     lines += request_line(lines, until, AT, looked)
-    return lines + (fields_before(until, cicslook) if with_fields else [])
+    return lines + (fields_in(looked([*until, f"ABEND {AT} FIELDS"])) if with_fields else [])
 
 
 def led_back(cause: list[str], origins: Origins) -> list[str]:

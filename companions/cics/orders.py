@@ -6,15 +6,18 @@ order never comes to rest, or can't any more.
 """
 import re
 from collections.abc import Iterator
-from dataclasses import dataclass, field
+from dataclasses import dataclass, field, replace
 
 from cics.child import Overdue
+from cics.cover.asking import ON
+from cics.cover.changes import Ran, ran_of
 from cics.queues import Loader
-from cics.same import Depth, Fault, Page, Region, Seen, child_of, why_of
-from cics.scripts import EVENTS, Action
+from cics.same import Depth, Fault, Page, Region, Seen, child_of, placed, why_of
+from cics.scripts import EVENTS, Action, is_silent
 from cics.transcripts import reply_of
 
 SECONDS = 600.0  # that a search may take
+MOST_LISTS = 200  # lists of moves that are done to count what they run
 KEYS = "(?: KEYS (?:WHEN ASKED|TYPED AHEAD))?"  # where keys are still to come
 FOUND = re.compile(f"ORDERS STATES ([0-9]+) OUTCOMES ([0-9]+){KEYS}")
 CUT = re.compile(f"ORDERS MORE THAN ([0-9]+) STATES, ALL OF [0-9]+ MOVES{KEYS}")
@@ -22,7 +25,6 @@ OUTCOME = re.compile(r"OUTCOME [0-9]+")
 NEVER, CANNOT = "ORDERS SOME NEVER REST", "ORDERS SOME CANNOT REST"
 MOVE = re.compile(r"EDF \S+ OFF|KEY .*|RUN \S+ [0-9]+")
 COMMENT = "* "  # behind the RUN of a list
-BAD = re.compile(r"line ([0-9]+): (.*)")
 
 
 @dataclass
@@ -85,7 +87,7 @@ def performed(region: Region, steps: list[Action], loaders: list[Loader]) -> lis
         if left and step.word in ("KEY", "TURN", "EDF", "ALTER", "RUN"):
             region.loaded(left)
             left = []
-        answers = region.defined(step.lines)
+        answers = region.defined(step)
         pages += [Page(step.line, step.lines[0], [])] if step.word == "KEY" else []
         if pages:
             pages[-1].seen.extend(Seen("", answer) for answer in answers if step.word == "KEY" or reply_of(answer) in ("Ended", "Abended"))
@@ -96,17 +98,12 @@ def performed(region: Region, steps: list[Action], loaders: list[Loader]) -> lis
 def answered(command: list[str], asked: Asked, loaders: list[Loader]) -> list[str]:
     """What a block writes where the script has come to it."""
     with child_of(command, [*asked.before, asked.block]) as child:
-        began = 0
         try:
             performed(Region(child, Depth.SCREENS), asked.before, loaders)
-            began = child.count
-            return child.ask(*asked.block.lines, seconds=SECONDS)
+            with placed(child, len(asked.block.lines), asked.block.place):
+                return child.ask(*asked.block.lines, seconds=SECONDS)
         except Overdue as why:
-            said = why_of(why)
-            bad = BAD.search(said)
-            if bad and began and int(bad[1]) > began:
-                said = f"line {asked.block.line + int(bad[1]) - began - 1}: {bad[2]}"
-            raise Fault(said) from None
+            raise Fault(why_of(why)) from None
 
 
 def searched(command: list[str], asked: Asked, loaders: list[Loader]) -> Orders:
@@ -116,6 +113,45 @@ def searched(command: list[str], asked: Asked, loaders: list[Loader]) -> Orders:
     if not orders.states and orders.most is None:
         raise Fault(lines[0] if lines else "ORDERS writes nothing")
     return orders
+
+
+def with_looks(asked: Asked, looks: list[str]) -> Asked:
+    """The same question with more to be seen; where nothing is named it is all screens."""
+    lines = asked.block.lines
+    has_own = any(not is_silent(line) and not line.startswith("KEY ") for line in asked.block.block)
+    terminals = [step.terminal for step in asked.before if step.word == "TERMINAL" and step.terminal]
+    screens = [] if has_own else [f"SCREEN {name}" for name in terminals]
+    return replace(asked, block=replace(asked.block, lines=[*lines[:-1], *screens, *looks, lines[-1]]))
+
+
+def count_looks(asked: Asked) -> int:
+    """How many looks a question has: its own, or all screens."""
+    return sum(not is_silent(line) and not line.startswith("KEY ") for line in with_looks(asked, []).block.block)
+
+
+@dataclass
+class Counted:
+    """What was run of each source on the ways to outcomes, and how many of these ways were left out."""
+
+    ran: list[Ran] = field(default_factory=list)
+    left: int = 0
+
+
+def counted_by_lists(command: list[str], asked: Asked, orders: Orders, loaders: list[Loader]) -> Counted:
+    """Does the list of moves to each outcome, and to each state that doesn't come to rest, and counts what is run."""
+    lists = [outcome.moves for outcome in orders.outcomes] + [*orders.restless.values()]
+    found = Counted(left=max(0, len(lists) - MOST_LISTS))
+    for moves in lists[:MOST_LISTS]:
+        with child_of(command, asked.before) as child:
+            try:
+                child.ask(ON)
+                performed(Region(child, Depth.SCREENS), asked.before, loaders)
+                child.ask(*moves)
+                ran = ran_of(child, asked.before)
+            except Overdue as why:
+                raise Fault(why_of(why)) from None
+        found.ran = [one.plus(more) for one, more in zip(found.ran, ran)] or ran
+    return found
 
 
 def shown(outcome: Outcome) -> Iterator[str]:

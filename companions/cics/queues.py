@@ -3,10 +3,10 @@
 A line of a file is an item: its characters by their codes, and a byte that stands for no character here as it is. A line that begins
 with `=` is an item given by constants, as `=CL5'A1000',PL4'125'`; one that begins with `==` is the text from the second on.
 """
-from dataclasses import dataclass
+from dataclasses import dataclass, field
 
 from cics.child import lines_of
-from cics.cli import MISUSED, Failure, read_file
+from cics.cli import MISUSED, Failure, name_of, read_file
 from cics.constants import item_of, size_of
 from cics.sources import BYTE_ORDER_MARK
 from cics.statements import CONTINUED, LAST, MARK, put
@@ -26,11 +26,12 @@ class Given:
 
 @dataclass(frozen=True)
 class Item:
-    """An item: its constants, and about how many bytes they have."""
+    """An item: its constants, about how many bytes they have, and the file and the line that give it."""
 
     queue: str
     constants: list[str]
     size: int
+    place: str
 
 
 def given_of(words: list[str]) -> list[Given]:
@@ -84,7 +85,7 @@ def items_of(given: Given) -> list[Item]:
         size = constants_size(given.path, number, constants) if is_given else len(line)
         if not 1 <= size <= LONGEST:
             raise Failure(f"{given.path}:{number}: an item has 1 to {LONGEST} bytes")
-        found.append(Item(given.queue, constants, size))
+        found.append(Item(given.queue, constants, size, f"{name_of(given.path)}:{number}"))
     return found
 
 
@@ -118,7 +119,32 @@ LOADED   EXEC  CICS RETURN
 """.strip("\n").split("\n")
 
 
-def program_of(name: str, items: list[Item]) -> list[str]:
+def item_lines(at: int, item: Item) -> list[str]:
+    """The statements of an item: its length, and its constants."""
+    return [*statement_lines("", "DC", f"AL2(E{at}-S{at})"), *statement_lines(f"S{at}", "DC", ",".join(item.constants)), f"E{at:<7} EQU   *"]
+
+
+@dataclass
+class Loader:
+    """A program that loads test data: its source, its transaction, how many turns it needs, and which items' lines are whose, by their numbers
+    from 1."""
+
+    name: str
+    transaction: str
+    lines: list[str]
+    turns: int
+    places: dict[int, str] = field(default_factory=dict)
+
+    def add(self, lines: list[str], place: str) -> None:
+        self.places |= dict.fromkeys(range(len(self.lines) + 1, len(self.lines) + len(lines) + 1), place)
+        self.lines += lines
+
+    def place(self, line: int) -> str:
+        """Of which line of a file of test data a line of the program is."""
+        return self.places.get(line, self.name)
+
+
+def loader_of(name: str, transaction: str, items: list[Item]) -> Loader:
     """A program that writes items to their queues."""
     queues = list(dict.fromkeys(item.queue for item in items))
     lines = ["* WRITES THE ITEMS OF TEST DATA TO THEIR QUEUES", "DFHEISTG DSECT", "ITEMLEN  DS    H", f"{name:<8} CSECT", *CODE]
@@ -126,26 +152,15 @@ def program_of(name: str, items: list[Item]) -> list[str]:
     for number, queue in enumerate(queues):
         doubled = queue.replace("'", "''").replace("&", "&&")
         lines += statement_lines("", "DC", f"CL8'{doubled}',A(Q{number})")
-    lines.append("         DC    X'00'")
+    loader = Loader(name, transaction, [*lines, "         DC    X'00'"], 2 * len(items) + 2)
     for number, queue in enumerate(queues):
-        lines.append(f"Q{number:<7} DS    0C")
+        loader.lines.append(f"Q{number:<7} DS    0C")
         for at, item in enumerate(items):
             if item.queue == queue:
-                lines += statement_lines("", "DC", f"AL2(E{at}-S{at})")
-                lines += statement_lines(f"S{at}", "DC", ",".join(item.constants))
-                lines.append(f"E{at:<7} EQU   *")
-        lines.append("         DC    AL2(0)")
-    return [*lines, "         END"]
-
-
-@dataclass(frozen=True)
-class Loader:
-    """A program that loads test data: its source, its transaction, and how many turns it needs."""
-
-    name: str
-    transaction: str
-    lines: list[str]
-    turns: int
+                loader.add(item_lines(at, item), item.place)
+        loader.lines.append("         DC    AL2(0)")
+    loader.lines.append("         END")
+    return loader
 
 
 def loaders_of(given: list[Given]) -> list[Loader]:
@@ -157,5 +172,4 @@ def loaders_of(given: list[Given]) -> list[Loader]:
         parts[-1].append(item)
     full = [part for part in parts if part]
     names = [f"{LOADER}{number}" for number in range(1, len(full) + 1)]
-    return [Loader(name, f"{TRANSACTION}{chr(ord('A') + at)}", program_of(name, part), 2 * len(part) + 2)
-            for at, (name, part) in enumerate(zip(names, full))]
+    return [loader_of(name, f"{TRANSACTION}{chr(ord('A') + at)}", part) for at, (name, part) in enumerate(zip(names, full))]

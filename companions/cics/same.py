@@ -3,9 +3,10 @@
 Of a script its definitions, clocks and keys are taken. After each key the terminals are turned in the order of their definition, each up
 to a turn that is answered Idle or Waiting, round by round until no terminal goes on.
 """
+import contextlib
 import re
-from collections.abc import Iterator
-from dataclasses import dataclass, field
+from collections.abc import Callable, Iterator
+from dataclasses import dataclass, field, replace
 from enum import IntEnum
 
 from cics.child import Child, Gone, Overdue, text_of
@@ -21,6 +22,7 @@ TAKEN = ("IMAGE", "SOURCE", "TRANSACTION", "TERMINAL", "CLOCK", "KEY")
 LONGEST_LOOK, COMMAREA_SHOWN = 4096, 64  # bytes that STORAGE writes, and that TERMINALS writes of a COMMAREA
 QUEUE = re.compile(r"> QUEUE (?P<shown>'.*'|X'[0-9A-F]{16}') ITEMS (?P<items>\d+) BYTES \d+ READ \d+")
 KEPT = re.compile(r"> TERMINAL (?P<terminal>\S+) NEXT (?:'[^']*'|X'[0-9A-F]+') COMMAREA (?P<length>\d+) ")
+BAD = re.compile(r"line (?P<line>[0-9]+): (?P<why>.*)")  # a line of those that the program was given, and what is wrong with it
 COPY = re.compile(r"> AREA (?P<address>[0-9A-F]{6}) LENGTH (?P<length>[0-9A-F]{6}) OTHER ")
 
 
@@ -65,24 +67,47 @@ class Page:
     is_at_rest: bool = True
 
 
+@dataclass(frozen=True)
+class NewSource:
+    """A source that replaces a block: its file and its lines."""
+
+    file: str
+    lines: list[str]
+
+
 @dataclass
 class Sources:
     """Sources that replace blocks of a script, by their names, and which of them were found."""
 
-    lines: dict[str, list[str]]
+    given: dict[str, NewSource]
     found: set[str] = field(default_factory=set)
 
     def replaced(self, action: Action) -> Action:
         name = action.words[1] if len(action.words) > 1 else ""
-        if action.word != "SOURCE" or name not in self.lines:
+        if action.word != "SOURCE" or name not in self.given:
             return action
         self.found.add(name)
-        return Action(action.line, [f"SOURCE {name}", *self.lines[name], BLOCK_END])
+        source = self.given[name]
+        return replace(action, lines=[f"SOURCE {name}", *source.lines, BLOCK_END], block_file=source.file)
 
 
-def steps_of(script: str, sources: Sources) -> list[Action]:
+def steps_of(script: str, sources: Sources, file: str = "") -> list[Action]:
     """A script's actions, with SOURCE blocks replaced."""
-    return [sources.replaced(action) for action in actions_of(script)]
+    return [sources.replaced(action) for action in actions_of(script, file)]
+
+
+@contextlib.contextmanager
+def placed(child: Child, lines: int, place: Callable[[int], str]) -> Iterator[None]:
+    """Where the program ends by a line of some that it is given now, it is told by the file and the line that the user has."""
+    begun = child.count
+    try:
+        yield
+    except Gone as why:
+        bad = BAD.search(why.ended.why())
+        at = int(bad["line"]) - begun - 1 if bad else -1
+        if bad and 0 <= at < lines:
+            raise Fault(f"{place(at)}: {bad['why']}") from None
+        raise
 
 
 def digits_of(shown: str) -> str:
@@ -121,7 +146,8 @@ class Region:
 
     def pressed(self, step: Action) -> Page:
         """What is seen after a key: its answer, how tasks ended, all screens, and what is kept."""
-        seen = self.look("", step.lines[0])
+        with placed(self.child, 1, step.place):
+            seen = self.look("", step.lines[0])
         if step.terminal in self.long and reply_of(seen[0].line) == "Attached":
             seen += self.commarea(step.terminal)
         try:
@@ -174,12 +200,17 @@ class Region:
                     seen += self.look(f"item {number} of queue {queue['shown']}", f"QUEUE {digits} {number}")
         return seen
 
-    def defined(self, lines: list[str]) -> list[str]:
-        """Defines what lines say, and gives what is answered; a refusal is a fault."""
-        answers = self.child.ask(*lines)
+    def defined(self, step: Action) -> list[str]:
+        """Defines what a step says, and gives what is answered; a refusal is a fault."""
+        return self.asked(step.lines, step.place)
+
+    def asked(self, lines: list[str], place: Callable[[int], str]) -> list[str]:
+        """The same of lines, each with its place."""
+        with placed(self.child, len(lines), place):
+            answers = self.child.ask(*lines)
         refused = [line for line in answers if " REFUSED " in line]
         if refused:
-            raise Fault(refused[0])
+            raise Fault(f"{place(0)}: {refused[0]}")
         if lines[0].startswith("TERMINAL "):
             self.terminals.append(lines[0].split()[1])
         return answers
@@ -188,10 +219,10 @@ class Region:
         """Loads test data at a terminal of its own, which is none of those that are compared."""
         terminals = [*self.terminals]
         if loaders:
-            self.defined([f"TERMINAL {TERMINAL}"])
+            self.asked([f"TERMINAL {TERMINAL}"], lambda _: "test data")
         for loader in loaders:
-            self.defined([f"SOURCE {loader.name}", *loader.lines, BLOCK_END])
-            self.defined([f"TRANSACTION {loader.transaction} {loader.name}"])
+            self.asked([f"SOURCE {loader.name}", *loader.lines, BLOCK_END], loader.place)
+            self.asked([f"TRANSACTION {loader.transaction} {loader.name}"], lambda _: "test data")
             self.child.ask(f"KEY {TERMINAL} ENTER {loader.transaction}")
             replies = map(reply_of, self.child.ask(*[f"TURN {TERMINAL}"] * loader.turns))
             last = next((reply for reply in replies if reply in ("Ended", "Waiting", "Abended")), "doesn't end")
@@ -205,7 +236,7 @@ def pages_of(region: Region, steps: list[Action], loaders: list[Loader]) -> Iter
     left = loaders
     for step in steps:
         if step.word != "KEY":
-            region.defined(step.lines)
+            region.defined(step)
             continue
         region.loaded(left)
         left = []

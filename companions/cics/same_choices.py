@@ -1,6 +1,7 @@
 """How two versions of programs differ by lists of keys: what CHOICES of `cicslook` writes of each is walked together, pair of states by pair
 of states, from the shortest list on. Where nothing differs, all keys are pressed once more, in each state, and what that runs is counted.
 """
+import re
 from collections import deque
 from collections.abc import Iterator, Sequence
 from dataclasses import dataclass, field
@@ -14,10 +15,12 @@ from cics.line_forms import Search
 from cics.orders import performed
 from cics.queues import Loader
 from cics.same import Depth, Fault, Page, Region, Seen, child_of, difference, why_of
+from cics.same_queues import LISTED, label_of
 from cics.scripts import MOST_TURNS, Action, is_silent
 from cics.sides import text_of
 from cics.transcripts import RESTS, is_of_page, reply_of
 
+ROW = re.compile(r"[0-9A-F]{4} [0-9A-F]{2}")  # a row of an item's bytes
 MOST_PRESSED = 10_000  # keys that are pressed to count what they run
 PRESSED, NOT_PRESSED = "it can be pressed", "it can't be pressed"
 
@@ -58,11 +61,17 @@ class Difference:
 
 
 def seen_of(state: State) -> Iterator[Seen]:
-    """A state's text, each line of a page with its screen."""
-    of = ""
+    """A state's text, each line of a page with its screen, and each of a queue with that, or with its item."""
+    of, queue = "", ""
     for line in state.text:
-        of = of if is_of_page(line) else line
-        yield Seen(of if is_of_page(line) else "", line)
+        listed = LISTED.fullmatch(line)
+        queue = listed["shown"] if listed else queue
+        if is_of_page(line) or ROW.match(line):
+            yield Seen(of, line)
+        else:
+            label = label_of(line, queue)
+            of = label or line
+            yield Seen(label, line)
 
 
 def incidents_of(arrow: Arrow) -> list[Seen]:
@@ -260,7 +269,7 @@ ONE_NUMBER = ("with ONE NUMBER each key begins with the task number that the fir
 
 def compared_by(question: Question, left: int) -> list[str]:
     """What was compared, and what was left out."""
-    seen = ", ".join(question.seen) or "all screens"
+    seen = f"{', '.join(question.seen) or 'all screens'}, and all queues by their bytes"
     lines = [ONE_NUMBER] if question.has_one_number else []
     lines += [f"what is run was counted up to {MOST_PRESSED} keys; in {left} places a key wasn't pressed for that"] if left else []
-    return [*lines, f"compared after each key: abends, refused keys, tasks that wait, and {seen}; the script in front is as cicslook runs it"]
+    return [*lines, f"compared after each key: abends, refused keys, tasks that wait, {seen}; the script in front is as cicslook runs it"]

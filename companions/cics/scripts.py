@@ -27,6 +27,14 @@ class Action:
     line: int  # the number of its first line, from 1
     lines: list[str]
     comments: list[str] = field(default_factory=list)  # those in front of it
+    file: str = ""  # the script, where it is known
+    block_file: str = ""  # of a block whose lines come from another file that one
+
+    def place(self, at: int) -> str:
+        """Where one of its lines stands, the first being 0."""
+        if self.block_file and at > 0:
+            return f"{self.block_file}:{min(at, max(1, len(self.lines) - 2))}"
+        return f"{self.file}:{self.line + at}" if self.file else f"line {self.line + at}"
 
     @cached_property
     def text(self) -> str:
@@ -76,7 +84,7 @@ def is_silent(line: str) -> bool:
     return (bare.startswith("*") or not bare) and (4 * len(bare) <= LONGEST or len(encoded(bare)) <= LONGEST)
 
 
-def actions_of(text: str) -> list[Action]:
+def actions_of(text: str, file: str = "") -> list[Action]:
     """The actions of a script, in order; a block that isn't ended is its lines up to the end."""
     found: list[Action] = []
     comments: list[str] = []
@@ -89,7 +97,7 @@ def actions_of(text: str) -> list[Action]:
         elif is_silent(line):
             comments += [bare.lstrip("*").strip()] if bare else []
         else:
-            found.append(Action(number, [line], comments))
+            found.append(Action(number, [line], comments, file))
             comments = []
             block = found[-1] if found[-1].word in BLOCKS else None
     return found

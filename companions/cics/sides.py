@@ -3,9 +3,10 @@ import contextlib
 from collections.abc import Iterator
 from dataclasses import dataclass
 
-from cics.child import decoded
+from cics.assembler_files import refuse_block_end, refuse_mark
+from cics.child import decoded, lines_of
 from cics.cli import MISUSED, Failure, name_of, read_file
-from cics.same import Fault, Sources, steps_of
+from cics.same import Fault, NewSource, Sources, steps_of
 from cics.scripts import Action
 
 FORMS = "write: cics-same SCRIPT PROGRAM OLD NEW, cics-same SCRIPT --source PROGRAM=OLD:NEW, or cics-same OLD.script NEW.script"
@@ -39,10 +40,19 @@ def text_of(path: str) -> str:
         raise Failure(str(why), MISUSED) from None
 
 
+def source_of(path: str) -> NewSource:
+    """A source that a block can have."""
+    text, name = text_of(path), name_of(path)
+    if text.startswith("\ufeff"):
+        refuse_mark(name)
+    refuse_block_end(name, lines_of(text))
+    return NewSource(name, lines_of(text))
+
+
 def side_of(script: str, sources: dict[str, str], name: str) -> Side:
     """A script with the files of sources by their names."""
-    replacing = Sources({program: text_of(path).split("\n") for program, path in sources.items()})
-    steps = steps_of(text_of(script), replacing)
+    replacing = Sources({program: source_of(path) for program, path in sources.items()})
+    steps = steps_of(text_of(script), replacing, name_of(script))
     missing = sorted(set(sources) - replacing.found)
     if missing:
         raise Failure(f"{name_of(script)}: it has no SOURCE {missing[0]}", MISUSED)

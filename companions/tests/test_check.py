@@ -12,6 +12,7 @@ from tests.case import PROGRAMS, TestCase
 
 GOOD = "P        CSECT\n         USING P,3\n         BR    14\n         END\n"
 BAD = "P        CSECT\n         USING P,3\n         L     4,NOWHERE\n         LA    4\n         END\n"
+LONG = "DFHEISTG DSECT\n         DS    120000C\nP        CSECT\n         EXEC  CICS RETURN\n         END\n"
 CALLS = [
     Call("a good source", "cics-check", ["p.asm"], 0, [], {"p.asm": GOOD}),
     Call("faults", "cics-check", ["p.asm"], 1, ["p.asm:3:18: UndefinedSymbol: NOWHERE", "p.asm:4:16: BadOperand: 4"], {"p.asm": BAD}),
@@ -25,6 +26,21 @@ CALLS = [
          {"p.asm": f"P        CSECT\n*{'X' * 5000}\n         END\n"}),
     Call("a line that ends the block", "cics-check", ["p.asm"], 3, [], {"p.asm": "P        CSECT\n/*\n         END\n"}, "p.asm:2: a line /*"),
     Call("no file", "cics-check", ["p.asm"], 3, [], {}, "p.asm: No such file"),
+    Call("a working storage that is too long", "cics-check", ["p.asm"], 1, ["p.asm:1:1: StgLength: the program P is refused"], {"p.asm": LONG}),
+    Call("no statement with a byte", "cics-check", ["p.asm"], 1, ["p.asm:2:10: BadLength: the program NONAME is refused"],
+         {"p.asm": "* NOTHING\n         END\n"}),
+    Call("an entry behind the text", "cics-check", ["p.asm"], 1, ["p.asm:4:10: EntryOutside: the program P is refused"],
+         {"p.asm": "P        CSECT\n         BR    14\nLAST     EQU   *\n         END   LAST\n"}),
+    Call("two of a name in a file", "cics-check", ["p.asm"], 1, ["p.asm:5:1: Duplicate: the program P is refused"], {"p.asm": f"{GOOD}{GOOD}"}),
+    Call("two of a name in two files", "cics-check", ["p.asm", "q.asm"], 0, [], {"p.asm": GOOD, "q.asm": GOOD}),
+    Call("one that is refused beside one with faults", "cics-check", ["p.asm"], 1,
+         ["p.asm:3:18: *", "p.asm:4:16: *", "p.asm:6:1: StgLength: the program P is refused"], {"p.asm": BAD + LONG}),
+    Call("a script's source that is refused", "cics-check", ["s.script"], 1, ["s.script:2:1: StgLength: the program PROG is refused"],
+         {"s.script": f"SOURCE PROG\n{LONG}/*\nTERMINAL T001\n"}),
+    Call("a section's name that is none of a program", "cics-check", ["p.asm"], 1, ["p.asm:1:1: BadName: TOOLONGNAME"],
+         {"p.asm": "TOOLONGNAME CSECT\n         BR    14\n         END\n"}),
+    Call("a section's name with a byte that has no character", "cics-check", ["p.asm"], 1, ["p.asm:1:2: BadCharacter: ."],
+         {"p.asm": "A\0B      CSECT\n         BR    14\n         END\n"}),
     Call("no words", "cics-check", [], 2, [], {}, "write: cics-check"),
     Call("a script", "cics-check", ["s.script"], 1, ["s.script:1:5: BadLine: two blanks", "s.script:5:18: UndefinedSymbol: NOWHERE",
                                                      "s.script:6:16: BadOperand: 4", "s.script:9:1: BadLine: no such look: taks; TASKS?",

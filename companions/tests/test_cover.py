@@ -13,7 +13,7 @@ from cics.child import TOP, decoded, encoded, read, run, text_of
 from cics.cover.asking import Asked, coverage_of
 from cics.cover.counts import Coverage, Covered
 from cics.cover.page import page_of
-from tests.calling import Call, called, failures_of
+from tests.calling import Call, called, failures_of, folder_of, put
 from tests.case import CICSLOOK, PROGRAMS, TestCase
 
 WAYS = """P        CSECT
@@ -59,7 +59,10 @@ CALLS = [
     Call("an empty script", "cics-cover", ["n.script"], 1, [], {"n.script": ""}, "n.script: it defines no source"),
     Call("a source that is refused", "cics-cover", ["n.script"], 1, [], {"n.script": "SOURCE P\nP        DSECT\nX        DS    F\n         END\n/*\n"},
          "n.script: its source P is refused, BadLength"),
-    Call("a second one of its name", "cics-cover", ["t.script"], 0, OF_ENTER, {"t.script": ENTER + OTHER[: OTHER.index("TRANS")]}),
+    Call("a second one of its name", "cics-cover", ["t.script"], 1, OF_ENTER, {"t.script": ENTER + OTHER[: OTHER.index("TRANS")]},
+         "t.script: its source P on line 18 is refused, Duplicate; nothing of that is counted"),
+    Call("one behind an image of its name", "cics-cover", ["i.script"], 1, [],
+         {"i.script": f"IMAGE P 80\n07FE\n/*\n{ENTER}"}, "i.script: its source P on line 4 is refused, Duplicate; nothing of that is counted"),
     Call("one that is refused beside another", "cics-cover", ["n.script"], 1, OF_ENTER,
          {"n.script": f"{ENTER}SOURCE D\nX        DSECT\nY        DS    F\n         END\n/*\n"},
          "n.script: its source D is refused, BadLength; nothing of that is counted"),
@@ -121,6 +124,33 @@ class CoverTest(TestCase):
             if "COVERED" not in one.text:
                 self.assertEqual(one.own(both.lines()), alone.lines(), path)
         self.assertGreater(count, 40)
+
+
+SHOP = """P        CSECT
+         ZAP   TOTAL,=P'1'
+         CP    TOTAL,=P'1'
+         BE    LAST
+         EXEC  CICS RETURN
+LAST     AL    5,=F'1'
+         EXEC  CICS RETURN
+DFHEISTG DSECT
+TOTAL    DS    PL4
+         END
+"""
+
+
+class AdaptedTest(TestCase):
+    def test_without_a_map(self) -> None:
+        """Of a source that cics-adapt rewrote the user's six statements count, and what stands behind the routines, but no routine."""
+        with folder_of({"p.asm": SHOP}) as folder:
+            adapted = called("cics-adapt", ["p.asm"], folder).out.decode()
+            self.assertIn("$XCP     STM", adapted)
+            for source, due in ((adapted, "P: 5 of 6 statements run, 83.3 %; 0 of 1 branch both ways"),
+                                (adapted.replace("         END\n", "MINE     BR    14\n         END\n"),
+                                 "P: 5 of 7 statements run, 71.4 %; 0 of 1 branch both ways")):
+                put(folder, {"p.script": f"SOURCE P\n{source}/*\nTRANSACTION P P\nTERMINAL T001\nKEY T001 ENTER P\nRUN T001 4096\n"})
+                ended = called("cics-cover", ["p.script", "--at-least", "80", *PROGRAMS], folder)
+                self.assertEqual((ended.lines()[0], ended.status), (due, 0 if "83" in due else 4))
 
 
 class FilesTest(TestCase):

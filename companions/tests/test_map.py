@@ -14,8 +14,9 @@ from cics.map.abends import Abend
 from cics.map.arrows import levels_of, lists_of
 from cics.map.asking import Subject, region_of
 from cics.map.compared import compared_in
+from cics.map.fields import MapField, fields_of, typed_into, untyped
 from cics.map.page import page_of
-from cics.map.proposals import MOST, Program, proposed
+from cics.map.proposals import MOST, Program, proposed, spoilt
 from cics.map.report import Map, lines_of_map
 from cics.same import Fault
 from cics.scripts import Action, actions_of
@@ -92,6 +93,8 @@ CALLS = [
     *((CLOSED, Call(f"over {name}, which is read", "cics-map", ["s.script", "--keys", "k", "-o", name], 3, [], FILES,
                     f"cics-map: {name}: it is read, so it isn't written")) for name in ("s.script", "k")),
 ]
+UNPRESSED = f"CLEAR, PA1, PA2, {', '.join(f'PF{number}' for number in range(1, 13))}: no source compares EIBAID with them"
+REST = "texts as records, queues and COMMAREAs have them, and all others"
 REAL = [
     Call("a faulty source of a script", "cics-map", ["s.script", "--keys", "k"], 1, [], {**FILES, "s.script": PAY.replace("CVB ", "CVC ")},
          "s.script:19:10: UnknownOperation: CVC"),
@@ -99,14 +102,20 @@ REAL = [
          "cics-map: q: it is read, so it isn't written"),
     Call("a faulty source", "cics-map", ["f.asm"], 1, [], {"f.asm": FILES["pay.asm"].replace("CVB ", "CVC ")}, "cics-map: f.asm: there are faults"),
     Call("a source, whose keys are proposed", "cics-map", ["pay.asm", "-n", "1", "--one-number"], 1,
-         ["6 keys. They are proposed by what the sources compare, so others may lead elsewhere.",
-          "All lists of at most 1 key lead to 3 states, which show 3 screens. Longer ones lead to more.", LINES[2], LINES[3],
-          f"  ENTER PAY, ENTER PAY 1 -> SCREEN 1: {ABENDS} at {ABENDING}", "  ENTER PAY 00001 -> SCREEN 2", "  ENTER PAY ZZZZZ, ENTER PAY 99999 -> SCREEN 3",
-          f"  ENTER -> SCREEN 1: {REFUSED}", "SCREEN 2 by 1 key, state 2: TOTAL 0000001", *["*"] * 3, "SCREEN 3 by 1 key, state 3: TOTAL 0099999", *["*"] * 3], FILES,
-         "cics-map: 6 keys are proposed; others may lead elsewhere. These lines, or your own in a file, are taken by --keys FILE:\n"
+         ["16 keys. They are proposed by what the sources compare, so others may lead elsewhere.", f"Not proposed: {UNPRESSED}.", f"Not proposed: {REST}.",
+          "All lists of at most 1 key lead to 4 states, which show 4 screens. Longer ones lead to more.", LINES[2], LINES[3],
+          "  ENTER PAY, ENTER PAY 1, ENTER PAY 0000, ENTER PAY 19, ENTER PAY Z, ENTER PAY ZZZZ and 1 more -> SCREEN 1: "
+          f"{ABENDS} at {ABENDING}", "  ENTER PAY 00001, ENTER PAY 000019 -> SCREEN 2",
+          "  ENTER PAY ZZZZZ, ENTER PAY 99999, ENTER PAY ZZZZZZ, ENTER PAY 999999, ENTER PAY 9999Z -> SCREEN 3",
+          f"  ENTER -> SCREEN 1: {REFUSED}", "  ENTER PAY 0000Z -> SCREEN 4", "SCREEN 2 by 1 key, state 2: TOTAL 0000001", *["*"] * 3,
+          "SCREEN 3 by 1 key, state 3: TOTAL 0099999", *["*"] * 3, "SCREEN 4 by 1 key, state 4: TOTAL 0000009", *["*"] * 3], FILES,
+         "cics-map: 16 keys are proposed; others may lead elsewhere. These lines, or your own in a file, are taken by --keys FILE:\n"
          "* the transactions\nKEY T001 ENTER PAY\n"
          "* PAY: texts with which the input is compared, or numbers that are made of it, and others\n"
-         "KEY T001 ENTER {PAY 00001|PAY 1|PAY ZZZZZ|PAY 99999}\n* ENTER without a text\nKEY T001 ENTER\n"),
+         "KEY T001 ENTER {PAY 00001|PAY 1|PAY ZZZZZ|PAY 99999}\n* ENTER without a text\nKEY T001 ENTER\n"
+         "* these texts cut short, left out, too long, and with a letter for a digit\n"
+         "KEY T001 ENTER {PAY 0000|PAY 000019|PAY 0000Z|PAY 19|PAY Z|PAY ZZZZ|PAY ZZZZZZ|PAY 9999|PAY 999999|PAY 9999Z}\n"
+         f"* not proposed: {UNPRESSED}\n* not proposed: {REST}\n"),
 ]
 COMPARED = """DFHEISTG DSECT
 INLEN    DS    H
@@ -267,6 +276,50 @@ class ProposalsTest(TestCase):
         """What loads test data is no transaction for an operator."""
         region = region_of(actions_of("TRANSACTION P P\nTRANSACTION $QLA $QLOAD1\nTERMINAL T001\n"))
         self.assertEqual((region.transactions, region.proposals().all_lines()), ({"P": "P"}, ["KEY T001 ENTER P"]))
+
+    def test_spoilt(self) -> None:
+        """Each text cut short, left out, too long, and with a letter for a digit; a transaction alone isn't spoilt."""
+        texts = {"ORDQ B1000": ["ORDQ B100", "ORDQ", "ORDQ B10009", "ORDQ B100Z"], "ORDQ AB": ["ORDQ A", "ORDQ", "ORDQ ABZ"], "ORDQ": [], "": [],
+                 "12": ["1", "", "129", "1Z"], "ORDQX": ["ORDQ", "", "ORDQXZ"]}
+        self.assertEqual({text: [*spoilt(text, ["ORDQ", "P"])] for text in texts}, texts)
+
+    def test_what_is_not_proposed(self) -> None:
+        """A program that compares its input with nothing, one that looks at it by TRT, and keys that are left out."""
+        receiving = ["P        CSECT", "         EXEC  CICS RECEIVE INTO(X) LENGTH(Y)", "         TRT   X,T", "         CLI   EIBAID-DFHEIBLK(2),X'F3'",
+                     *(f"         CLC   X,=C'{number:03}'" for number in range(200)), "X        DS    CL3", "         END"]
+        found = proposed([Program("P", receiving, ["P"]), Program("Q", [*receiving[:2], receiving[-2]], ["Q"])], ["P", "Q"], ["T001"], [])
+        self.assertEqual([line for line in found.missing if "EIBAID" not in line],
+                         ["P, line 3: what TRT or TR looks for in the input", "Q: a text, though it receives one, since it compares that with no constant",
+                          f"{found.left_out} keys more than 100 that what is found would propose", REST])
+        self.assertTrue(found.left_out > 100 and "KEY T001 PF3" in found.all_lines())
+
+    def test_fields(self) -> None:
+        """Fields that aren't protected, X'20', are typed into; a field for numbers is X'10'."""
+        made = ["*STAND-IN OF MAPSET SET: MADE BY CICS-ADAPT FROM ITS DFHMSD", "SET      CSECT", "M0       DC    CL8'MAP1',A(M1),H'3',AL2(0),H'0',H'40'",
+                "         DC    H'0',H'3',X'11E0',H'3',A(T0I0),CL12'NUMBER'", "         DC    H'9',H'9',X'3080',H'6',A(T0I1),CL12'TITLE'",
+                "         DC    H'20',H'1',X'0080',H'9',A(T0I2),CL12'CODE(2)'", "M1       DC    CL8'MAP2',A(0),H'1',AL2(0),H'0',H'40'",
+                "         DC    H'0',H'2',X'0080',H'3',A(T1I0),CL12'NAME'", "         END"]
+        fields = fields_of([made, made[1:]])
+        self.assertEqual(fields, [MapField("MAP1", "NUMBER", 3, True), MapField("MAP1", "CODE(2)", 1, False), MapField("MAP2", "NAME", 2, False)])
+        self.assertEqual([*typed_into(fields)], ["NUMBER=999", "NUMBER=99", "NUMBER=1", "NUMBER=ZZZ", "NUMBER=", "CODE(2)=Z", "CODE(2)=", "CODE(2)=9",
+                                                 "NAME=ZZ", "NAME=Z", "NAME=99", "NAME=", "NUMBER=999;CODE(2)=Z"])
+        self.assertEqual(untyped(fields, ["KEY T001 ENTER P", "KEY T001 ENTER @=7;NUMBER=1;NAME="]), [fields[1]])
+
+    def test_maps_of_a_program(self) -> None:
+        """Fields of a program's maps are typed into without being named; what none types into is told, and a key that no keyboard gives is no abend."""
+        folder = f"{TOP}/examples/stand-in"
+        with folder_of({"k": "KEY T001 ENTER PART\n"}) as made:
+            ended = called("cics-adapt", ["--stand-in", f"{folder}/partinq.asm", "--bms", f"{folder}/partset.bms", "--file", f"PARTS={folder}/parts.csv,key=PRNUMBER",
+                                          "--out", made], made)
+            self.assertIn(ended.status, (0, 4), ended)
+            sources = [name for name in sorted(os.listdir(made)) if name.endswith(".asm")]
+            words = [*sources, "--tran", "PART=PARTINQ", "--queue", "PARTS=PARTS.queue", "-n", "2", "--one-number", "--json", *PROGRAMS]
+            found = json.loads(called("cics-map", words, made).out)
+            alone = json.loads(called("cics-map", [*words, "--keys", "k"], made).out)
+        self.assertIn("KEY T001 ENTER NUMBER=99999", found["keys"])
+        self.assertEqual([one["what"] for one in found["abends"] if "SIKY" in one["what"]], [])
+        self.assertTrue(found["notProposed"] and not any(line.startswith("No key types") for line in found["said"]), found["said"])
+        self.assertEqual((alone["notProposed"], [line.split(":")[0] for line in alone["said"][2:3]]), (None, ["No key types into these fields of maps"]))
 
     def test_keys_under_edf(self) -> None:
         """Keys for EDF are none of the script's own."""

@@ -32,12 +32,14 @@ TWO = ["> ORDERS STATES 12 OUTCOMES 2 KEYS TYPED AHEAD", *BOTH, *MOVES, *OTHER]
 NEVER = [*ONE, "> ORDERS SOME NEVER REST", *MOVES]
 STILL = ["> ORDERS STATES 1 OUTCOMES 1", *BOTH]
 CUT = [ONE[0].replace("STATES 9 OUTCOMES 1", "MORE THAN 100 STATES, ALL OF 7 MOVES"), *ONE[1:]]
-UNCOUNTED = "the runs of orders aren't counted, so nothing is said of changed lines that were never run"
+COUNTED = "what is run was counted by the list of moves to each outcome alone, not by every order"
+BY = "compared of each outcome: abends, refused keys, tasks that wait, what the block looks at, and all queues by their bytes"
 FILES = {"s.script": SCRIPT, "a.asm": ADDER, "w.asm": WHOLE, "n.script": HEAD, "spin.asm": SPINNING}
 CALLS = [  # with the answers of `stand-in` to the two
     (ONE, ONE, Call("the same outcomes", "cics-same", ["--orders", "s.script", "ADDER", "a.asm", "w.asm"], 0,
                     ["line 21, ORDERS: every order of these keys and turns ends as with the other: "
-                     "a.asm has 1 outcome of 9 states, w.asm 1 outcome of 9 states", UNCOUNTED], FILES)),
+                     "a.asm has 1 outcome of 9 states, w.asm 1 outcome of 9 states; the one changed line was run",
+                     "ADDER: 6 of 6 statements of the old source were run, 5 of 5 of the new", COUNTED, BY], FILES)),
     (TWO, ONE, Call("an outcome of the old one", "cics-same", ["--orders", "s.script", "ADDER", "a.asm", "w.asm"], 1,
                     ["line 21, ORDERS: a.asm has 2 outcomes of 12 states, w.asm 1 outcome of 9 states; only a.asm has this one:", *OTHER[1:3], "comes by *",
                      "EDF T001 OFF", *(move[2:] for move in MOVES)], FILES)),
@@ -65,6 +67,20 @@ CALLS = [  # with the answers of `stand-in` to the two
 ]
 LESSONS = f"{TOP}/examples/lessons"
 ENOUGH = {**FILES, "s.script": SCRIPT.replace("ORDERS 100\n", "ORDERS 1000\n")}
+WRITER = """W        CSECT
+         CLI   EIBAID,X'F3'
+         BE    PF3
+         EXEC  CICS WRITEQ TS QUEUE('LOG') FROM(BYTES) LENGTH(=H'3')
+         EXEC  CICS RETURN
+BYTES    DC    X'000001'
+         DS    0H
+PF3      LA    4,1
+         EXEC  CICS RETURN
+         END
+"""
+WRITERS = {"u.script": f"SOURCE W\n{WRITER}/*\nTRANSACTION W W\nTERMINAL T001\nTERMINAL T002\n"
+                       "* COMMENTS\n*\n*\n*\n*\n*\nORDERS 1000\nKEY T001 ENTER W\nKEY T002 ENTER W\n/*\n",
+           "w.asm": WRITER, "n.asm": WRITER.replace("LA    4,1", "LA    4,2"), "b.asm": WRITER.replace("000001", "000002")}
 REAL = [
     Call("orders of two", "cics-same", ["--orders", "s.script", "ADDER", "a.asm", "w.asm"], 1,
          ["line 21, ORDERS: a.asm has 2 outcomes of *, w.asm 1 outcome of *; only a.asm has this one:", "> 001000  00000002*", "*", "comes by *", *["*"] * 10],
@@ -75,7 +91,15 @@ REAL = [
           "> SCREEN T001", "> 01|TICKET 00002", "> SCREEN T002", "> 01|TICKET 00002", "comes by *", *["RUN *", "*"] * 4]),
     Call("keys in front, and none that moves", "cics-same", ["--orders", "r.script", "r.script"], 2, ["line *, ORDERS: r.script has nothing to order: *"],
          {"r.script": f"{HEAD}KEY T001 ENTER ADD\nRUN T001\nORDERS\n/*\n"}),
-    Call("orders of one", "cics-same", ["--orders", "s.script", "ADDER", "a.asm", "a.asm"], 0, ["line 21, ORDERS: every order *", UNCOUNTED], ENOUGH),
+    Call("orders of one", "cics-same", ["--orders", "s.script", "ADDER", "a.asm", "a.asm"], 0,
+         ["line 21, ORDERS: every order *; no line is changed", "ADDER: *", COUNTED, BY], ENOUGH),
+    Call("a changed line that no order runs", "cics-same", ["--orders", "u.script", "W", "w.asm", "n.asm"], 4,
+         ["line 22, ORDERS: every order *; the one changed line was never run: 8", "W: 4 of 6 statements of the old source were run, 4 of 6 of the new",
+          COUNTED, BY], WRITERS),
+    Call("even so", "cics-same", ["--orders", "--even-unrun", "u.script", "W", "w.asm", "n.asm"], 0, ["*", "*", COUNTED, BY], WRITERS),
+    Call("a queue's bytes, which have no characters", "cics-same", ["--orders", "u.script", "W", "w.asm", "b.asm"], 1,
+         ["line 22, ORDERS: w.asm has *; only w.asm has this one:", *["> *"] * 4, "> ITEM 1 LENGTH 3 '...'", "> ITEM 2 LENGTH 3 '...'",
+          "> QUEUE 'LOG' ITEM 1 LENGTH 3", "> 0000 000001 *", "> QUEUE 'LOG' ITEM 2 LENGTH 3", "> 0000 000001 *", "comes by *", *["*"] * 6], WRITERS),
 ]
 
 

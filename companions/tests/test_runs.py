@@ -45,6 +45,17 @@ COUNTER = READER.replace("LENGTH(LAST)", "LENGTH(=H'7')").replace("SHOW     ", "
          OI    D+7,15
          UNPK  ITEM(7),D+4(4)
          """)  # shows how many there are
+STORER = """DFHEISTG DSECT
+COUNT    DS    F
+TEXT     DS    CL8
+STORER   CSECT
+         LA    4,7
+         ST    4,COUNT
+         MVC   TEXT,=CL8'HELLO'
+         DC    H'0'
+         EXEC  CICS RETURN
+         END
+"""
 CALLS = [
     Call("a text", "cics-run", ["h.asm", "--key", "HELLO YOU"], 0, ["KEY T001 ENTER HELLO YOU", "01|HELLO YOU"], {"h.asm": HELLO}),
     Call("an abend", "cics-run", ["h.asm", "--key", "HELL A", "--key", "PF3 B"], 1,
@@ -53,12 +64,22 @@ CALLS = [
     Call("the fields of an abend", "cics-run", ["h.asm", "--fields", "--key", "HELL A", "--key", "PF3 B"], 1,
          ["KEY T001 ENTER HELL A", "01|HELL A", "KEY T001 PF3 B", "T001 Abended ASRA", "01|HELL A", "ABEND T001 ASRA *", "NEXT *", *["R*"] * 4, "CC 0",
           "FIELD T001 'INLEN' AT 2000B0 LENGTH 2 0001 '..' VALUE 1", "FIELD T001 'INPUT' AT 2000B2 LENGTH 80 C240*"], {"h.asm": HELLO}),
+    Call("fields that the turn of an abend changes", "cics-run", ["s.asm", "--fields", "--key", "STOR"], 1,
+         ["KEY T001 ENTER STOR", "T001 Abended ASRA", "ABEND T001 ASRA *", "NEXT *", *["R*"] * 4, "CC 0",
+          "FIELD T001 'COUNT' AT 2000B0 LENGTH 4 00000007 '....' VALUE 7", "FIELD T001 'TEXT' AT 2000B4 LENGTH 8 C8C5D3D3D6404040 'HELLO   '"],
+         {"s.asm": STORER}),
     Call("another transaction", "cics-run", ["h.asm", "--tran", "AB=HELLO", "--key", "AB"], 0, ["KEY T001 ENTER AB", "01|AB"], {"h.asm": HELLO}),
     Call("no transaction", "cics-run", ["h.asm", "--key", "XX"], 1, ["KEY T001 ENTER XX", "T001 NoSuchTransaction: *"], {"h.asm": HELLO}),
     Call("a transaction of no program", "cics-run", ["h.asm", "--tran", "AB=NONE", "--key", "AB"], 2, [], {"h.asm": HELLO}, "write: --tran NAME=PROGRAM"),
     Call("no key", "cics-run", ["h.asm"], 2, [], {"h.asm": HELLO}, "write: --key"),
     Call("no file", "cics-run", ["n.asm", "--key", "A"], 3, [], {}, "n.asm: No such file"),
     Call("a faulty source", "cics-run", ["h.asm", "--key", "HELL"], 1, [], {"h.asm": HELLO.replace("BE    BAD", "BE    BED")}, "h.asm:9:"),
+    Call("a source that is refused", "cics-run", ["h.asm", "--key", "HELL"], 1, [], {"h.asm": HELLO.replace("CL80\n", "CL80\n         DS    120000C\n", 1)},
+         "h.asm:1:1: StgLength: the program HELLO is refused\n"),
+    Call("an item that is no constant of its type", "cics-run", ["r.asm", "--queue", "DATA=q", "--key", "READ"], 3, [],
+         {"r.asm": READER, "q": f"GOOD\n==H\n=H'99999',C'{'A' * 200}'\n"}, "cics-run: q:3: ValueOutOfRange: H'99999'\n"),
+    Call("an item of digits that are none", "cics-run", ["r.asm", "--queue", "DATA=q", "--key", "READ"], 3, [], {"r.asm": READER, "q": "=X'GG'\n"},
+         "cics-run: q:1: BadOperand: X'GG'\n"),
     Call("two of a name", "cics-run", ["h.asm", "g.asm", "--key", "HELL"], 2, [], {"h.asm": HELLO, "g.asm": HELLO.replace("HELLO ", "HELLX ")},
          "two transactions of the name HELL"),
     Call("the script", "cics-run", ["h.asm", "--key", "HELL", "--script"], 0,

@@ -6,7 +6,7 @@ import tempfile
 
 from cics.assembler_files import sources_of_file
 from cics.child import TOP, lines_of, read
-from tests.calling import Call, called, failures_of
+from tests.calling import Call, called, failures_of, put
 from tests.case import CICSEDF, PROGRAMS, TestCase
 
 WRITER = """P        CSECT
@@ -123,8 +123,24 @@ CALLS = [
     Call("other keys", "cics-same", ["w.script", "c2.script"], 2, [], {**FILES, "c2.script": script(WRITER) + "KEY T001 ENTER T\n"}, "different keys"),
     Call("a source that isn't there", "cics-same", ["w.script", "X", "w.asm", "o.asm"], 2, [], FILES, "w.script: it has no SOURCE X"),
     Call("a file that isn't there", "cics-same", ["w.script", "P", "w.asm", "n.asm"], 2, [], FILES, "n.asm: No such file"),
-    Call("a faulty source", "cics-same", ["w.script", "P", "w.asm", "f.asm"], 2, ["f.asm can't be run: cicsedf: line *"],
+    Call("a faulty source", "cics-same", ["w.script", "P", "w.asm", "f.asm"], 2, ["f.asm can't be run: f.asm:4: UnknownOperation"],
          {**FILES, "f.asm": WRITER.replace("DC ", "DD ")}),
+    Call("one without END", "cics-same", ["w.script", "P", "w.asm", "f.asm"], 2, ["f.asm can't be run: f.asm:4: NoEnd"],
+         {**FILES, "f.asm": WRITER.replace("         END\n", "")}),
+    Call("a faulty script", "cics-same", ["f.script", "f.script"], 2, ["f.script can't be run: f.script:10: BadLine"],
+         {"f.script": script(WRITER).replace("ENTER T", "ENTRE T")}),
+    Call("a source in a script that is faulty", "cics-same", ["f.script", "f.script"], 2, ["f.script can't be run: f.script:5: UnknownOperation"],
+         {"f.script": script(WRITER.replace("DC ", "DD "))}),
+    Call("a source that is refused", "cics-same", ["w.script", "P", "w.asm", "f.asm"], 2,
+         ["f.asm can't be run: w.script:1: PROGRAM P REFUSED StgLength"], {**FILES, "f.asm": f"DFHEISTG DSECT\n         DS    120000C\n{WRITER}"}),
+    Call("a source that ends its block", "cics-same", ["w.script", "P", "w.asm", "x.asm"], 2, [],
+         {**FILES, "x.asm": f"{WRITER}/*\nSOURCE OTHER\n{CALLEE}"}, "x.asm:6: a line /* ends the source's block: take it out"),
+    Call("an old one that does, by --source", "cics-same", ["w.script", "--source", "P=x.asm:w.asm"], 2, [],
+         {**FILES, "x.asm": f"{WRITER}/*\r\nSOURCE OTHER\n{CALLEE}"}, "x.asm:6: a line /* ends"),
+    Call("a byte order mark", "cics-same", ["w.script", "P", "w.asm", "x.asm"], 2, [], {**FILES, "x.asm": "\xef\xbb\xbf" + WRITER},
+         "x.asm:1: a byte order mark"),
+    Call("faulty test data", "cics-same", ["s.script", "SHOWER", "s.asm", "s.asm", "--queue", "Q=q"], 2, ["s.asm can't be run: q:2: ValueOutOfRange"],
+         {**FILES, "q": "ONE\n=H'99999'\n"}),
     Call("too few words", "cics-same", ["w.script"], 2, [], FILES, "write: cics-same"),
     Call("a COMMAREA that is kept", "cics-same", ["k.script", "C", "k.asm", "k1.asm"], 1,
          ["line 14, KEY T001 ENTER T: what is kept for a terminal differs", "old: * COMMAREA 8 X'0000D6D5C5400000' *",
@@ -185,17 +201,50 @@ CHANGES = {  # of BRANCHING: what is changed for what, and what is said where EN
     ("         CLI ", "         EJECT\n         CLI "): UNCHANGED,
     ("         LA    4,NUMBER\n", ""): f"{NEVER}old 10",
     ("         LA    4,NUMBER\n", "         LA    4,NUMBER\n         LA    5,1\n"): f"{NEVER}11",
-    ("CL8'TWO'", "CL8'NEW'"): f"{NEVER}15",
-    ("CL8'THREE'", "CL8'NEW'"): f"{NEVER}16",
-    ("FOUR     EQU   4", "FOUR     EQU   5"): f"{NEVER}17",
-    ("INAREA   DS    CL2", "INAREA   DS    CL3"): f"{NEVER}20",
-    ("WORK     DS    CL8", "WORK     DS    CL9"): RUN,
-    ("         USING AREA,7", "         USING AREA,8"): RUN,
+    ("CL8'TWO'", "CL8'NEW'"): f"{NEVER}15 (used on 9)",
+    ("CL4'ONE'", "CL4'NEW'"): RUN,
+    ("CL4'MORE'", "CL4'NEW'"): f"{NEVER}14 (perhaps never read)",
+    ("CL8'THREE'", "CL8'NEW'"): f"{NEVER}16 (used nowhere)",
+    ("FOUR     EQU   4", "FOUR     EQU   5"): f"{NEVER}17 (used on 10)",
+    ("INAREA   DS    CL2", "INAREA   DS    CL3"): f"{NEVER}20 (used on 11)",
+    ("WORK     DS    CL8", "WORK     DS    CL9"): f"{NEVER}2 (used on 9)",
+    ("         USING AREA,7", "         USING AREA,8"): f"{NEVER}4 (used on 11)",
+    ("FIRST    DC ", "         DC    X'00'\nFIRST    DC "): f"{NEVER}13 (used nowhere)",
+    ("NUMBER   EQU   FOUR+1\n", "NUMBER   EQU   FOUR+1\nOTHER    EQU   5\n"): f"{NEVER}19 (used nowhere)",
     ("         END", "         END   B"): RUN,
     ("BE    LAST", "BE    LAST\n         BNE   *+4"): RUN,
     ("         LA    4,NUMBER\n         MVC   0(2,7),INAREA\n", "         LA    4,1\n"): "same after 1 key; of 2 changed lines 2 were never run: 10, old 11",
     ("         MVC   WORK,FIRST\n         EXEC  CICS RETURN\nLAST     MVC   WORK,SECOND\n", "         LA    3,0(,3)\n         MVC   WORK,FIRST\n"
      "         EXEC  CICS RETURN\nLAST     LA    5,1\n"): "same after 1 key; of 2 changed lines 1 was never run: 10",
+}
+TABLES = """DFHEISTG DSECT
+OUT      DS    CL2
+P        CSECT
+         LA    5,TABLE
+         LA    6,SIZE
+         CLI   EIBAID,X'F3'
+         BE    LAST
+         MVC   OUT,0(5)
+         IC    4,CODES(6)
+         MVC   OUT(L'TEXT),TEXT+1
+         TR    OUT,CODES
+         EXEC  CICS RETURN
+LAST     LA    5,SIZE(5)
+         EXEC  CICS RETURN
+TABLE    DC    CL2'AA'
+         DC    CL2'BB'
+CODES    DC    256X'40'
+TEXT     DC    CL2'CC'
+ADDRESS  DC    A(TABLE)
+SIZE     EQU   2
+         END
+"""
+OF_TABLES = {  # the same of TABLES: an entry that nobody may come to, a byte that an index chooses, EQU that a line uses that is never run
+    ("'BB'", "'NO'"): f"{NEVER}16 (perhaps never read)",
+    ("256X'40'", "256X'41'"): f"{NEVER}17 (perhaps never read)",
+    ("'CC'", "'NO'"): RUN,
+    ("A(TABLE)", "A(CODES)"): f"{NEVER}19 (used nowhere)",
+    ("EQU   2", "EQU   1"): f"{NEVER}20 (used on 13)",
 }
 TWO_CHANGED = {"c.script": script(CALLER, CALLEE, WRITER), "n.script": script(CALLER.replace("ERASE", "NOHANDLE ERASE"), CALLEE, OTHER)}
 IMAGE = "IMAGE I 80\n4100F01C5000F0189680F0184110F018\n41E0080005EE0000000000000E080000\n/*\n"
@@ -203,7 +252,8 @@ OF_CHANGES = [
     Call("even unrun", "cics-same", ["b.script", "n.script", "--even-unrun"], 0, [f"{NEVER}10", ran("B", "4 of 8", "4 of 8"), COMPARED],
          {"b.script": script(BRANCHING), "n.script": script(BRANCHING.replace("4,NUMBER", "4,1"))}),
     Call("a program that isn't begun", "cics-same", ["c.script", "n.script"], 4,
-         ["same after 1 key; of 2 changed lines 1 was never run: P 4", ran("CALLER", "3 of 3", "3 of 3"), ran("P", "0 of 2", "0 of 2"), COMPARED], TWO_CHANGED),
+         ["same after 1 key; of 2 changed lines 1 was never run: P 4 (used on 2)", ran("CALLER", "3 of 3", "3 of 3"), ran("P", "0 of 2", "0 of 2"), COMPARED],
+         TWO_CHANGED),
     Call("a program more", "cics-same", ["w.script", "n.script"], 4,
          ["same after 1 key; of 5 changed lines 5 were never run: 1, 2, 3, 4, 5", ran("CALLEE", "0 of 0", "0 of 3"), COMPARED],
          {"w.script": script(WRITER), "n.script": script(WRITER, CALLEE)}),
@@ -224,11 +274,9 @@ class ChangesTest(TestCase):
     def test_changes(self) -> None:
         """No change of what isn't run is held to be the same."""
         with tempfile.TemporaryDirectory() as folder:
-            for (old, new), due in CHANGES.items():
-                for name, text in (("b.script", script(BRANCHING)), ("b.asm", BRANCHING), ("n.asm", BRANCHING.replace(old, new, 1))):
-                    with open(os.path.join(folder, name), "w", encoding="ascii") as file:
-                        file.write(text)
-                ended = called("cics-same", ["b.script", "B", "b.asm", "n.asm", *PROGRAMS], folder)
+            for source, (old, new), due in [*((BRANCHING, *one) for one in CHANGES.items()), *((TABLES, *one) for one in OF_TABLES.items())]:
+                put(folder, {"b.script": script(source), "b.asm": source, "n.asm": source.replace(old, new, 1)})
+                ended = called("cics-same", ["b.script", "B" if source == BRANCHING else "P", "b.asm", "n.asm", *PROGRAMS], folder)
                 self.assertEqual((ended.lines()[0], ended.status), (due, 4 if "never" in due else 0), (old, new, ended))
 
     def test_calls(self) -> None:
@@ -241,7 +289,7 @@ class ChangesTest(TestCase):
                     file.write(text)
             ended = called("cics-same", ["c.script", "n.script", "--json", *PROGRAMS], folder)
             found = json.loads(ended.out)
-            self.assertEqual((ended.status, found["outcome"], found["changed"], found["never"]), (4, "same", 2, ["P 4"]))
+            self.assertEqual((ended.status, found["outcome"], found["changed"], found["never"]), (4, "same", 2, ["P 4 (used on 2)"]))
             by_cicsedf = called("cics-same", ["c.script", "n.script", "--cicsedf", CICSEDF], folder)
             self.assertEqual((by_cicsedf.status, by_cicsedf.lines()[0]), (4, "same after 1 key; 2 changed lines, and cicsedf doesn't count what was run"))
 

@@ -10,6 +10,8 @@ from collections.abc import Sequence
 from cics.child import TOP
 from cics.choices import Arrow, Choices, Incident, State
 from cics.same_choices import Together, tours_of
+from cics.same_queues import Queues, queues_compared
+from cics.same_report import Report
 from tests.calling import Call, failures_of
 from tests.case import CICSEDF, CICSLOOK, PROGRAMS, TestCase
 
@@ -60,7 +62,7 @@ KEYS = "* What is pressed.\n\nKEY T001 ENTER C\nKEY T001 {ENTER|PF3}\n"
 FILES = {"s.script": HEAD, "c.asm": COUNTER, "k": KEYS, **{f"{name}.asm": text for name, text in PLANTED.items()}}
 REFUSED = "ANSWERS T001 NoSuchTransaction"
 FRONT = ["--choices", "k", "--one-number", "s.script", "C", "c.asm"]
-BY = "compared after each key: abends, refused keys, tasks that wait, and all screens; the script in front is as cicslook runs it"
+BY = "compared after each key: abends, refused keys, tasks that wait, all screens, and all queues by their bytes; the script in front is as cicslook runs it"
 NUMBERS = "with ONE NUMBER each key begins *"
 Written = tuple[int, list[str], list[str], list[str]]  # a state's screen, its list, its arrows with what comes of them, and its text
 
@@ -118,7 +120,7 @@ BY_HAND = [  # with the answers to the two
         "what a look shows", "cics-same", [*FRONT, "text.asm"], 1,
         ["by 1 key, one of 3: what is seen differs", *LINES[:1], "old: ", "new: > QUEUE *"], FILES)),
     ("> bad", TWO, Call("another answer", "cics-same", [*FRONT, "c.asm"], 2, ["c.asm can't be run: bad"], FILES)),
-    (TWO, TWO, Call("json", "cics-same", [*FRONT, "c.asm", "--json"], 0, ["{", ' "outcome": "same",', *["*"] * 9], FILES)),
+    (TWO, TWO, Call("json", "cics-same", [*FRONT, "c.asm", "--json"], 0, ["{", ' "outcome": "same",', *["*"] * 10], FILES)),
 ]
 WRONG = [
     Call("no keys", "cics-same", [*FRONT, "c.asm"], 2, [], {**FILES, "k": "* None.\nSCREEN T001\n"}, "k: there are no keys"),
@@ -164,6 +166,60 @@ REAL = [
          ["line *, KEY T001 PF3:", "old: TURN T001 Ended", "new: TURN T001 Abended ASRA"],
          {**FILES, "k": "KEY T002 ENTER C\n", "s.script": f"{HEAD}TERMINAL T002\nKEY T001 ENTER C\nRUN T001\nKEY T001 PF3\nRUN T001\n"}),
 ]
+WRITER = """W        CSECT
+         EXEC  CICS WRITEQ TS QUEUE('LOG') FROM(BYTES) LENGTH(=H'3')
+         EXEC  CICS RETURN
+BYTES    DC    X'000001'
+         END
+"""
+LONG = WRITER.replace("=H'3'", "=H'80'").replace("X'000001'", "CL79'A',C'B'")
+QUEUED = {"w.script": f"SOURCE W\n{WRITER}/*\nTRANSACTION W W\nTERMINAL T001\n", "k": "KEY T001 ENTER W\n", "w.asm": WRITER,
+          "b.asm": WRITER.replace("000001", "000002"), "n.asm": WRITER.replace("'LOG'", "'LOB'"), "c.asm": WRITER.replace("X'000001'", "C'ABC'"),
+          "d.asm": WRITER.replace("X'000001'", "C'ABD'"), "l.asm": LONG, "m.asm": LONG.replace("C'B'", "C'C'")}
+AT_W = ["--choices", "k", "-n", "2", "w.script", "W"]
+ITEM, ONE_KEY = "by 1 key, one of 1: item 1 of queue 'LOG' differs", "KEY T001 ENTER W"
+OF_QUEUES = [
+    Call("bytes that have no characters", "cics-same", [*AT_W, "w.asm", "b.asm"], 1, [ITEM, ONE_KEY, "old: 0000 000001 *", "new: 0000 000002 *"], QUEUED),
+    Call("characters", "cics-same", [*AT_W, "c.asm", "d.asm"], 1, [ITEM, ONE_KEY, "old: ITEM 1 LENGTH 3 'ABC'", "new: ITEM 1 LENGTH 3 'ABD'"], QUEUED),
+    Call("bytes behind the 64th", "cics-same", [*AT_W, "l.asm", "m.asm"], 1, [ITEM, ONE_KEY, "old: 0040 *C2 *", "new: 0040 *C3 *"], QUEUED),
+    Call("another queue", "cics-same", [*AT_W, "w.asm", "n.asm"], 1,
+         ["by 1 key, one of 1: a queue differs", ONE_KEY, "old: QUEUE 'LOG' ITEMS 1 BYTES 3 READ 0", "new: QUEUE 'LOB' ITEMS 1 BYTES 3 READ 0"], QUEUED),
+    Call("the same bytes", "cics-same", [*AT_W, "w.asm", "w.asm"], 0, ["same by *", "W: 2 of 2 *", BY], QUEUED),
+]
+
+
+class QueuesTest(TestCase):
+    """Queues are compared by their bytes, though nobody asks for that; what can't be looked at is told."""
+
+    def test_calls(self) -> None:
+        self.none_of(failures_of(OF_QUEUES, PROGRAMS))
+
+    def asked_for(self, count: int, text: str, *, at_once: bool) -> tuple[Queues, list[list[str]]]:
+        """What is found, and which looks are asked for, of a queue with so many items that all show a text."""
+        asked: list[list[str]] = []
+
+        def ask(looks: list[str]) -> tuple[None, list[Sequence[str]]]:
+            asked.append(looks)
+            queue = [f"QUEUE 'Q' ITEMS {count} BYTES {count} READ 0"]
+            return None, [queue, [*queue, *(f"ITEM {number} LENGTH 1 {text}" for number in range(1, count + 1))]]
+
+        return queues_compared(ask, 1, at_once=at_once), asked
+
+    def test_looks(self) -> None:
+        name = "D840404040404040"
+        front = [["QUEUES"], ["QUEUES", f"QUEUE {name}"]]
+        whole = [f"QUEUE {name} {number}" for number in range(1, 101)]
+        unseen = ["bytes of 39 items weren't compared, that is, those which look alike in characters, as of item 62 of queue 'Q': a block has at most 64 looks"]
+        for count, text, at_once, due in (
+                (100, "'A'", True, (Queues(), front)), (100, "X'00'", True, (Queues(), front)), (2, "'.'", True, (Queues(), [*front, [*front[1], *whole[:2]]])),
+                (100, "'.'", False, (Queues(), [*front, whole[:64], whole[64:]])),
+                (100, "'.'", True, (Queues(unseen=unseen), [*front, [*front[1], *whole[:61]]]))):
+            self.assertEqual(self.asked_for(count, text, at_once=at_once), due)
+
+    def test_unseen(self) -> None:
+        """The same, but for what can't be looked at, isn't status 0: not even where changed lines may never have been run."""
+        for even_unrun in (False, True):
+            self.assertEqual(Report(True, [], None, ["bytes"]).status(even_unrun=even_unrun), 4)
 
 
 class ChoicesTest(TestCase):

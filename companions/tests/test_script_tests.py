@@ -4,9 +4,12 @@ import os
 import shutil
 import tempfile
 import time
+import unittest.mock
 import xml.etree.ElementTree as xml
 
 from cics.child import TOP, Ended, lines_of, read
+from cics.cli import Failure
+from cics.script_tests import scripts_in
 from cics.shown import shown, with_screens
 from cics.together import processors, run_together
 from tests.calling import Call, called, failures_of, folder_of, program, put
@@ -24,6 +27,7 @@ T        DC    C'OK'
 """
 SCRIPT = f"{SOURCE}TRANSACTION P P\nTERMINAL T001\nKEY T001 ENTER P\nRUN T001\n"
 SCREENS = "KEY T001 ENTER P\nSCREEN T001\n01|OK\n"
+NOTHING = "tests nothing: it presses no key"
 CALLS = [
     Call("what is kept", "cics-test", ["."], 0, ["./a.script: ok", "1 script: 1 ok"], {"a.script": SCRIPT, "a.screens": SCREENS}),
     Call("with CR LF", "cics-test", ["."], 0, ["./a.script: ok", "1 script: 1 ok"], {"a.script": SCRIPT, "a.screens": SCREENS.replace("\n", "\r\n")}),
@@ -44,8 +48,13 @@ CALLS = [
          {"a.script": SCRIPT + "TASK\n", "a.screens": SCREENS}),
     Call("a block that isn't ended", "cics-test", ["."], 1, ["./a.script: isn't done to its end: line 1: BadLine", "1 script: *"],
          {"a.script": SOURCE[:-3], "a.screens": SCREENS}),
-    Call("nothing shown", "cics-test", ["."], 1, ["./a.script: shows nothing: *", "1 script: 1 showing nothing"], {"a.script": SOURCE,
-                                                                                                                   "a.screens": ""}),
+    Call("no key", "cics-test", ["."], 1, [f"./a.script: {NOTHING}", f"./b.script: {NOTHING}", "2 scripts: 2 testing nothing"],
+         {"a.script": SOURCE, "a.screens": "", "b.script": f"{SOURCE}TRANSACTION P P\nTERMINAL T001\nRUN T001\nSCREEN T001\n",
+          "b.screens": "SCREEN T001\n"}),
+    Call("no key, so nothing is written", "cics-test", [".", "--write"], 1, [f"./a.script: {NOTHING}", "1 script: 1 testing nothing"],
+         {"a.script": "TERMINAL T001\n"}),
+    Call("keys in a comment and in a source", "cics-test", ["."], 1, [f"./a.script: {NOTHING}", "1 script: *"],
+         {"a.script": f"* KEY T001 ENTER P\n{SOURCE.replace('/*', 'KEY T001 ENTER P' + chr(10) + '/*')}TERMINAL T001\n", "a.screens": "SCREEN T001\n"}),
     Call("a fault isn't written", "cics-test", [".", "--write"], 1, ["./a.script: isn't done *", "1 script: *"], {"a.script": SCRIPT + "NONE\n"}),
     Call("what is run", "cics-test", [".", "--cover"], 0,
          ["./a.script: ok", "P: 2 of 2 statements run, 100 %; 0 of 0 branches both ways", "1 script: 1 ok"], {"a.script": SCRIPT, "a.screens": SCREENS}),
@@ -59,7 +68,8 @@ CALLS = [
          ["./a.script: isn't done to its end: line 12: BadLine", "./b.script: ok",
           "./a.script: it isn't done to its end: line 12: BadLine; nothing of it is counted",
           "./b.script: it defines no source, so nothing of it is counted", "2 scripts: 1 ok, 1 not done to the end"],
-         {"a.script": SCRIPT + "NONE\n", "b.script": "TERMINAL T001\n", "b.screens": "SCREEN T001\n"}),
+         {"a.script": SCRIPT + "NONE\n", "b.script": "TERMINAL T001\nKEY T001 CLEAR\n",
+          "b.screens": "KEY T001 CLEAR\nT001 NoSuchTransaction\nSCREEN T001\n"}),
     Call("no end of the last line", "cics-test", ["."], 0, ["./a.script: ok", "1 script: 1 ok"], {"a.script": SCRIPT[:-1], "a.screens": SCREENS}),
 ]
 TWO = "DC    H'0'"
@@ -80,6 +90,30 @@ SHOWN = {  # scripts, by what stands in P in the place of SEND, and what they sh
 class ScriptTestsTest(TestCase):
     def test_calls(self) -> None:
         self.none_of(failures_of(CALLS, PROGRAMS))
+
+    def test_what_cannot_be_read(self) -> None:
+        """A script that can't be read, and one whose screens can't be, are told, and the others are tested."""
+        with folder_of({"b.script": SCRIPT, "b.screens": SCREENS, "c.script": SCRIPT}) as folder:
+            os.symlink("none", os.path.join(folder, "a.script"))
+            os.mkdir(os.path.join(folder, "c.screens"))
+            lines = ["./a.script: isn't tested: ./a.script: No such file or directory", "./b.script: ok",
+                     "./c.script: isn't tested: ./c.screens: Is a directory"]
+            count = "3 scripts: 1 ok, 2 not tested"
+            calls: list[tuple[list[str], list[str]]] = [
+                ([], [*lines, count]), (["--jobs", "1", "--junit", "f.xml"], [*lines, count]),
+                (["--write"], [lines[0], "./b.script: unchanged", lines[2], "3 scripts: 1 unchanged, 2 not tested"])]
+            for words, due in calls:
+                ended = called("cics-test", [".", *words, *PROGRAMS], folder)
+                self.assertEqual((ended.status, ended.lines(), ended.reported), (3, due, b""))
+            self.assertEqual(xml.parse(os.path.join(folder, "f.xml")).getroot().get("errors"), "2")
+            covered = called("cics-test", [".", "--cover", *PROGRAMS], folder)
+            self.assertIn("./a.script: it can't be read; nothing of it is counted", covered.lines())
+
+    def test_a_folder_that_cannot_be_read(self) -> None:
+        """Nobody knows which scripts are in it, so it ends the run."""
+        with folder_of({"a.script": SCRIPT, "a.screens": SCREENS}) as folder, unittest.mock.patch("os.scandir", side_effect=PermissionError(13, "no", folder)):
+            with self.assertRaisesRegex(Failure, f"^{folder}: no$"):
+                scripts_in(folder)
 
     def test_what_is_shown(self) -> None:
         for run in run_together([CICSLOOK], [with_screens(script) for script in SHOWN], processors()):

@@ -8,6 +8,7 @@ from cics.child import Ended, decoded, encoded, text_of
 from cics.cli import Failure, name_of
 from cics.cover.branches import branches_of
 from cics.cover.counts import Branch, Coverage, Covered, Line
+from cics.cover.written import without_written
 from cics.origins import Place
 from cics.queues import LOADER
 from cics.scripts import Action, actions_of, free_name
@@ -104,7 +105,7 @@ class Asked:
             one = covered_in(lines, name, block.block, self.path, block.line) if block else None
             if one:
                 one.scripts.append(name_of(self.path))
-                found.append(one)
+                found.append(without_written(one))
         return found
 
     def replies_of(self, name: str, transcript: Sequence[str]) -> list[tuple[Action, str]]:
@@ -118,10 +119,15 @@ class Asked:
         return next((block for block, reply in self.replies_of(name, transcript) if " REFUSED " not in reply and block.word == "SOURCE"), None)
 
     def refused(self, transcript: Sequence[str]) -> list[str]:
-        """What is said of sources of whose name none is defined."""
-        replies = [self.replies_of(name, transcript)[0][1] for name in self.names if self.block_of(name, transcript) is None]
-        words = [reply.split(" ") for reply in replies if " REFUSED " in reply]
-        return [f"its source {word[1]} is refused, {word[3]}; nothing of that is counted" for word in words]
+        """What is said of sources that are refused; of one whose name others have too by its line."""
+        found = []
+        for name in self.names:
+            replies = self.replies_of(name, transcript)
+            for block, reply in replies:
+                if block.word == "SOURCE" and " REFUSED " in reply:
+                    place = f"{name} on line {block.line}" if len(replies) > 1 else name
+                    found.append(f"its source {place} is refused, {reply.split(' ')[3]}; nothing of that is counted")
+        return found
 
     def why(self, said: str) -> str:
         """What is said of a line of the script that is run, by the number that it has in its own."""

@@ -1,6 +1,7 @@
 """Which lines of programs are changed between two versions, and which of those no key ran.
 
-A changed line that isn't run itself, as a constant, a field, EQU or USING, counts as run where a line that uses it was, by XREF.
+A changed line that isn't run itself, as a constant, a field, EQU or USING, counts as run where every line that uses it was, by XREF; a datum
+also needs that these lines take its bytes by its own name, since by an address nobody knows whether they came to it.
 """
 import difflib
 import re
@@ -11,24 +12,35 @@ from itertools import zip_longest
 
 from cics.child import Child
 from cics.cover.asking import covered_in, looks_of
+from cics.cover.users import base_of, sections_of, takes
 from cics.scripts import Action
 from cics.statements import Statement, statements_of
 
 SILENT = ("TITLE", "PRINT", "EJECT", "SPACE")  # statements that make nothing
 DATA = ("DS", "DC", "EQU", "DSECT")  # those that are used by their names
+NOWHERE, UNREAD = "used nowhere", "perhaps never read"
 USED = re.compile(r"> XREF '.+' LINE (?P<line>\d+)(?: .*)? USED (?P<lines>[\d* ]+)")
+LITERAL = re.compile(r"> XREF LITERAL .* USED (?P<lines>[\d* ]+)")
 IN_USE = re.compile(r"> XREF USING \d+ FROM (?P<first>\d+) TO (?P<last>\d+) .*")
 
 
 @dataclass(frozen=True)
+class Uses:
+    """What XREF says of a source: which lines use what a line defines, and literals; and from where to where each USING is in use."""
+
+    users: dict[int, list[int]] = field(default_factory=dict)
+    of_literals: list[int] = field(default_factory=list)
+    in_use: list[range] = field(default_factory=list)
+
+
+@dataclass(frozen=True)
 class Ran:
-    """What the keys ran of a source: how often each line with a statement that is run; and which lines use what a line defines."""
+    """What the keys ran of a source: how often each line with a statement that is run; and which lines use what others define."""
 
     name: str
     lines: list[str]
     runs: dict[int, int] = field(default_factory=dict)
-    users: dict[int, list[int]] = field(default_factory=dict)
-    in_use: list[range] = field(default_factory=list)
+    uses: Uses = field(default_factory=Uses)
 
     @cached_property
     def statements(self) -> list[Statement]:
@@ -50,24 +62,55 @@ class Ran:
         return [(one.name, one.operation, one.operand) for one in self.statements]
 
     def definition(self, at: int) -> int | None:
-        """The line that has the name of a statement among data: its own, or that of the one above it."""
+        """The place of the statement that has the name of one among data: its own, or that of the one above it."""
         while at >= 0 and self.numbers[at] not in self.runs:
             if self.statements[at].name:
-                return self.numbers[at]
+                return at
             at -= 1
         return None
 
-    def was_run(self, at: int, seen: frozenset[int] = frozenset()) -> bool:
-        """Whether a statement was run, or a line that uses it."""
+    def users_of(self, at: int) -> list[int]:
+        """The places of the statements that use what a statement defines."""
+        if self.statements[at].operation == "USING":
+            lines = self.users_of_base(at)
+        else:
+            definition = self.definition(at)
+            lines = {*self.uses.users.get(self.numbers[definition], [])} if definition is not None else set()
+        return [self.numbers.index(line) for line in sorted(lines) if line in self.numbers]
+
+    def users_of_base(self, at: int) -> set[int]:
+        """The lines that use names of a USING's section, or literals of the control section, where it is in use."""
+        section, sections = base_of(self.statements[at], self.statements), sections_of(self.statements)
+        is_dummy = any(one.name == section and one.operation == "DSECT" for one in self.statements)
+        used = {line for defined, lines in self.uses.users.items() if sections.get(defined) == section for line in lines}
+        used |= set() if is_dummy else {*self.uses.of_literals}
+        return {line for line in used if line in self.runs and any(line in lines for lines in self.uses.in_use if lines.start == self.numbers[at])}
+
+    def missed(self, at: int, seen: frozenset[int] = frozenset()) -> set[int]:
+        """The lines that would have to be run for a statement to count as run, and weren't: its own, or those of all that use it."""
         number, operation = self.numbers[at], self.statements[at].operation
         if number in self.runs:
-            return self.runs[number] > 0
-        if operation == "USING":
-            return any(self.runs.get(line, 0) for lines in self.in_use if lines.start == number for line in lines)
-        if operation not in DATA:
-            return self.count_run() > 0
-        users = {line for line in self.users.get(self.definition(at) or 0, []) if line in self.numbers} - seen
-        return any(self.was_run(self.numbers.index(line), seen | users) for line in users)
+            return set() if self.runs[number] else {number}
+        if operation not in (*DATA, "USING"):
+            return set() if self.count_run() else {number}
+        users = {*self.users_of(at)} - seen
+        return {line for user in users for line in self.missed(user, seen | users | {at})}
+
+    def why_not(self, at: int) -> str | None:
+        """Why a statement doesn't count as run: none where it does, and nothing where it is one that is run itself and wasn't."""
+        missed, operation = self.missed(at), self.statements[at].operation
+        if operation not in (*DATA, "USING") or missed == {self.numbers[at]}:
+            return "" if missed else None
+        if missed:
+            return f"used on {', '.join(map(str, sorted(missed)))}"
+        if operation in DATA and not self.users_of(at):
+            return NOWHERE
+        return UNREAD if operation == "DC" and not self.is_taken(at) else None
+
+    def is_taken(self, at: int) -> bool:
+        """Whether all that use a datum take its bytes by its own name."""
+        name = self.statements[at].name
+        return name != "" and all(takes(self.statements[user], [name]) for user in self.users_of(at))
 
 
 def uses_in(lines: Sequence[str]) -> dict[int, list[int]]:
@@ -76,9 +119,11 @@ def uses_in(lines: Sequence[str]) -> dict[int, list[int]]:
     return {int(one["line"]): [int(number.rstrip("*")) for number in one["lines"].split()] for one in found}
 
 
-def in_use_by(lines: Sequence[str]) -> list[range]:
-    """From where to where each USING is in use, by XREF."""
-    return [range(int(one["first"]), int(one["last"]) + 1) for one in filter(None, map(IN_USE.fullmatch, lines))]
+def uses_by(lines: Sequence[str]) -> Uses:
+    """What XREF writes of a source."""
+    literals = [int(number.rstrip("*")) for one in filter(None, map(LITERAL.fullmatch, lines)) for number in one["lines"].split()]
+    in_use = [range(int(one["first"]), int(one["last"]) + 1) for one in filter(None, map(IN_USE.fullmatch, lines))]
+    return Uses(uses_in(lines), literals, in_use)
 
 
 def ran_of(child: Child, steps: Sequence[Action]) -> list[Ran]:
@@ -88,7 +133,7 @@ def ran_of(child: Child, steps: Sequence[Action]) -> list[Ran]:
         looked, uses = child.ask_each([looks_of(name), [f"XREF {name}"]])
         covered = covered_in(looked, name, lines, "", 0)
         runs = {line.place.line: line.runs or 0 for line in covered.statements()} if covered else {}
-        found.append(Ran(name, lines, runs, uses_in(uses), in_use_by(uses)))
+        found.append(Ran(name, lines, runs, uses_by(uses)))
     return found
 
 
@@ -102,28 +147,33 @@ def images_of(steps: Sequence[Action]) -> dict[str, list[str]]:
 
 @dataclass(frozen=True)
 class Changed:
-    """A changed line: how it is called, and whether it was run."""
+    """A changed line: how it is called, and why it doesn't count as run; none where it does, and nothing where it says that by itself."""
 
     place: str
-    was_run: bool
+    why: str | None
+
+    def __str__(self) -> str:
+        return f"{self.place} ({self.why})" if self.why else self.place
 
 
-def changed_in(old: Ran, new: Ran) -> Iterator[tuple[str, bool]]:
+def changed_in(old: Ran, new: Ran) -> Iterator[Changed]:
     """The changed lines of a source, by the new one's numbers; one that is only in the old one by that. One line in the place of another was run
     where both were."""
     for word, first, last, begin, end in difflib.SequenceMatcher(None, old.texts(), new.texts(), autojunk=False).get_opcodes():
         if word == "equal":
             continue
         for before, after in zip_longest(range(first, last), range(begin, end)):
-            was_run = all([before is None or old.was_run(before), after is None or new.was_run(after)])
-            yield (f"old {old.numbers[before]}" if after is None else f"{new.numbers[after]}"), was_run
+            why = None if after is None else new.why_not(after)
+            if why is None and before is not None:
+                why = old.why_not(before)
+                why = why and (f"old: {why}" if after is not None else why)
+            yield Changed(f"old {old.numbers[before]}" if after is None else f"{new.numbers[after]}", why)
 
 
 def changes_of(old: Sequence[Ran], new: Sequence[Ran]) -> dict[str, list[Changed]]:
     """The changed lines of all programs, by their names; none of a program that is the same."""
     befores, afters = ({one.name: one for one in side} for side in (old, new))
-    found = {name: [Changed(place, was_run) for place, was_run in changed_in(befores.get(name, Ran(name, [])), afters.get(name, Ran(name, [])))]
-             for name in dict.fromkeys([*befores, *afters])}
+    found = {name: [*changed_in(befores.get(name, Ran(name, [])), afters.get(name, Ran(name, [])))] for name in dict.fromkeys([*befores, *afters])}
     return {name: changed for name, changed in found.items() if changed}
 
 
@@ -162,7 +212,7 @@ def standing_of(old: Sequence[Ran], new: Sequence[Ran], images: Sequence[str]) -
     """What is known of the changed lines; a changed image has no lines, and whether it was run isn't known."""
     changes = changes_of(old, new)
     is_one = len(changes) + len(images) == 1
-    never = [one.place if is_one else f"{name} {one.place}" for name, changed in changes.items() for one in changed if not one.was_run]
+    never = [f"{one}" if is_one else f"{name} {one}" for name, changed in changes.items() for one in changed if one.why is not None]
     never += [f"the image {name}" for name in images]
     count = sum(map(len, changes.values())) + len(images)
     return Standing(count, never, said_of(count, never), counts_of(old, new, [*changes] or [one.name for one in new]))

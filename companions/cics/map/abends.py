@@ -7,6 +7,7 @@ from cics.child import Child, encoded, run, text_of
 from cics.choices import Arrow, Choices, Incident, State
 from cics.cli import Progress
 from cics.map.asking import Subject
+from cics.map.fields import NO_KEYBOARD
 from cics.orders import performed
 from cics.same import Depth, Region, child_of
 from cics.scripts import MOST_TURNS
@@ -39,14 +40,15 @@ class Abend:
 
 
 def found_in(choices: Choices) -> Iterator[tuple[State, Arrow, Incident]]:
-    """The abends of an answer: those of a key between two screens once, in the first state that has it."""
+    """The abends of an answer: those of a key between two screens once, in the first state that has it. One by a key that no keyboard gives is
+    no abend of the program."""
     seen: set[tuple[int, int, int, str, str]] = set()
     for state in choices.states:
         for arrow in state.arrows:
             to = choices.state(arrow.to).screen if arrow.to is not None else 0
             for incident in arrow.incidents:
                 name = (state.screen, arrow.key, to, incident.terminal, incident.what)
-                if incident.is_abend and name not in seen:
+                if incident.is_abend and incident.what != NO_KEYBOARD and name not in seen:
                     seen.add(name)
                     yield state, arrow, incident
 

@@ -7,11 +7,12 @@ from cics.assembler_files import Source, sources_of_file
 from cics.child import decoded
 from cics.choices import Question, question_of, why_not
 from cics.cli import FOUND, MISUSED, Failure, name_of, read_file
-from cics.key_runs import AT, faultless, loading_lines, transactions_of
+from cics.key_runs import AT, faultless, loaders_for, loading_lines, transactions_of
 from cics.line_forms import Search
+from cics.map.fields import fields_of
 from cics.map.proposals import Program, Proposed, proposed
 from cics.orders import Asked, asked_of
-from cics.queues import LOADER, TERMINAL, given_of, loaders_of
+from cics.queues import LOADER, TERMINAL, Loader
 from cics.script_reading import bad_lines, bare_lines
 from cics.scripts import Action, actions_of, is_silent
 from cics.stand_in.counts import is_made
@@ -63,7 +64,7 @@ class Region:
                 for name, lines in self.sources.items() if not is_made(lines)]
 
     def proposals(self) -> Proposed:
-        return proposed(self.programs(), [*self.transactions], self.terminals, self.keys)
+        return proposed(self.programs(), [*self.transactions], self.terminals, self.keys, fields_of(self.sources.values()))
 
 
 def keys_pressed(steps: Sequence[Action]) -> list[str]:
@@ -132,9 +133,8 @@ def of_script(path: str, keys: str | None, given: Given) -> Subject:
     return with_keys(subject, region, keys)
 
 
-def script_for(sources: Sequence[Source], trans: list[str], queues: list[str]) -> list[str]:
+def script_for(sources: Sequence[Source], trans: list[str], loaders: list[Loader]) -> list[str]:
     """A script that defines programs, their transactions and a terminal, and loads test data at another one."""
-    loaders = loaders_of(given_of(queues))
     own = [source.name for source in sources if not is_made(source.lines)]
     lines = [line for source in sources for line in source.block("SOURCE")]
     lines += [f"TRANSACTION {one.name} {one.program}" for one in transactions_of(trans, own)]
@@ -147,7 +147,7 @@ def of_sources(paths: list[str], keys: str | None, given: Given, trans: list[str
     sources = [source for path in paths for source in sources_of_file(path)]
     if not faultless(sources, cicslook):
         raise Failure(f"{', '.join(map(name_of, paths))}: there are faults, so nothing is asked", FOUND)
-    lines = script_for(sources, trans, queues)
+    lines = script_for(sources, trans, loaders_for(queues, cicslook))
     region = replace(region_of(actions_of("".join(f"{line}\n" for line in lines))), terminals=[AT], keys=[])
     subject = Subject(", ".join(os.path.basename(name_of(path)) for path in paths), lines, asking(given, Question([], [f"SCREEN {AT}"], states=STATES)),
                       sources=region.sources, terminals=[AT])

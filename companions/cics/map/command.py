@@ -18,7 +18,7 @@ from cics.map.report import Map, data_of, lines_of_map
 from cics.same import Fault
 
 NAME = "cics-map"
-OF_PROGRAM = re.compile(r"cicsedf: line \d+: ")  # how a program's line on a fault begins, which counts lines of its own
+OF_LINE = re.compile(r"line \d+: ")  # how it begins what is said of a line of the script
 
 
 def words_of(about: str) -> Words:
@@ -60,11 +60,13 @@ def tell_proposals(subject: Subject) -> None:
     for why, lines in subject.proposals.lines.items():
         for line in (f"* {why}", *lines):
             ended(line, DONE)
+    for what in subject.proposals.missing:
+        ended(f"* not proposed: {what}", DONE)
 
 
 def told(subject: Subject, cicslook: str, why: str) -> str:
     """Why a script can't be done. Faults of its sources are told by their lines."""
-    if OF_PROGRAM.match(why) and not faultless(sources_in(subject.name, "\n".join(subject.text)), cicslook):
+    if OF_LINE.match(why) and not faultless(sources_in(subject.name, "\n".join(subject.text)), cicslook):
         return "there are faults, so nothing is asked"
     return why
 

@@ -19,6 +19,7 @@ KEYS = {code: name for name, code in CODES.items()}  # the name of the key that 
 ORDERING = ("BH", "BL", "BNH", "BNL", "BP", "BM", "BNP", "BNM")  # branches after a compare with a limit
 MOST_ENTRIES = 12  # of a table
 MOST_LENGTH = 40  # characters of a text that is proposed
+OF_AID = re.compile(r"EIBAID(?:[-(].*)?")
 OPERAND = re.compile(r"(?P<place>[^()]*)(?:\((?P<inside>[^()]*)\))?")
 
 
@@ -237,7 +238,7 @@ class Search(Reading):
         code = byte_of(immediate)
         if code is None:
             return
-        if operand == "EIBAID":
+        if OF_AID.fullmatch(operand):
             self.found.aids.setdefault(KEYS.get(code, "ENTER"), line)
             return
         at, text = self.input_of(operand), text_of([code])

@@ -1,10 +1,13 @@
 """Keys that are proposed where none are given: by what the sources compare with what an operator types. They are no more than that: proposals."""
 import itertools
-from collections.abc import Iterable, Iterator
+from collections.abc import Iterable, Iterator, Sequence
 from dataclasses import dataclass, field
 
+from cics.cover.written import written_lines
 from cics.key_names import AIDS
 from cics.map.compared import Found, compared_in
+from cics.map.fields import MapField, typed_into
+from cics.statements import statements_of
 from cics.texts import is_decimal
 
 MOST = 100  # keys that are proposed: fewer than a block may have
@@ -41,11 +44,12 @@ class Span:
 
 @dataclass
 class Proposed:
-    """What is proposed: of each reason the block's lines, and how many keys were left out."""
+    """What is proposed: of each reason the block's lines; how many keys were left out; and what isn't proposed."""
 
     lines: dict[str, list[str]] = field(default_factory=dict)
     count: int = 0
     left_out: int = 0
+    missing: list[str] = field(default_factory=list)
 
     def all_lines(self) -> list[str]:
         return [line for lines in self.lines.values() for line in lines]
@@ -128,12 +132,56 @@ def of_program(program: Program, all_transactions: list[str]) -> Iterator[Propos
         yield Proposal("ENTER without a text", ["ENTER"])
 
 
-def proposals_of(programs: list[Program], transactions: list[str], own: list[str]) -> Iterator[Proposal]:
-    """All that is proposed, in order: transactions, the script's own keys, and what each source compares."""
-    yield Proposal("the transactions", [f"ENTER {name}" for name in transactions])
-    yield Proposal("the script's own keys", own)
-    for program in programs:
-        yield from of_program(program, transactions)
+def spoilt(text: str, transactions: list[str]) -> Iterator[str]:
+    """A text that is typed, spoilt: cut short by a character, without what is typed behind the transaction, longer by one, and with a letter as
+    its last digit. A transaction alone isn't."""
+    head = next((name for name in transactions if f"{text} ".startswith(f"{name} ")), "")
+    if text in ("", head):
+        return
+    yield text[:-1].rstrip()
+    yield head
+    yield text + (NINE if is_decimal(text[-1]) else OTHER)
+    if is_decimal(text[-1]):
+        yield text[:-1] + OTHER
+
+
+def of_texts(keys: Iterable[str], transactions: list[str]) -> list[str]:
+    """Spoilt texts of keys, but of those that type into fields of maps."""
+    texts = (key.removeprefix("ENTER ") for key in keys if key.startswith("ENTER ") and "=" not in key)
+    return [f"ENTER {one}".rstrip() for text in texts for one in spoilt(text, transactions)]
+
+
+def proposals_of(programs: list[Program], transactions: list[str], own: list[str], fields: Sequence[MapField]) -> Iterator[Proposal]:
+    """All that is proposed, in order: transactions, the script's own keys, what each source compares, and what is typed into fields; and texts
+    of all these, spoilt."""
+    found = [Proposal("the transactions", [f"ENTER {name}" for name in transactions]), Proposal("the script's own keys", own)]
+    found += [one for program in programs for one in of_program(program, transactions)]
+    if fields:
+        found.append(Proposal("fields of maps: full, one short, of one character, of the other kind, and erased; and all together",
+                              [f"ENTER {text}" for text in typed_into(fields)]))
+    yield from found
+    yield Proposal("these texts cut short, left out, too long, and with a letter for a digit", of_texts((key for one in found for key in one.keys), transactions))
+
+
+def missing_of(program: Program) -> Iterator[str]:
+    """What a source does with its input that proposes nothing."""
+    found = compared_in(program.lines)
+    if found.has_input and not found.texts and not found.numbers:
+        yield f"{program.name}: a text, though it receives one, since it compares that with no constant"
+    written = written_lines(program.lines)
+    lines = [one.origin.number for one in statements_of(program.lines, "") if one.operation in ("TRT", "TR") and one.origin.number not in written]
+    if lines:
+        yield f"{place_of(program, lines)}: what TRT or TR looks for in the input"
+
+
+def missing(programs: list[Program], proposed_keys: set[str], fields: Sequence[MapField], left_out: int) -> list[str]:
+    """What isn't proposed, as far as it is known."""
+    aids = [aid for aid in AIDS if aid not in {key.split(" ")[0] for key in proposed_keys}]
+    found = [line for program in programs for line in missing_of(program)]
+    found += [f"{left_out} keys more than {MOST} that what is found would propose"] if left_out else []
+    found += [f"{', '.join(aids)}: no source compares EIBAID with them"] if aids else []
+    found += ["more than a field has, since no keyboard types that; values in several fields, but for the first of each"] if fields else []
+    return [*found, "texts as records, queues and COMMAREAs have them, and all others"]
 
 
 def is_safe(key: str) -> bool:
@@ -151,10 +199,10 @@ def lines_for(terminals: list[str], keys: list[str]) -> Iterator[str]:
             yield f"KEY {at} ENTER {texts[0] if len(texts) == 1 else '{' + '|'.join(texts) + '}'}"
 
 
-def proposed(programs: list[Program], transactions: list[str], terminals: list[str], own: list[str]) -> Proposed:
+def proposed(programs: list[Program], transactions: list[str], terminals: list[str], own: list[str], fields: Sequence[MapField] = ()) -> Proposed:
     """The keys that are proposed, each once, at each terminal; not more than some, of which it is known how many more there were."""
     result, seen = Proposed(), set[str]()
-    for one in proposals_of(programs, transactions, own):
+    for one in proposals_of(programs, transactions, own, fields):
         new = [key for key in dict.fromkeys(one.keys) if key not in seen and key.split(" ")[0] in AIDS]
         room = max(0, (MOST - result.count) // max(1, len(terminals)))
         kept = new[:room]
@@ -163,4 +211,5 @@ def proposed(programs: list[Program], transactions: list[str], terminals: list[s
         result.left_out += (len(new) - len(kept)) * len(terminals)
         if kept:
             result.lines.setdefault(one.why, []).extend(lines_for(terminals, kept))
+    result.missing = missing(programs, seen, fields, result.left_out)
     return result

@@ -7,6 +7,7 @@ from cics.choices import Choices, State, counted, meaning
 from cics.map.abends import MOST, Abend
 from cics.map.arrows import Between, arrows_of, levels_of, lists_of, short
 from cics.map.asking import Subject
+from cics.map.fields import fields_of, untyped
 from cics.stand_in.counts import count_in, said
 from cics.transcripts import is_of_page
 
@@ -26,7 +27,14 @@ class Map:
         count = counted(len(self.subject.question.keys()), "key")
         proposed = " They are proposed by what the sources compare, so others may lead elsewhere." if self.subject.proposals else ""
         left = [f"Of {len(self.abends)} abends it is told of the first {MOST} where they are."] if len(self.abends) > MOST else []
-        return [*said(count_in(self.subject.sources.values())), f"{count}.{proposed}", *meaning(self.choices), *left]
+        return [*said(count_in(self.subject.sources.values())), f"{count}.{proposed}", *self.unasked(), *meaning(self.choices), *left]
+
+    def unasked(self) -> list[str]:
+        """What no key asks, which even CLOSED says nothing of: fields into which none types, and what isn't proposed."""
+        fields = untyped(fields_of(self.subject.sources.values()), self.subject.question.keys())
+        names = [f"of {name} {', '.join(field.name for field in fields if field.map == name)}" for name in dict.fromkeys(field.map for field in fields)]
+        lines = [f"No key types into these fields of maps: {'; '.join(names)}."] if names else []
+        return lines + [f"Not proposed: {what}." for what in (self.subject.proposals.missing if self.subject.proposals else [])]
 
     def keys(self) -> list[str]:
         return short(self.subject.question.keys(), self.subject.terminals)
@@ -93,6 +101,7 @@ def data_of(found: Map) -> dict[str, object]:
         "terminals": subject.terminals,
         "keys": subject.question.keys(),
         "proposed": subject.proposals.lines if subject.proposals else None,
+        "notProposed": subject.proposals.missing if subject.proposals else None,
         "script": subject.text,
         "screens": [{"number": number, "level": levels[number], "text": states[0].text, "running": states[0].is_running(),
                      "title": titles[number], "states": [state.number for state in states]} for number, states in shared.items()],

@@ -6,9 +6,9 @@ from argparse import ArgumentTypeError, Namespace
 from cics.assembler_files import encoded, sources_of_file
 from cics.child import decoded
 from cics.cli import DONE, FOUND, Failure, Words, name_of, program_path, read_file, say, why_of
-from cics.key_runs import TERMINALS, faultless, script_of, transactions_of
+from cics.key_runs import TERMINALS, faultless, loaders_for, script_of, transactions_of
 from cics.stand_in.counts import is_made
-from cics.queues import TERMINAL, given_of, loaders_of
+from cics.queues import TERMINAL
 from cics.terminals.connections import TO_CLOSE, TO_READ, Service
 from cics.terminals.region import FULL, LARGEST, ROOM, Fault, Region, RegionEnded, Request, Work
 from cics.terminals.setup import SetUp
@@ -73,7 +73,7 @@ def set_up(given: Namespace, cicslook: str) -> SetUp:
     if not faultless(sources, cicslook):
         raise SystemExit(FOUND)
     transactions = transactions_of(given.tran, [source.name for source in sources if not is_made(source.lines)])
-    script = script_of(sources, transactions, loaders_of(given_of(given.queue)), [])
+    script = script_of(sources, transactions, loaders_for(given.queue, cicslook), [])
     return SetUp(", ".join(map(name_of, given.files)), decoded(encoded(script)))
 
 def tell(line: str) -> None:
