@@ -158,7 +158,7 @@ class Reading:
             self.refuse(call.spot, "DFHMSD without TYPE")
         self.mapset = Mapset(self.macros.path, call.name, [], given.get("STORAGE") != "AUTO")
         self.defaults = given
-        if given.get("LANG", "ASM") != "ASM":
+        if given.get("LANG", "ASM") in words_of("DFHMSD", "LANG")[1:]:
             self.log.stands_in(call.origin, f"LANG={given['LANG']}", "the symbolic maps are those of ASM")
 
     def usual(self, call: MacroCall, key: str) -> str:
