@@ -196,7 +196,7 @@ def tell_lines(statement: Statement, program: Program) -> None:
         if odd:
             shown = ", ".join("a tab" if character == "\t" else f"X'{ord(character):02X}'" for character in odd)
             program.left(statement.origin, f"no EBCDIC code for {shown}{advice('Lines', 'tab characters; characters without a code')}")
-    if not statement.is_comment and is_continued(lines[-1]):
+    if not statement.is_comment and is_continued(lines[-1]) and statement.origin.order not in program.broken:
         program.left(statement.origin, f"continued, but columns 1 to {CONTINUED} of the next line aren't blank, or there is none")
 
 

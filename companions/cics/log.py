@@ -1,26 +1,33 @@
-"""What is told of a source: each change, each stand-in, and each thing that is left as it is, by file and line."""
+"""What is told of a source: each change, each stand-in, how data are read, each thing that is left as it is,
+and each that is refused, by file and line."""
 from dataclasses import dataclass, field
 
 from cics.statements import Origin
 
 LONGEST = 110  # characters of a change that is told
-CHANGED, STANDS_IN, LEFT = "changed", "stands in", "left"
+CHANGED, STANDS_IN, READ, LEFT, REFUSED = "changed", "stands in", "read", "left", "refused"
 
 
 @dataclass(frozen=True)
 class Told:
-    """A line on standard error."""
+    """A line on standard error; of what is refused also the column, from 1."""
 
     origin: Origin
     text: str
     verb: str
+    column: int = 0
 
     @property
     def is_left(self) -> bool:
         return self.verb == LEFT
 
+    @property
+    def is_refused(self) -> bool:
+        return self.verb == REFUSED
+
     def __str__(self) -> str:
-        return f"{self.origin.file}:{self.origin.number}: {self.verb}: {self.text}"
+        place = f"{self.origin.file}:{self.origin.number}" + (f":{self.column}" if self.column else "")
+        return f"{place}: {self.verb}: {self.text}"
 
 
 @dataclass
@@ -34,11 +41,23 @@ class Log:
     def stands_in(self, origin: Origin, old: str, text: str) -> None:
         self.told.append(Told(origin, f"{shortened(old)}: {text}", STANDS_IN))
 
+    def read(self, origin: Origin, text: str) -> None:
+        self.told.append(Told(origin, text, READ))
+
     def left(self, origin: Origin, text: str) -> None:
         entry = Told(origin, text, LEFT)
         if entry not in self.seen:
             self.seen.add(entry)
             self.told.append(entry)
+
+    def refused(self, origin: Origin, column: int, text: str) -> None:
+        entry = Told(origin, text, REFUSED, column)
+        if entry not in self.seen:
+            self.seen.add(entry)
+            self.told.append(entry)
+
+    def has_refused(self) -> bool:
+        return any(entry.is_refused for entry in self.told)
 
     def has_left(self) -> bool:
         return any(entry.is_left for entry in self.told)
@@ -47,7 +66,12 @@ class Log:
         return any(entry.verb == STANDS_IN for entry in self.told)
 
     def lines(self) -> list[str]:
-        return [str(entry) for entry in sorted(self.told, key=lambda entry: entry.origin.order)]
+        return [str(entry) for entry in sorted(self.told, key=place_of)]
+
+
+def place_of(entry: Told) -> tuple[int, int, int]:
+    """By what lines are sorted: by their statements, what is refused of one by its place."""
+    return (entry.origin.order, entry.origin.number, entry.column) if entry.is_refused else (entry.origin.order, 0, 0)
 
 
 def shortened(text: str) -> str:

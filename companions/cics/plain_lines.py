@@ -8,6 +8,7 @@ from cics.statements import CONTINUED, LAST, MARK, Origin, Statement, is_comment
 from cics.texts import CODED, SMALL, places_of
 
 HEXADECIMAL = re.compile(r"(?<![A-Z0-9@#$'])(?:\d+|\([^()']*\))?X(?:L(?:\d+|\([^()']*\)))?'[0-9A-Fa-f, ]*'")  # a constant, or a term
+NUMBERED = re.compile(r"[A-Z0-9@#$]{8}| *[A-Z@#$]{0,4}[0-9]{1,8}")  # what columns 73 to 80 may have: a name or a number of the line
 STOP, STAND_IN = 8, "."  # columns between the stops of tab characters; what stands for a character without a code
 
 
@@ -75,14 +76,25 @@ def tell(old: Statement, new: Statement, log: Log) -> None:
 
 
 def tell_broken(statements: list[Statement], log: Log) -> set[int]:
-    """Tells statements that have a single character behind column 72, none in it, and a line after them that looks like their continuation;
-    returns their orders."""
+    """Tells statements that have a single character behind column 72, none in it, and a line after them that looks like their continuation, and
+    commands whose text goes past column 71; returns their orders."""
     found = set()
-    for one, following in zip(statements, statements[1:]):
+    for one, following in zip(statements, [*statements[1:], None]):
         last = one.lines[-1] if one.lines else ""
         is_single = not one.is_comment and not is_continued(last) and len(last.rstrip()) == MARK + 2
-        if is_single and not following.is_comment and following.lines[0].strip() and not following.lines[0][:CONTINUED].strip():
+        if following and is_single and not following.is_comment and following.lines[0].strip() and not following.lines[0][:CONTINUED].strip():
             found.add(one.origin.order)
             log.left(one.origin, f"a character in column {MARK + 2}, and none in {MARK + 1}: the next line isn't its continuation; write: the character "
                                  f"in column {MARK + 1}")
+        elif one.operation == "EXEC" and any(is_cut(line, is_last=line is last) for line in one.lines):
+            found.add(one.origin.order)
+            log.left(one.origin, f"the line goes past column {LAST}: what stands from column {MARK + 1} on isn't read; write: a mark in column "
+                                 f"{MARK + 1}, and the rest in the next line, from column {CONTINUED + 1} on")
     return found
+
+
+def is_cut(line: str, *, is_last: bool) -> bool:
+    """Whether a command's line has text from column 72 on: no name or number of the line. The last line of a statement has no mark."""
+    beyond = line[MARK + 1 :].rstrip()
+    is_run = is_continued(line) and (is_last or line[LAST - 1] != " ")
+    return beyond != "" and not NUMBERED.fullmatch(beyond) and (is_run or is_last)

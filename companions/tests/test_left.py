@@ -176,3 +176,14 @@ class LeftTest(TestCase):
                 wrong.append(f"{statement}: told {told}, where {due} is due")
         self.none_of(wrong)
         self.assertGreaterEqual(len(ROWS), 60)
+
+    def test_past_column_71(self) -> None:
+        """A command whose text goes past column 71 is told as that, and stays. A number or a name of the line may stand there."""
+        text = f"{'         EXEC  CICS SEND TEXT FROM(F)':<66}"
+        for lines, is_told in [([f"{text}LENGTH(FULLW)"], True), ([f"{text}     X ERASE", "               LENGTH(FULLW)"], False),
+                               ([f"{text}  ERASE X", "               LENGTH(FULLW)"], True), ([f"{text}      ERASE"], True),
+                               ([f"{text}     X00000010", f"{'               LENGTH(FULLW)':<72}PROGNAME"], False)]:
+            result = adapted(SourceText(["P        CSECT", *lines, *TAIL]), "OLD.asm", [])
+            told = [entry for entry in result.log.told if entry.is_left and "goes past column 71" in entry.text]
+            self.assertEqual((bool(told), all(line in result.lines() for line in lines) or not is_told), (is_told, True), lines)
+            self.assertTrue(all(entry.origin.number == 2 for entry in told))

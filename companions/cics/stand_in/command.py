@@ -20,9 +20,11 @@ from cics.sources import read_source
 from cics.stand_in.file_commands import PROGRAM
 from cics.stand_in.file_programs import file_program, rest_program
 from cics.stand_in.map_programs import map_program
-from cics.stand_in.mapsets import read_mapset
+from cics.stand_in.map_reading import read_mapset
+from cics.stand_in.mapsets import Mapset
 from cics.stand_in.other_commands import PROGRAM as REST
-from cics.stand_in.records import FileDefinition, GivenFile, Source, file_of, queue_lines, records_of
+from cics.stand_in.record_data import records_of
+from cics.stand_in.records import FileDefinition, GivenFile, Source, file_of, queue_lines
 from cics.stand_in.rewriting import Setting, StandIns
 from cics.statements import statements_of
 
@@ -66,37 +68,73 @@ def stem_of(path: str) -> str:
 
 
 def stand_in(asked: Asked) -> int:
-    """Adapts all sources; the status."""
+    """Adapts all sources; the status. Nothing is written where a mapset or data aren't taken whole."""
     if STANDARD_INPUT in asked.sources:
         raise Failure("with --stand-in sources are files, by whose names what is written is named", MISUSED)
-    log, output, logs = Log(), Output(), []
-    setting = Setting([mapset for path in asked.mapsets if (mapset := read_mapset(path, log))])
-    setting.files = files_of(asked, setting)
-    if not log.has_left():
-        for path in asked.sources:
-            result = adapted_source(path, setting, asked)
-            logs.append(result.log)
-            output.put(f"{stem_of(path)}.asm", result.lines())
-            output.put(f"{stem_of(path)}.map", text_of(result.origins()).splitlines(), is_program=False)
-        for mapset in setting.mapsets:
-            output.put(f"{mapset.name.lower()}.asm", map_program(mapset))
-        put_files(setting.files, output)
-        if setting.has_rest:
-            output.put(f"{REST.strip('$').lower()}.asm", rest_program())
-        write_all(output, asked)
-    else:
-        ended("nothing is written: first the mapsets have to be taken whole", DONE)
-    for one in [log, *logs]:
-        for line in one.lines():
-            ended(line, DONE)
-    if any(one.has_left() for one in [log, *logs]):
+    given = given_files(asked)
+    mapsets, logs = mapsets_of(asked)
+    setting = Setting(mapsets)
+    records: dict[str, list[bytes]] = {}
+    if not is_any_refused(logs):
+        setting.files = files_of(given, asked, setting)
+        records, read = data_of(setting.files)
+        logs += read
+    is_refused, adapted_logs = is_any_refused(logs), []
+    if not is_refused:
+        adapted_logs = written(asked, setting, records)
+    for line in (line for one in [*logs, *adapted_logs] for line in one.lines()):
+        ended(line, DONE)
+    if is_refused:
+        ended("nothing is written: first what is refused has to be put right", DONE)
+    if is_refused or any(one.has_left() for one in adapted_logs):
         return FOUND
-    return STANDING if any(one.has_stand_in() for one in logs) else DONE
+    return STANDING if any(one.has_stand_in() for one in adapted_logs) else DONE
 
 
-def files_of(asked: Asked, setting: Setting) -> dict[str, FileDefinition]:
-    """The files, with the records that the sources have."""
+def is_any_refused(logs: list[Log]) -> bool:
+    return any(one.has_refused() for one in logs)
+
+
+def mapsets_of(asked: Asked) -> tuple[list[Mapset], list[Log]]:
+    """The mapsets, and what is told of each."""
+    logs = [Log() for _ in asked.mapsets]
+    read = [read_mapset(path, log) for path, log in zip(asked.mapsets, logs)]
+    return [mapset for mapset in read if mapset], logs
+
+
+def data_of(files: dict[str, FileDefinition]) -> tuple[dict[str, list[bytes]], list[Log]]:
+    """The records of each file, and what is told of its data."""
+    logs = {name: Log() for name in files}
+    return {name: records_of(file, logs[name]) for name, file in files.items()}, list(logs.values())
+
+
+def written(asked: Asked, setting: Setting, records: dict[str, list[bytes]]) -> list[Log]:
+    """Adapts all sources, and writes all; what is told of each source."""
+    output, logs = Output(), []
+    for path in asked.sources:
+        result = adapted_source(path, setting, asked)
+        logs.append(result.log)
+        output.put(f"{stem_of(path)}.asm", result.lines())
+        output.put(f"{stem_of(path)}.map", text_of(result.origins()).splitlines(), is_program=False)
+    for mapset in setting.mapsets:
+        output.put(f"{mapset.name.lower()}.asm", map_program(mapset))
+    put_files(setting.files, records, output)
+    if setting.has_rest:
+        output.put(f"{REST.strip('$').lower()}.asm", rest_program())
+    write_all(output, asked)
+    return logs
+
+
+def given_files(asked: Asked) -> list[GivenFile]:
     given = [GivenFile.of(word) for word in asked.files]
+    for at, one in enumerate(given):
+        if any(other.name == one.name for other in given[:at]):
+            raise Failure(f"--file {one.name}: it is given twice", MISUSED)
+    return given
+
+
+def files_of(given: list[GivenFile], asked: Asked, setting: Setting) -> dict[str, FileDefinition]:
+    """The files, with the records that the sources have."""
     sources = [source_of(path, asked, setting) for path in asked.sources] if given else []
     return {one.name: file_of(one, sources) for one in given}
 
@@ -113,15 +151,14 @@ def source_of(path: str, asked: Asked, setting: Setting) -> Source:
     return Source(statements, Layout(statements))
 
 
-def put_files(files: dict[str, FileDefinition], output: Output) -> None:
+def put_files(files: dict[str, FileDefinition], records: dict[str, list[bytes]], output: Output) -> None:
     """The program of files, and each file's records as the items of a queue."""
     if not files:
         return
     output.put(f"{PROGRAM.strip('$').lower()}.asm", file_program(files))
     for one in files.values():
-        records = records_of(one)
-        if records:
-            output.put(f"{one.name}.queue", queue_lines(one, records), is_program=False)
+        if records[one.name]:
+            output.put(f"{one.name}.queue", queue_lines(one, records[one.name]), is_program=False)
             output.queues[one.name] = f"{one.name}.queue"
 
 

@@ -143,7 +143,7 @@ def called(routine: str) -> list[Line]:
 
 
 def call_of(statement: Statement, program: Program) -> Call | None:
-    if statement.operation != "EXEC" or statement.is_comment:
+    if statement.operation != "EXEC" or statement.is_comment or statement.origin.order in program.broken:
         return None
     read = parsed(statement.origin, statement.written())
     command = command_of(joined(read.lines), read.columns.operand)

@@ -9,7 +9,8 @@ from cics.queues import statement_lines
 from cics.sources import SourceText
 from cics.stand_in.file_programs import file_program, rest_program
 from cics.stand_in.map_programs import map_program
-from cics.stand_in.mapsets import Mapset, read_mapset
+from cics.stand_in.map_reading import read_mapset
+from cics.stand_in.mapsets import Mapset
 from cics.stand_in.rewriting import Setting, StandIns
 from tests.calling import folder_of
 from tests.case import CICSLOOK
@@ -29,13 +30,23 @@ class Ran:
         return ends[-1] if ends else ""
 
 
-def mapset_of(text: str) -> tuple[Mapset, list[str]]:
-    """The mapset of a BMS source, and what is told of it."""
+def read_of(text: str) -> tuple[Mapset | None, list[str]]:
+    """What is read of a BMS source, and what is told of it: the line, perhaps the column, and why."""
     log = Log()
     with folder_of({"set.bms": text}) as folder:
         mapset = read_mapset(os.path.join(folder, "set.bms"), log)
+    return mapset, [line.split(":", 1)[1] for line in log.lines()]
+
+
+def told_of(text: str) -> list[str]:
+    return read_of(text)[1]
+
+
+def mapset_of(text: str) -> tuple[Mapset, list[str]]:
+    """The mapset of a BMS source, and what is told of it."""
+    mapset, told = read_of(text)
     assert mapset is not None
-    return mapset, [line.split(":", 2)[2].strip() for line in log.lines()]
+    return mapset, told
 
 
 def source_of(statements: list[str], storage: list[str], first: list[str] | None = None) -> list[str]:

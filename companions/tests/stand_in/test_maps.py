@@ -25,7 +25,7 @@ def script_of(all_drawn: list[Drawn]) -> list[str]:
         name = f"PGM{at}"
         mapset, told = mapset_of(text_of(source_of(one.name, one.maps)))
         new = adapted(SourceText(program_of(one, name)), name, [], stand_ins=StandIns(Setting([mapset])))
-        left = [line for line in told if line.startswith("left: ")] + [str(entry) for entry in new.log.told if entry.is_left]
+        left = [line for line in told if ": refused: " in line] + [str(entry) for entry in new.log.told if entry.is_left]
         expect(f"{one.name} is taken", not left, left)
         blocks += [f"SOURCE {one.name}", *map_program(mapset), "/*", f"SOURCE {name}", *new.lines(), "/*"]
         events += [f"TRANSACTION TR{at} {name}", f"TERMINAL T{at}", f"KEY T{at} ENTER TR{at}", f"RUN T{at} 4096"]
