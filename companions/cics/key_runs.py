@@ -13,7 +13,8 @@ from cics.queues import TERMINAL, Loader
 from cics.scripts import MOST_TURNS
 from cics.stand_in.abends import request_line
 from cics.texts import CODED, is_name
-from cics.transcripts import is_of_page, of_look, place_in, reply_of, rows_of
+from cics.looks import place_in
+from cics.transcripts import is_of_page, of_look, reply_of, rows_of
 
 KEY_NAME = re.compile(r"(?:PF|PA)\d+")
 MOST_TEXT = 1920  # characters of a key
