@@ -4,14 +4,11 @@ from dataclasses import dataclass, replace
 
 from cics.assembler_files import Source, run_script
 from cics.layout import WORKING_STORAGE
+from cics.looks import Fault as Row
 from cics.origins import Origins, Place
 from cics.statements import statements_of
 
-# A line of FAULTS: line and column, the fault, perhaps what is missing, and the text, in which >> and << stand around the part at fault;
-# or NOTE and what it says.
-FAULT = re.compile(r"> (?P<line>\d+):(?P<column>\d+) "
-                   r"(?P<kind>NOTE|MissingOption (?P<missing>[A-Z]+(?: OR [A-Z]+)*)|[A-Z][A-Za-z]+)(?P<text>.*)")
-WORD = re.compile(r">>(?P<word>.*?)<<")
+WORD = re.compile(r">>(?P<word>.*?)<<")  # in a line of FAULTS the part at fault
 
 
 @dataclass(frozen=True)
@@ -48,14 +45,14 @@ class Block:
     def has(self, line: int) -> bool:
         return self.first < line <= self.first + len(self.source.lines) + 1
 
-    def fault(self, found: re.Match[str]) -> Fault:
-        line = int(found["line"]) - self.first
-        word, text = WORD.search(found["text"]), found["text"].strip()
-        kind = "note" if found["kind"] == "NOTE" else found["kind"].split()[0]
-        shown = text if kind == "note" else found["missing"] or (word["word"] if word else text)
+    def fault(self, found: Row) -> Fault:
+        line = found.line - self.first
+        word, text = WORD.search(found.text), found.text.strip()
+        kind = "note" if found.kind == "NOTE" else found.kind.split()[0]
+        shown = text if kind == "note" else found.missing or (word["word"] if word else text)
         part = word["word"] if word else text.partition(" IS ")[0]
         number = self.source.before + min(line, max(len(self.source.lines), 1))
-        return Fault(self.source.path, number, int(found["column"]), kind, shown, len(part))
+        return Fault(self.source.path, number, found.column, kind, shown, len(part))
 
 
 REFUSED = re.compile(r"PROGRAM (?P<name>\S+) (?:REFUSED (?P<kind>\S+)|AT .*)")
@@ -104,5 +101,5 @@ def faults_of(sources: list[Source], cicslook: str) -> list[Fault]:
     for source in sources:
         blocks.append(Block(source, len(script) + 1))
         script += source.block("FAULTS")
-    found = [match for match in map(FAULT.fullmatch, run_script(script, cicslook)) if match]
-    return [next(block for block in blocks if block.has(int(match["line"]))).fault(match) for match in found]
+    found = Row.all_in(run_script(script, cicslook))
+    return [next(block for block in blocks if block.has(row.line)).fault(row) for row in found]

@@ -9,11 +9,12 @@ from cics.cli import DONE, FOUND, MISUSED, Failure, ended, say, write_out
 from cics.faults import all_faults_of
 from cics.key_names import AIDS
 from cics.origins import Origins
+from cics.looks import place_in
 from cics.queues import TERMINAL, Loader, given_of, loaders_of
 from cics.scripts import MOST_TURNS
 from cics.stand_in.abends import request_line
 from cics.texts import CODED, is_name
-from cics.transcripts import LOOK, is_of_page, of_look, place_in, reply_of, rows_of
+from cics.transcripts import LOOK, is_of_page, of_look, reply_of, rows_of
 
 KEY_NAME = re.compile(r"(?:PF|PA)\d+")
 MOST_TEXT = 1920  # characters of a key

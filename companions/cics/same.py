@@ -12,6 +12,7 @@ from enum import IntEnum
 from cics.child import Child, Gone, Overdue, text_of
 from cics.cover.asking import ON
 from cics.cover.changes import Ran, ran_of
+from cics.looks import Area, Kept, Queue
 from cics.queues import TERMINAL, Loader
 from cics.scripts import BLOCK_END, Action, actions_of, free_name
 from cics.transcripts import CWA, RESTS, reply_of
@@ -20,10 +21,7 @@ TURNS = 5000  # after a key: more than any program needs that comes to rest
 AT_ONCE = 50  # turns that are typed before their answers are read: those after a rest change nothing
 TAKEN = ("IMAGE", "SOURCE", "TRANSACTION", "TERMINAL", "CLOCK", "KEY")
 LONGEST_LOOK, COMMAREA_SHOWN = 4096, 64  # bytes that STORAGE writes, and that TERMINALS writes of a COMMAREA
-QUEUE = re.compile(r"> QUEUE (?P<shown>'.*'|X'[0-9A-F]{16}') ITEMS (?P<items>\d+) BYTES \d+ READ \d+")
-KEPT = re.compile(r"> TERMINAL (?P<terminal>\S+) NEXT (?:'[^']*'|X'[0-9A-F]+') COMMAREA (?P<length>\d+) ")
 BAD = re.compile(r"line (?P<line>[0-9]+): (?P<why>.*)")  # a line of those that the program was given, and what is wrong with it
-COPY = re.compile(r"> AREA (?P<address>[0-9A-F]{6}) LENGTH (?P<length>[0-9A-F]{6}) OTHER ")
 
 
 class Depth(IntEnum):
@@ -162,21 +160,19 @@ class Region:
     def kept(self) -> list[Seen]:
         """What a later key can find, beside screens and queues."""
         _clock, *lines = self.child.ask("TERMINALS")
-        found = [it for it in map(KEPT.match, lines) if it]
-        self.long = {it["terminal"]: int(it["length"]) for it in found if int(it["length"]) > COMMAREA_SHOWN}
+        self.long = {it.terminal: it.length for it in Kept.all_in(lines) if it.length > COMMAREA_SHOWN}
         seen = [Seen("what is kept for a terminal", line) for line in lines]
         return seen + self.look("a resource", "RESOURCES") + self.look("the common work area", f"STORAGE {CWA[0]} {CWA[1]}")
 
     def commarea(self, terminal: str) -> list[Seen]:
         """The bytes of the COMMAREA that was given to a task now: TERMINALS shows the first of them alone."""
-        copies = [it for it in map(COPY.match, self.child.ask(f"AREAS {terminal}")) if it]
         length = self.long.pop(terminal)
-        copy = next((it for it in copies if int(it["length"], 16) == length), None)
+        copy = next((it for it in Area.all_in(self.child.ask(f"AREAS {terminal}")) if it.kind == "OTHER" and it.length == length), None)
         if copy is None:
             raise Fault(f"the COMMAREA that is kept for {terminal} has {length} bytes, and not all of them can be seen")
-        address, seen = int(copy["address"], 16), []
+        seen = []
         for at in range(0, length, LONGEST_LOOK):
-            rows = self.child.ask(f"STORAGE {address + at:06X} {min(LONGEST_LOOK, length - at)}")
+            rows = self.child.ask(f"STORAGE {copy.address + at:06X} {min(LONGEST_LOOK, length - at)}")
             seen += [Seen(f"the COMMAREA for {terminal}", f"> {at + 16 * row:06X}  {line[10:]}") for row, line in enumerate(rows[:-1])]
         return seen
 
@@ -194,10 +190,9 @@ class Region:
         seen = []
         for line in self.child.ask("QUEUES"):
             seen.append(Seen("a queue", line))
-            if queue := QUEUE.fullmatch(line):
-                digits = digits_of(queue["shown"])
-                for number in range(1, int(queue["items"]) + 1):
-                    seen += self.look(f"item {number} of queue {queue['shown']}", f"QUEUE {digits} {number}")
+            if queue := Queue.read(line):
+                for number in range(1, queue.items + 1):
+                    seen += self.look(f"item {number} of queue {queue.shown}", f"QUEUE {queue.code} {number}")
         return seen
 
     def defined(self, step: Action) -> list[str]:

@@ -12,10 +12,11 @@ from cics.cli import MISUSED, Failure, name_of
 from cics.cover.asking import ON
 from cics.cover.changes import Ran, ran_of
 from cics.line_forms import Search
+from cics.looks import Queue
 from cics.orders import performed
 from cics.queues import Loader
 from cics.same import Depth, Fault, Page, Region, Seen, child_of, difference, why_of
-from cics.same_queues import LISTED, label_of
+from cics.same_queues import label_of
 from cics.scripts import MOST_TURNS, Action, is_silent
 from cics.sides import text_of
 from cics.transcripts import RESTS, is_of_page, reply_of
@@ -64,8 +65,8 @@ def seen_of(state: State) -> Iterator[Seen]:
     """A state's text, each line of a page with its screen, and each of a queue with that, or with its item."""
     of, queue = "", ""
     for line in state.text:
-        listed = LISTED.fullmatch(line)
-        queue = listed["shown"] if listed else queue
+        listed = Queue.read(line)
+        queue = listed.shown if listed else queue
         if is_of_page(line) or ROW.match(line):
             yield Seen(of, line)
         else:

@@ -1,17 +1,14 @@
 """Queues compared by their bytes, wherever CHOICES or ORDERS lead: which looks show them. QUEUES names them, and QUEUE has of each item the first
 bytes in characters; an item that these don't show whole is looked at by itself.
 """
-import re
 from collections.abc import Callable, Iterable, Iterator, Sequence
 from dataclasses import dataclass, field
 
+from cics.looks import Item, Queue, WholeItem
 from cics.same import digits_of
 
 MOST_LOOKS, MOST_SHOWN = 64, 64  # of a block; bytes of an item that QUEUE shows
 OF_ALL = "QUEUES"
-LISTED = re.compile(r"QUEUE (?P<shown>'.*'|X'[0-9A-F]{16}') ITEMS (?P<items>\d+) BYTES \d+ READ \d+")
-ITEM = re.compile(r"ITEM (?P<number>\d+) LENGTH (?P<length>\d+)(?: (?P<text>.*))?")
-WHOLE = re.compile(r"QUEUE (?P<shown>'.*'|X'[0-9A-F]{16}') ITEM (?P<number>\d+) LENGTH \d+")
 Texts = Iterable[Sequence[str]]  # what is seen of each state, or of each outcome, of both
 Ask = Callable[[list[str]], tuple[list[str] | None, list[Sequence[str]]]]  # by looks: how both differ, if they do, and those texts
 
@@ -26,7 +23,7 @@ class Queues:
 
 def named_in(texts: Texts) -> list[str]:
     """The queues, each by how it is shown."""
-    return [*dict.fromkeys(found["shown"] for text in texts for found in map(LISTED.fullmatch, text) if found)]
+    return [*dict.fromkeys(found.shown for text in texts for found in Queue.all_in(text))]
 
 
 def is_exact(length: int, text: str) -> bool:
@@ -38,19 +35,19 @@ def inexact_in(text: Sequence[str]) -> Iterator[tuple[str, int]]:
     """The items that a text doesn't show whole, each by its queue and its number."""
     queue = ""
     for line in text:
-        if listed := LISTED.fullmatch(line):
-            queue = listed["shown"]
-        elif (item := ITEM.fullmatch(line)) and not is_exact(int(item["length"]), item["text"] or ""):
-            yield queue, int(item["number"])
+        if listed := Queue.read(line):
+            queue = listed.shown
+        elif (item := Item.read(line)) and not is_exact(item.length, item.text or ""):
+            yield queue, item.number
 
 
 def label_of(line: str, queue: str) -> str:
     """What a line on a queue is of; empty of any other line."""
-    if found := WHOLE.fullmatch(line):
-        return f"item {found['number']} of queue {found['shown']}"
-    if found := ITEM.fullmatch(line):
-        return f"item {found['number']} of queue {queue}"
-    return "a queue" if LISTED.fullmatch(line) or line == f"{OF_ALL} NONE" else ""
+    if whole := WholeItem.read(line):
+        return f"item {whole.number} of queue {whole.shown}"
+    if item := Item.read(line):
+        return f"item {item.number} of queue {queue}"
+    return "a queue" if Queue.read(line) or line == f"{OF_ALL} NONE" else ""
 
 
 def unseen(items: Sequence[tuple[str, int]], room: int) -> list[str]:

@@ -3,12 +3,12 @@ import re
 from collections.abc import Iterator, Sequence
 
 from cics.child import decoded, encoded, text_of
+from cics.looks import Doing
 from cics.scripts import actions_of
 from cics.transcripts import is_of_page, reply_of
 
 TAKEN = ("Attached", "Given")  # answers to a key that reaches a task
 OF_EDF = "ToEdf"  # the answer to a key that is EDF's
-TASK = re.compile(r"> (?P<terminal>\S+) .*TASK \d{7} LEVEL \d\d (?P<doing>.*)")
 WAITING = "WAITING"
 FIRST = re.compile(r"(?:KEY|SCREEN) \S{1,4}(?: .*)?|\S+ .* REFUSED .*|\S{1,4} (?:Abended|WAITING|is still running)\b.*")  # the forms of a first line
 
@@ -52,7 +52,7 @@ def shown(script: str, transcript: Sequence[str]) -> list[str]:
     lines = [line for answer in before for line in lines_of_event(answer, keys)]
     pages = {answer[0]: answer for answer in before if answer[0].startswith("SCREEN ")}
     lines += [line for page in ends if pages.get(page[0]) != page for line in page]
-    return [*lines, *(f"{found['terminal']} {doing(found['doing'])}" for found in map(TASK.fullmatch, tasks) if found)]
+    return [*lines, *(f"{found.terminal} {doing(found.doing)}" for found in Doing.all_in(tasks))]
 
 
 def lines_of_event(answer: list[str], keys: Iterator[str]) -> list[str]:

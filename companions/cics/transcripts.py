@@ -1,5 +1,4 @@
 """What the programs write: lines of a transcript, and of looks."""
-import re
 from collections.abc import Sequence
 
 ROWS = 24
@@ -7,11 +6,6 @@ CWA = ("001000", 512)  # the common work area: its address, and how many bytes i
 RESTS = ("Idle", "Waiting")  # a turn that did nothing
 RUN_ENDS = (*RESTS, "Held", "Ended", "Abended", "NoSuchTerminal")  # turns after which RUN does no more
 LOOK = "> "  # how a line of a look begins
-
-# Where a program is, by the lines of a look: at a level's last command; at the command that abended; at the next instruction.
-PLACES = [re.compile(r"^LEVEL (\d\d) PROGRAM (?P<program>\S+) R14 .*\nLEVEL \1 COMMAND LINE (?P<line>\d+)", re.M),
-          re.compile(r"^COMMAND .* LIST [0-9A-F]{6} LINE (?P<line>\d+).*\n(?:(?!R14 ).*\n)*?R14 \S+ (?P<program>[^ +]+)\+", re.M),
-          re.compile(r"\bNEXT \S+ (?P<program>[^ +]+)\+\S+ LINE (?P<line>\d+)")]
 
 
 def is_of_page(line: str) -> bool:
@@ -39,10 +33,3 @@ def rows_of(page: Sequence[str]) -> list[str]:
     for line in page[1:]:
         rows[int(line[:2]) - 1] = line[3:]
     return rows
-
-
-def place_in(lines: Sequence[str]) -> tuple[str, int] | None:
-    """The program and the line at which it is, by a look at a task or its abend: of the last command, or else of the next instruction."""
-    text = "\n".join(of_look(lines))
-    found = next((places[-1] for places in (list(form.finditer(text)) for form in PLACES) if places), None)
-    return (found["program"], int(found["line"])) if found else None

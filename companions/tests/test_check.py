@@ -6,7 +6,8 @@ from cics.assembler_files import Source
 from cics.checking import Found
 from cics.cli import Paint
 from cics.explaining import explained
-from cics.faults import FAULT, Block, Fault
+from cics.faults import Block, Fault
+from cics.looks import Fault as Row
 from tests.calling import Call, called, failures_of, folder_of
 from tests.case import PROGRAMS, TestCase
 
@@ -105,7 +106,7 @@ class CheckTest(TestCase):
 
     def test_forms(self) -> None:
         block = Block(Source("p.asm", 0, ["P        CSECT"] * 3, "P"), 2)
-        self.assertEqual({line: str(block.fault(found)) if (found := FAULT.fullmatch(line)) else None for line in FORMS}, FORMS)
+        self.assertEqual({line: str(block.fault(found)) if (found := Row.read(line)) else None for line in FORMS}, FORMS)
 
     def test_json(self) -> None:
         with folder_of({"p.asm": BAD}) as folder:

@@ -3,7 +3,8 @@ from unittest.mock import patch
 
 from cics.child import Child, Gone, Overdue, run, text_of
 from cics.scripts import OF_CICSLOOK, actions_of
-from cics.transcripts import of_look, place_in, rows_of
+from cics.looks import place_in
+from cics.transcripts import of_look, rows_of
 from tests.case import CICSEDF, CICSLOOK, TestCase
 
 DIVIDE = ["> ABEND T001 ASRA INTERRUPTION 9 FIXED-POINT DIVIDE TRAN I9 TASK 0000006", "> NEXT 010050 ZERO+000010 LINE 00011 INSTRUCTION 1D24"]

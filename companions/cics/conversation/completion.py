@@ -1,5 +1,4 @@
 """What may be typed next: words of lines, which are asked of HELP, and names of what is there."""
-import re
 from collections.abc import Iterable
 from dataclasses import dataclass
 
@@ -7,9 +6,8 @@ from cics.conversation.session import Session
 from cics.conversation.talk import ENDINGS, OWN
 from cics.key_names import AIDS
 from cics.line_forms import OPERANDS, SAID, capitals, due_at
+from cics.looks import Named, Queue
 
-QUEUE = re.compile(r"> QUEUE (?:'(?P<name>.*)'|X'(?P<digits>[0-9A-F]{16})') ITEMS ")
-NAMED = re.compile(r"> (?:FIELD \S+|SYMBOL) '(?P<name>[^']*)' .*")
 TERMINALS_OF = ("step", "s", "next", "n", "continue", "c")
 PROGRAMS_OF = ("break", "b")
 
@@ -46,8 +44,8 @@ class Completion:
         if due in known:
             return known[due]
         if due == "queue":
-            return [one["name"] or one["digits"] for one in map(QUEUE.match, self.session.looked("QUEUES")) if one]
+            return [one.name or one.code for one in Queue.all_in(self.session.looked("QUEUES"))]
         if due == "field":
             look = f"SYMBOLS {capitals(before[1])}" if capitals(before[0]) == "SYMBOL" else f"FIELDS {capitals(before[1])}"
-            return [one["name"] for one in map(NAMED.fullmatch, self.session.looked(look)) if one]
+            return [one.name for one in Named.all_in(self.session.looked(look))]
         return self.first_words()[: len(self.looks)] if due == "word" else [] if due in OPERANDS else [due]

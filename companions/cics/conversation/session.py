@@ -1,14 +1,13 @@
 """What has been done in a conversation: each line by one child of cicslook, and kept so that it can be done again."""
-import re
 from collections.abc import Callable, Sequence
 from dataclasses import dataclass, field
 
 from cics.child import Child, text_of
 from cics.line_forms import read_as
+from cics.looks import Fault
 from cics.scripts import Action, actions_of, free_name
 
 SEARCH = 600.0  # seconds of a processor that CHOICES or ORDERS may take
-FAULT = re.compile(r"> (?P<line>\d+)(?P<rest>:\d+ \S.*)")  # a line of FAULTS, by the number of a script's line
 DEFINED = {"TERMINAL": "terminals", "TRANSACTION": "transactions", "PROGRAM": "programs"}
 
 
@@ -75,8 +74,8 @@ class Session:
 
 def renumbered(line: str, by: int) -> str:
     """A line of FAULTS by the numbers of the kept script."""
-    found = FAULT.fullmatch(line)
-    return f"> {int(found['line']) + by}{found['rest']}" if found else line
+    found = Fault.read(line)
+    return line.replace(str(found.line), str(found.line + by), 1) if found else line
 
 
 def plain_lines(action: Action, answer: Sequence[str]) -> list[str]:

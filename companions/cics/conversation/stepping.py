@@ -1,16 +1,15 @@
 """The words of a debugger, over what cicslook has: `step` is AHEAD, one instruction after the other, and TURN where none is left; `break` and
 `continue` are RUN TO a line."""
-import re
 from collections.abc import Callable
 from dataclasses import dataclass, field
 
 from cics.conversation.session import Session
 from cics.line_forms import capitals, reason_of
+from cics.looks import Instruction
 from cics.transcripts import reply_of
 
 MEANT = "write: step, next or continue, and a terminal's name"
 MOST = 256  # instructions that AHEAD writes
-INSTRUCTION = re.compile(r"> INSTRUCTION \S+ (?P<program>[^ +]+)\+\S+ \S+ LINE (?P<line>\d+) .*")
 STAYS = ("Idle", "NoSuchTerminal", "Waiting", "Held")  # answers to a turn that does nothing
 
 
@@ -24,7 +23,7 @@ class Ahead:
 
     events: int  # how many events there had been
     instructions: list[str]
-    seen: set[tuple[str, str]] = field(default_factory=set)  # programs and lines that it has come to
+    seen: set[tuple[str, int]] = field(default_factory=set)  # programs and lines that it has come to
 
 
 @dataclass
@@ -68,11 +67,11 @@ class Debugger:
 
     def instruction(self, name: str, ahead: Ahead) -> list[str]:
         line = ahead.instructions.pop(0)
-        found = INSTRUCTION.fullmatch(line)
-        place = (found["program"], found["line"]) if found else ("", "")
+        found = Instruction.read(line)
+        place = (found.program, found.line) if found else ("", 0)
         is_new = found is not None and place not in ahead.seen
         ahead.seen.add(place)
-        at = self.session.looked(f"AHEAD {name} AT {place[0]} {int(place[1])}") if is_new else []
+        at = self.session.looked(f"AHEAD {name} AT {place[0]} {place[1]}") if is_new else []
         return [line, *(one for one in at[1:] if one.startswith("> FIELD "))] if at[1:2] == [line] else [line]
 
     def next(self, words: list[str]) -> list[str]:

@@ -7,8 +7,8 @@ from cics.cli import Failure
 from cics.conversation.session import Session
 from cics.conversation.stepping import Debugger, Misused
 from cics.explaining import explained
-from cics.faults import FAULT
 from cics.line_forms import MISSING, SAID, Reason, capitals, read_as, reason_of
+from cics.looks import Fault
 from cics.script_reading import Reading
 from cics.scripts import BLOCK_END, BLOCKS, OF_CICSLOOK, is_silent
 
@@ -109,8 +109,8 @@ class Talk:
         """The faults of a source's block."""
         first = self.session.child.count + 1
         found = self.session.looked(f"FAULTS {lines[0].split(' ')[1]}", *lines[1:])
-        faults = [match for match in map(FAULT.fullmatch, found) if match and match["kind"] != "NOTE"]
-        return [f"{int(one['line']) - first}:{one['column']} {one['kind']}{one['text']}" for one in faults]
+        faults = [fault for fault in Fault.all_in(found) if fault.kind != "NOTE"]
+        return [f"{fault.line - first}:{fault.column} {fault.kind}{fault.text}" for fault in faults]
 
     def own(self, word: str, words: list[str]) -> None:
         """Does one of the conversation's own words."""

@@ -9,6 +9,7 @@ from cics.cli import Failure, name_of
 from cics.cover.branches import branches_of
 from cics.cover.counts import Branch, Coverage, Covered, Line
 from cics.cover.written import without_written
+from cics.looks import OneWay, StatementRun
 from cics.origins import Place
 from cics.queues import LOADER
 from cics.scripts import Action, actions_of, free_name
@@ -16,8 +17,6 @@ from cics.stand_in.counts import is_made
 from cics.together import Run, processors, run_together
 
 ON, OFF = "COVER ON", "COVER OFF"
-STATEMENT = re.compile(r"> (?P<line>\d{5}) +(?P<runs>\d+|-----)(?: .*)?")
-ONE_WAY = re.compile(r"> BRANCH (?P<line>\d{5}) (?P<way>NOT TAKEN|ALWAYS) (?P<count>\d+)(?: .*)?")
 NUMBERED = re.compile(r"^(.*\bline )(\d+)")
 NO_SOURCE = "it defines no source, so nothing of it is counted"
 
@@ -29,14 +28,12 @@ def looks_of(name: str) -> list[str]:
 
 def ways_in(lines: Sequence[str]) -> dict[int, Branch]:
     """The branches that went one way, by their lines."""
-    found = filter(None, map(ONE_WAY.fullmatch, lines))
-    return {int(one["line"]): Branch(int(one["count"]), 0) if one["way"] == "ALWAYS" else Branch(0, int(one["count"])) for one in found}
+    return {one.line: Branch(one.count, 0) if one.way == "ALWAYS" else Branch(0, one.count) for one in OneWay.all_in(lines)}
 
 
 def covered_in(lines: Sequence[str], name: str, source: Sequence[str], path: str, before: int) -> Covered | None:
     """What the looks say of a program whose source stands in a file, after so many lines; none where they say nothing."""
-    found = filter(None, map(STATEMENT.fullmatch, lines))
-    runs = {int(one["line"]): 0 if one["runs"].startswith("-") else int(one["runs"]) for one in found}
+    runs = {one.line: one.runs for one in StatementRun.all_in(lines)}
     ways, conditional = ways_in(lines), branches_of(source)
 
     def branch_on(number: int) -> Branch | None:

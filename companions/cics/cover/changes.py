@@ -4,7 +4,6 @@ A changed line that isn't run itself, as a constant, a field, EQU or USING, coun
 also needs that these lines take its bytes by its own name, since by an address nobody knows whether they came to it.
 """
 import difflib
-import re
 from collections.abc import Iterator, Sequence
 from dataclasses import dataclass, field, replace
 from functools import cached_property
@@ -13,15 +12,13 @@ from itertools import zip_longest
 from cics.child import Child
 from cics.cover.asking import covered_in, looks_of
 from cics.cover.users import base_of, sections_of, takes
+from cics.looks import InUse, LiteralUsed, Used, numbers_in
 from cics.scripts import Action
 from cics.statements import Statement, statements_of
 
 SILENT = ("TITLE", "PRINT", "EJECT", "SPACE")  # statements that make nothing
 DATA = ("DS", "DC", "EQU", "DSECT")  # those that are used by their names
 NOWHERE, UNREAD = "used nowhere", "perhaps never read"
-USED = re.compile(r"> XREF '.+' LINE (?P<line>\d+)(?: .*)? USED (?P<lines>[\d* ]+)")
-LITERAL = re.compile(r"> XREF LITERAL .* USED (?P<lines>[\d* ]+)")
-IN_USE = re.compile(r"> XREF USING \d+ FROM (?P<first>\d+) TO (?P<last>\d+) .*")
 
 
 @dataclass(frozen=True)
@@ -115,14 +112,13 @@ class Ran:
 
 def uses_in(lines: Sequence[str]) -> dict[int, list[int]]:
     """The lines that use what each line defines, by XREF."""
-    found = filter(None, map(USED.fullmatch, lines))
-    return {int(one["line"]): [int(number.rstrip("*")) for number in one["lines"].split()] for one in found}
+    return {one.line: numbers_in(one.users) for one in Used.all_in(lines)}
 
 
 def uses_by(lines: Sequence[str]) -> Uses:
     """What XREF writes of a source."""
-    literals = [int(number.rstrip("*")) for one in filter(None, map(LITERAL.fullmatch, lines)) for number in one["lines"].split()]
-    in_use = [range(int(one["first"]), int(one["last"]) + 1) for one in filter(None, map(IN_USE.fullmatch, lines))]
+    literals = [number for one in LiteralUsed.all_in(lines) for number in numbers_in(one.users)]
+    in_use = [range(one.first, one.last + 1) for one in InUse.all_in(lines)]
     return Uses(uses_in(lines), literals, in_use)
 
 

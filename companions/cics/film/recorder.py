@@ -9,27 +9,19 @@ from dataclasses import dataclass, field
 from cics.child import Child, Gone
 from cics.cover.asking import ON
 from cics.film.sources import Source, source_of, with_fields
+from cics.looks import Area, Arrived, Covered, Instruction, Item, Level, Next, Queue, Registers, place_in
 from cics.orders import SECONDS, Orders, read_orders
 from cics.scripts import RUN, Action
-from cics.transcripts import CWA, RUN_ENDS, place_in, reply_of, without_looks
+from cics.transcripts import CWA, RUN_ENDS, reply_of, without_looks
 
 MOST_EVENTS = 10_000
 SHOWN, IN_AREA = 4_096, 256  # bytes of a DFHEISTG, and of another area
 MOST_ITEMS, ITEM_BYTES = 24, 512  # of a queue, that are shown as bytes too
 MOST_AHEAD = 300_000  # bytes of tasks' areas and of queues: with more AHEAD, which copies all, isn't asked
 OWN, OTHER, OTHERS = 16_384, 4_096, 32_768  # bytes of a task's areas; at an event of another terminal; of all such tasks together
-LEVEL = re.compile(r"> LEVEL \d\d PROGRAM (\S+) R14 ([0-9A-F]{6}) ")
-AREA = re.compile(r"> AREA ([0-9A-F]{6}) LENGTH ([0-9A-F]{6}) (?:DFHEISTG (\d+)|GETMAIN|OTHER) OWNER \S+")
-ITEM = re.compile(r"> ITEM (\d+) LENGTH (\d+) ")
-INSTRUCTION = re.compile(r"> INSTRUCTION [0-9A-F]{6} ([^ +]+)\+[0-9A-F]{6} \S+ LINE (\d+)")
 MOST_INSTRUCTIONS = 256  # of a half-turn, the last ones, whose statements are tinted
 MOST_ARRIVALS = 64  # at lines in a half-turn, of which AHEAD AT is asked
-ARRIVED = re.compile(r"> AHEAD \S+ AT \S+ LINE (\d+) CC (\d)")
-REGISTERS = re.compile(r"> R\d\d((?: [0-9A-F]{8}){4})")
-BYTES = re.compile(r" BYTES (\d+) READ \d+$")
-COVERED = re.compile(r"> COVERED \S+ STATEMENTS (\d+) OF ")
 RAN = ("AtCommand", "Abended", "TookExit")  # answers to turns that run instructions
-NEXT = re.compile(r"> CC \d NEXT ([0-9A-F]{6}) ")
 SOURCE = re.compile(r"SOURCE ([A-Z0-9@#$]{1,8})( DISASM)?")  # without LIST
 
 Lines = list[str]
@@ -101,7 +93,7 @@ class Recorder:
         self.has_instructions = False  # whether AHEAD has the instructions of the next turn
         self.arrivals_left = 0  # at lines, that may still be asked for
         self.lines_to_count = 0  # of sources, whose statements COVERED may still count after turns
-        self.counted: dict[str, str] = {}  # of each program, how many of its statements were run
+        self.counted: dict[str, int] = {}  # of each program, how many of its statements were run
         self.done = 0
 
     def perform(self, actions: list[Action]) -> None:
@@ -222,29 +214,29 @@ class Recorder:
         """Notes which statements of programs were run first by the event of a number; -1 where that isn't known."""
         names = [it for it in programs if it in self.film.sources]
         self.lines_to_count = max(1, self.lines_to_count - sum(len(self.film.sources[it].lines) for it in names))
-        counts = {it: found[1] for it, lines in self.asked({it: f"COVERED {it}" for it in names}).items() if (found := COVERED.match(lines[0]))}
+        counts = {it: found.run for it, lines in self.asked({it: f"COVERED {it}" for it in names}).items() if (found := Covered.read(lines[0]))}
         new = {it: f"COVERED {it} LINES" for it, count in counts.items() if self.counted.get(it) != count}
         left_out = set() if not self.skipped else {*counts} - {*self.counted}  # what these ran before isn't known
         self.counted |= counts
         for it, lines in self.asked(new).items():
             self.film.sources[it].note_runs(lines, -1 if it in left_out else number)
 
-    def instructions_ahead(self, lines: Lines, terminal: str | None) -> list[re.Match[str]]:
+    def instructions_ahead(self, lines: Lines, terminal: str | None) -> list[Instruction]:
         """Asks in front of a turn that runs instructions which these are."""
         if not self.has_instructions or not lines[0].startswith("TURN ") or terminal not in self.places or self.kept_bytes() > MOST_AHEAD:
             return []
         _, is_due = self.address_of(terminal)
         ahead = [] if is_due else self.child.ask(f"AHEAD {terminal} {MOST_INSTRUCTIONS}")
-        return [it for it in map(INSTRUCTION.match, ahead) if it]
+        return Instruction.all_in(ahead)
 
-    def arrivals_ahead(self, terminal: str | None, ahead: list[re.Match[str]]) -> list[Arrival]:
+    def arrivals_ahead(self, terminal: str | None, ahead: list[Instruction]) -> list[Arrival]:
         """Asks in front of a turn of instructions with what it comes first to each line of the program at which the task is."""
         (program, _), _ = self.places.get(terminal or "", (("", 0), False))
-        lines = [*dict.fromkeys(int(it[2]) for it in ahead if it[1] == program)][: min(MOST_ARRIVALS, self.arrivals_left)]
+        lines = [*dict.fromkeys(it.line for it in ahead if it.program == program)][: min(MOST_ARRIVALS, self.arrivals_left)]
         self.arrivals_left -= len(lines)
         return arrivals_in([*self.asked({str(line): f"AHEAD {terminal} AT {program} {line}" for line in lines}).values()])
 
-    def note_place(self, event: Event, terminal: str, answer: Lines, ahead: list[re.Match[str]]) -> None:
+    def note_place(self, event: Event, terminal: str, answer: Lines, ahead: list[Instruction]) -> None:
         """Notes where the task is after an event, and what a turn did since it was there: by its instructions where these are known, and
         else what it surely did."""
         before, (address, is_due) = self.places.pop(terminal, None), self.address_of(terminal)
@@ -256,7 +248,7 @@ class Recorder:
         if before and event.text.startswith("TURN "):
             (program, line), is_done = before
             event.passed = self.film.sources[program].path(line, event.ran[1] if event.ran and event.ran[0] == program else None, is_done)
-            known = [int(it[2]) for it in ahead if it[1] == program and (it[1], int(it[2])) != event.ran]
+            known = [it.line for it in ahead if it.program == program and (it.program, it.line) != event.ran]
             # of a long run the first lines aren't among the last instructions
             event.passed = sorted({*event.passed, *known} if len(ahead) == MOST_INSTRUCTIONS else {*known}) if known else event.passed
 
@@ -292,9 +284,9 @@ class Recorder:
             word, _, name = key.partition(" ")
             if word == "task":
                 self.levels.pop(name, None)
-                self.levels.update({name: (it[1], int(it[2], 16)) for it in [it for it in map(LEVEL.match, lines) if it][-1:]})
+                self.levels.update({name: (it.program, it.back) for it in Level.all_in(lines)[-1:]})
             elif word == "areas":
-                self.bytes[name] = sum(int(it[2], 16) for it in map(AREA.match, lines) if it)
+                self.bytes[name] = sum(it.length for it in Area.all_in(lines))
                 old, self.areas[name] = self.areas.get(name, {}), areas_in(name, shown.pop(key))
                 more.update({area: question for area, question in self.areas[name].items() if old.get(area) != question})
                 self.named = {*self.named, name} if self.has_names(name) else self.named - {name}
@@ -310,8 +302,7 @@ class Recorder:
 
     def kept_bytes(self) -> int:
         """How many bytes tasks' areas and queues have, as far as that was seen."""
-        queues = (BYTES.search(line) for line in self.queues.values())
-        return sum(self.bytes.values()) + sum(int(it[1]) for it in queues if it)
+        return sum(self.bytes.values()) + sum(it.bytes for it in Queue.all_in(self.queues.values()))
 
     def has_names(self, terminal: str) -> bool:
         """Whether the fields of a task's areas are asked for, which takes the longer the longer the source is."""
@@ -336,9 +327,9 @@ class Recorder:
     def address_of(self, terminal: str) -> tuple[int, bool]:
         """Where a terminal's task is: its next instruction's address, or where a command is due that of the last byte of its EXEC."""
         lines = self.shown.get(f"task {terminal}", [""])
-        following = next(filter(None, map(NEXT.match, lines)), None)
+        following = next(iter(Next.all_in(lines)), None)
         if following and " RUNNING" in lines[0]:
-            return int(following[1], 16), False
+            return following.address, False
         return self.levels.get(terminal, ("", 0))[1] - 1, True
 
     def place_of(self, terminal: str, address: int) -> tuple[str, int] | None:
@@ -354,10 +345,10 @@ def arrivals_in(answers: list[Lines]) -> list[Arrival]:
     found: list[Arrival] = []
     before = ["00000000"] * 16
     for answer in answers:
-        arrived = ARRIVED.fullmatch(answer[0]) if answer else None
+        arrived = Arrived.read(answer[0]) if answer else None
         if arrived:
-            now = [word for it in map(REGISTERS.fullmatch, answer) if it for word in it[1].split()]
-            found.append((int(arrived[1]), int(arrived[2]), {number: word for number, word in enumerate(now) if word != before[number]}))
+            now = [word for it in Registers.all_in(answer) for word in it.words.split()]
+            found.append((arrived.line, arrived.code, {number: word for number, word in enumerate(now) if word != before[number]}))
             before = now
     return found
 
@@ -379,25 +370,25 @@ def within(areas: dict[str, str], most: int) -> dict[str, str]:
 
 def areas_in(terminal: str, lines: Lines) -> dict[str, str]:
     """What is asked of a task's areas, by what AREAS writes: its last level's DFHEISTG, those of GETMAIN and others, levels before."""
-    found = [it for it in map(AREA.match, lines) if it]
-    storages = [(f"storage {terminal} {it[3]}", it, SHOWN) for it in sorted(found, key=lambda it: -int(it[3] or 0)) if it[3]]
-    others = [(f"area {terminal} {it[1]}", it, IN_AREA) for it in found if not it[3]]
+    found = Area.all_in(lines)
+    storages = [(f"storage {terminal} {it.level:02}", it, SHOWN) for it in sorted(found, key=lambda it: -(it.level or 0)) if it.level]
+    others = [(f"area {terminal} {it.address:06X}", it, IN_AREA) for it in found if not it.level]
     ordered = [*storages[:1], *others, *storages[1:]]
-    return within({key: f"STORAGE {it[1]} {min(int(it[2], 16), most)}" for key, it, most in ordered}, OWN)
+    return within({key: f"STORAGE {it.address:06X} {min(it.length, most)}" for key, it, most in ordered}, OWN)
 
 
 def items_in(key: str, lines: Lines) -> dict[str, str]:
     """What is asked of a queue's items, by what QUEUE writes: the bytes of the first ones."""
-    name, found = key.split(" ")[1], [it for it in map(ITEM.match, lines) if it]
-    return {f"item {name} {it[1]}": f"QUEUE {name} {it[1]}" for it in found[:MOST_ITEMS] if int(it[2]) <= ITEM_BYTES}
+    name, found = key.split(" ")[1], Item.all_in(lines)
+    return {f"item {name} {it.number}": f"QUEUE {name} {it.number}" for it in found[:MOST_ITEMS] if it.length <= ITEM_BYTES}
 
 
 def queue_word(line: str) -> str:
     """A queue's name as QUEUE takes it, of its line: as it is, or by the codes of its characters."""
-    found = re.match(r"> QUEUE (?:'(.*?)'|X'([0-9A-F]{16})') ITEMS ", line)
+    found = Queue.read(line)
     assert found
-    is_word = found[1] and re.fullmatch(r"[A-Z0-9@#$]{1,8}", found[1])
-    return found[2] or (found[1] if is_word else found[1].ljust(8).encode("cp037").hex().upper())
+    is_word = found.name is not None and re.fullmatch(r"[A-Z0-9@#$]{1,8}", found.name)
+    return found.name if found.name is not None and is_word else found.code
 
 
 def is_there(lines: Lines) -> bool:

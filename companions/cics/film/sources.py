@@ -9,10 +9,9 @@ from dataclasses import dataclass, field
 from functools import cached_property
 from typing import NamedTuple
 
-from cics.cover.asking import STATEMENT as STATEMENT_RUN
+from cics.looks import StatementRun, Symbol
 
 LISTED = re.compile(r"([0-9A-F]{6}| {6}) ([0-9A-F ]{16}) ([0-9]{5}) (.*)")
-SYMBOL = re.compile(r"> SYMBOL '(.+)' VALUE ([0-9A-F]{6}) SECTION '(.+)' LENGTH ([0-9]+) LINE ([0-9]+)")
 STATEMENT = re.compile(r"(\S*)\s+(\S+)\s*(.*)")
 LOADED = re.compile(r"PROGRAM (\S+) AT ([0-9A-F]{6}) LENGTH ([0-9A-F]{6})")
 TYPE = re.compile(r"[0-9]*([A-Z])")
@@ -65,9 +64,8 @@ class Source:
 
     def note_runs(self, lines: list[str], number: int) -> None:
         """Notes that the statements which COVERED has as run, and that weren't before, were run by an event."""
-        for one in filter(None, map(STATEMENT_RUN.fullmatch, lines)):
-            line, was_run = int(one["line"]), not one["runs"].startswith("-")
-            self.runs[line] = self.runs.get(line) or (number if was_run else 0)
+        for one in StatementRun.all_in(lines):
+            self.runs[one.line] = self.runs.get(one.line) or (number if one.runs else 0)
 
     def statements(self) -> Iterator[Statement]:
         """All statements; a line goes on in the next one where its column 72 isn't blank."""
@@ -152,15 +150,14 @@ def cwa_section(source: Source) -> str | None:
 def with_fields(source: Source, symbols: list[str]) -> None:
     """Puts in the fields of its DFHEISTG, but for those of its head, and of the CWA's DSECT, by what SYMBOLS writes."""
     section = cwa_section(source)
-    for found in filter(None, map(SYMBOL.fullmatch, symbols)):
-        offset, line = int(found[2], 16), int(found[5])
-        if found[1] == found[3] or line > len(source.lines) or found[3] == STORAGE and offset < HEAD:
+    for found in Symbol.all_in(symbols):
+        if found.name == found.section or found.line > len(source.lines) or found.section == STORAGE and found.value < HEAD:
             continue
-        words = source.lines[line - 1][:71].split()
+        words = source.lines[found.line - 1][:71].split()
         letter = TYPE.match(words[2]) if len(words) > 2 and words[1] in ("DS", "DC") else None
-        source.types[found[1]] = letter[1] if letter else "X"
+        source.types[found.name] = letter[1] if letter else "X"
         for name, fields in ((STORAGE, source.fields), (section, source.cwa)):
-            if found[3] == name:
-                fields.append(Field(found[1], offset, int(found[4]), source.types[found[1]]))
+            if found.section == name:
+                fields.append(Field(found.name, found.value, found.length, source.types[found.name]))
     for fields in (source.fields, source.cwa):
         fields.sort(key=lambda it: (it.offset, -it.length))

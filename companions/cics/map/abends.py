@@ -12,7 +12,8 @@ from cics.orders import performed
 from cics.same import Depth, Region, child_of
 from cics.scripts import MOST_TURNS
 from cics.stand_in.abends import request_line
-from cics.transcripts import LOOK, RESTS, of_look, place_in, reply_of
+from cics.looks import place_in
+from cics.transcripts import LOOK, RESTS, of_look, reply_of
 
 MOST = 200  # abends that are looked at
 IDLE = (*RESTS, "NoSuchTerminal")  # a turn that can't be made

@@ -1,13 +1,13 @@
 """Looks at the region from a terminal: which lines may be sent, and the pages that show what they answer (docs/LOOKS.md)."""
-import re
 from collections.abc import Mapping, Sequence
 from typing import NamedTuple
 
 from cics.line_forms import FORMS, reason_of
+from cics.looks import Area, Level, Symbol, place_in
 from cics.scripts import OF_CICSLOOK
 from cics.terminals.data_stream import BRIGHT, COLUMNS, PAGE, ROWS, Painting
 from cics.terminals.region import Answer, Request, Work
-from cics.transcripts import of_look, place_in
+from cics.transcripts import of_look
 
 NEVER = {"RUN", "WATCH", "COVER", "FAULTS", "CHOICES", "ORDERS"}  # of the lines that cicslook has alone those that no terminal sends
 LOOKS = {word: forms for word, forms in FORMS.items() if word in OF_CICSLOOK and word not in NEVER}
@@ -23,9 +23,6 @@ LONGEST = 4096  # bytes of one look
 HEAD, SHOWN = 80, 352  # of a working storage: what every program has, and what EDF's storage page shows
 IN_AREA, IN_FIELD = 64, 16  # bytes that are shown of each
 
-LEVEL = re.compile(r"LEVEL \d\d PROGRAM (\S+) .*DFHEISTG (\S+) LENGTH (\S+) .*")
-SYMBOL = re.compile(r"SYMBOL '(\S+)' VALUE ([0-9A-F]{6}) SECTION '(\S+)' LENGTH (\d+) LINE (\d+)( AT \S+)?")
-AREA = re.compile(r"AREA ([0-9A-F]{6}) LENGTH ([0-9A-F]{6}) (GETMAIN|OTHER) OWNER .*")
 Sources = Mapping[str, Sequence[str]]
 
 class Line(NamedTuple):
@@ -72,24 +69,24 @@ def source_at(lines: Sequence[Line], sources: Sources) -> list[Line]:
     return [Line(f"{at:5} {source[at - 1]}", at == line) for at in around]
 
 def symbols_of(program: str) -> Work:
-    found = [SYMBOL.fullmatch(line.text) for line in (yield from asked(f"SYMBOLS {program}"))]
-    return [it for it in found if it]
+    return Symbol.all_in([line.text for line in (yield from asked(f"SYMBOLS {program}"))])
 
 def left_out(name: str, task: Sequence[Line]) -> Work:
     """Of a stopped task: the fields of its working storage, what is after the storage page, its other areas, its levels."""
     lines: list[Line] = []
-    level = [found for found in (LEVEL.fullmatch(line.text) for line in task) if found][-1]
-    start, rest = int(level[2], 16), int(level[3], 16) - SHOWN
-    for it in sorted((yield from symbols_of(level[1])), key=lambda it: str(it[2])):
-        if it[3] == "DFHEISTG" and int(it[2], 16) >= HEAD:
-            shown = yield from asked(f"STORAGE {start + int(it[2], 16):06X} {min(max(int(it[4]), 1), IN_FIELD)}")
-            lines.append(Line(f"{it[1]:8} {it[4]:>5} {shown[0].text}"))
+    level = Level.all_in([line.text for line in task])[-1]
+    start, rest = level.storage, level.length - SHOWN
+    symbols: list[Symbol] = yield from symbols_of(level.program)
+    for it in sorted(symbols, key=lambda it: it.value):
+        if it.section == "DFHEISTG" and it.value >= HEAD:
+            shown = yield from asked(f"STORAGE {start + it.value:06X} {min(max(it.length, 1), IN_FIELD)}")
+            lines.append(Line(f"{it.name:8} {it.length:>5} {shown[0].text}"))
     if rest > 0:
         lines += yield from asked(f"STORAGE {start + SHOWN:06X} {min(rest, LONGEST)}")
     for area in (yield from asked(f"AREAS {name}")):
-        found = AREA.fullmatch(area.text)
-        if found:
-            lines += yield from asked(f"STORAGE {found[1]} {min(int(found[2], 16), IN_AREA)}")
+        found = Area.read(area.text)
+        if found and found.kind:
+            lines += yield from asked(f"STORAGE {found.address:06X} {min(found.length, IN_AREA)}")
     return lines + [line for line in task if line.text.startswith("LEVEL ")]
 
 class Pages:
