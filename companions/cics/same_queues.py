@@ -60,6 +60,8 @@ def unseen(items: Sequence[tuple[str, int]], room: int) -> list[str]:
 def queues_compared(ask: Ask, own: int = 0, *, at_once: bool) -> Queues:
     """Compares queues where `ask` does by looks. `own`: how many looks each block has anyhow; `at_once`: what is seen has to be seen by one
     block, as where nothing says which of the old outcomes is which of the new ones."""
+    if own >= MOST_LOOKS:
+        return Queues(unseen=[f"queues weren't compared: a block has at most {MOST_LOOKS} looks, and this one has them"])
     different, texts = ask([OF_ALL])
     names = named_in(texts)
     looks = [OF_ALL, *(f"QUEUE {digits_of(name)}" for name in names)]

@@ -216,6 +216,11 @@ class QueuesTest(TestCase):
                 (100, "'.'", True, (Queues(unseen=unseen), [*front, [*front[1], *whole[:61]]]))):
             self.assertEqual(self.asked_for(count, text, at_once=at_once), due)
 
+    def test_no_room(self) -> None:
+        """A block that has all the looks it may have isn't asked once more."""
+        found = queues_compared(lambda looks: self.fail(f"{looks}"), 64, at_once=True)
+        self.assertEqual(found.unseen, ["queues weren't compared: a block has at most 64 looks, and this one has them"])
+
     def test_unseen(self) -> None:
         """The same, but for what can't be looked at, isn't status 0: not even where changed lines may never have been run."""
         for even_unrun in (False, True):

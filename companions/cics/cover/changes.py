@@ -88,9 +88,9 @@ class Ran:
         number, operation = self.numbers[at], self.statements[at].operation
         if number in self.runs:
             return set() if self.runs[number] else {number}
-        if operation not in (*DATA, "USING"):
-            return set() if self.count_run() else {number}
         users = {*self.users_of(at)} - seen
+        if operation not in (*DATA, "USING") or operation == "USING" and not users:
+            return set() if self.count_run() else {number}
         return {line for user in users for line in self.missed(user, seen | users | {at})}
 
     def why_not(self, at: int) -> str | None:
