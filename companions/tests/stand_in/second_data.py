@@ -53,7 +53,7 @@ def held(text: str, column: Column) -> bytes:
     if column.kind in "FH":
         if not re.fullmatch("[-+]?[0-9]{1,30}", inner) or not -(2 ** (bits - 1)) <= int(inner) < 2 ** (bits - 1):
             raise Wrong("number")
-        return (int(inner) % 2**bits).to_bytes(column.size, "big")
+        return int(inner).to_bytes(column.size, "big", signed=True)
     if not re.fullmatch(f"[0-9a-fA-F]{{1,{2 * column.size}}}", inner):
         raise Wrong("digits")
     return int(inner, 16).to_bytes(column.size, "big")

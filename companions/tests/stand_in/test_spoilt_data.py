@@ -94,7 +94,7 @@ class SpoiltDataTest(TestCase):
                 else:
                     expect(f"{what}: read", found == due and not wrong, (found, due, wrong))
             verdicts.append(bool(wrong))
-        expect("some are refused and some are read", FILES < 50 or FILES // 8 < sum(verdicts) < FILES * 7 // 8, sum(verdicts))
+        expect("some are refused and some are read", FILES < 200 or FILES // 8 < sum(verdicts) < FILES * 7 // 8, sum(verdicts))
 
     def test_mapsets(self) -> None:
         spoiler = Spoiler(random.Random(SEED))
@@ -112,7 +112,7 @@ class SpoiltDataTest(TestCase):
                 else:
                     expect(f"{what}: read", found and not wrong and seen(found) == [shown(one) for one in due], (found and seen(found), due, wrong))
             verdicts.append(bool(wrong))
-        expect("some are refused and some are read", FILES < 50 or FILES // 8 < sum(verdicts) < FILES * 7 // 8, sum(verdicts))
+        expect("some are refused and some are read", FILES < 200 or FILES // 8 < sum(verdicts) < FILES * 7 // 8, sum(verdicts))
 
     def test_good(self) -> None:
         """What is spoilt is taken before it is."""
@@ -124,7 +124,8 @@ class SpoiltDataTest(TestCase):
         good = {"p.asm": "\n".join([*RECORD[:-1], "         EXEC  CICS RETURN", "         END", ""]), "d.csv": GOOD[0], "m.bms": MAPSETS[0].lstrip()}
         words = ["--stand-in", "p.asm", "--bms", "m.bms", "--file", "REC=d.csv,key=RKEY", "--out", "made"]
         for name, old, new, due in [("d.csv", "RKEY,", "rkey,", "d.csv:1:1: refused: rkey is no field of the record; RKEY?"),
-                                    ("m.bms", "POS=(3,10)", "POS=(3,81)", "m.bms:7:24: refused: POS"), ("m.bms", "OCCURS=2", "OCCURS=0", "m.bms:9:55: refused: OCC"), ("p.asm", "", "", "")]:
+                                    ("m.bms", "POS=(3,10)", "POS=(3,81)", "m.bms:7:24: refused: POS"),
+                                    ("m.bms", "OCCURS=2", "OCCURS=0", "m.bms:9:55: refused: OCC"), ("p.asm", "", "", "")]:
             content = good[name] if isinstance(good[name], str) else good[name].decode()
             with folder_of({**good, name: content.replace(old, new)}) as folder:
                 ended = called("cics-adapt", words, folder)
