@@ -2,12 +2,13 @@
 import re
 from collections.abc import Iterable, Sequence
 
+from cics.instructions import INSTRUCTIONS
 from cics.statements import Statement
 from cics.texts import cut, places_of
 
 SECTIONS = ("CSECT", "START", "DSECT")
 NEVER_TAKES = ("LA", "DC", "DS", "EQU", "USING")  # what an address or a value is made of
-BY_LENGTH = ("MVC", "CLC", "NC", "OC", "XC", "PACK", "UNPK", "MVO", "MVN", "MVZ")  # whose parentheses have a length, not a register
+LONG = 6  # bytes of an instruction whose parentheses have a length, not a register
 BY_BYTES = ("TR", "TRT", "EX")  # whose second operand is taken at a place that registers or bytes say
 LENGTH_OF = re.compile(r"(?<![A-Z0-9@#$])L'[A-Z@#$][A-Z0-9@#$]*")
 WORD = re.compile(r"[A-Z@#$][A-Z0-9@#$]*")
@@ -29,7 +30,8 @@ def takes(one: Statement, names: Iterable[str]) -> bool:
         return True
     named = [at for at, operand in enumerate(cut(one.operand)) if {*names_in(operand)} & {*names}]
     operands = cut(one.operand)
-    is_plain = all("(" not in outside(operands[at]) for at in named) or one.operation in BY_LENGTH
+    instruction = INSTRUCTIONS.get(one.operation)
+    is_plain = all("(" not in outside(operands[at]) for at in named) or instruction is not None and instruction.length == LONG
     return one.operation not in NEVER_TAKES and is_plain and not (one.operation in BY_BYTES and 1 in named)
 
 
