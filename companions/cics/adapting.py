@@ -50,6 +50,11 @@ class Group:
         kept = [comment_of(line) for line in self.old.lines] if is_kept and not is_shown else []
         return kept + made
 
+    def origins(self, *, is_kept: bool) -> list[Origin]:
+        """Of each line the statement that it comes from: of what is done at the program's end for another statement that one."""
+        made = [one.origin for one in self.new for _ in one.written()]
+        return [self.old.origin] * (len(self.lines(is_kept=is_kept)) - len(made)) + made
+
 
 @dataclass(frozen=True)
 class Adapted:
@@ -64,7 +69,7 @@ class Adapted:
 
     def origins(self) -> list[Origin]:
         """Of each line the statement that it comes from."""
-        return [group.old.origin for group in self.groups for _ in group.lines(is_kept=self.is_kept)]
+        return [origin for group in self.groups for origin in group.origins(is_kept=self.is_kept)]
 
 
 def rewrite_of(statement: Statement) -> Rewrite | None:

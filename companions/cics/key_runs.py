@@ -1,15 +1,16 @@
 """A run by keys, without a script: programs, one terminal, and keys, each pressed and run to rest."""
 import json
 import re
-from collections.abc import Iterator
+from collections.abc import Callable, Iterator
 from dataclasses import dataclass, field
 
 from cics.assembler_files import Source, encoded, run_script
 from cics.cli import DONE, FOUND, MISUSED, Failure, ended, say, write_out
+from cics.exact.routines import HEADING, routine_names
 from cics.faults import all_faults_of
 from cics.key_names import AIDS
+from cics.looks import StatementRun, place_in
 from cics.origins import Origins
-from cics.looks import place_in
 from cics.queues import TERMINAL, Loader, given_of, loaders_of
 from cics.scripts import MOST_TURNS
 from cics.stand_in.abends import request_line
@@ -20,6 +21,7 @@ KEY_NAME = re.compile(r"(?:PF|PA)\d+")
 MOST_TEXT = 1920  # characters of a key
 AT = "T001"
 TERMINALS = [f"T{number:03}" for number in range(1, 17)]  # of a set-up for terminals
+MOST_INSTRUCTIONS = 65_536  # of a turn
 LINES_OF_KEY = 3  # in a script: the key, RUN, and SCREEN
 ENDS = ("Ended", "Waiting")
 
@@ -160,7 +162,29 @@ def cause_of(until: list[str], cicslook: str, *, with_fields: bool) -> list[str]
 
     lines = looked([*until, f"ABEND {AT}"])
     lines += request_line(lines, until, AT, looked)
+    lines += routine_line(lines, until, looked)
     return lines + (fields_in(looked([*until, f"ABEND {AT} FIELDS"])) if with_fields else [])
+
+
+def routine_line(cause: list[str], until: list[str], looked: Callable[[list[str]], list[str]]) -> list[str]:
+    """Of a task that ran too long what routines that cics-adapt wrote its last turn went into, where that is most of it."""
+    place = place_in(cause)
+    if place is None or not any(line.startswith(f"ABEND {AT} AICA") for line in cause) or HEADING not in until:
+        return []
+    counted = looked([*until[:-1], f"{until[-1]} BEFORE ABEND", "COVER ON", f"RUN {AT} 1", f"COVERED {place[0]} LINES"])
+    block = source_of(until, place[0])
+    begin = block.index(HEADING) if HEADING in block else len(block)
+    inside = [(row.runs, (row.text or "").split(" ")[0]) for row in StatementRun.all_in(counted) if row.line > begin]
+    if 2 * sum(count for count, _ in inside) < MOST_INSTRUCTIONS:
+        return []
+    called = [f"{name}, {count} times" for count, name in inside if name in routine_names()]
+    return [f"the turn's 65,536 instructions went into {' and '.join(called)}"] if called else []
+
+
+def source_of(script: list[str], program: str) -> list[str]:
+    """The lines of a program's source in a script."""
+    begin = script.index(f"SOURCE {program}") + 1 if f"SOURCE {program}" in script else len(script)
+    return script[begin : script.index("/*", begin)] if begin < len(script) else []
 
 
 def led_back(cause: list[str], origins: Origins) -> list[str]:

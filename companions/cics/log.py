@@ -6,6 +6,7 @@ from cics.statements import Origin
 
 LONGEST = 110  # characters of a change that is told
 CHANGED, STANDS_IN, READ, LEFT, REFUSED = "changed", "stands in", "read", "left", "refused"
+NOT_SHOWN = "changed, not shown to be exact here"
 
 
 @dataclass(frozen=True)
@@ -44,6 +45,9 @@ class Log:
     def read(self, origin: Origin, text: str) -> None:
         self.told.append(Told(origin, text, READ))
 
+    def not_shown(self, origin: Origin, why: str) -> None:
+        self.told.append(Told(origin, why, NOT_SHOWN))
+
     def left(self, origin: Origin, text: str) -> None:
         entry = Told(origin, text, LEFT)
         if entry not in self.seen:
@@ -60,7 +64,8 @@ class Log:
         return any(entry.is_refused for entry in self.told)
 
     def has_left(self) -> bool:
-        return any(entry.is_left for entry in self.told)
+        """Whether something is left, or isn't shown to be exact."""
+        return any(entry.verb in (LEFT, NOT_SHOWN) for entry in self.told)
 
     def has_stand_in(self) -> bool:
         return any(entry.verb == STANDS_IN for entry in self.told)

@@ -241,11 +241,12 @@ class Covered(Row):
 
 @dataclass(frozen=True)
 class StatementRun(Row):
-    """COVERED LINES: how often a statement was run; hyphens where it never was."""
+    """COVERED LINES: how often a statement was run, or hyphens where it never was; and its text."""
 
-    FORM = r"(?P<line>\d{5}) +(?P<count>\d+|-----)(?: .*)?"
+    FORM = r"(?P<line>\d{5}) +(?P<count>\d+|-----)(?: (?P<text>.*))?"
     line: int
     count: str
+    text: str | None
 
     @property
     def runs(self) -> int:

@@ -1,15 +1,15 @@
-"""Which statements of a source cics-adapt wrote beside the first of each: its routines, and of a call all but where it begins."""
+"""Which statements of a source cics-adapt put in: its routines with the stubs that call them, and what fills an instruction's place behind the
+branch to its stub."""
 from collections.abc import Iterator, Sequence
 from dataclasses import replace
 
 from cics.cover.counts import Covered
-from cics.exact.writing import HEADING
+from cics.exact.routines import HEADING
 from cics.statements import Statement, statements_of
 
 OWN = ("$X", "$S")  # how the names begin that are put in
 SECTIONS = ("CSECT", "START", "DSECT")
-CALL = ("ST", "14,$X14")  # how a call of a routine begins
-CALL_ENDS = (("L", "14,$X14"), ("EX", "0,$XF"))
+FILLER = ("NOPR", "0")
 
 
 def in_routines(statements: Sequence[Statement]) -> Iterator[int]:
@@ -23,21 +23,12 @@ def in_routines(statements: Sequence[Statement]) -> Iterator[int]:
             yield one.origin.number
 
 
-def in_calls(statements: Sequence[Statement]) -> Iterator[int]:
-    """The lines of calls' statements behind the first; where a call has no end none."""
-    call: list[int] | None = None
-    for one in statements:
-        if one.is_comment:
-            continue
-        if (one.operation, one.operand) == CALL:
-            call = []
-        elif call is not None:
-            call.append(one.origin.number)
-            if (one.operation, one.operand) in CALL_ENDS:
-                yield from call
-                call = None
-            elif one.name:
-                call = None
+def in_places(statements: Sequence[Statement]) -> Iterator[int]:
+    """The lines of what stands behind a branch to a stub, which nothing runs."""
+    code = [one for one in statements if not one.is_comment]
+    for before, one in zip(code, code[1:]):
+        if before.operation == "B" and before.operand.startswith(OWN) and (one.operation, one.operand) == FILLER:
+            yield one.origin.number
 
 
 def written_lines(lines: Sequence[str]) -> set[int]:
@@ -45,7 +36,7 @@ def written_lines(lines: Sequence[str]) -> set[int]:
     if not any(line.startswith(HEADING) for line in lines):
         return set()
     statements = statements_of([*lines], "")
-    return {*in_routines(statements), *in_calls(statements)}
+    return {*in_routines(statements), *in_places(statements)}
 
 
 def without_written(one: Covered) -> Covered:

@@ -1,5 +1,5 @@
 """Sums, products and shifts of registers, and branches: AL, ALR, SL, SLR, MH, LPR, LNR, SLDL, SRDL, SLDA, BXLE, BXH, BAS, BASR."""
-from cics.exact.site import NotExact, Site, call, touched_word
+from cics.exact.site import AFTER, NotExact, Site, call, touched_word
 from cics.statements import Line
 
 
@@ -51,15 +51,14 @@ def linked(site: Site) -> list[Line]:
     register = site.register(first, is_changed=True)
     if register in {site.number(part) for part in site.parts(address).inside if part}:
         raise NotExact("it branches by the register that it changes")
-    return [Line("LA", f"{first},*+8"), Line("B", address)]
+    return [Line("LA", f"{first},{AFTER}"), Line("B", address)]
 
 
 def linked_by_register(site: Site) -> list[Line]:
     first, second = (site.register(text) for text in site.operands)
     if first in (0, 13) or first == second:
         raise NotExact("of register 0 or 13, or of one register twice")
-    branch = [Line("BR", site.operands[1])] if second else []
-    return [Line("BALR", f"{site.operands[0]},0"), Line("LA", f"{site.operands[0]},{6 if second else 4}(,{site.operands[0]})"), *branch]
+    return [Line("LA", f"{site.operands[0]},{AFTER}"), *([Line("BR", site.operands[1])] if second else [])]
 
 
 FORMS = {"AL": word, "SL": word, "MH": word, "ALR": registers, "SLR": registers, "LPR": signed, "LNR": signed, "SLDL": pair_shifted,

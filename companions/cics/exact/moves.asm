@@ -47,6 +47,7 @@ $XMVCL   STM   0,13,$XR
          ST    14,$XL
          BALR  12,0
          USING *,12
+         MVC   $XQ(72),$XR              THEY MAY BE MOVED OVER
          LA    1,$XPAIRS
          BALR  9,1
          BALR  12,0
@@ -94,13 +95,16 @@ $XMVCL5  STC   9,0(,2)
          BCT   6,$XMVCL5
          B     $XMVCL7
 $XMVCL6  LA    1,12
-$XMVCL7  AR    3,6
+$XMVCL7  MVC   $XR(72),$XQ
+         AR    3,6
          AR    5,7
          STM   2,3,0(10)
          STM   4,5,0(11)
          L     1,$XCC(1)
          SLA   1,1
          $XOUT2
+*---- DATA
+$XQ      DS    18F                      WHAT IS KEPT IN DFHEIPL
 *---- DATA
 $XMOVE   MVC   0(0,2),0(4)
 *---- DATA

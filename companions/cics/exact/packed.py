@@ -1,5 +1,5 @@
 """Packed decimals: AP, SP, ZAP, CP, MP, DP, SRP; ED, EDMK."""
-from cics.exact.site import NotExact, Site, call, call_of_fields, touched
+from cics.exact.site import NotExact, Site, call, call_of_fields, touched, touched_source
 from cics.statements import Line
 
 MOST_DIVISOR, MOST_BYTES = 8, 16  # bytes of a multiplier or a divisor, and of any packed field
@@ -43,7 +43,8 @@ def shifted(site: Site) -> list[Line]:
 
 def edited(site: Site) -> list[Line]:
     encoded = Line("MVC", ",".join(site.operands))
-    return call(f"$X{site.statement.operation}", encoded, before=touched(site, site.operands[0]), is_interrupted=True)
+    before = touched(site, site.operands[0]) + touched_source(site, site.operands[1], 1)
+    return call(f"$X{site.statement.operation}", encoded, before=before, is_interrupted=True)
 
 
 FORMS = {"AP": sum_of, "SP": sum_of, "ZAP": sum_of, "CP": sum_of, "MP": product, "DP": product, "SRP": shifted, "ED": edited, "EDMK": edited}

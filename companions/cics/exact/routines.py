@@ -11,6 +11,7 @@ FILES = ("common.asm", "logic.asm", "arithmetic.asm", "moves.asm", "swap.asm", "
 APART = ("logic.asm", "arithmetic.asm", "moves.asm")  # whose routines need none of the others', so that they may have their own constants
 OWN_COPY = "Z"  # at the end of the name of a constant of theirs
 BEGIN, COMMENT = "*---- ", "*"
+HEADING = "*---- WRITTEN BY CICS-ADAPT"  # in front of what stands at a program's end
 ORDER = ("EQUATES", "ROUTINE", "PART", "DATA")  # the order of blocks in a program: a base reaches forward only
 CODE = ("ROUTINE", "PART")
 NAME = re.compile(r"\$X[A-Z0-9]*")
@@ -57,6 +58,11 @@ def expanded(lines: list[str], macros: dict[str, list[str]]) -> list[str]:
         first, *others = macros[words[0]]
         found += [line[:9].rstrip().ljust(9) + first[9:] if line[0] != " " else first, *others]
     return found
+
+
+def routine_names() -> set[str]:
+    """The names of the routines that stubs call."""
+    return {name for block in blocks() if block.kind == "ROUTINE" for name in block.defines()[:1]}
 
 
 @dataclass(frozen=True)

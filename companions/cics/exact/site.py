@@ -8,6 +8,9 @@ from cics.statements import Line, Statement
 from cics.texts import closing, cut
 
 
+AFTER = "$AFTER"  # the place behind an instruction, in what is written for it
+
+
 class NotExact(Exception):
     """Why nothing is written for a statement."""
 

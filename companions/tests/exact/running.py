@@ -67,9 +67,9 @@ def program_of(cases: list[Case]) -> list[str]:
     lines = [*HEAD[:-3], *loaded, *HEAD[-3:]]
     for number, case in enumerate(cases):
         target = f",T{number}" if case.has_target else ""
-        lines += [f"S{number:<7} LM    14,12,GIVEN", f"         {case.operation:<5} {case.text}{target}"]
+        lines += [f"S{number:<7} LM    14,12,GIVEN", "         LR    0,0", f"         {case.operation:<5} {case.text}{target}"]
         lines += [f"         MVI   STORAGE+{size - 1},1"] if target else []
-        lines += [f"T{number:<7} STM   0,15,FOUND", "         BALR  2,0", "         L     15,WAYBACK", "         BR    15"]
+        lines += [f"{f'T{number}' if target else '':<8} STM   0,15,FOUND", "         BALR  2,0", "         L     15,WAYBACK", "         BR    15"]
     record = STORAGE + size
     return [*lines, *BACK, *saved, *TAIL, f"STORAGE  DS    CL{size}", f"RECORD   EQU   {record}", f"COUNT    EQU   {record * len(cases)}", "         END"]
 

@@ -54,7 +54,8 @@ def failure_of(statement: str, code: int) -> str | None:
     line = int(where[where.index("LINE") + 1]) if "LINE" in where else 0
     found = (result.origins()[line - 1].number if line else 0, f"INTERRUPTION {code} " in " ".join(lines), registers, "> CC 1" in lines)
     due = (old, True, REGISTERS, True)
-    return None if found == due and not result.log.has_left() else f"{statement}: {found}, where {due} is due; {lines[-9:-7]}"
+    is_left = any(entry.is_left for entry in result.log.told)  # LM may load another base, which is told
+    return None if found == due and not is_left else f"{statement}: {found}, where {due} is due; {lines[-9:-7]}"
 
 
 class InterruptionsTest(TestCase):

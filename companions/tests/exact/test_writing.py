@@ -2,6 +2,7 @@
 from cics.adapting import Adapted, adapted
 from cics.assembler_files import encoded
 from cics.child import run
+from cics.log import NOT_SHOWN as NOT_SHOWN_WORDS
 from cics.sources import SourceText
 from tests.calling import Call, called, failures_of, folder_of, put
 from tests.case import CICSLOOK, PROGRAMS, TestCase
@@ -29,38 +30,40 @@ def left_in(result: Adapted) -> list[str]:
     return [entry.text for entry in result.log.told if entry.is_left]
 
 
+def not_shown_in(result: Adapted) -> list[str]:
+    return [entry.text for entry in result.log.told if entry.verb == NOT_SHOWN_WORDS]
+
+
 def one(statement: str, told: str, *others: str) -> tuple[list[str], str]:
     return [f"         {statement}", *others], told
 
 
-# Statements of which one can't be exact, each with words of what is told.
+OWN_BASE = ["         LR    12,3", "         USING P,12", "         DROP  3"]
+
+# Statements of which one stays, each with words of what is told.
 LIMITS = [
     (["         EX    4,X", "X        AP    A,B"], "target of the EX"), (["         EX    4,X", "X        OC    W,F"], "target of the EX"),
     (["         EX    4,X", "X        MVCL  4,6"], "target of the EX"), (["         EX    4,X", "X        ED    W,A"], "target of the EX"),
     (["         EX    4,X", "X        MVZ   W,F"], "target of the EX"),
     (["         EX    4,X", "X        CLM   4,1,F"], "target of the EX"),
-    (["         EX    4,X+2", "         LR    1,2", "X        AP    A,B"], "it is between"),
-    (["         BE    *+10", "         AP    A,B"], "it is between"), (["         BNE   *+8", "         N     4,F"], "it is between"),
-    (["         B     *+16", "         LR    1,2", "         SLR   4,5", "         LA    5,1", "         LR    1,1"], "it is between"),
-    (["L        AP    A,B", "         B     L+6"], "it is between"),
-    (["L        LR    4,5", "         OC    W,F", "         B     L+8"], "it is between"),
-    (["         AP    A,B", "         B     *-6"], "it is between"),
-    (["         LA    5,*+12", "         ZAP   A,B", "         BR    5"], "it is between"),
-    (["         L     5,=A(L+6)", "L        AP    A,B"], "it is between"),
-    (["L        AP    A,B", "T        DC    A(L+6)"], "it is between"),
-    (["L        AP    A,B", "M        EQU   L+6", "         B     M"], "it is between"),
+    (["         EX    4,X+2", "X        LR    1,2", "Y        AP    A,B"], "target of the EX"),
+    (["         EX    4,X", "X        DS    0H", "         OC    W,F"], "target of the EX"),
+    (["         EX    4,X", "X        EQU   *", "         OC    W,F"], "target of the EX"),
+    (["         EX    4,X", "Y        NC    W,F", "X        EQU   Y"], "target of the EX"),
+    (["         LA    5,L", "         EX    4,0(,5)", "L        AP    A,B"], "target of the EX"),
+    (["         L     5,=A(L)", "         EX    4,0(5)", "L        SP    A,B"], "target of the EX"),
+    (["         LA    5,T", "         EX    0,4(5)", "T        LA    1,1", "         SP    A,B"], "target of the EX"),
     (["         STC   4,L+1", "L        AP    A,B"], "bytes are used"), (["         MVI   L,5", "L        OC    W,F"], "bytes are used"),
     (["         OI    L+1,1", "L        NC    W,F"], "bytes are used"),
     (["         MVC   W(6),L", "L        MP    A,=P'1'"], "bytes are used"),
     (["         XC    L(6),L", "L        CP    A,B"], "bytes are used"), (["         LA    4,L'L", "L        MVN   W,F"], "length is used"),
-    (["         LA    5,L", "         EX    4,0(,5)", "L        AP    A,B"], "a target that isn't known"),
-    (["         L     5,=A(L)", "         EX    4,0(5)", "L        SP    A,B"], "a target that isn't known"),
     one("LA    13,W", "register 13", "         AP    A,B"), one("L     13,4(,13)", "register 13", "         OC    W,F"),
     one("LM    12,14,W", "register 13", "         N     4,F"), one("LM    14,0,W", "register 13", "         SLDL  12,1"),
     one("LR    13,4", "register 13", "         MVCL  4,6"), one("USING W,13", "register 13", "         AP    A,B"),
     one("DROP  13", "register 13", "         AP    A,B"), one("DROP", "register 13", "         CP    A,B"),
     one("N     13,F", "register 13"), one("LPR   13,4", "register 13"), one("AL    13,F", "register 13"),
     one("BAS   13,X", "register 13", "X        DS    0H"),
+    ([*OWN_BASE, "         O     12,F"], "register 12, a base"), ([*OWN_BASE, "         BAS   12,X", "X        DS    0H"], "register 12, a base"),
     one("SLDL  5,1", "an odd register"), one("SRDL  R5,1", "no register that is known"), one("MVCL  5,6", "an odd register"),
     one("CLCL  4,7", "an odd register"), one("MVCL  4,4", "one pair of registers twice"), one("SLDA  12,1", "register 13"),
     one("MP    A(4),W(9)", "interruption 6"), one("DP    A(4),W(4)", "interruption 6"), one("MP    A(2),B(3)", "interruption 6"),
@@ -72,37 +75,54 @@ LIMITS = [
     one("SPM   4", "SPM"), one("SVC   1", "SVC"),
     one("AD    0,D", "AD"), one("LCTL  0,0,F", "LCTL"), (["$XMINE   DS    0H", "         AP    A,B"], "names that begin with $X"),
     (["         DC    5C(N)'X'", "         AP    A,B"], "isn't known before"),
-    (["M        EQU   *+10", "         AP    A,B", "         LR    1,2", "         B     M"], "it is between"),
-    (["         B     12(,3)", "         OC    W,F", "         LR    1,2"], "it is between"),
-    (["         OC    W,F", "L        LR    1,2", "         L     5,8(3)"], "it is between"),
-    (["         BALR  12,0", "         OC    W,F", "         USING *-6,12"], "it is between"),
     (["         AP    A,B", "         ST    5,DFHEIPL"], "DFHEIPL"), (["         OC    W,F", "         MVC   DFHEITP,F"], "DFHEITP"),
     (["         ZAP   A,B", "         STM   14,12,12(13)"], "what register 13 addresses"),
     (["         MVN   W,F", "R13      EQU   13", "         LM    14,12,12(R13)"], "what register 13 addresses"),
+    (["         LR    6,13", "         ST    5,8(,6)", "         MVN   W,F"], "what register 6 addresses"),
     (["         NC    12(4,13),F"], "what register 13 addresses"),
-    (["         EX    0,T(5)", "T        DS    0H", "         AP    A,B", "         SP    A,B"], "a target that isn't known"),
-    (["         LA    5,T", "         EX    0,6(5)", "T        DS    0H", "         AP    A,B", "         SP    A,B"], "a target that isn't known"),
-    (["         L     5,=A(T)", "         EX    0,0(5)", "T        EQU   *", "         AP    A,B"], "a target that isn't known"),
-    (["         BAL   14,S", "         OC    W,F", "         LR    1,2", "S        B     6(,14)"], "may come back behind it"),
-    (["         BALR  14,5", "         AP    A,B", "S        BC    15,6(14)"], "may come back behind it"),
-    (["         B     T(5)", "T        DS    0H", "         BR    14", "         OC    W,F", "         BR    14"], "by an index"),
-    (["         B     *+4(5)", "         BR    14", "         OC    W,F", "         BR    14"], "by an index"),
-    (["         LA    5,L", "         MVI   1(5),X'10'", "L        AP    A,B"], "bytes may be used"),
-    (["         L     5,=A(L)", "         LR    1,2", "         MVC   0(2,5),F", "L        OC    W,F"], "bytes may be used"), one("CS    4,5,", "is empty"),
+    (["         LA    5,L", "         MVI   1(5),X'10'", "L        AP    A,B"], "bytes are used"),
+    (["         L     5,=A(L)", "         LR    1,2", "         MVC   0(2,5),F", "L        OC    W,F"], "bytes are used"), one("CS    4,5,", "is empty"),
     (["         MVC   W,L", "L        DS    0H", "         AP    A,B"], "bytes are used"),
     (["         MVC   W,P", "         LR    1,2", "         AP    A,B"], "bytes are used"),
     (["         CLC   L(8),W", "L        LR    1,2", "         NC    W,F"], "bytes are used"),
-    (["L        AP    A,B", "         DC    AL4(L+6)"], "it is between"),
-    (["L        AP    A,B", "         DC    2A(L+6)"], "it is between"),
-    (["L        AP    A,B", "         EXEC  CICS HANDLE CONDITION ERROR(L+6)"], "it is between"),
     (["L        AP    A,B", "         EXEC  CICS SEND TEXT FROM(L) LENGTH(=H'6')"], "bytes are used"),
-    (["         AP    A,B", "         B     *+12", "         LR    1,2", "         DC    F'1'", "         LR    1,2", "         LR    1,2"], "is moved"),
     (["         MVI   M,5", "L        OC    W,F", "M        EQU   L+1"], "bytes are used"),
-    (["         BCT   4,L-2", "         SLDL  4,1", "L        DS    0H"], "it is between"),
+    (["         BCT   4,L-2", "         SLDL  4,1", "L        DS    0H"], "means a place within it"),
     (["         AP    A,NONE"], "length isn't known"), (["         AP    A(17),B"], "no packed field"),
+    (["         B     M", "L        BAL   14,X", "X        OR    4,5", "M        BAL   14,X"], "no instruction stands beside it"),
 ]
 
-NEAR = 24  # bytes of a call of two packed fields through a base
+# Statements that are changed, of which it isn't shown that they are exact, each with words of what is told.
+NOT_SHOWN = [
+    (["         EX    0,T(5)", "T        DS    0H", "         AP    A,B", "         SP    A,B"], "executes by an index"),
+    (["         L     5,F", "         EX    0,0(,5)", "         AP    A,B"], "goes by a register"),
+    (["         IC    4,L(5)", "L        OC    W,F"], "uses bytes of the code by an index"),
+    (["         B     T(5)", "T        DS    0H", "         BR    14", "         OR    4,5", "         BR    14"], "branches by an index"),
+    (["         BAL   14,S", "         OR    4,5", "         LR    1,2", "S        AH    14,=H'2'", "         BR    14"], "by which is branched"),
+    ([*OWN_BASE, "         LR    9,12", "         LA    12,5", "         OC    W,F", "         LR    12,9"], "changes register 12, the base"),
+    ([*OWN_BASE, "         ST    12,F", "         L     12,G", "         OR    4,5", "         LR    1,2", "         L     12,F"], "changes register 12"),
+    (["         LA    6,=F'77'", "         L     7,4(,6)", "         AP    A,=P'1'"], "address of a literal"),
+]
+
+# Statements that are exact, since each has its place and its length.
+EXACT = [
+    ["         BE    *+10", "         AP    A,B"], ["         BNE   *+8", "         N     4,F"],
+    ["         B     *+16", "         LR    1,2", "         SLR   4,5", "         LA    5,1", "         LR    1,1"],
+    ["L        AP    A,B", "         B     L+6"], ["L        LR    4,5", "         OC    W,F", "         B     L+8"],
+    ["         AP    A,B", "         B     *-6"], ["         LA    5,*+12", "         ZAP   A,B", "         BR    5"],
+    ["         L     5,=A(L+6)", "L        AP    A,B"], ["L        AP    A,B", "T        DC    A(L+6)"],
+    ["L        AP    A,B", "M        EQU   L+6", "         B     M"],
+    ["M        EQU   *+10", "         AP    A,B", "         LR    1,2", "         B     M"],
+    ["         B     12(,3)", "         OC    W,F", "         LR    1,2"], ["         OC    W,F", "L        LR    1,2", "         L     5,8(3)"],
+    ["         BAL   14,S", "         OC    W,F", "         LR    1,2", "S        B     6(,14)"],
+    ["         BALR  14,5", "         AP    A,B", "S        BC    15,6(14)"],
+    ["         B     T(5)", "T        DS    0H", "         BR    14", "         OC    W,F", "         BR    14"],
+    ["         B     *+4(5)", "         BR    14", "         OC    W,F", "         BR    14"],
+    ["L        AP    A,B", "         DC    AL4(L+6)"], ["L        AP    A,B", "         DC    2A(L+6)"],
+    ["L        AP    A,B", "         EXEC  CICS HANDLE CONDITION ERROR(L+6)"],
+    ["         AP    A,B", "         B     *+12", "         LR    1,2", "         DC    F'1'", "         LR    1,2", "         LR    1,2"],
+    [*OWN_BASE, "         LR    9,12", "         LA    12,5", "         LR    12,9", "         OC    W,F"],
+]
 
 
 class LimitsTest(TestCase):
@@ -117,6 +137,21 @@ class LimitsTest(TestCase):
         self.none_of(wrong)
         self.assertGreaterEqual(len(LIMITS), 60)
 
+    def test_not_shown(self) -> None:
+        """What isn't shown to be exact is told, never as exact."""
+        wrong = []
+        for lines, due in NOT_SHOWN:
+            result = result_of(lines)
+            told = not_shown_in(result)
+            if left_in(result) or not any(due in text for text in told) or not result.log.has_left():
+                wrong.append(f"{lines}: told {told} and left {left_in(result)}, where {due} is due")
+            origins = {entry.origin for entry in result.log.told if entry.verb == NOT_SHOWN_WORDS}
+            wrong += [f"{lines}: {entry}" for entry in result.log.told if entry.origin in origins and "exact" in entry.text]
+        self.none_of(wrong)
+
+    def test_exact(self) -> None:
+        self.none_of([f"{lines}: {result.log.lines()}" for lines in EXACT if (result := result_of(lines)).log.has_left()])
+
     def test_tables(self) -> None:
         """An address to which a byte or an index is added before it is used is no place between others."""
         result = result_of(["         AP    A,B", "         TR    W,TABLE-240", "         IC    4,TABLE-240(5)"])
@@ -128,7 +163,7 @@ class LimitsTest(TestCase):
 
     def test_long_storage(self) -> None:
         """What has fields at the end of a working storage that is too long is left; what needs none is written."""
-        result = result_of(["         AP    A,B", "         OC    W,F", "DFHEISTG DSECT", "PAGE     DS    4000C", "P        CSECT"])
+        result = result_of(["         AP    A,B", "         MVZ   W,F", "DFHEISTG DSECT", "PAGE     DS    4000C", "P        CSECT"])
         self.assertEqual([text.partition(":")[0] for text in left_in(result)], ["AP"])
 
     def test_many_routines(self) -> None:
@@ -145,10 +180,10 @@ class LimitsTest(TestCase):
         self.assertEqual(run([CICSLOOK], encoded(["FAULTS P", *written, "/*"])).lines(), ["> FAULTS P NONE"])
 
     def test_long_program(self) -> None:
-        """A program that grows beyond what its base reaches: each operand that isn't reached any more is told."""
-        lines = [*["         AP    A,B"] * 200, "         MVC   W,TABLE"]
-        result = result_of(lines)
-        self.assertTrue(any("no base in use reaches" in text for text in left_in(result)), left_in(result))
+        """What has a stub out of reach is left; the other statements are where they were."""
+        result = result_of([*["         AP    A,B"] * 200, "         MVC   W,TABLE"])
+        told = left_in(result)
+        self.assertTrue(0 < len(told) < 200 and all("no base in use reaches" in text for text in told), told[:3])
 
 
 class FormTest(TestCase):
@@ -160,14 +195,22 @@ class FormTest(TestCase):
         return lines[begin + 1 : lines.index(TAIL[0], begin)]
 
     def test_sizes(self) -> None:
-        """The bytes of what is written, by the listing."""
-        for statement, most in {"AP    A,B": NEAR, "OC    C,C": 12, "OC    C(1),C": 4, "OC    C(1),=X'80'": 4, "NC    0(1,5),=C'A'": 4,
-                                "OC    W,F": 18, "N     4,F": 16, "NR    4,5": 14, "X     4,F": 14,
-                                "XI    C,1": 6, "LPR   4,5": 8, "CLM   4,3,F": 10, "TS    C": 14, "BASR  14,15": 8}.items():
-            lengths = {"ST": 4, "BAL": 4, "PACK": 6, "L": 4, "EX": 4, "MVC": 6, "OI": 4, "BNZ": 4, "LR": 2, "XC": 6, "LTR": 2, "BNM": 4, "LCR": 2,
-                       "STCM": 4, "CLC": 6, "NI": 4, "MVI": 4, "BALR": 2, "LA": 4, "BR": 2}
-            found = sum(lengths[line.split()[0]] for line in self.new_lines(statement))
-            self.assertLessEqual(found, most, statement)
+        """What stands in place of a statement has its length."""
+        for statement, count in {"AP    A,B": 6, "OC    C,C": 6, "OC    C(1),C": 6, "OC    C(1),=X'80'": 6, "NC    0(1,5),=C'A'": 6, "OC    W,F": 6,
+                                 "N     4,F": 4, "X     4,F": 4, "XI    C,1": 4, "CLM   4,3,F": 4, "TS    C": 4, "BXLE  4,6,P": 4}.items():
+            lengths = {"B": 4, "NOPR": 2, "OI": 4, "NI": 4}
+            found = sum(lengths[line[9:].split()[0]] for line in self.new_lines(statement))
+            self.assertEqual(found, count, statement)
+
+    def test_together(self) -> None:
+        """An instruction of two bytes is done together with one beside it, behind it or in front of it."""
+        for lines, due in ((["         OR    4,5", "         LA    6,1"], ["$XP001   B     $X001", "         NOPR  0"]),
+                           (["         LR    6,7", "         OR    4,5", "L        BAL   6,L"], ["$XP001   B     $X001"]),
+                           (["         L     15,F", "         BASR  14,15"], ["$XP001   B     $X001", "         NOPR  0"])):
+            result = result_of(lines)
+            new = [line for line in result.lines() if not line.startswith("*")]
+            begin = new.index(due[0])
+            self.assertEqual((left_in(result), new[begin : begin + len(due)]), ([], due))
 
     def test_again(self) -> None:
         first = result_of(["         AP    A,B", "L        OC    W,F", "         ED    W,A", "         BXLE  4,6,L"])
@@ -175,10 +218,10 @@ class FormTest(TestCase):
         self.assertEqual((again.lines(), again.log.told), (first.lines(), []))
 
     def test_far(self) -> None:
-        """Where the base doesn't reach the routines, a call goes by an address in a literal."""
-        result = result_of(["         AP    A,B", "         LTORG", "         DS    4096C"])
+        """Where the base doesn't reach the routines, a call goes by an address in front of the stubs."""
+        result = result_of([*["         AP    A,B"] * 3, "         DS    3950C"])
         self.assertEqual([text for text in left_in(result) if text.startswith("AP")], [])
-        self.assertIn("         L     14,=A($XAP)", result.lines())
+        self.assertTrue({"         L     14,$@AP", "$@AP     DC    A($XAP)"} <= set(result.lines()))
 
     def test_each_line(self) -> None:
         lines = ["L        AP    A,B                     THE SUM", "* A COMMENT", "         LR    4,5"]
@@ -202,11 +245,20 @@ class RunTest(TestCase):
                             "         UNPK  W(7),A", "         OI    W+6,X'F0'", "         EXEC  CICS SEND TEXT FROM(W) LENGTH(7) ERASE"])
         self.assertIn("01|0007000", keyed(result.lines(), "SCREEN T001"))
 
+    def test_turn_of_a_routine(self) -> None:
+        """A loop that uses a turn up by a routine is told as that."""
+        lines = ["P        CSECT", "LOOP     OC    A,=256C' '", "         B     LOOP", "         EXEC  CICS RETURN", "DFHEISTG DSECT", "A        DS    XL256",
+                 "         END"]
+        new = adapted(SourceText(lines), "OLD.asm", []).lines()
+        with folder_of({"new.asm": "".join(f"{line}\n" for line in new)}) as folder:
+            ran = called("cics-run", ["new.asm", "--key", "P", *PROGRAMS], folder).lines()
+        self.assertEqual(ran[-1], "the turn's 65,536 instructions went into $XOC, 36 times")
+
     def test_links(self) -> None:
         """BAS and BASR leave the address alone in their register, and the code as it was."""
         result = result_of(["         CLI   *,0", "         BAS   5,L", "N        BR    7", "L        LA    6,N", "         CR    5,6", "         BNE   BAD",
                             "         LA    4,M", "         CLI   *,0", "         BASR  5,4", "O        DS    0H", "BAD      ABEND 1", "M        LA    6,O"])
-        self.assertEqual(len(left_in(result)), 1)
+        self.assertEqual(len(left_in(result)), 2)
         good = result_of(["         BAS   5,L", "N        BR    7", "L        LA    6,N", "         CR    5,6", "         BNE   BAD",
                           "         LA    4,M", "         BASR  5,4", "O        BR    7", "BAD      EXEC  CICS ABEND ABCODE('BAD')", "M        LA    6,O",
                           "         CR    5,6", "         BNE   BAD", "         EXEC  CICS SEND TEXT FROM(=C'GOOD') LENGTH(4) ERASE"])
