@@ -1,7 +1,6 @@
 //! What looks show of bytes in characters, once more in digits, where other bytes would show alike.
-ghost use Rattle.std.specs.Prelude.{◌≡◌, ◌+◌, ◌==◌, ◌≤◌, ◌++◌, IfOk, OnOk, false, length, true};
+ghost use Rattle.std.specs.Prelude.{◌≡◌, ◌≤◌, ◌++◌, IfOk, OnOk, length, true};
 ghost use Rattle.std.specs.Option.{option_map_or};
-ghost use Rattle.cx_ebcdic.specs.Characters.{code_of, shown_as};
 ghost use Rattle.cx_look_lines.specs.Words.{in_hexadecimal};
 ghost use Rattle.cx_look_tables.specs.Hidden.{has_character, have_characters, hidden_item, hidden_items, hidden_row, hidden_rows, hidden_rows_from, is_shown_whole};
 ghost use Rattle.cx_service.specs.Queues.{count_of, item_of};
