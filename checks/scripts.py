@@ -222,7 +222,7 @@ def bad_orders() -> Iterator[Script]:
         yield Script(text_of([f"ORDERS {word}", "/*"]), fault=Fault(1))
     for line in ["HELLO", "RUN T001", "TERMINAL T001", "KEY T001", "KEY T001 PF13", "KEY T0011 ENTER", "KEY T001 ENTER A{B", "key T001 ENTER",
                  "screen T001", "SCREEN", "SCREEN T0011", "STORAGE 001000", "ABEND T001", "ABEND T001 STORAGE", "AHEAD T001", "AHEAD T001 AT P 1",
-                 "HELP", "FAULTS P", "ORDERS"]:
+                 "AHEAD T001 AFTER 1", "AHEAD T001 FIELDS AFTER 1", "HELP", "FAULTS P", "ORDERS"]:
         yield Script(text_of(["ORDERS", line, "/*"]), fault=Fault(2))
     yield Script(text_of(["* first", "ORDERS"]), fault=Fault(2))
     yield Script(text_of(["ORDERS", "QUEUES"]), fault=Fault(1))
@@ -266,7 +266,7 @@ def bad_choices() -> Iterator[Script]:
             "KEY T001 ENTER {A", "KEY T001 ENTER {A{B}", "KEY T001 ENTER {A}{", "KEY T001 ENTER A}", "KEY T001 {}", "KEY {} ENTER", "{KEY} T001 ENTER",
             f"KEY T001 ENTER {X_1000}{{{'X' * 921}|}}", "KEY T001 ENTER {#####}", "KEY T001 ENTER " + "{##}" * 2 + "{#|X}", "KEY T001 ENTER {#|}{####}"]
     looks = ["HELLO", "RUN T001", "TURN T001", "TERMINAL T001", "screen T001", "SCREEN", "SCREEN T0011", "STORAGE 001000", "ABEND T001",
-             "ABEND T001 STORAGE", "AHEAD T001", "AHEAD T001 AT P 1", "HELP", "FAULTS P", "ORDERS", "CHOICES 8", "COVERED", "COVER ON"]
+             "ABEND T001 STORAGE", "AHEAD T001", "AHEAD T001 AT P 1", "AHEAD T001 AFTER 1", "AHEAD T001 FIELDS AFTER 1", "HELP", "FAULTS P", "ORDERS", "CHOICES 8", "COVERED", "COVER ON"]
     for line in [*looks, *keys]:
         yield Script(text_of(["CHOICES 8", line, "/*"]), fault=Fault(2))
     yield Script(text_of(["* first", "CHOICES 8"]), fault=Fault(2))
