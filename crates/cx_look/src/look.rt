@@ -1,5 +1,5 @@
 //! Looks, and how a line of a script is read as one.
-ghost use Rattle.std.specs.Prelude.{◌≡◌, ◌≤◌, IfSome, None, Some, if◌then◌else◌, length, option_map};
+ghost use Rattle.std.specs.Prelude.{◌≡◌, ◌≤◌, IfSome, None, Some, if◌then◌else◌, length, option_and_then, option_map};
 ghost use Rattle.std.specs.List.{find};
 ghost use Rattle.std.specs.Option.{option_copied};
 ghost use Rattle.std.specs.Str.{bytes_eq};
@@ -456,10 +456,11 @@ fn after_look(term: Name4, text: &[u8]) -> Option<Look>
 }
 
 /// The fields of a terminal's task after so many instructions of its next turn.
-fn fields_after_look(term: Name4, text: &[u8]) -> Option<Look>
-    ensures { result ≡ option_map (look.FieldsAfter term) (count_after text.now) }
+fn fields_after_look(term: Name4, rest: Option<&[u8]>) -> Option<Look>
+    ensures { let n = option_and_then count_after (option_copied rest.entry) in
+        result ≡ option_map (look.FieldsAfter term) n }
 {
-    let n = count_after(text)?;
+    let n = count_after(rest?)?;
     Some(Look::FieldsAfter(term, n))
 }
 
@@ -473,7 +474,7 @@ fn ahead_with(term: Name4, text: &[u8]) -> Option<Look>
     } else if first == b"AFTER".as_slice() {
         after_look(term, text)
     } else if first == b"FIELDS".as_slice() {
-        fields_after_look(term, rest?)
+        fields_after_look(term, rest)
     } else {
         let n = count_up_to(text, MOST_INSTRUCTIONS)?;
         Some(Look::Ahead(term, n))

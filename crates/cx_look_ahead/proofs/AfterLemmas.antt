@@ -11,11 +11,10 @@ use Rattle.cx_program.specs.declared.level.Level.{Level}
 use Rattle.cx_storage.specs.Storage.{Storage}
 use Rattle.cx_look_symbols.specs.Sources.{Sources}
 use Rattle.cx_look_fields.specs.Fields.{calling}
-use Rattle.cx_region.specs.State.{RegionState}
 use Rattle.cx_look_lines.specs.Words.{Lines}
 use Rattle.cx_look_turn.specs.Laws.{MachinesAfterDecide}
 use Rattle.cx_look_turn.specs.NextTurn.{machine_ahead}
-use Rattle.cx_look_ahead.specs.After.{AfterText, after_line, caller_fields, level_fields, reached_line}
+use Rattle.cx_look_ahead.specs.After.{after_line, caller_fields, level_fields, reached_line}
 use Rattle.cx_look_ahead.specs.Parts.Callers.{caller_at}
 use Rattle.cx_look_ahead.specs.Laws.Afters.{AfterDecides}
 

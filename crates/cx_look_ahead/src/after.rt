@@ -1,5 +1,5 @@
 //! AHEAD AFTER.
-ghost use Rattle.std.specs.Prelude.{◌≡◌, ◌+◌, ◌≤◌, ◌++◌, IfOk, OnOk, codes, length, reverse, slice_get};
+ghost use Rattle.std.specs.Prelude.{◌≡◌, ◌+◌, ◌≤◌, ◌++◌, [], IfOk, OnOk, codes, length, option_copied, reverse, slice_get};
 ghost use Rattle.std.specs.Option.{option_map_or};
 ghost use Rattle.cx_exec.specs.Machine.{machine};
 ghost use Rattle.cx_program.specs.Levels.{all_levels};

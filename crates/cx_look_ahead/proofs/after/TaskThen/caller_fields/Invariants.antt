@@ -8,5 +8,5 @@ abbrev pub invariant-loop-index : goal.invariant-loop-index
 invariant-loop-index g l =
     (l.report
     ≡ l.initial.report
-    ++ caller_fields l.self.sources l.self.programs.entries (g.S.Store.storage l.self.store) l.self.name 1 (take l.index (all_levels l.levels)))
+    ++ caller_fields l.self.sources.now l.self.programs.now.entries (g.S.Store.storage l.self.store.now) l.self.name 1 (take l.index (all_levels l.levels)))
     × (l.index ≤ length l.levels.callers)
