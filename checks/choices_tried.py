@@ -4,7 +4,7 @@ import re
 from collections.abc import Iterator
 from dataclasses import dataclass
 
-from cics.choices import RUNNING, Arrow, Choices, State, read_choices
+from cics.choices import KEYS_SHOW, RUNNING, SHOW, Arrow, Choices, State, read_choices
 from cics.same import Fault
 from cics.scripts import MOST_TURNS
 from cics.transcripts import RESTS
@@ -138,7 +138,7 @@ def incidents_in(lines: list[str]) -> list[str]:
 
 
 def first_line(choices: Choices) -> str:
-    number = " ONE NUMBER" * choices.has_one_number
+    number = " ONE NUMBER" * choices.has_one_number + " NUMBERS SHOW" * choices.numbers_show
     if choices.most is not None:
         return f"CHOICES MORE THAN {choices.most} STATES, ALL OF {choices.depth} KEYS SCREENS {choices.screens}{number}"
     closed = " CLOSED" * choices.is_closed
@@ -154,10 +154,12 @@ def written(choices: Choices) -> list[str]:
     lines, came = [first_line(choices)], 0
     for state in choices.states:
         for arrow in state.arrows:
-            lines += [f"STATE {state.number}", *arrow_lines(arrow)] if arrow.incidents else []
+            show = [SHOW] * (state.list_differs or state.keys_differ)
+            lines += [f"STATE {state.number}", *arrow_lines(arrow), *show] if arrow.incidents else []
     for state in choices.states:
-        lines += [f"STATE {state.number} SCREEN {state.screen}", *state.moves]
+        lines += [f"STATE {state.number} SCREEN {state.screen}", *([SHOW] if state.list_differs else state.moves)]
         lines += [line for arrow in state.arrows for line in arrow_lines(arrow)]
+        lines += [KEYS_SHOW] * state.keys_differ
         lines += state.text if state.screen == came + 1 else []
         came = max(came, state.screen)
     return [f"> {line}" for line in lines]

@@ -33,6 +33,7 @@ def drawn(draw: random.Random, terminals: list[str], names: list[str], states: i
     kinds += ["AREAS", f"AREAS {terminal}", f"TASK {terminal}", f"STORAGE {place % 2**24:06X} {count}"]
     kinds += ["TERMINALS", "HELP", "HELP XREF", f"FIELD {terminal} {name}", f"FIELDS {terminal} {draw.randint(1, 3)}"]
     seldom = [f"AHEAD {terminal}{draw.choice(['', ' 1', ' 256'])}", f"AHEAD {terminal} AT {name} {draw.randint(1, 40)}"]
+    seldom += [f"AHEAD {terminal}{draw.choice(['', ' FIELDS'])} AFTER {draw.randint(1, 40)}"]
     seldom += ["COVERED", f"COVERED {name}", f"COVERED {name} LINES"]
     seldom += [f"WHERE {place % 2**24:06X}", f"ABEND {terminal} STORAGE", f"ABEND {terminal} FIELDS"]
     if states:

@@ -11,6 +11,7 @@ from functools import partial
 from typing import NamedTuple
 
 from cics.child import Ended
+from cics.scripts import OF_CICSLOOK
 from checks.common import Case, Check, Counts, require
 from checks.examples import text_of
 from checks.hostile_lines import CHARACTER
@@ -217,12 +218,41 @@ def full_sizes() -> Iterator[Script]:
 # Looks: the lines that a block of ORDERS or of CHOICES may have.
 
 
+PAGE = "docs/LOOKS-ORDERS.md"
+SEEN = {  # what such a block may have beside keys and SCREEN, and what it writes of a region without terminals and programs
+    "AREAS": "AREA 001000 LENGTH 000200 CWA OWNER REGION", "AREAS T001": "AREAS T001 NONE", "COMMAND T001": "COMMAND T001 NONE",
+    "FIELD T001 X": "FIELD T001 'X' NONE", "FIELD T001 X 2": "FIELD T001 'X' NONE", "FIELDS T001": "FIELDS T001 NONE",
+    "FIELDS T001 1": "FIELDS T001 NONE", "PROGRAMS": "PROGRAMS NONE", "QUEUE Q": "QUEUE 'Q' NONE", "QUEUE Q 1": "QUEUE 'Q' ITEM 1 NONE",
+    "QUEUES": "QUEUES NONE", "RESOURCES": "RESOURCES NONE", "STORAGE 000000 1": f"000000  -- {' ' * 34}-{' ' * 15}",
+    "SYMBOL P X": "SYMBOL 'X' NONE", "SYMBOLS P": "SYMBOLS 'P' NONE", "TASK T001": "TASK T001 NONE", "TASKS": "TASKS NONE",
+    "TERMINALS": "CLOCK 000000 00000\n> TERMINALS NONE", "WHERE 000000": "WHERE 000000 --", "XREF P": "XREF 'P' NONE"}
+UNSEEN = ["ABEND T001", "ABEND T001 FIELDS", "ABEND T001 STORAGE", "AHEAD T001", "AHEAD T001 AFTER 1", "AHEAD T001 AT P 1",
+          "AHEAD T001 FIELDS AFTER 1", "CHOICES 8", "COVER OFF", "COVER ON",
+          "COVERED", "COVERED P", "COVERED P LINES", "FAULTS P", "HELP", "HELP RUN", "ORDERS", "RUN T001", "RUN T001 2", "WATCH 001000 2",
+          "WATCH OFF", "WATCH T001 X"]
+
+
+def seen_in_blocks() -> Iterator[Script]:
+    """Which looks a block may have, those that the page lists: each other line of `cicslook` is a bad line there."""
+    with open(PAGE, encoding="utf-8") as file:
+        listed = re.search(r"`SCREEN term`, and the looks ([A-Z,\s]+) and ([A-Z]+)\.", file.read())
+    words = {line.split(" ")[0] for line in SEEN}
+    require(listed is not None and {*re.findall("[A-Z]+", listed[1]), listed[2]} == words, f"{PAGE} has other looks than {sorted(words)}")
+    others = {line.split(" ")[0] for line in UNSEEN}
+    require(words | others == {*OF_CICSLOOK} and not words & others, "another word of cicslook")
+    for line, seen in SEEN.items():
+        yield Script(text_of(["ORDERS", line, "/*"]), text_of([*ONE_OUTCOME, f"> {seen}"]))
+        yield Script(text_of(["CHOICES 8", line, "/*"]), text_of([f"> CHOICES KEYS 8 {CLOSED}", NOTHING, f"> {seen}"]))
+    for line in UNSEEN:
+        yield Script(text_of(["ORDERS", line, "/*"]), fault=Fault(2))
+        yield Script(text_of(["CHOICES 8", line, "/*"]), fault=Fault(2))
+
+
 def bad_orders() -> Iterator[Script]:
     for word in ["0", "1000001", "00000001", "1 2", "X", "", "TYPED", "1 TYPED", "0 TYPED AHEAD", "TYPED AHEAD 1", "1 TYPED AHEAD ", "TYPEDAHEAD"]:
         yield Script(text_of([f"ORDERS {word}", "/*"]), fault=Fault(1))
-    for line in ["HELLO", "RUN T001", "TERMINAL T001", "KEY T001", "KEY T001 PF13", "KEY T0011 ENTER", "KEY T001 ENTER A{B", "key T001 ENTER",
-                 "screen T001", "SCREEN", "SCREEN T0011", "STORAGE 001000", "ABEND T001", "ABEND T001 STORAGE", "AHEAD T001", "AHEAD T001 AT P 1",
-                 "HELP", "FAULTS P", "ORDERS"]:
+    for line in ["HELLO", "TERMINAL T001", "KEY T001", "KEY T001 PF13", "KEY T0011 ENTER", "KEY T001 ENTER A{B", "key T001 ENTER",
+                 "screen T001", "SCREEN", "SCREEN T0011", "STORAGE 001000"]:
         yield Script(text_of(["ORDERS", line, "/*"]), fault=Fault(2))
     yield Script(text_of(["* first", "ORDERS"]), fault=Fault(2))
     yield Script(text_of(["ORDERS", "QUEUES"]), fault=Fault(1))
@@ -259,14 +289,13 @@ X_1000 = f"{{{'X' * 1000}|}}"  # a set of so many characters, or of none
 
 
 def bad_choices() -> Iterator[Script]:
-    for word in ["", " ", " 0", " 00", " 65", " 008", " X", " 8 0", " 8 1000001", " 8 00000001", " 8 1 2", " 8 ONE", " 8 NUMBER", " 8 ONE NUMBER 1",
+    for word in ["", " ", " 0", " 00", " 65", " 008", " 001", " X", " 8 0", " 8 1000001", " 8 00000001", " 8 1 2", " 8 ONE", " 8 NUMBER", " 8 ONE NUMBER 1",
                  " 8  ONE NUMBER", " 8 1 ONE", " ONE NUMBER", " ONE NUMBER 8", " 8 ONE NUMBER ", " 8 TYPED AHEAD"]:
         yield Script(text_of([f"CHOICES{word}", "KEY T001 ENTER", "/*"]), fault=Fault(1))
     keys = ["KEY T001", "KEY T001 PF13", "KEY T0011 ENTER", "key T001 ENTER", "KEY {T001} {PF13}", "KEY T001 {ENTER|PF13}", "KEY T001 {PF1#}",
             "KEY T001 ENTER {A", "KEY T001 ENTER {A{B}", "KEY T001 ENTER {A}{", "KEY T001 ENTER A}", "KEY T001 {}", "KEY {} ENTER", "{KEY} T001 ENTER",
             f"KEY T001 ENTER {X_1000}{{{'X' * 921}|}}", "KEY T001 ENTER {#####}", "KEY T001 ENTER " + "{##}" * 2 + "{#|X}", "KEY T001 ENTER {#|}{####}"]
-    looks = ["HELLO", "RUN T001", "TURN T001", "TERMINAL T001", "screen T001", "SCREEN", "SCREEN T0011", "STORAGE 001000", "ABEND T001",
-             "ABEND T001 STORAGE", "AHEAD T001", "AHEAD T001 AT P 1", "HELP", "FAULTS P", "ORDERS", "CHOICES 8", "COVERED", "COVER ON"]
+    looks = ["HELLO", "TURN T001", "TERMINAL T001", "screen T001", "SCREEN", "SCREEN T0011", "STORAGE 001000"]
     for line in [*looks, *keys]:
         yield Script(text_of(["CHOICES 8", line, "/*"]), fault=Fault(2))
     yield Script(text_of(["* first", "CHOICES 8"]), fault=Fault(2))
@@ -328,7 +357,7 @@ def statements_by_hand() -> Iterator[Script]:
 
 PLAIN = (bad_lines, alterations, ends_of_lines, faulty_sources, blocks, refused_definitions, long_sources, transcripts, texts_of_keys,
          long_images, full_sizes)
-LOOKS = (bad_orders, orders, full_orders, bad_choices, choices, full_choices, acts_in_regions,
+LOOKS = (seen_in_blocks, bad_orders, orders, full_orders, bad_choices, choices, full_choices, acts_in_regions,
          sources_by_hand, statements_by_hand)
 
 

@@ -737,6 +737,73 @@ def many_states() -> Iterator[Script]:
     yield session.case("ORDERS with 15,625 states")
 
 
+LETTERS = "ABCDEFGHIJKLMNOPQRSTUV"
+
+
+def of_letters(first: str, keys: str) -> Session:
+    """A task that puts each letter of its input behind the last one, in the common work area; and a block of CHOICES of such keys."""
+    lines = [line_of("DFHEISTG", "DSECT"), line_of("LEN", "DS", "H"), line_of("LETTERS", "CSECT"), op("L", "5,=F'4096'"), op("MVC", "LEN,=H'4'")]
+    lines += [*executed("RECEIVE INTO(100(0,5)) LENGTH(LEN)"), line_of("NEXT", "MVC", "LEN,=H'1'")]
+    lines += [*executed("RECEIVE INTO(0(0,5)) LENGTH(LEN)"), op("LA", "5,1(5)"), op("B", "NEXT"), op("END")]
+    session = Session()
+    session.define("LETTERS", lines, "", "LETT")
+    session.attach("T001", "LETT", *DONE, "AtCommand", "Waiting")
+    session.script += [first, f"KEY T001 ENTER {keys}", "STORAGE 001000 4", "/*"]
+    return session
+
+
+def state_of_letters(number: int, letters: str, arrows: list[int | str], shown: bytes) -> list[str]:
+    """What is written of the state that letters lead to: the state of each key, or MORE, and the first bytes of the work area."""
+    keys = [line for letter in letters for line in (f"KEY T001 ENTER {letter}", "RUN T001 2")]
+    seen = ["T001 LETT LEVEL 01 WAITING FOR INPUT", f"001000  {shown.hex().upper():<36} {shown.decode('cp037').replace(chr(0), '.'):<16}"]
+    seen.append("AREA 001000 LENGTH 000200 OFFSET 000000 CWA OWNER REGION")
+    lines = [f"STATE {number} SCREEN {number}", *keys, *(f"KEY {k} TO {to}" for k, to in enumerate(arrows, 1)), *seen]
+    return [f"> {line}" for line in lines]
+
+
+def many_choices() -> Iterator[Script]:
+    """CHOICES of 22 letters: those of two letters are written, and those of three are 10,648 states more, which it may just keep, or not. And
+    lists of as many keys as may be asked."""
+    lists = [a + b for a in ["", *LETTERS] for b in (LETTERS if a else [""])]
+    lists = ["", *LETTERS, *(it for it in lists if len(it) == 2)]
+    places = {letters: number for number, letters in enumerate(lists, 1)}
+    states = [line for letters, number in places.items() for line in state_of_letters(
+        number, letters, [places.get(letters + it, "MORE") for it in LETTERS], letters.encode("cp037").ljust(4, b"\0"))]
+    all_keys, count = "{" + "|".join(LETTERS) + "}", sum(len(LETTERS) ** k for k in range(4))
+    for most, first in ((count, f"KEYS 2 STATES {len(lists)}"), (count - 1, f"MORE THAN {count - 1} STATES, ALL OF 2 KEYS")):
+        session = of_letters(f"CHOICES 2 {most}", all_keys)
+        session.transcript += [f"> CHOICES {first} SCREENS {len(lists)}", *states]
+        yield session.case(f"CHOICES with room for {most} states")
+    session = of_letters("CHOICES 64", "A")
+    session.transcript.append("> CHOICES KEYS 64 STATES 65 SCREENS 5")
+    for n in range(65):
+        whole = state_of_letters(n + 1, "A" * n, [n + 2 if n < 64 else "MORE"], ("A" * min(n, 4)).encode("cp037").ljust(4, b"\0"))
+        session.transcript += whole if n < 5 else [f"> STATE {n + 1} SCREEN 5", *whole[1:-3]]
+    yield session.case("CHOICES with lists of 64 keys")
+
+
+def many_covered() -> Iterator[Script]:
+    """COVERED of 9,990 instructions, each run once in one turn; and of a loop of nearly as many as a turn may run, by two terminals."""
+    lines = [*instructions(9_989, 9_990)[0], op("B", f"{ENTRY}")]
+    session = Session()
+    session.define("P", [line_of("P", "CSECT"), *lines, op("END")], "", "P")
+    session.show("COVER ON", ["> COVER ON"])
+    session.attach("T001", "P", "AtCommand", "Abended XARG")
+    session.show("COVERED P", ["> COVERED P STATEMENTS 9990 OF 9990 BRANCHES BOTH WAYS 0 OF 0"])
+    session.show("COVERED P LINES", [f"> {number:05}     1 {line.strip()}" for number, line in enumerate(lines, 2)])
+    yield session.case("COVERED of 9,990 instructions")
+    session = Session()
+    loop = [line_of("LOOP", "CSECT"), op("L", "5,=F'65500'"), line_of("AGAIN", "BCT", "5,AGAIN"), *executed("RETURN"), op("END")]
+    session.define("LOOP", loop, "", "LOOP")
+    session.show("COVER ON", ["> COVER ON"])
+    for name in ("T001", "T002"):
+        session.attach(name, "LOOP", "AtCommand", "Ended")
+    session.show("COVERED LOOP", ["> COVERED LOOP STATEMENTS 3 OF 3 BRANCHES BOTH WAYS 1 OF 1"])
+    counts = ((2, 2), (3, 131_000), (4, 2))
+    session.show("COVERED LOOP LINES", [f"> 0000{n} {count:>5} {loop[n - 1].strip()}" for n, count in counts])
+    yield session.case("COVERED of 131,000 passages")
+
+
 def constant_of_256() -> Iterator[Script]:
     """A constant of 256 characters, filled, cut and as they are, listed and disassembled."""
     letters = "ABCDEFGHIJKLMNOP" * 16
@@ -748,7 +815,7 @@ Kind = Callable[[], Iterator[Script]]
 ALL: list[Kind] = [many_instructions, late_faults, many_literals, many_pools, long_statement, long_disassembly, alone, long_commands]
 ALL += [seventy_words, all_words, sixteen_sessions, many_attaches, large_commarea, long_key, many_queues, counted_resource]
 ALL += [refusals_in_full_storage, refusals_of_full_queues, refusals_of_full_tables, last_terminal, constant_of_256]
-LOOKS: list[Kind] = [many_resources, many_states]
+LOOKS: list[Kind] = [many_resources, many_states, many_choices, many_covered]
 
 
 def first_difference(due: list[str], found: list[str]) -> str:

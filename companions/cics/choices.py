@@ -19,13 +19,15 @@ DEPTH, STATES = 8, 10_000  # keys of a list, and states, where no others are ask
 MOST_DEPTH, MOST_STATES = 64, 1_000_000
 HEADING = re.compile(r"CHOICES (?P<depth>[0-9]{1,2})(?: (?P<states>[0-9]{1,7}))?(?P<one> ONE NUMBER)?")
 FOUND = re.compile(r"CHOICES KEYS (?P<depth>[0-9]+) STATES (?P<states>[0-9]+) SCREENS (?P<screens>[0-9]+)"
-                   r"(?P<one> ONE NUMBER)?(?P<closed> CLOSED)?")
-CUT = re.compile(r"CHOICES MORE THAN (?P<states>[0-9]+) STATES, ALL OF (?P<depth>[0-9]+) KEYS SCREENS (?P<screens>[0-9]+)(?P<one> ONE NUMBER)?")
+                   r"(?P<one> ONE NUMBER)?(?P<shows> NUMBERS SHOW)?(?P<closed> CLOSED)?")
+CUT = re.compile(r"CHOICES MORE THAN (?P<states>[0-9]+) STATES, ALL OF (?P<depth>[0-9]+) KEYS SCREENS (?P<screens>[0-9]+)"
+                 r"(?P<one> ONE NUMBER)?(?P<shows> NUMBERS SHOW)?")
 STATE = re.compile(r"STATE ([0-9]+) SCREEN ([0-9]+)")
 ARROW = re.compile(r"KEY ([0-9]+) TO ([0-9]+|MORE)")
 INCIDENT = re.compile(r"(ABENDS|ANSWERS) (\S+) (\S+)")
 PRESS = re.compile(r"EDF \S+ OFF|KEY .*|RUN \S+ [0-9]+")
 RUNNING = "STILL RUNNING"
+SHOW, KEYS_SHOW = "NUMBERS SHOW", "NUMBERS SHOW BY KEYS"  # in place of a state's list, and after its arrows
 
 
 @dataclass(frozen=True)
@@ -51,13 +53,16 @@ class Arrow:
 
 @dataclass
 class State:
-    """A state: its number and its screen's, its shortest list as lines of a script, its arrows, and what is to be seen of it."""
+    """A state: its number and its screen's, its shortest list as lines of a script, its arrows, and what is to be seen of it. With ONE NUMBER
+    numbers of tasks that count on may show: then the list isn't written, or one of the keys does something else after it."""
 
     number: int
     screen: int
     moves: list[str] = field(default_factory=list)
     arrows: list[Arrow] = field(default_factory=list)
     text: list[str] = field(default_factory=list)
+    list_differs: bool = False
+    keys_differ: bool = False
 
     def keys(self) -> list[str]:
         """The keys of its shortest list."""
@@ -79,6 +84,7 @@ class Choices:
     is_closed: bool = False
     most: int | None = None
     states: list[State] = field(default_factory=list)
+    numbers_show: bool = False
 
     def state(self, number: int) -> State:
         return self.states[number - 1]
@@ -151,6 +157,10 @@ def read_state(state: State, lines: Sequence[str]) -> None:
             state.arrows[-1].incidents.append(incident)
         elif PRESS.fullmatch(line) and not state.arrows:
             state.moves.append(line)
+        elif line == SHOW and not state.arrows:
+            state.list_differs = True
+        elif line == KEYS_SHOW:
+            state.keys_differ = True
         else:
             state.text = [*lines[at:]]
             return
@@ -159,9 +169,11 @@ def read_state(state: State, lines: Sequence[str]) -> None:
 def first_line(line: str) -> Choices:
     """What the first line says. A fault where it is none of CHOICES."""
     if found := FOUND.fullmatch(line):
-        return Choices(int(found["depth"]), int(found["screens"]), found["one"] is not None, found["closed"] is not None)
+        return Choices(int(found["depth"]), int(found["screens"]), found["one"] is not None, found["closed"] is not None,
+                       numbers_show=found["shows"] is not None)
     if cut := CUT.fullmatch(line):
-        return Choices(int(cut["depth"]), int(cut["screens"]), cut["one"] is not None, most=int(cut["states"]))
+        return Choices(int(cut["depth"]), int(cut["screens"]), cut["one"] is not None, most=int(cut["states"]),
+                       numbers_show=cut["shows"] is not None)
     raise Fault(line or "CHOICES writes nothing")
 
 
@@ -209,5 +221,9 @@ def meaning(choices: Choices) -> list[str]:
     else:
         said = [f"All lists of at most {keys} lead to {states}. Longer ones lead to more."]
     if choices.has_one_number:
-        said.append("Each key begins with the same task number, so a script's lines lead there but for numbers of tasks (ONE NUMBER).")
+        said.append("Each key begins with the same task number; with numbers that count on each state's list was tried, and one key more (ONE NUMBER).")
+    if choices.numbers_show:
+        differ = [state.number for state in choices.states if state.list_differs or state.keys_differ]
+        of = f"state {differ[0]}" if len(differ) == 1 else f"{len(differ)} states, the first {differ[0]},"
+        said.append(f"With numbers that count on the list or a key of {of} does something else (NUMBERS SHOW).")
     return said

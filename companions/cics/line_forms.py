@@ -36,7 +36,7 @@ FORMS = {
     "RESOURCES": [""],
     "TERMINALS": [""],
     "COMMAND": ["term"],
-    "AHEAD": ["term", "term instructions", "term AT program line"],
+    "AHEAD": ["term", "term instructions", "term AT program line", "term AFTER steps", "term FIELDS AFTER steps"],
     "TASK": ["term"],
     "FIELD": ["term field", "term field level"],
     "FIELDS": ["term", "term level"],
@@ -159,6 +159,7 @@ OPERANDS = {
     "item": number_of("an item's number", 32767),
     "level": number_of("a level's number", 16),
     "instructions": number_of("the number of instructions", 256),
+    "steps": number_of("the number of instructions", 65_536),
     "states": number_of("the number of states", 1_000_000, digits=7),
     "keys": number_of("the number of keys", 64, digits=2),
 }

@@ -58,7 +58,7 @@ ABENDING = "PAY line 18: CVB 5,PACKED"
 LINES = [
     "3 keys.",
     "All lists of at most 1 key lead to 2 states, which show 2 screens. Longer ones lead to more.",
-    "Each key begins with the same task number, so a script's lines lead there but for numbers of tasks (ONE NUMBER).",
+    "Each key begins with the same task number; with numbers that count on each state's list was tried, and one key more (ONE NUMBER).",
     "SCREEN 1 by 0 keys, state 1",
     "  ENTER PAY 00125 -> SCREEN 2",
     f"  ENTER PAY 125 -> SCREEN 1: {ABENDS} at {ABENDING}",
@@ -215,6 +215,17 @@ class ReadingTest(TestCase):
         self.assertEqual([it.what for it in found.state(3).arrows[1].incidents], ["AEIA", "ASRA"])
         self.assertEqual({screen: [it.number for it in states] for screen, states in found.shared().items()}, {1: [1, 3], 2: [2], 3: [4]})
         self.assertEqual((levels_of(found), [before for before, _ in lists_of(found)]), ({1: 0, 2: 1, 3: 2}, [0, 1, 1, 3]))
+
+    def test_numbers_show(self) -> None:
+        """With ONE NUMBER the list of state 2 isn't written, and a key of it and of state 1 does something else."""
+        first = "CHOICES KEYS 8 STATES 3 SCREENS 2 ONE NUMBER NUMBERS SHOW"
+        lines = [first, "STATE 1 SCREEN 1", "KEY 1 TO 2", "NUMBERS SHOW BY KEYS", "SCREEN T001", "STATE 2 SCREEN 2", "NUMBERS SHOW", "KEY 1 TO 3", "SCREEN T001",
+                 "01|ODD", "STATE 3 SCREEN 2", "KEY T001 ENTER A", "RUN T001 4", "KEY T001 ENTER A", "RUN T001 4", "KEY 1 TO 3"]
+        found = read_choices(looked(lines))
+        self.assertEqual([(state.list_differs, state.keys_differ, state.moves) for state in found.states[:2]], [(False, True, []), (True, False, [])])
+        self.assertEqual((found.numbers_show, found.is_closed, found.states[1].text), (True, False, ["SCREEN T001", "01|ODD"]))
+        self.assertEqual((levels_of(found), lists_of(found)[2]), ({1: 0, 2: 1}, (0, found.states[2].moves)))
+        self.assertEqual(meaning(found)[2], "With numbers that count on the list or a key of 2 states, the first 1, does something else (NUMBERS SHOW).")
 
     def test_answers_that_are_none(self) -> None:
         answers: list[list[str]] = [[], ["ORDERS STATES 1 OUTCOMES 1"], ANSWER[:-12], [ANSWER[0].replace("SCREENS 2", "SCREENS 3"), *ANSWER[1:]],

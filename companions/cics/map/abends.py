@@ -75,6 +75,8 @@ def turned(child: Child, terminals: list[str], incident: Incident) -> list[str]:
 def looked_at(command: list[str], subject: Subject, abend: Abend, state: State, key: str) -> None:
     """Looks where an abend is, after a state's list and the key."""
     asked = subject.asked()
+    if state.list_differs:
+        return
     with child_of(command, [*asked.before, asked.block]) as child:
         performed(Region(child, Depth.SCREENS), asked.before, [])
         child.ask(*state.moves, key)

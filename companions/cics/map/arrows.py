@@ -37,7 +37,12 @@ def arrows_of(choices: Choices) -> list[Between]:
 
 def levels_of(choices: Choices) -> dict[int, int]:
     """Of each screen the least number of keys that lead to it."""
-    return {screen: min(len(state.keys()) for state in states) for screen, states in choices.shared().items()}
+    keys = {1: 0}
+    for state in choices.states:
+        for arrow in state.arrows:
+            if arrow.to is not None:
+                keys.setdefault(arrow.to, keys.get(state.number, 0) + 1)
+    return {screen: min(keys.get(state.number, 0) for state in states) for screen, states in choices.shared().items()}
 
 
 def prefix_of(state: State, numbers: dict[tuple[str, ...], int]) -> tuple[int, list[str]]:
@@ -49,7 +54,7 @@ def prefix_of(state: State, numbers: dict[tuple[str, ...], int]) -> tuple[int, l
 
 def lists_of(choices: Choices) -> list[tuple[int, list[str]]]:
     """Of each state the one from which its list goes on, and its lines after that one's."""
-    numbers = {tuple(state.moves): state.number for state in choices.states}
+    numbers = {tuple(state.moves): state.number for state in choices.states if not state.list_differs}
     return [prefix_of(state, numbers) for state in choices.states]
 
 

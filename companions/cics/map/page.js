@@ -293,14 +293,18 @@ function listButtons(lines, name) {
   return make("div", "buttons", copy, button("Save script", () => saved(name, lines)), make("code", "", `cics-film ${name} --open`));
 }
 
-/** How a state is come to. */
+/** How a state is come to; where numbers of tasks show, no script leads there. */
 function leadCard(number) {
+  const { listDiffers, keysDiffer } = view.data.states[number - 1];
   const lines = listOf(number);
   const keys = keysOf(lines);
+  const differ = keysDiffer ? make("p", "faint", "With numbers of tasks that count on, a key does something else here (NUMBERS SHOW BY KEYS).") : null;
+  if (listDiffers) {
+    const why = "With numbers of tasks that count on, its keys do something else, so it has no script (NUMBERS SHOW).";
+    return make("section", "", make("h3", "", "By no script"), make("p", "faint", why), differ);
+  }
   return make("section", "", make("h3", "", keys.length ? `By ${countOf(keys.length, "key")}` : "By no key"),
-    keys.length ? make("ol", "keys", ...keys.map((key) => make("li", "", key))) : null,
-    view.data.oneNumber && keys.length ? make("p", "faint", "A script leads there but for numbers of tasks.") : null,
-    listButtons(lines, `state-${number}.script`));
+    keys.length ? make("ol", "keys", ...keys.map((key) => make("li", "", key))) : null, differ, listButtons(lines, `state-${number}.script`));
 }
 
 /** The keys that lead from a state to the same state, with the same incidents, together. */

@@ -86,6 +86,11 @@ def lines_of_map(found: Map) -> Iterator[str]:
         yield from (arrow_line(one, found, len(states)) for one in arrows if one.screen == screen)
 
 
+def numbers_in(state: State) -> dict[str, bool]:
+    """Where numbers of tasks show by a state's list, or by a key there."""
+    return {name: True for name, differs in (("listDiffers", state.list_differs), ("keysDiffer", state.keys_differ)) if differs}
+
+
 def data_of(found: Map) -> dict[str, object]:
     """The map as an object, for --json and for the page."""
     choices, subject = found.choices, found.subject
@@ -105,7 +110,7 @@ def data_of(found: Map) -> dict[str, object]:
         "script": subject.text,
         "screens": [{"number": number, "level": levels[number], "text": states[0].text, "running": states[0].is_running(),
                      "title": titles[number], "states": [state.number for state in states]} for number, states in shared.items()],
-        "states": [{"screen": state.screen, "from": before, "lines": lines, "arrows": [
+        "states": [{"screen": state.screen, "from": before, "lines": lines, **numbers_in(state), "arrows": [
             [arrow.key, arrow.to or 0, *([[it.line() for it in arrow.incidents]] if arrow.incidents else [])] for arrow in state.arrows]}
             for state, (before, lines) in zip(choices.states, lists)],
         "abends": [{"state": one.state, "key": one.key, "what": one.incident.line(), "where": one.where(subject.sources), "cause": one.cause,

@@ -2,3 +2,4 @@ mod ActingLemmas
 mod MoveLemmas
 mod RunLemmas
 mod SettlingLemmas
+mod NumberLemmas

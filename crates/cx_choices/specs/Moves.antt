@@ -1,6 +1,9 @@
 -- A move of an operator: a key is pressed in a region at rest, and the region settles (this product's own).
-use Rattle.std.specs.Prelude.{◌≡◌, ℕ, true, List, Option, Some, None, MatchOption, slice_get}
-use Rattle.cx_region.specs.Attach.{TakesKey, input_from}
+use Rattle.std.specs.Prelude.{◌≡◌, ◌==◌, ℕ, zero, suc, Bool, true, false, if◌then◌else◌, List, Option, Some, None, MatchOption, length, slice_get}
+use Rattle.std.specs.List.{list_any}
+use Rattle.std.specs.Option.{option_map_or}
+use Rattle.cx_region_state.specs.State.{TaskState}
+use Rattle.cx_region.specs.Attach.{TakesKey, input_from, next_number}
 use Rattle.cx_region.specs.State.{RegionState, TerminalState}
 use Rattle.cx_region.specs.Tables.{terminal_of}
 use Rattle.cx_look_tasks.specs.Activities.{IsActivity}
@@ -11,10 +14,26 @@ use Rattle.cx_choices.specs.Settling.{IsAtRest, Settles, most_turns}
 use Rattle.cx_choices.specs.declared.states.ChoicesState.{ChoicesState}
 use Rattle.cx_choices.specs.declared.states.Passage.{Passage}
 
--- with one number, the number of the last task is put back to it, so that the next task gets the same each time
+-- a task that there is has the number
+abbrev pub has_number : ℕ → TerminalState → Bool
+has_number number terminal = option_map_or (λ (task : TaskState). task.number == number) terminal.task false
+
+abbrev pub is_given : List (List ℕ × TerminalState) → ℕ → Bool
+is_given terminals number = list_any (λ entry. has_number number entry.1) terminals
+
+-- a number of the last task, counted on from one where that is so: no task that there is has the next number. There are
+-- at most so many that have
+unfoldable pub free_number : List (List ℕ × TerminalState) → ℕ → ℕ → ℕ
+free_number terminals zero number = number
+free_number terminals (suc more) number =
+    if is_given terminals (next_number number) then free_number terminals more (next_number number) else number
+
+-- With one number, the number of the last task is put back to it, so that the next task gets the same each time; where
+-- a task has that, it gets the first after it that none has.
 abbrev pub numbered : Option ℕ → RegionState → RegionState
 numbered None region = region
-numbered (Some number) region = record region { counter = number }
+numbered (Some number) region =
+    record region { counter = free_number region.terminals (length region.terminals) number }
 
 -- an operator could press a key at the terminal: it has no task, or its task waits for input
 pub record IsReady (region : RegionState) (name : List ℕ) : Type 0 where

@@ -4,6 +4,7 @@
 mod acting;
 pub mod laws;
 mod moves;
+mod numbers;
 mod search;
 mod settling;
 mod states;

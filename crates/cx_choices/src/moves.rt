@@ -9,6 +9,7 @@ ghost use Rattle.cx_orders.specs.Facts.Keys.{AreFew-prop};
 ghost use Rattle.cx_orders.specs.Moves.{IsFew};
 
 use crate::acting::{can_press, first_to_act};
+use crate::numbers::renumber;
 use crate::settling::settle;
 use crate::states::{ChoicesState, Passage};
 use cx_orders::KeyLine;
@@ -31,16 +32,6 @@ pub struct Choices<S: Store + Drop> {
     pub stores: PhantomData<S>,
     ghost few: { AllByRecursion IsFew choices.items } by { AreFew-prop choices.items },
     ghost small: { unwrap_or one_number 0 ≤ 9999999 } by { le_prop },
-}
-
-/// Gives a region another number of its last task, where there is one to be given; all else stays.
-fn renumber<S: Store + Drop>(region: &mut Region<S>, number: Option<u32>)
-    requires { unwrap_or number 0 ≤ 9999999 }
-    ensures { region.new ≡ numbered number region.old }
-{
-    if let Some(counter) = number {
-        region.set_counter(counter);
-    }
 }
 
 impl<S: Store + Drop> Choices<S> {
@@ -74,8 +65,35 @@ impl<S: Store + Drop> Choices<S> {
         Ok(Some(Passage { reply, made, after }))
     }
 
-    /// Makes a move, by its number, and gives what happens; `None` where it can't be made. It is made in the region
-    /// that is given, which is left in the state after it; in any state where it can't be made, or on an error.
+    /// Makes a move, by its number, with one number of tasks or without, and gives what happens; `None` where it can't be
+    /// made. It is made in the region that is given, which is left in the state after it; in any state where it can't be
+    /// made, or on an error.
+    ///
+    /// An error comes only where an allocation failed.
+    pub fn pass_with(
+        &self,
+        region: &mut Region<S>,
+        from: &RegionSnapshot,
+        number: usize,
+        one_number: Option<u32>,
+    ) -> Result<Option<Passage>, AllocError>
+        requires { unwrap_or one_number 0 ≤ 9999999 }
+        ensures chosen { IfOk result (ChoosesTo self.now.choices.items one_number from.now number) }
+        ensures after { IfOk result (λ passage. IfSome passage (λ passage. region.new ≡ passage.after)) }
+    {
+        from.restore(region)?;
+        if let Some(_actor) = first_to_act(region) {
+            return Ok(None);
+        }
+        let Some(choice) = self.choice(number) else {
+            return Ok(None);
+        };
+        renumber(region, one_number);
+        let passage = self.press(region, from, choice)?;
+        Ok(passage)
+    }
+
+    /// Makes a move, by its number, with one number where the choices have one.
     ///
     /// An error comes only where an allocation failed.
     pub fn pass(
@@ -87,19 +105,32 @@ impl<S: Store + Drop> Choices<S> {
         ensures chosen { IfOk result (ChoosesTo self.now.choices.items self.now.one_number from.now number) }
         ensures after { IfOk result (λ passage. IfSome passage (λ passage. region.new ≡ passage.after)) }
     {
-        from.restore(region)?;
-        if let Some(_actor) = first_to_act(region) {
-            return Ok(None);
-        }
-        let Some(choice) = self.choice(number) else {
-            return Ok(None);
-        };
-        renumber(region, self.one_number);
-        let passage = self.press(region, from, choice)?;
-        Ok(passage)
+        self.pass_with(region, from, number, self.one_number)
     }
 
-    /// The state that a move leads to, of the region after it, at which the working region stands.
+    /// The state that a move leads to with one number of tasks or without, of the region after it, at which the working
+    /// region stands.
+    ///
+    /// An error comes only where an allocation failed.
+    pub fn led_with(
+        &self,
+        region: &mut Region<S>,
+        after: RegionSnapshot,
+        one_number: Option<u32>,
+    ) -> Result<ChoicesState, AllocError>
+        requires same { region.old ≡ after }
+        requires small { unwrap_or one_number 0 ≤ 9999999 }
+        ensures { IfOk result (λ to. to.region ≡ numbered one_number after) }
+    {
+        if one_number.is_none() {
+            return Ok(ChoicesState { region: after });
+        }
+        renumber(region, one_number);
+        let region = RegionSnapshot::take(self.alloc, region, Some(&after))?;
+        Ok(ChoicesState { region })
+    }
+
+    /// The state that a move leads to, with one number where the choices have one.
     ///
     /// An error comes only where an allocation failed.
     pub fn led_to(
@@ -110,12 +141,7 @@ impl<S: Store + Drop> Choices<S> {
         requires { region.old ≡ after }
         ensures { IfOk result (λ to. to.region ≡ numbered self.now.one_number after) }
     {
-        if self.one_number.is_none() {
-            return Ok(ChoicesState { region: after });
-        }
-        renumber(region, self.one_number);
-        let region = RegionSnapshot::take(self.alloc, region, Some(&after))?;
-        Ok(ChoicesState { region })
+        self.led_with(region, after, self.one_number)
     }
 }
 

@@ -16,6 +16,12 @@ pub struct TurnMade {
     pub reply: TurnReply,
 }
 
+impl Same for TurnMade {
+    fn is_same(&self, other: &Self) -> bool {
+        self.number == other.number && self.reply == other.reply
+    }
+}
+
 /// What happens when a key is pressed: what it is answered, the turns until no terminal can act, and the region then.
 #[derive(Drop)]
 pub struct Passage {

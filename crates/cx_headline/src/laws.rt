@@ -129,11 +129,16 @@ pub fn no_order_is_missed<S: Store + Drop, V: Seen<S>>()
 /// No list of keys is missed. Unless CHOICES writes MORE THAN, each list of at most as many keys as were asked for leads
 /// to one of the states that are written; else each list of as many as it says, and lists of one key more lead to more
 /// states than may be kept. Each state is real: its keys and turns lead there, what is seen there is its text, and no
-/// other list that leads there is sooner. Without one number the run of these keys and turns leads the region to that
-/// very state, in `cicsedf` with EDF Off too. No state stands twice, and no text. Each key that can be pressed in a state
+/// other list that leads there is sooner. No state stands twice, and no text. Each key that can be pressed in a state
 /// has its arrow, which goes to the state that the key leads to, or to MORE where that isn't written; no other key has
-/// one. CLOSED stands exactly where no list of keys, of whatever length, leads elsewhere, and no arrow goes to MORE then.
-/// All of this holds whatever is to be seen of a region, and so of a block of CHOICES, for which one text is written.
+/// one. Where numbers don't show, CLOSED stands exactly where no list of keys, of whatever length, leads elsewhere, and no
+/// arrow goes to MORE then. All of this holds whatever is to be seen of a region, and so of a block of CHOICES, for which
+/// one text is written.
+///
+/// Without one number all of this is said of the region itself, where numbers never show: the run of a state's keys and
+/// turns leads it to that very state, in `cicsedf` with EDF Off too. With one number it is said of another region, where
+/// each key begins with that number; where the lists that are written lead the region itself is said by
+/// `cx_look_choices::laws::lists_lead_to_what_is_written`.
 ///
 /// The lines that are written of a list are read as lines of a script, and ask for EDF OFF where EDF is on, and then for
 /// the list's keys and, by RUN with their number, the turns that follow each, in their order. Without one number, done

@@ -30,7 +30,7 @@ help_line subject.Resources = codes "RESOURCES            the resources that are
 help_line subject.Terminals = codes "TERMINALS            the clock, next transactions, input that is held, EDF"
 help_line subject.Command = codes "COMMAND term         the command that is due at the terminal"
 help_line subject.Ahead =
-    codes "AHEAD term [n]       what the terminal's next turn will do; also AHEAD term AT program line"
+    codes "AHEAD term [n]       what the terminal's next turn will do; also AT program line, [FIELDS] AFTER n"
 help_line subject.Task = codes "TASK term            the terminal's task, and each of its levels"
 help_line subject.Field = codes "FIELD term name [k]  a field of the current level, or of level k"
 help_line subject.Fields = codes "FIELDS term [k]      all fields of that level"
@@ -90,13 +90,21 @@ field_look term text =
     option_and_then (λ name. option_map (look.Field term name) (level_asked_for (after_first_blank text)))
     (padded_name 8 (word text))
 
--- the next turn of a terminal: where it comes to a line of a program's source, or with the last so many of its
--- instructions, 1 to 256; 16 without a number
+-- after so many instructions of a turn, 1 to 65,536
+abbrev pub count_after : List ℕ → Option ℕ
+count_after text =
+    if bytes_eq (word text) (codes "AFTER") then option_and_then (count_up_to 65536) (after_first_blank text) else None
+
+-- the next turn of a terminal: where it comes to a line of a program's source; the fields, or the state, after so many
+-- of its instructions; or with the last so many of them, 1 to 256; 16 without a number
 abbrev pub ahead_look : List ℕ → Option (List ℕ) → Option Look
 ahead_look term None = Some (look.Ahead term 16)
 ahead_look term (Some text) =
     if bytes_eq (word text) (codes "AT")
     then option_and_then (two_words (look.AheadAt term) (padded_name 8) (count_up_to 99999)) (after_first_blank text)
+    else if bytes_eq (word text) (codes "AFTER") then option_map (look.AheadAfter term) (count_after text)
+    else if bytes_eq (word text) (codes "FIELDS")
+    then option_map (look.FieldsAfter term) (option_and_then count_after (after_first_blank text))
     else option_map (look.Ahead term) (count_up_to 256 text)
 
 -- the last abend of a terminal, its storage, or its fields

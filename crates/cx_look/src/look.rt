@@ -1,10 +1,10 @@
 //! Looks, and how a line of a script is read as one.
-ghost use Rattle.std.specs.Prelude.{◌≡◌, ◌≤◌, IfSome, None, Some, if◌then◌else◌, length};
+ghost use Rattle.std.specs.Prelude.{◌≡◌, ◌≤◌, IfSome, None, Some, if◌then◌else◌, length, option_and_then, option_map};
 ghost use Rattle.std.specs.List.{find};
 ghost use Rattle.std.specs.Option.{option_copied};
 ghost use Rattle.std.specs.Str.{bytes_eq};
 ghost use Rattle.cx_script_actions.specs.Words.{hex_bytes};
-ghost use Rattle.cx_look.specs.Looks.{abend_look, ahead_look, count_up_to, covered_look, field_look, help_line, level_asked_for, look_of, look_by_word, queue_look, queue_name_of, subject_of};
+ghost use Rattle.cx_look.specs.Looks.{abend_look, ahead_look, count_after, count_up_to, covered_look, field_look, help_line, level_asked_for, look_of, look_by_word, queue_look, queue_name_of, subject_of};
 ghost use Rattle.cx_look.specs.declared.look.Look.TheVariants as look;
 ghost use Rattle.cx_ebcdic.specs.Names.{padded_name};
 ghost use Rattle.cx_script_actions.specs.Words.{two_words, word};
@@ -29,6 +29,9 @@ const LAST_INSTRUCTIONS: u32 = 16;
 
 /// The most instructions of a turn that are looked at together.
 const MOST_INSTRUCTIONS: u32 = 256;
+
+/// The most instructions of a turn.
+const TURN_INSTRUCTIONS: u32 = 65_536;
 
 /// The highest number of a line of a source.
 const LAST_LINE: u32 = 99_999;
@@ -85,6 +88,10 @@ pub enum Look {
     /// What a terminal's task has where its next turn first comes to a line of a program's source: the line's number, 1
     /// to 99,999.
     AheadAt(Name4, Name8, u32),
+    /// What a terminal's task has after so many instructions of its next turn: 1 to 65,536.
+    AheadAfter(Name4, u32),
+    /// All fields of each level of a terminal's task after so many instructions of its next turn: 1 to 65,536.
+    FieldsAfter(Name4, u32),
     /// A symbol of a program's source: the program and the symbol.
     Symbol(Name8, Name8),
     /// All symbols of a program's source.
@@ -185,7 +192,7 @@ macro_rules! subject_rows {
             Resources b"RESOURCES            the resources that are owned, and who waits for them",
             Terminals b"TERMINALS            the clock, next transactions, input that is held, EDF",
             Command b"COMMAND term         the command that is due at the terminal",
-            Ahead b"AHEAD term [n]       what the terminal's next turn will do; also AHEAD term AT program line",
+            Ahead b"AHEAD term [n]       what the terminal's next turn will do; also AT program line, [FIELDS] AFTER n",
             Task b"TASK term            the terminal's task, and each of its levels",
             Field b"FIELD term name [k]  a field of the current level, or of level k",
             Fields b"FIELDS term [k]      all fields of that level",
@@ -428,6 +435,35 @@ fn line_look(term: Name4, text: &[u8]) -> Option<Look>
     Some(Look::AheadAt(term, program, line))
 }
 
+/// After how many instructions of a turn, 1 to 65,536.
+fn count_after(text: &[u8]) -> Option<u32>
+    ensures { result ≡ count_after text.now }
+{
+    let (first, rest) = split_word(text);
+    if first == b"AFTER".as_slice() {
+        count_up_to(rest?, TURN_INSTRUCTIONS)
+    } else {
+        None
+    }
+}
+
+/// The state of a terminal's task after so many instructions of its next turn.
+fn after_look(term: Name4, text: &[u8]) -> Option<Look>
+    ensures { result ≡ option_map (look.AheadAfter term) (count_after text.now) }
+{
+    let n = count_after(text)?;
+    Some(Look::AheadAfter(term, n))
+}
+
+/// The fields of a terminal's task after so many instructions of its next turn.
+fn fields_after_look(term: Name4, rest: Option<&[u8]>) -> Option<Look>
+    ensures { let n = option_and_then count_after (option_copied rest.entry) in
+        result ≡ option_map (look.FieldsAfter term) n }
+{
+    let n = count_after(rest?)?;
+    Some(Look::FieldsAfter(term, n))
+}
+
 /// The next turn of a terminal, by the words after the terminal.
 fn ahead_with(term: Name4, text: &[u8]) -> Option<Look>
     ensures { result ≡ ahead_look term (Some text.now) }
@@ -435,6 +471,10 @@ fn ahead_with(term: Name4, text: &[u8]) -> Option<Look>
     let (first, rest) = split_word(text);
     if first == b"AT".as_slice() {
         line_look(term, rest?)
+    } else if first == b"AFTER".as_slice() {
+        after_look(term, text)
+    } else if first == b"FIELDS".as_slice() {
+        fields_after_look(term, rest)
     } else {
         let n = count_up_to(text, MOST_INSTRUCTIONS)?;
         Some(Look::Ahead(term, n))

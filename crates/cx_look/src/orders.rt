@@ -218,11 +218,13 @@ fn is_sight(look: &Look) -> bool
             | Look::AbendFields(_)
             | Look::AbendStorage(_)
             | Look::Ahead(_, _)
+            | Look::AheadAfter(_, _)
             | Look::AheadAt(_, _, _)
             | Look::Covered(_)
             | Look::CoveredAll
             | Look::CoveredLines(_)
             | Look::Faults(_)
+            | Look::FieldsAfter(_, _)
             | Look::Help(_)
     )
 }

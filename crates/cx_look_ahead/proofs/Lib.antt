@@ -8,3 +8,4 @@ mod NameLemmas
 pub mod WriteLemmas
 pub mod LineLemmas
 mod DoneLemmas
+mod AfterLemmas

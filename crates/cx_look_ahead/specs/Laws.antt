@@ -18,6 +18,7 @@ use Rattle.cx_look_ahead.specs.declared.rows.Row.{Row}
 pub mod Arrivals
 pub mod Watching
 pub mod Ats
+pub mod Afters
 
 -- what is written is that of the region's next turn: its reply, its instructions, and what it changes
 abbrev pub NextTurnIsShown : Type 0

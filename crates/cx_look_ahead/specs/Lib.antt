@@ -6,6 +6,7 @@ pub mod Instructions
 pub mod Ahead
 pub mod Arrivals
 pub mod At
+pub mod After
 pub use Rattle.cx_look_lines.specs.Words
 pub use Rattle.cx_look_turn.specs.Traces
 pub use Rattle.cx_look_turn.specs.NextTurn

@@ -2,3 +2,4 @@
 pub mod Next
 pub mod Seen
 pub mod Words
+pub mod Callers

@@ -3,6 +3,7 @@
 ghost use Rattle.cx_look_ahead.specs.Laws.{AheadDecides, NamesAreOfWhere, NextTurnIsShown, RowsAreTheDifference, RowsDecide};
 ghost use Rattle.cx_look_ahead.specs.Laws.Arrivals.{ArrivalsDecide, TurnsDoSome};
 ghost use Rattle.cx_look_ahead.specs.Laws.Watching.{WorkIsDone, ChangesAreWritten, ChangesDecide, WritersAreFound, WritersDecide};
+ghost use Rattle.cx_look_ahead.specs.Laws.Afters.{AfterDecides};
 ghost use Rattle.cx_look_ahead.specs.Laws.Ats.{AtDecides, TurnsReachIt};
 
 /// What AHEAD writes is that of the region's next turn, when it is done: the words of its reply, its instructions, and
@@ -38,11 +39,14 @@ pub fn turns_do_some()
 }
 
 /// What AHEAD AT shows is the machine of the run of the turn that is then done, after as many of its instructions as
-/// come before the first one on the line. There is one such text.
+/// come before the first one on the line. There is one such text, and one of AHEAD AFTER, whose machine the turn comes to
+/// by a law of the crate below.
 pub fn turns_reach_it()
     ensures reached { TurnsReachIt }
     ensures decides { AtDecides }
+    ensures after { AfterDecides }
 {
+    cx_look_turn::laws::turns_go_on_from();
     cx_look_turn::laws::turns_run_them();
     cx_look_turn::laws::traces_decide();
     cx_exec_laws::laws::steps_decide();

@@ -1,6 +1,7 @@
 //! Looks at a terminal's next turn: what it will do, AHEAD, and which instruction changed watched bytes last, WATCH.
 #![tactic(auto)]
 
+mod after;
 mod ahead;
 mod arrivals;
 mod at;
@@ -11,6 +12,7 @@ mod rows;
 mod watching;
 mod writers;
 
+pub use after::{after_text, fields_after_text};
 pub use ahead::ahead_text;
 pub use arrivals::{SourceLine, comes_to, has_statement};
 pub use at::at_text;

@@ -8,3 +8,5 @@ mod RowLemmas
 mod TextLemmas
 mod ItemLemmas
 mod PressRunLemmas
+mod NumberLemmas
+mod ListLeadLemmas

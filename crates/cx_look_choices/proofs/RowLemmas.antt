@@ -15,7 +15,7 @@ use Rattle.cx_orders.specs.declared.states.KeyLine.{KeyLine}
 use Rattle.cx_choices.specs.Moves.{Goes, begun}
 use Rattle.cx_choices.specs.declared.states.ChoicesState.{ChoicesState}
 use Rattle.cx_look_steps.specs.Steps.{NoLater}
-use Rattle.cx_look_choices.specs.Parts.Ways.{AreFirstPresses, AreFirstRows, AreFirstWithin, HasFound, IsRowAt, Numbers, StandOnce, states_of}
+use Rattle.cx_look_choices.specs.Parts.Ways.{AreCompared, AreFirstPresses, AreFirstRows, AreFirstWithin, HasFound, IsRowAt, Numbers, StandOnce, states_of}
 use Rattle.cx_look_choices.specs.Presses.{moves_of}
 use Rattle.cx_look_choices.specs.Rows.{AreArrows, AreNear, AreRows, AreScreens, HasNear, HasScreen, IsRow}
 use Rattle.cx_look_choices.specs.States.{StateText}
@@ -171,6 +171,7 @@ module _ (Shows : RegionState → Lines → Type 0) (choices : List KeyLine) (on
     pub presses : AreFirstPresses choices one_number (begun region) state row.presses
     pub shows : StateText Shows state text
     pub arrows : AreArrows choices one_number region (states_of many found) state row.arrows
+    pub compared : AreCompared Shows choices one_number region state row.presses row.list_differs row.keys_differ
 
   row_kept : (texts after : List Lines) (text : Lines) (number place : ℕ) (row : StateRow) → Numbers texts after text number → RowAt texts place row → RowAt after place row
   row_kept texts after text number place row is was = record {
@@ -181,6 +182,7 @@ module _ (Shows : RegionState → Lines → Type 0) (choices : List KeyLine) (on
     shows = was.shows;
     screen = text_kept texts after text number is row.screen was.text was.screen;
     arrows = was.arrows;
+    compared = was.compared;
   }
 
   pub rows_on : (done : ℕ) (texts after : List Lines) (text : Lines) (rows : List StateRow) (row : StateRow) → First done texts rows → IsNext done text row
@@ -197,6 +199,7 @@ module _ (Shows : RegionState → Lines → Type 0) (choices : List KeyLine) (on
         shows = next.shows;
         screen = is.is;
         arrows = next.arrows;
+        compared = next.compared;
       }))
     ];
     screens = screens_on texts after text rows row is are.screens;
@@ -295,6 +298,8 @@ module _ (choices : List KeyLine) (one_number : Option ℕ) (region : RegionStat
             shows = it.shows;
             screen = it.screen;
             arrows = it.arrows;
+            listed = it.compared.listed;
+            pressed = it.compared.pressed;
           });
       ordered = λ j k one other l at also.
           let it = are.each j one at in

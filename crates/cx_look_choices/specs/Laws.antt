@@ -1,5 +1,5 @@
 -- What follows of the report of every list of keys.
-use Rattle.std.specs.Prelude.{◌≡◌, ℕ, List, Option, None}
+use Rattle.std.specs.Prelude.{◌≡◌, ℕ, false, List, Option, Some, None, slice_get}
 use Rattle.std.specs.List.{IsDistinct}
 use Rattle.std.specs.Map.{keys_of as names_of}
 use Rattle.cx_ebcdic.specs.Names.{is_name}
@@ -13,7 +13,10 @@ use Rattle.cx_search.specs.Moves.{Leads}
 use Rattle.cx_look_steps.specs.Laws.{IsRunOf}
 use Rattle.cx_look_choices.specs.Presses.{ArePresses, keys_pressed, moves_of, steps_of}
 use Rattle.cx_look_choices.specs.Report.{ChoicesText}
+use Rattle.cx_look_choices.specs.Rows.{AreRows}
+use Rattle.cx_look_choices.specs.States.{StateText}
 use Rattle.cx_look_choices.specs.declared.presses.Press.{Press}
+use Rattle.cx_look_choices.specs.declared.rows.StateRow.{StateRow}
 
 -- of a region one text is written
 abbrev pub ReportsDecide : (RegionState → Lines → Type 0) → Type 0
@@ -33,3 +36,21 @@ PressesAreRuns = (choices : List KeyLine) (region : RegionState) (to : ChoicesSt
     → IsDistinct is_name (names_of region.terminals) → ArePresses choices None (begun region) presses to
     → IsRunOf (keys_pressed choices presses) (orders.begun region) (steps_of region choices presses)
     (orders.begun to.region)
+
+-- the keys and turns of a row's list lead the region, whose numbers of tasks count on, to a state of the text that is
+-- written of the row
+pub record ListLeads (Shows : RegionState → Lines → Type 0) (choices : List KeyLine) (region : RegionState)
+    (texts : List Lines) (row : StateRow) : Type 0 where
+  pub real : ChoicesState
+  pub run : IsRunOf (keys_pressed choices row.presses) (orders.begun region) (steps_of region choices row.presses)
+      (orders.begun real.region)
+  pub text : Lines
+  pub shows : StateText Shows real text
+  pub is : slice_get texts row.screen ≡ Some text
+
+-- so it is of each row whose list is written, with one number or without
+abbrev pub ListsLead : (RegionState → Lines → Type 0) → Type 0
+ListsLead Shows = (choices : List KeyLine) (one_number : Option ℕ) (region : RegionState) (keys : ℕ)
+    (texts : List Lines) (rows : List StateRow) → IsDistinct is_name (names_of region.terminals)
+    → AreRows Shows choices one_number region keys texts rows → (place : ℕ) (row : StateRow)
+    → slice_get rows place ≡ Some row → row.list_differs ≡ false → ListLeads Shows choices region texts row

@@ -1,6 +1,6 @@
 -- The states that lists of keys lead to, what is written of each, and where each key leads from there (this product's
 -- own).
-use Rattle.std.specs.Prelude.{◌≡◌, ℕ, ◌<◌, List, [], ◌∷◌, ◌++◌, Option, Some, MatchOption, length, slice_get}
+use Rattle.std.specs.Prelude.{◌≡◌, ◌⊎◌, ℕ, ◌<◌, Bool, false, List, [], ◌∷◌, ◌++◌, Option, Some, None, MatchBool, MatchOption, length, slice_get}
 use Rattle.std.specs.List.{flat_map}
 use Rattle.std.specs.Option.{option_map_or}
 use Rattle.cx_look_lines.specs.Words.{Lines}
@@ -17,6 +17,7 @@ use Rattle.cx_choices.specs.declared.states.Passage.{Passage}
 use Rattle.cx_look_steps.specs.Steps.{NoLater}
 use Rattle.cx_look_choices.specs.Presses.{ArePresses, key_pressed, moves_of, terminal_number}
 use Rattle.cx_look_choices.specs.States.{StateText}
+use Rattle.cx_look_choices.specs.declared.presses.Press.{Press}
 use Rattle.cx_look_choices.specs.declared.rows.Arrow.{Arrow}
 use Rattle.cx_look_choices.specs.declared.rows.StateRow.{StateRow}
 
@@ -31,6 +32,61 @@ abbrev pub passage_incidents : RegionState → List KeyLine → ℕ → Passage 
 passage_incidents region choices number passage =
     flat_map (key_incidents region passage) (key_pressed choices number)
     ++ flat_map (λ turn. incident_at turn.number (incident_of_turn turn.reply)) passage.made
+
+-- ---- the same once more, with numbers of tasks that count on
+module _ (choices : List KeyLine) (region : RegionState) where
+  -- the key with that number is pressed in a state, with one number or without; what is kept of it, and where it leads
+  pub record Does (one_number : Option ℕ) (from : ChoicesState) (number : ℕ) (incidents : List IncidentAt)
+      (to : ChoicesState) : Type 0 where
+    pub passage : Passage
+    pub chooses : Chooses choices one_number from.region number passage
+    pub leads : to.region ≡ numbered one_number passage.after
+    pub is : incidents ≡ passage_incidents region choices number passage
+
+  -- it can't be pressed there
+  abbrev pub CannotPress : Option ℕ → ChoicesState → ℕ → Type 0
+  CannotPress one_number from number = (passage : Passage) → Chooses choices one_number from.region number passage → ⊥
+
+-- one text is written of two states
+pub record ShowSame (Shows : RegionState → Lines → Type 0) (one other : ChoicesState) : Type 0 where
+  pub text : Lines
+  pub shows : StateText Shows one text
+  pub also : StateText Shows other text
+
+module _ (Shows : RegionState → Lines → Type 0) (choices : List KeyLine) (one_number : Option ℕ)
+    (region : RegionState) where
+  -- a key has the same abends, or is refused alike, in a state and in that which numbers that count on lead to, and it
+  -- leads to states of one text
+  pub record DoesSame (from real : ChoicesState) (number : ℕ) : Type 0 where
+    pub incidents : List IncidentAt
+    pub one : ChoicesState
+    pub does : Does choices region one_number from number incidents one
+    pub other : ChoicesState
+    pub again : Does choices region None real number incidents other
+    pub same : ShowSame Shows one other
+
+  -- or it can be pressed in neither
+  abbrev pub IsSameKey : ChoicesState → ChoicesState → ℕ → Type 0
+  IsSameKey from real number =
+      (CannotPress choices region one_number from number × CannotPress choices region None real number)
+      ⊎ DoesSame from real number
+
+  -- a list, made once more with numbers that count on, leads by the same turns to a state of the same text
+  pub record IsSameList (state : ChoicesState) (presses : List Press) : Type 0 where
+    pub real : ChoicesState
+    pub made : ArePresses choices None (begun region) presses real
+    pub same : ShowSame Shows state real
+
+  -- and there each key is the same
+  pub record AreSameKeys (state : ChoicesState) (presses : List Press) : Type 0 where
+    pub real : ChoicesState
+    pub made : ArePresses choices None (begun region) presses real
+    pub keys : (number : ℕ) → number < length choices → IsSameKey state real number
+
+-- whether something isn't the same with numbers that count on: never without one number
+unfoldable pub Differs : Option ℕ → Type 0 → Bool → Type 0
+Differs one_number Same differs =
+    MatchOption one_number (differs ≡ false) (λ number. MatchBool differs (Same → ⊥) Same)
 
 -- ---- the states
 -- the state is one of those
@@ -82,7 +138,8 @@ module _ (choices : List KeyLine) (one_number : Option ℕ) (region : RegionStat
         → slice_get arrows k ≡ Some other → one.choice < other.choice
 
   -- ---- what is written of the states
-  -- of a state: the soonest list that leads to it, the number of its text, and where each key leads
+  -- of a state: the soonest list that leads to it, the number of its text, where each key leads, and whether the list
+  -- and the keys are the same with numbers that count on
   pub record IsRow (Shows : RegionState → Lines → Type 0) (states : List ChoicesState) (texts : List Lines)
       (state : ChoicesState) (row : StateRow) : Type 0 where
     pub presses : ArePresses choices one_number (begun region) row.presses state
@@ -92,6 +149,8 @@ module _ (choices : List KeyLine) (one_number : Option ℕ) (region : RegionStat
     pub shows : StateText Shows state text
     pub screen : slice_get texts row.screen ≡ Some text
     pub arrows : AreArrows states state row.arrows
+    pub listed : Differs one_number (IsSameList Shows choices one_number region state row.presses) row.list_differs
+    pub pressed : Differs one_number (AreSameKeys Shows choices one_number region state row.presses) row.keys_differ
 
 -- one of the rows, before a place, has that number of a text
 pub record HasScreen (rows : List StateRow) (before screen : ℕ) : Type 0 where

@@ -66,7 +66,7 @@ fn push_turn_incidents(incidents: &mut Vec<IncidentAt>, made: &[TurnMade]) -> Re
 /// What is kept of a move by the key with that number.
 ///
 /// An error comes only where memory was refused.
-fn incidents_of<S: Store + Drop>(
+pub(crate) fn incidents_of<S: Store + Drop>(
     alloc: Global,
     region: &Region<S>,
     choices: &[KeyLine],
@@ -153,7 +153,7 @@ fn add_arrow<S: Store + Drop>(
 }
 
 /// How many keys there are.
-fn many_keys<S: Store + Drop>(choices: &Choices<S>) -> usize
+pub(crate) fn many_keys<S: Store + Drop>(choices: &Choices<S>) -> usize
     ensures { result ≡ length choices.now.choices.items }
 {
     choices.choices.as_slice().len()

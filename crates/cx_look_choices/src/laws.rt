@@ -1,6 +1,6 @@
 //! What holds of the report of every list of keys.
 
-ghost use Rattle.cx_look_choices.specs.Laws.{PressesAreRuns, PressesLead, ReportsDecide};
+ghost use Rattle.cx_look_choices.specs.Laws.{ListsLead, PressesAreRuns, PressesLead, ReportsDecide};
 
 use cx_choices::laws::choices_decide;
 use cx_look_steps::Seen;
@@ -18,6 +18,17 @@ pub fn reports_decide<S: Store + Drop, V: Seen<S>>(seen: &V)
     texts_decide();
     seen.shows_decide();
     one_list_is_sooner();
+}
+
+/// Each list that CHOICES writes of a state leads there: in a region in which no two terminals share a name its keys and
+/// turns, made one after another with numbers of tasks that count on, lead to a state of which the same is written. So it
+/// is with one number too.
+pub fn lists_lead_to_what_is_written<S: Store + Drop, V: Seen<S>>(seen: &V)
+    ensures { ListsLead (V.shows seen.now) }
+{
+    texts_decide();
+    seen.shows_decide();
+    presses_are_runs();
 }
 
 /// Presses are moves; and in a region in which no two terminals share a name they lead it, without one number, where

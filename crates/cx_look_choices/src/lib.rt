@@ -5,6 +5,7 @@
 mod arrows;
 pub mod laws;
 mod lists;
+mod numbers;
 mod presses;
 mod report;
 mod rows;

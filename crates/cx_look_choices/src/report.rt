@@ -6,7 +6,7 @@ ghost use Rattle.std.specs.List.{flat_map};
 ghost use Rattle.std.specs.Option.{option_copied};
 ghost use Rattle.cx_choices.specs.Moves.{Goes, begun};
 ghost use Rattle.cx_look_choices.specs.Parts.Ways.{arrow_line, cut_report, limit_of, report_of, whole_report};
-ghost use Rattle.cx_look_choices.specs.Report.{ChoicesText, arrow_lines, came_after, closed_words, cut_line, number_words, row_lines, rows_lines, screen_lines, screens_words, state_line, states_lines, target_word, trouble_lines, troubles_lines, whole_line};
+ghost use Rattle.cx_look_choices.specs.Report.{ChoicesText, arrow_lines, came_after, closed_words, cut_line, keys_show_line, number_words, numbers_show, row_differs, row_lines, row_list, rows_lines, screen_lines, screens_words, show_line, state_line, states_lines, target_word, trouble_lines, troubles_lines, whole_line};
 ghost use Rattle.cx_look_lines.specs.Words.{with_blanks};
 ghost use Rattle.cx_search.specs.Finds.{Finds};
 ghost use Rattle.cx_search.specs.Within.{Reaches};
@@ -38,12 +38,16 @@ fn push_screens(line: &mut Vec<u8>, alloc: Global, screens: usize) -> Result<(),
     push_words(line, &[b"SCREENS", screens.as_slice()])
 }
 
-/// Adds the word that says that each move begins with one number of the last task, where it is so.
-fn push_number(line: &mut Vec<u8>, one_number: Option<u32>) -> Result<(), AllocError>
-    ensures { OnOk result (line.new.items ≡ line.old.items ++ with_blanks (number_words one_number)) }
+/// Adds the word that says that each move begins with one number of the last task, where it is so, and the one that
+/// says that numbers of tasks show.
+fn push_number(line: &mut Vec<u8>, one_number: Option<u32>, shows: bool) -> Result<(), AllocError>
+    ensures { OnOk result (line.new.items ≡ line.old.items ++ with_blanks (number_words one_number shows)) }
 {
     if one_number.is_none() {
         return Ok(());
+    }
+    if shows {
+        return push_words(line, &[b"ONE NUMBER", b"NUMBERS SHOW"]);
     }
     push_words(line, &[b"ONE NUMBER"])
 }
@@ -67,6 +71,8 @@ struct Counts {
     states: usize,
     /// How many texts these have.
     screens: usize,
+    /// Whether numbers of tasks show.
+    shows: bool,
 }
 
 /// Adds the first line where all states were found.
@@ -77,7 +83,7 @@ fn whole_line(
     is_closed: bool,
 ) -> Result<(), AllocError>
     ensures { OnOk result (report.new
-        ≡ report.old ++ whole_line counts.keys counts.states counts.screens one_number is_closed) }
+        ≡ report.old ++ whole_line counts.keys counts.states counts.screens one_number counts.shows is_closed) }
 {
     let alloc = report.alloc();
     let keys = decimal(alloc, counts.keys)?;
@@ -85,7 +91,7 @@ fn whole_line(
     let mut line = b"CHOICES KEYS".to_vec(alloc)?;
     push_words(&mut line, &[keys.as_slice(), b"STATES", states.as_slice()])?;
     push_screens(&mut line, alloc, counts.screens)?;
-    push_number(&mut line, one_number)?;
+    push_number(&mut line, one_number, counts.shows)?;
     push_closed(&mut line, is_closed)?;
     report.push(line)
 }
@@ -97,8 +103,9 @@ fn cut_line(
     keys: usize,
     screens: usize,
     one_number: Option<u32>,
+    shows: bool,
 ) -> Result<(), AllocError>
-    ensures { OnOk result (report.new ≡ report.old ++ cut_line most keys screens one_number) }
+    ensures { OnOk result (report.new ≡ report.old ++ cut_line most keys screens one_number shows) }
 {
     let alloc = report.alloc();
     let most = decimal(alloc, most)?;
@@ -109,7 +116,7 @@ fn cut_line(
         &[most.as_slice(), b"STATES, ALL OF", keys.as_slice(), b"KEYS"],
     )?;
     push_screens(&mut line, alloc, screens)?;
-    push_number(&mut line, one_number)?;
+    push_number(&mut line, one_number, shows)?;
     report.push(line)
 }
 
@@ -160,21 +167,57 @@ fn all_arrow_lines<S: Store + Drop>(
     Ok(())
 }
 
-/// Adds the lines of a key that abends a task or is refused in the state at a place.
+/// Adds the line that says that numbers of tasks show.
+fn show_line(report: &mut Report, shows: bool) -> Result<(), AllocError>
+    ensures { OnOk result (report.new ≡ report.old ++ show_line shows) }
+{
+    if shows {
+        report.line(&[b"NUMBERS SHOW"])?;
+    }
+    Ok(())
+}
+
+/// Adds the line that says that numbers of tasks show by keys.
+fn keys_show_line(report: &mut Report, shows: bool) -> Result<(), AllocError>
+    ensures { OnOk result (report.new ≡ report.old ++ keys_show_line shows) }
+{
+    if shows {
+        report.line(&[b"NUMBERS SHOW BY KEYS"])?;
+    }
+    Ok(())
+}
+
+/// Whether the list of a state, or one of its keys, isn't the same with numbers that count on.
+fn row_differs(row: &StateRow) -> bool
+    ensures { result ≡ row_differs row.now }
+{
+    row.list_differs || row.keys_differ
+}
+
+/// Whether numbers of tasks show.
+fn numbers_show(rows: &[StateRow]) -> bool
+    ensures { result ≡ numbers_show rows.now }
+{
+    rows.iter().any(row_differs)
+}
+
+/// Adds the lines of a key that abends a task or is refused in the state at a place, where numbers show or not.
 fn trouble_lines<S: Store + Drop>(
     report: &mut Report,
     region: &Region<S>,
     place: usize,
+    shows: bool,
     arrow: &Arrow,
 ) -> Result<(), AllocError>
-    ensures { OnOk result (report.new ≡ report.old ++ trouble_lines region.now (place + 1) arrow.now) }
+    ensures { OnOk result (report.new ≡ report.old ++ trouble_lines region.now (place + 1) shows arrow.now) }
 {
     if arrow.incidents.as_slice().is_empty() {
         return Ok(());
     }
     let number = numbered(report.alloc(), place)?;
     report.line(&[b"STATE", number.as_slice()])?;
-    arrow_lines(report, region, arrow)
+    arrow_lines(report, region, arrow)?;
+    show_line(report, shows)
 }
 
 /// Adds the lines of the keys that abend a task or are refused in the state at a place.
@@ -182,13 +225,14 @@ fn state_troubles<S: Store + Drop>(
     report: &mut Report,
     region: &Region<S>,
     place: usize,
+    shows: bool,
     arrows: &[Arrow],
 ) -> Result<(), AllocError>
-    ensures { let more = flat_map (trouble_lines region.now (place + 1)) arrows.now in
+    ensures { let more = flat_map (trouble_lines region.now (place + 1) shows) arrows.now in
         OnOk result (report.new ≡ report.old ++ more) }
 {
     for arrow in arrows {
-        trouble_lines(report, region, place, arrow)?;
+        trouble_lines(report, region, place, shows, arrow)?;
     }
     Ok(())
 }
@@ -203,7 +247,8 @@ fn troubles_lines<S: Store + Drop>(
     ensures { OnOk result (report.new ≡ report.old ++ troubles_lines region.now 1 rows.now) }
 {
     for (place, row) in rows.iter().enumerate() {
-        state_troubles(report, region, place, row.arrows.as_slice())?;
+        let shows = row_differs(row);
+        state_troubles(report, region, place, shows, row.arrows.as_slice())?;
     }
     Ok(())
 }
@@ -260,6 +305,28 @@ struct Written<'a, S: Store + Drop> {
     rows: &'a Rows,
 }
 
+/// Adds the lines of the list that leads to a state; where it isn't the same with numbers that count on, that they show.
+fn row_list<S: Store + Drop>(
+    report: &mut Report,
+    written: &Written<S>,
+    row: &StateRow,
+) -> Result<(), AllocError>
+    ensures { OnOk result (report.new ≡ report.old ++ row_list written.now.region.now
+        written.now.choices.now.choices.items written.now.edf.now written.now.rows.now.texts.items row.now) }
+{
+    if row.list_differs {
+        return show_line(report, true);
+    }
+    let keys = written.choices.choices.as_slice();
+    list_lines(
+        report,
+        written.region,
+        keys,
+        written.edf,
+        row.presses.as_slice(),
+    )
+}
+
 /// Adds the lines of the state at a place, before which so many texts came.
 #[tactic(auto, unfolding(crate::specs::Report::row_lines))]
 fn row_lines<S: Store + Drop>(
@@ -273,11 +340,10 @@ fn row_lines<S: Store + Drop>(
         written.now.choices.now.choices.items written.now.edf.now written.now.rows.now.texts.items (place + 1) came
         row.now) }
 {
-    let region = written.region;
-    let keys = written.choices.choices.as_slice();
     state_line(report, place, row.screen)?;
-    list_lines(report, region, keys, written.edf, row.presses.as_slice())?;
-    all_arrow_lines(report, region, row.arrows.as_slice())?;
+    row_list(report, written, row)?;
+    all_arrow_lines(report, written.region, row.arrows.as_slice())?;
+    keys_show_line(report, row.keys_differ)?;
     screen_lines(report, written.rows.texts.as_slice(), came, row.screen)
 }
 
@@ -321,13 +387,16 @@ fn whole_report<S: Store + Drop>(
         ≡ whole_report written.now.region.now written.now.choices.now.choices.items written.now.choices.now.one_number
         written.now.edf.now rows.texts.items rows.rows.items keys is_closed) }
 {
+    let shows = numbers_show(written.rows.rows.as_slice());
     let counts = Counts {
         keys,
         states: written.rows.rows.as_slice().len(),
         screens: written.rows.texts.as_slice().len(),
+        shows,
     };
     let mut report = Report::new(written.choices.alloc);
-    whole_line(&mut report, counts, written.choices.one_number, is_closed)?;
+    let one_number = written.choices.one_number;
+    whole_line(&mut report, counts, one_number, is_closed && !shows)?;
     states_lines(&mut report, written)?;
     Ok(report)
 }
@@ -345,8 +414,10 @@ fn cut_report<S: Store + Drop>(
         written.now.edf.now rows.texts.items rows.rows.items most keys) }
 {
     let screens = written.rows.texts.as_slice().len();
+    let shows = numbers_show(written.rows.rows.as_slice());
     let mut report = Report::new(written.choices.alloc);
-    cut_line(&mut report, most, keys, screens, written.choices.one_number)?;
+    let one_number = written.choices.one_number;
+    cut_line(&mut report, most, keys, screens, one_number, shows)?;
     states_lines(&mut report, written)?;
     Ok(report)
 }

@@ -7,6 +7,7 @@ ghost use Rattle.cx_look_choices.specs.Rows.{AreRows};
 ghost use Rattle.cx_search.specs.Finds.{Finds};
 
 use crate::arrows::arrows_of;
+use crate::numbers::compare_numbers;
 use crate::presses::{Press, presses_to};
 use crate::screens::{screen_of, state_text};
 use cx_base::List;
@@ -39,6 +40,12 @@ pub struct StateRow {
     pub screen: usize,
     /// Where the keys lead that can be pressed there, in their order.
     pub arrows: List<Arrow>,
+    /// Whether the list isn't the same with numbers of tasks that count on: other turns follow its keys, or another
+    /// text is written of the state that it leads to. It is the same without one number.
+    pub list_differs: bool,
+    /// Whether one of the keys that are pressed after it isn't: it can't be pressed, has other abends, is refused
+    /// otherwise, or leads to a state of another text.
+    pub keys_differ: bool,
 }
 
 /// What was searched: the states that lists of keys lead to from a region, of which the first are written.
@@ -108,12 +115,16 @@ fn add_row<S: Store + Drop, V: Seen<S>>(
     };
     let presses = presses_to(searched.region, choices, searched.found, work, place)?;
     let arrows = arrows_of(searched, work, state)?;
+    let listed = presses.as_slice();
+    let compared = compare_numbers(searched.region, choices, seen, work, state, listed)?;
     let text = state_text(choices.alloc, work, state, seen)?;
     let screen = screen_of(&mut rows.texts, text)?;
     rows.rows.push(StateRow {
         presses,
         screen,
         arrows,
+        list_differs: compared.list,
+        keys_differ: compared.keys,
     })?;
     Ok(())
 }

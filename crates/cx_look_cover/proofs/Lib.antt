@@ -1,5 +1,6 @@
 mod PassageLemmas
 mod TallyLemmas
+mod SumLemmas
 pub mod ExecuteLemmas
 mod BranchLemmas
 mod RangeLemmas

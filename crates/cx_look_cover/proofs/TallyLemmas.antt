@@ -38,21 +38,21 @@ run_length : (away : Bool) (tallies : List Tally) (place : ℕ) → length (with
 unfolding with_run
 run_length away tallies place = length-set tallies place (tally_after away (tally_at tallies place))
 
-places_length : (away : Bool) (tallies : List Tally) (places : List ℕ) → length (fold (with_run away) tallies places) ≡ length tallies
+pub places_length : (away : Bool) (tallies : List Tally) (places : List ℕ) → length (fold (with_run away) tallies places) ≡ length tallies
 places_length away tallies [] = refl
 places_length away tallies (place ∷ places) = places_length away (with_run away tallies place) places ∙ run_length away tallies place
 
 -- ---- counts that stop
-abbrev IsSmall : ℕ → Type 0
+abbrev pub IsSmall : ℕ → Type 0
 IsSmall n = n < 2 ^ 64
 
-capped_small : (n : ℕ) → IsSmall (capped n)
+pub capped_small : (n : ℕ) → IsSmall (capped n)
 capped_small n = grind (arith, nat_tests)
 
-capped_same : (n : ℕ) → IsSmall n → n ≡ capped (n + 0)
+pub capped_same : (n : ℕ) → IsSmall n → n ≡ capped (n + 0)
 capped_same n small = grind (arith, nat_tests, small)
 
-capped_twice : (n a b : ℕ) → capped (capped (n + a) + b) ≡ capped (n + (a + b))
+pub capped_twice : (n a b : ℕ) → capped (capped (n + a) + b) ≡ capped (n + (a + b))
 capped_twice n a b = grind (arith, nat_tests)
 
 abbrev if_so : Bool → ℕ → ℕ
@@ -60,7 +60,7 @@ if_so away n = cond away n 0
 
 -- so many runs more, and as many after which the machine went elsewhere, or none
 record IsMore (away : Bool) (n : ℕ) (old new : Tally) : Type 0 where
-  runs : new.runs ≡ capped (old.runs + n)
+  pub runs : new.runs ≡ capped (old.runs + n)
   gone : new.away ≡ capped (old.away + if_so away n)
   small_runs : IsSmall new.runs
   small_gone : IsSmall new.away
@@ -94,7 +94,7 @@ run_more : (away : Bool) (tallies : List Tally) (place address : ℕ) (here : Bo
 run_more away tallies place address true e small gone = one_run away (tally_at tallies address) small gone
 run_more away tallies place address false e small gone = none_more away (tally_at tallies address) small gone
 
-times_both : (address : ℕ) (one other : List ℕ) → times_in address (one ++ other) ≡ times_in address one + times_in address other
+pub times_both : (address : ℕ) (one other : List ℕ) → times_in address (one ++ other) ≡ times_in address one + times_in address other
 times_both address one other = sum_by-append (λ place. cond (place == address) 1 0) one other
 
 times_one : (address place : ℕ) → times_in address (place ∷ []) ≡ cond (place == address) 1 0
@@ -121,9 +121,9 @@ places_more away tallies (place ∷ places) address there small gone =
 
 -- ---- the passages of a run
 -- so many runs, and so many of them after which the machine went elsewhere
-record IsMoreOf (n gone_n : ℕ) (old new : Tally) : Type 0 where
-  runs : new.runs ≡ capped (old.runs + n)
-  gone : new.away ≡ capped (old.away + gone_n)
+pub record IsMoreOf (n gone_n : ℕ) (old new : Tally) : Type 0 where
+  pub runs : new.runs ≡ capped (old.runs + n)
+  pub gone : new.away ≡ capped (old.away + gone_n)
 
 none_before : (n : ℕ) → n ≡ 0 + n
 none_before n = omega arith
@@ -137,7 +137,7 @@ gone_times address p passages false e =
     ap (λ (b : Bool). times_at address (cond b (p ∷ filter went_away passages) (filter went_away passages))) e
     ∙ none_before (times_at address (filter went_away passages))
 
-passages_more : (tallies : List Tally) (passages : List Passage) (address : ℕ) → address < length tallies → IsSmall (tally_at tallies address).runs
+pub passages_more : (tallies : List Tally) (passages : List Passage) (address : ℕ) → address < length tallies → IsSmall (tally_at tallies address).runs
     → IsSmall (tally_at tallies address).away
     → IsMoreOf (times_at address passages) (times_at address (filter went_away passages)) (tally_at tallies address)
     (tally_at (fold with_passage tallies passages) address)

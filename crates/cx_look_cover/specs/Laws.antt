@@ -1,6 +1,7 @@
 -- What follows from the definitions: the passages of a run are those of its visits; targets are those of EX, and
--- conditional branches those of the table; a tally counts passages; ranges name exactly their lines.
-use Rattle.std.specs.Prelude.{◌≡◌, ◌≢◌, ◌↔◌, ◌⊎◌, Bool, true, ◌&&◌, not, slice_index, ℕ, zero, suc, ◌+◌, ◌-◌, ◌<◌, ◌≤◌, ◌^◌, ◌==◌, ⊤, Some, List, [], ◌∷◌, length, map, slice_get}
+-- conditional branches those of the table; a tally counts passages, of one run and of several; ranges name exactly their
+-- lines.
+use Rattle.std.specs.Prelude.{◌≡◌, ◌≢◌, ◌↔◌, ◌⊎◌, Bool, true, ◌&&◌, if◌then◌else◌, max, nat_lt, not, slice_index, ℕ, zero, suc, ◌+◌, ◌-◌, ◌<◌, ◌≤◌, ◌^◌, ◌==◌, ⊤, Some, List, [], ◌∷◌, ◌++◌, fold, length, map, slice_get}
 use Rattle.std.specs.List.{count_by, filter, flat_map}
 use Rattle.cx_code.specs.Reading.{reading}
 use Rattle.cx_code.specs.Spelling.{Instruction, instruction}
@@ -14,7 +15,7 @@ use Rattle.cx_look_turn.specs.declared.traces.Visit.{Visit}
 use Rattle.cx_look_cover.specs.Counts.{is_conditional, is_of_some_codes}
 use Rattle.cx_exec.specs.Passages.{Passage, Passages, places_run, target_of, went_away}
 use Rattle.cx_look_cover.specs.Ranges.{ranges_of}
-use Rattle.cx_exec.specs.Tallies.{IsTallied, capped, tally_at}
+use Rattle.cx_exec.specs.Tallies.{IsTallied, capped, tally_at, with_passage}
 use Rattle.cx_load.specs.declared.program.Loaded.{Loaded}
 use Rattle.cx_look_cover.specs.Tallies.{programs_end, reaching}
 use Rattle.cx_look_cover.specs.declared.ranges.LineRange.{LineRange}
@@ -97,6 +98,30 @@ ProgramsAreReached =
     (tallies : List Tally) (programs : List (List ℕ × Loaded)) (k : ℕ) (name : List ℕ) (loaded : Loaded)
     → slice_get programs k ≡ Some (name, loaded)
     → loaded.at + loaded.len ≤ length (reaching tallies (programs_end programs))
+
+-- ---- several runs
+-- a run that is counted: the end of the programs then, and its passages
+pub record CountedRun : Type 0 where
+  pub end : ℕ
+  pub passages : List Passage
+
+-- runs that are counted one after another, each in tallies that reach so far
+abbrev pub AreCounted : List CountedRun → List Tally → List Tally → Type 0
+AreCounted [] old new = new ≡ old
+AreCounted (run ∷ runs) old new = AreCounted runs (fold with_passage (reaching old run.end) run.passages) new
+
+-- The passages that are counted at an address, where tallies reach so far before: those of each run from the first on
+-- at which they reach it.
+abbrev pub counted_at : ℕ → ℕ → List CountedRun → List Passage
+counted_at reach address [] = []
+counted_at reach address (run ∷ runs) =
+    let reached = max reach run.end in
+    (if nat_lt address reached then run.passages else []) ++ counted_at reached address runs
+
+-- of each address the sum over all of these passages
+abbrev pub RunsAddUp : Type 0
+RunsAddUp = (runs : List CountedRun) (old new : List Tally) (address : ℕ) → AreCounted runs old new
+    → IsInRange old address → CountsThem (counted_at (length old) address runs) old new address
 
 -- ---- ranges
 -- the numbers of a range

@@ -1,5 +1,5 @@
 //! What follows from the definitions of what was run.
-ghost use Rattle.cx_look_cover.specs.Laws.{BranchesAreOfTable, PassagesAreVisits, ProgramsAreReached, RangesName, TalliesCount, TargetsAreOfExecutes};
+ghost use Rattle.cx_look_cover.specs.Laws.{BranchesAreOfTable, PassagesAreVisits, ProgramsAreReached, RangesName, RunsAddUp, TalliesCount, TargetsAreOfExecutes};
 
 use cx_code::laws::{one_row, read_by_first_byte};
 use cx_exec_laws::laws::{passages_decide, steps_decide};
@@ -35,6 +35,13 @@ pub fn tallies_count()
 {
     passages_decide();
 }
+
+/// After several runs, counted one after another, the runs of each address are those before them and one for each time
+/// that a passage of these runs runs the instruction there, up to 2^64 - 1; and likewise those after which the machine
+/// went elsewhere. Counted are the passages of each run from the first one on at which a program reached the address.
+pub fn runs_add_up()
+    ensures { RunsAddUp }
+{}
 
 /// Tallies that reach the end of the programs reach each address of each of them.
 pub fn programs_are_reached()

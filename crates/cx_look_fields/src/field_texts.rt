@@ -279,8 +279,11 @@ impl<'a, S: Store> FieldWriter<'a, S> {
     }
 }
 
-/// Adds the lines of the fields, where a level stands at a statement of its source.
-fn fields_there<S: Store>(
+/// Adds the lines of the fields of a source's dummy sections that a base reaches, where a level stands at a statement
+/// of its source, whose lines these are; no line where it stands at none.
+///
+/// An error comes only where memory was refused; then some of them may be there.
+pub fn fields_there<S: Store>(
     report: &mut Report,
     store: &S,
     lines: &[Text],

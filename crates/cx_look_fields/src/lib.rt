@@ -17,13 +17,13 @@ mod texts;
 pub mod wheres;
 
 pub use field_texts::{
-    FieldLook, FieldWriter, field_at, field_text, fields_text, fields_word, level_program,
-    standing_at,
+    FieldLook, FieldWriter, field_at, field_text, fields_text, fields_there, fields_word,
+    level_program, standing_at,
 };
 pub use fields::{Field, LevelFields, TypedField};
 pub use kept::kept_fields;
 pub use nearest::{Near, near_word};
 pub use readings::{NamedReading, Reading, reading_named, readings_of};
-pub use standing::{Standing, standing_in};
+pub use standing::{Standing, calling, standing_in};
 pub use tasks::{task_of, task_text};
 pub use texts::value_text;

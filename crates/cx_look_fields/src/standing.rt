@@ -36,8 +36,8 @@ impl Standing {
     }
 }
 
-/// Where a level stands that has called another.
-fn calling(programs: &IndexMap<Name8, Loaded>, level: &Level) -> Standing
+/// Where a level stands that has called another. It takes no memory.
+pub fn calling(programs: &IndexMap<Name8, Loaded>, level: &Level) -> Standing
     ensures { result ≡ calling programs.now.entries level.now }
 {
     Standing {

@@ -6,6 +6,7 @@ use Rattle.cx_look.specs.declared.choices.ChoicesBlock.{ChoicesBlock}
 use Rattle.cx_look.specs.declared.look.Look.{Look}
 use Rattle.cx_look.specs.declared.orders.Sight.{Sight}
 use Rattle.cx_look_ahead.specs.Laws.{AheadDecides}
+use Rattle.cx_look_ahead.specs.Laws.Afters.{AfterDecides}
 use Rattle.cx_look_ahead.specs.Laws.Ats.{AtDecides}
 use Rattle.cx_look_choices.specs.Facts.Decides.{reports_decide}
 use Rattle.cx_look_choices.specs.Report.{ChoicesText}
@@ -44,14 +45,14 @@ module _ (state : LookState) (block : ChoicesBlock) where
       block.asked.keys block.asked.most lines) with_edf by_region in
       record { lines = lines; are = by_names; is = written }
 
-pub choices_once : PassagesDecide → SoonerOrders → WaitsTextsDecide → TasksTextsDecide → ResourcesTextsDecide → AheadDecides → AtDecides → ChoicesAreReportedOnce
-choices_once decide sooner waits tasks resources ahead at block state one other p q =
+pub choices_once : PassagesDecide → SoonerOrders → WaitsTextsDecide → TasksTextsDecide → ResourcesTextsDecide → AheadDecides → AtDecides → AfterDecides → ChoicesAreReportedOnce
+choices_once decide sooner waits tasks resources ahead at after block state one other p q =
     let sights = sights_of block.sights state.edf.region in
     p.is
     ∙ ap marked
     (reports_decide decide sooner waits
     (λ (region : RegionState). AreSeen (λ (l : Look). AreLookLines l (at_region state region)) region sights)
     (λ (region : RegionState) (one other : Lines). all_decide (λ (l : Look). AreLookLines l (at_region state region)) region
-    (λ (l : Look) (one other : Lines). same_lines tasks resources ahead at l (at_region state region) one other) sights one other)
+    (λ (l : Look) (one other : Lines). same_lines tasks resources ahead at after l (at_region state region) one other) sights one other)
     block.choices (number_of block state.edf.region) state.edf.region (names_with_edf state.edf) block.asked.keys block.asked.most p.lines q.lines p.are q.are)
     ∙ sym q.is

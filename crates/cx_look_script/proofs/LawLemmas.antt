@@ -33,14 +33,14 @@ performs make old (edf_action.Previous name k) text new p = p.0
 
 -- ---- parts
 -- what became of an action, where this is written of what is watched
-record Did (make : DisplayMaker) (old : LookState) (a : LookAction) (own watched : List ℕ) (new : LookState) : Type 0 where
-  part : ActionPart
-  is : IsPart old a part
-  done : LookState
-  runs : PerformsAll (NotedPerforms make) old part.plain part.written done
-  kept : new ≡ state_kept_after old a part.plain done
-  whole : own ≡ part.written ++ part.looked
-  shown : part.watched ≡ watched
+pub record Did (make : DisplayMaker) (old : LookState) (a : LookAction) (own watched : List ℕ) (new : LookState) : Type 0 where
+  pub part : ActionPart
+  pub is : IsPart old a part
+  pub done : LookState
+  pub runs : PerformsAll (NotedPerforms make) old part.plain part.written done
+  pub kept : new ≡ state_kept_after old a part.plain done
+  pub whole : own ≡ part.written ++ part.looked
+  pub shown : part.watched ≡ watched
 
 -- an action that is done as one of `cicsedf`
 did_action : (make : DisplayMaker) (old : LookState) (a : LookAction) (done : Action) (text watched : List ℕ) (new : LookState) → IsPart old a (let part : ActionPart = record { plain = done ∷ []; written = text; looked = []; watched = watched } in part)
@@ -136,7 +136,7 @@ did_more make old name n s text watched new false e p =
     did_nothing make old (action.RunOn name n s) text watched new
     (subst (λ (on : Bool). MatchBool on (IsMoreOfRun old name n s none) ((none.plain ≡ []) × (none.looked ≡ []))) (sym e) (refl, p.0)) (p.1 ∙ same_over old e)
 
-did : (make : DisplayMaker) (old : LookState) (a : LookAction) (text watched : List ℕ) (new : LookState) → Acts make old a text new → Did make old a text watched new
+pub did : (make : DisplayMaker) (old : LookState) (a : LookAction) (text watched : List ℕ) (new : LookState) → Acts make old a text new → Did make old a text watched new
 unfolding Acts
 did make old (action.Script a) text watched new p = did_action make old (action.Script a) a text watched new (refl, refl) refl p
 did make old (action.Source name lines a) text watched new p =

@@ -45,12 +45,13 @@ use Rattle.cx_look.specs.declared.look.Look.{Look}
 use Rattle.cx_look.specs.declared.orders.Sight.{Sight}
 use Rattle.cx_look.specs.declared.orders.Sight.TheVariants as sight
 use Rattle.cx_look_lines.specs.Words.{Lines}
+use Rattle.cx_look_tables.specs.Hidden.{hidden_rows}
 use Rattle.cx_look_steps.specs.Laws.{IsMoveReply, ScriptsAskForSteps, event_at, event_of_step}
 use Rattle.cx_look_steps.specs.declared.steps.Step.{Step}
 use Rattle.cx_look_script.specs.Laws.Looks.{turn_action}
 use Rattle.cx_look_script.specs.Laws.Orders.{HasSpelling, IsOfRegion, ScriptsLeadThere, asked_events, is_of_region}
 use Rattle.cx_look_script.specs.Looking.{Acts, AreLookLines, LookPerforms, NotedPerforms, TakesOneMore, at_region}
-use Rattle.cx_look_script.specs.Orders.{AreSeen, IsSeen, names_with_edf}
+use Rattle.cx_look_script.specs.Orders.{AreSeen, IsSeen, hidden_lines, names_with_edf}
 use Rattle.cx_look_script.specs.Runs.{AppliesAtLooks, StopsWith, is_midway, look_actions_of, run_over, turn_goes_on, turn_of, turns_left}
 use Rattle.cx_look_script.specs.State.{LookState}
 use Rattle.cx_look_script.specs.declared.action.LookAction.{LookAction}
@@ -465,8 +466,16 @@ one_seen : (state new : LookState) (region : RegionState) (s : Sight) (lines : L
     → IsSeen (λ (l : Look) (ls : Lines). AreLookLines l (at_region state region) ls) region s lines
     → IsSeen (λ (l : Look) (ls : Lines). AreLookLines l new ls) new.edf.region s lines
 unfolding IsSeen
-one_seen state new region (sight.Screen name) lines there sources is shown = shown ∙ ap (λ (r : RegionState). lines_met AtEnd (screen_text r name)) (sym there)
-one_seen state new region (sight.Look l) lines there sources is shown = look_seen state new region l lines there sources is shown
+one_seen state new region (sight.Screen name) lines there sources is shown =
+    shown ∙ ap (λ (r : RegionState). lines_met AtEnd (screen_text r name) ++ hidden_rows r name) (sym there)
+one_seen state new region (sight.Look l) lines there sources is shown =
+    record {
+      first = shown.first;
+      is = look_seen state new region l shown.first there sources is shown.is;
+      others = shown.others;
+      rest = shown.rest ∙ ap (λ (r : RegionState). hidden_lines r l) (sym there);
+      whole = shown.whole;
+    }
 
 all_seen : (state new : LookState) (region : RegionState) (sights : List Sight) (lines : Lines) → new.edf.region ≡ region → new.sources ≡ state.sources
     → AllByRecursion IsOfRegion sights → AreSeen (λ (l : Look) (ls : Lines). AreLookLines l (at_region state region) ls) region sights lines

@@ -4,6 +4,7 @@ mod TurnLemmas
 mod StopLemmas
 mod ChoicesLemmas
 mod LawLemmas
+mod CoverLemmas
 mod MarkLemmas
 mod NoteLemmas
 mod OrdersLemmas

@@ -61,7 +61,8 @@ module _ (Says : Look → Lines → Type 0) (region : RegionState) where
     one_decides : (s : Sight) (one other : Lines) → IsSeen Says region s one → IsSeen Says region s other → one ≡ other
     unfolding IsSeen
     one_decides (sight.Screen name) one other p q = p ∙ sym q
-    one_decides (sight.Look l) one other p q = says_decide l one other p q
+    one_decides (sight.Look l) one other p q =
+        p.whole ∙ ap (λ ls. ls ++ p.others) (says_decide l p.first q.first p.is q.is) ∙ ap (λ ls. q.first ++ ls) (p.rest ∙ sym q.rest) ∙ sym q.whole
 
     pub all_decide : (sights : List Sight) (one other : Lines) → AreSeen Says region sights one → AreSeen Says region sights other → one ≡ other
     unfolding AreSeen

@@ -1,5 +1,6 @@
 -- The statements of laws.
 pub mod Choices
+pub mod Covers
 pub mod Looks
 pub mod Marks
 pub mod Notes

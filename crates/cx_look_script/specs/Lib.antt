@@ -30,6 +30,7 @@ pub use Rattle.cx_look_lines.specs.Marked
 pub use Rattle.cx_look_tables.specs.Queues
 pub use Rattle.cx_look_tables.specs.Programs
 pub use Rattle.cx_look_tables.specs.Terminals
+pub use Rattle.cx_look_tables.specs.Hidden
 pub use Rattle.cx_look_storage.specs.Uses
 pub use Rattle.cx_look_storage.specs.Areas
 pub use Rattle.cx_look_storage.specs.Bytes

@@ -1,5 +1,5 @@
 -- What an action of a script with looks does, and what is written for it (own).
-use Rattle.std.specs.Prelude.{◌≡◌, ℕ, zero, suc, MatchBool, MatchOption, Option, List, [], ◌++◌}
+use Rattle.std.specs.Prelude.{◌≡◌, ℕ, zero, suc, MatchBool, MatchOption, Option, List, [], ◌++◌, codes}
 use Rattle.cx_region.specs.State.{RegionState}
 use Rattle.cx_region.specs.Tables.{program_of}
 use Rattle.cx_edf.specs.declared.answers.Answer.{Answer}
@@ -18,6 +18,7 @@ use Rattle.cx_look_tables.specs.Programs
 use Rattle.cx_look_tables.specs.Terminals
 use Rattle.cx_look_ahead.specs.Ahead
 use Rattle.cx_look_ahead.specs.At
+use Rattle.cx_look_ahead.specs.After
 use Rattle.cx_look_tasks.specs.Looks as LooksAtCommands
 use Rattle.cx_look_symbols.specs.Sources.{source_lines}
 use Rattle.cx_look_symbols.specs.Texts as SymbolTexts
@@ -57,6 +58,12 @@ AreLookLines (look.Command name) state lines = lines ≡ LooksAtCommands.command
 AreLookLines (look.Ahead name n) state lines = Ahead.AheadText state.sources state.edf.region name n lines
 AreLookLines (look.AheadAt name program line) state lines =
     At.AtText state.sources state.edf.region name (record { program = program; line = line }) lines
+AreLookLines (look.AheadAfter name n) state lines =
+    After.AfterText state.edf.region name (codes "AFTER") n
+    (After.state_lines state.sources state.edf.region.shared.programs) lines
+AreLookLines (look.FieldsAfter name n) state lines =
+    After.AfterText state.edf.region name (codes "FIELDS AFTER") n
+    (After.fields_lines state.sources state.edf.region name) lines
 AreLookLines (look.Task name) state lines = lines ≡ TasksLookedAt.task_text state.sources state.edf.region name
 AreLookLines look.Areas state lines = lines ≡ Areas.areas_text state.edf.region
 AreLookLines (look.AreasOf name) state lines = lines ≡ Areas.task_areas_text state.edf.region name

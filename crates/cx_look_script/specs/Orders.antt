@@ -7,6 +7,7 @@ use Rattle.cx_script_actions.specs.Effects.{screen_text}
 use Rattle.cx_script_io.specs.Lines.{lines_met}
 use Rattle.cx_script_io.specs.declared.input.Ending.TheVariants.{AtEnd}
 use Rattle.cx_look.specs.declared.look.Look.{Look}
+use Rattle.cx_look.specs.declared.look.Look.TheVariants as look
 use Rattle.cx_look.specs.declared.orders.OrdersBlock.{OrdersBlock}
 use Rattle.cx_look.specs.declared.orders.Sight.{Sight}
 use Rattle.cx_look.specs.declared.orders.Sight.TheVariants as sight
@@ -14,13 +15,9 @@ use Rattle.cx_look_orders.specs.Report.{OrdersText}
 use Rattle.cx_look_steps.specs.Steps.{Telling}
 use Rattle.cx_orders.specs.declared.states.Keys.{Keys}
 use Rattle.cx_look_lines.specs.Words.{Lines, marked}
+use Rattle.cx_look_tables.specs.Hidden.{hidden_items, hidden_rows}
 
 -- ---- what is to be seen of a region, where `Says` is what looks at it have to say
--- a screen, line by line as SCREEN writes it; or what a look has to say
-unfoldable pub IsSeen : (Look → Lines → Type 0) → RegionState → Sight → Lines → Type 0
-IsSeen Says region (sight.Screen name) lines = lines ≡ lines_met AtEnd (screen_text region name)
-IsSeen Says region (sight.Look l) lines = Says l lines
-
 -- the first, and then what is said of the others
 pub record SeenThen (Is Rest : Lines → Type 0) (lines : Lines) : Type 0 where
   pub first : Lines
@@ -28,6 +25,18 @@ pub record SeenThen (Is Rest : Lines → Type 0) (lines : Lines) : Type 0 where
   pub others : Lines
   pub rest : Rest others
   pub whole : lines ≡ first ++ others
+
+-- what a look shows of bytes by characters that other bytes have too, or cuts: the items of a queue, as a whole
+abbrev pub hidden_lines : RegionState → Look → Lines
+hidden_lines region (look.Queue name) = hidden_items region.shared.queues name
+hidden_lines region _ = []
+
+-- A screen, line by line as SCREEN writes it; or what a look has to say. Bytes that are shown as others are stand there
+-- in digits too, so that they are told apart.
+unfoldable pub IsSeen : (Look → Lines → Type 0) → RegionState → Sight → Lines → Type 0
+IsSeen Says region (sight.Screen name) lines =
+    lines ≡ lines_met AtEnd (screen_text region name) ++ hidden_rows region name
+IsSeen Says region (sight.Look l) lines = SeenThen (Says l) (λ others. others ≡ hidden_lines region l) lines
 
 -- one after the other
 unfoldable pub AreSeen : (Look → Lines → Type 0) → RegionState → List Sight → Lines → Type 0

@@ -1,6 +1,7 @@
 //! What follows from the definitions of a script with looks.
 
 ghost use Rattle.cx_look_script.specs.Laws.Choices.{ChoicesAreReportedOnce};
+ghost use Rattle.cx_look_script.specs.Laws.Covers.{CoverAddsUp};
 ghost use Rattle.cx_look_script.specs.Laws.Looks.{ChoicesAreMarked, LooksAreMarked, LooksAreReportedOnce, LooksChangeNothing, OrdersAreMarked};
 ghost use Rattle.cx_look_script.specs.Laws.Marks.{FaultsAreMarked};
 ghost use Rattle.cx_look_script.specs.Laws.Notes.{NotesRefuseNothing, RefusalsAreWritten};
@@ -159,6 +160,16 @@ pub fn watched_texts_decide()
     ensures { WatchedTextsDecide }
 {
     cx_look_ahead::laws::writers_decide();
+}
+
+/// While COVER is on, actions add up: what COVERED tells of an address afterwards is what it told before, and the sum over
+/// all passages of all turns that were done, of whatever terminal and by whatever line: one more for each at which the
+/// instruction there was run, up to 2^64 - 1. From COVER ON on that is the sum alone. Counted are the passages from the
+/// first turn on at which a program reached the address.
+pub fn cover_adds_up()
+    ensures { CoverAddsUp }
+{
+    cx_look_cover::laws::runs_add_up();
 }
 
 /// A script of `cicsedf` without a bad line is the same script here, and where nothing is watched its actions do and

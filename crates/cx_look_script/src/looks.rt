@@ -79,6 +79,12 @@ pub(crate) fn look_lines<S: Store + Drop, M: MakesDisplays>(
             let line = SourceLine { program, line };
             cx_look_ahead::at_text(alloc, &looking.sources, region, name, line)
         }
+        Look::AheadAfter(name, n) => {
+            cx_look_ahead::after_text(alloc, &looking.sources, region, name, n)
+        }
+        Look::FieldsAfter(name, n) => {
+            cx_look_ahead::fields_after_text(alloc, &looking.sources, region, name, n)
+        }
         Look::Task(name) => cx_look_fields::task_text(alloc, &looking.sources, region, name),
         Look::Areas => cx_look_storage::areas_text(alloc, region),
         Look::AreasOf(name) => cx_look_storage::task_areas_text(alloc, region, name),

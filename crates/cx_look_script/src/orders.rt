@@ -3,8 +3,9 @@ ghost use Rattle.std.specs.Prelude.{◌≡◌, ◌≤◌, ◌∷◌, ◌++◌, [
 ghost use Rattle.std.specs.List.{AllByRecursion};
 ghost use Rattle.cx_look.specs.declared.orders.Sight.TheVariants as sight;
 ghost use Rattle.cx_look_script.specs.Looking.{AreLookLines, ShowsOrders, at_region};
-ghost use Rattle.cx_look_script.specs.Orders.{AreSeen, IsSeen, names_with_edf, sights_of};
+ghost use Rattle.cx_look_script.specs.Orders.{AreSeen, IsSeen, SeenThen, hidden_lines, names_with_edf, sights_of};
 ghost use Rattle.cx_look_script.specs.Telling.{turn_told};
+ghost use Rattle.cx_look_tables.specs.Hidden.{hidden_rows};
 ghost use Rattle.cx_orders.specs.Moves.{IsFew};
 ghost use Rattle.cx_script_actions.specs.Effects.{screen_text};
 ghost use Rattle.cx_script_io.specs.Lines.{last_met, lines_met};
@@ -16,10 +17,11 @@ use crate::telling::turn_told;
 use cx_base::List;
 use cx_ebcdic::Name4;
 use cx_edf::{Debugged, MakesDisplays};
-use cx_look::{OrdersBlock, Sight};
+use cx_look::{Look, OrdersBlock, Sight};
 use cx_look_lines::Report;
 use cx_look_orders::orders_text;
 use cx_look_steps::Seen;
+use cx_look_tables::{hidden_items, hidden_rows};
 use cx_orders::{Keys, Orders};
 use cx_region::{Region, TurnReply};
 use cx_script_actions::screen_text;
@@ -72,6 +74,51 @@ fn screen_lines<S: Store + Drop>(
     Ok(report)
 }
 
+/// What a look shows of bytes by characters that other bytes have too, or cuts.
+fn hidden_lines<S: Store + Drop>(
+    alloc: Global,
+    region: &Region<S>,
+    look: &Look,
+) -> Result<Report, AllocError>
+    ensures { IfOk result (λ report. report ≡ hidden_lines region.now look.now) }
+{
+    match look {
+        Look::Queue(name) => hidden_items(alloc, region, *name),
+        _ => Ok(Report::new(alloc)),
+    }
+}
+
+/// A screen, with the bytes of rows that other bytes would show alike.
+fn seen_screen<S: Store + Drop>(
+    alloc: Global,
+    region: &Region<S>,
+    name: Name4,
+) -> Result<Report, AllocError>
+    ensures { let screen = lines_met AtEnd (screen_text region.now name) in
+        IfOk result (λ report. report ≡ screen ++ hidden_rows region.now name) }
+{
+    let mut report = screen_lines(alloc, region, name)?;
+    let hidden = hidden_rows(alloc, region, name)?;
+    report.append(&hidden)?;
+    Ok(report)
+}
+
+/// What a look has to say, with the bytes that it hides.
+fn seen_look<S: Store + Drop, M: MakesDisplays>(
+    alloc: Global,
+    looking: &LookedRegion<S, M>,
+    region: &Region<S>,
+    look: &Look,
+) -> Result<Report, AllocError>
+    ensures { let Says = AreLookLines look.now (at_region looking.now region.now) in
+        IfOk result (SeenThen Says (λ others. others ≡ hidden_lines region.now look.now)) }
+{
+    let mut report = look_lines(alloc, looking, region, look)?;
+    let hidden = hidden_lines(alloc, region, look)?;
+    report.append(&hidden)?;
+    Ok(report)
+}
+
 /// One thing to be seen of a region, in place of the one that is looked at.
 #[tactic(auto, unfolding(crate::specs::Orders::IsSeen))]
 fn sight_lines<S: Store + Drop, M: MakesDisplays>(
@@ -84,8 +131,8 @@ fn sight_lines<S: Store + Drop, M: MakesDisplays>(
         IfOk result (IsSeen (λ l. AreLookLines l state) region.now sight.now) }
 {
     match sight {
-        Sight::Screen(name) => screen_lines(alloc, region, *name),
-        Sight::Look(look) => look_lines(alloc, looking, region, look),
+        Sight::Screen(name) => seen_screen(alloc, region, *name),
+        Sight::Look(look) => seen_look(alloc, looking, region, look),
     }
 }
 

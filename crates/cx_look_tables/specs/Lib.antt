@@ -2,4 +2,5 @@
 pub mod Queues
 pub mod Programs
 pub mod Terminals
+pub mod Hidden
 pub mod Laws

@@ -3,3 +3,4 @@ pub mod RunLemmas
 pub mod PassLemmas
 mod NextTurnLemmas
 mod LeaveLemmas
+mod AfterLemmas

@@ -1,6 +1,6 @@
 -- The instructions that a run comes to are decided by the machine, and are those of the run; and those of a terminal's
 -- next turn are those of the turn that is then done.
-use Rattle.std.specs.Prelude.{◌≡◌, ℕ, ◌<◌, false, List, [], ◌∷◌, ◌++◌, length, slice_get, Option, Some}
+use Rattle.std.specs.Prelude.{◌≡◌, ℕ, ◌-◌, ◌<◌, ◌≤◌, false, List, [], ◌∷◌, ◌++◌, length, slice_get, Option, Some}
 use Rattle.circular_buffer.specs.Buffer.{keep_last}
 use Rattle.cx_exec.specs.Advance.{Advances, Passes}
 use Rattle.cx_exec.specs.Machine.{Machine}
@@ -18,7 +18,7 @@ use Rattle.cx_region.specs.State.{RegionState, TerminalState}
 use Rattle.cx_region.specs.Tables.{terminal_of}
 use Rattle.cx_region.specs.Turn.{TakesTurn, context_of, put_back, task_after}
 use Rattle.cx_look_turn.specs.Traces.{IsTrace, Leaves, Visits, visit}
-use Rattle.cx_look_turn.specs.NextTurn.{IsAhead, machine_ahead}
+use Rattle.cx_look_turn.specs.NextTurn.{IsAhead, IsMachineAfter, machine_ahead}
 use Rattle.cx_look_turn.specs.declared.traces.Trace.{Trace}
 use Rattle.cx_look_turn.specs.declared.traces.Visit.{Visit}
 
@@ -87,3 +87,28 @@ abbrev pub TurnsLeaveRuns : Type 0
 TurnsLeaveRuns = (region new : RegionState) (name : List ℕ) (reply : TurnReply) (m left : Machine)
     → machine_ahead region name ≡ Some m → Leaves most_steps m left → TakesTurn region name reply new
     → is_abend reply ≡ false → new.shared.storage ≡ left.storage
+
+-- ---- the machine after so many of them
+abbrev pub MachinesAfterDecide : Type 0
+MachinesAfterDecide = (m : Option Machine) (n : ℕ) (one other : Option Machine)
+    → IsMachineAfter m n one → IsMachineAfter m n other → one ≡ other
+
+-- The turn runs the task's instructions; after so many of them this is its machine, and the rest of its run goes on
+-- from there.
+pub record GoesOnFrom (region : RegionState) (name : List ℕ) (n : ℕ) (there : Machine) (reply : TurnReply)
+    (new : RegionState) : Type 0 where
+  pub terminal : TerminalState
+  pub known : terminal_of region name ≡ Some terminal
+  pub task : TaskState
+  pub live : terminal.task ≡ Some task
+  pub abend_record : Option AbendRecord
+  pub reached : TaskContext
+  pub runs : RunsOn (context_of region terminal task) reply abend_record reached
+  pub passes : Passes n (machine_of (context_of region terminal task)) there
+  pub rest : Advances (most_steps - n) there runs.how (machine_of runs.between)
+  pub is : new ≡ put_back region name reached (task_after reply reached.task)
+
+abbrev pub TurnsGoOnFrom : Type 0
+TurnsGoOnFrom = (region new : RegionState) (name : List ℕ) (n : ℕ) (there : Machine) (reply : TurnReply)
+    → IsMachineAfter (machine_ahead region name) n (Some there) → n ≤ most_steps → TakesTurn region name reply new
+    → GoesOnFrom region name n there reply new

@@ -1,7 +1,7 @@
 -- The instructions that a run comes to, one after another (own).
 use Rattle.std.specs.Prelude.{◌≡◌, ℕ, ◌<◌, zero, suc, List, [], ◌∷◌, length}
 use Rattle.circular_buffer.specs.Buffer.{keep_last}
-use Rattle.cx_exec.specs.Advance.{Advances}
+use Rattle.cx_exec.specs.Advance.{Advances, Passes}
 use Rattle.cx_exec.specs.Fetch.{code_bytes}
 use Rattle.cx_exec.specs.Machine.{Machine}
 use Rattle.cx_exec.specs.Step.{Steps}
@@ -44,3 +44,7 @@ pub record ComesPast (m : Machine) (n : ℕ) : Type 0 where
   pub visits : List Visit
   pub are : Visits limit m visits
   pub longer : n < length visits
+
+-- fewer than so many instructions are done before the entry comes, or one is interrupted
+abbrev pub PassesFewer : ℕ → Machine → Type 0
+PassesFewer n m = (after : Machine) → Passes n m after → ⊥

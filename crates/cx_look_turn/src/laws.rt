@@ -1,6 +1,6 @@
 //! What follows from the definitions of a turn's machine and of the instructions that it comes to.
 
-ghost use Rattle.cx_look_turn.specs.Laws.{TracesDecide, TurnsLeaveRuns, TurnsRunThem, VisitsAreOfRuns};
+ghost use Rattle.cx_look_turn.specs.Laws.{MachinesAfterDecide, TracesDecide, TurnsGoOnFrom, TurnsLeaveRuns, TurnsRunThem, VisitsAreOfRuns};
 
 /// A machine and a limit have one trace: one number of instructions that the run comes to, and one list of the last of
 /// them.
@@ -33,4 +33,13 @@ pub fn turns_leave_runs()
 {
     cx_exec_laws::laws::runs_decide();
     cx_region_task::laws::abend_records_explain();
+}
+
+/// There is one machine after so many instructions of a terminal's next turn, or none; and the turn, when it is done,
+/// comes to that machine after so many instructions, and the rest of its run goes on from there.
+pub fn turns_go_on_from()
+    ensures decide { MachinesAfterDecide }
+    ensures go_on { TurnsGoOnFrom }
+{
+    cx_exec_laws::laws::steps_decide();
 }

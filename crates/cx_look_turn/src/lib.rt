@@ -8,5 +8,7 @@ mod machine;
 mod traces;
 
 pub use code::Code;
-pub use machine::{KeptMachine, MOST_STEPS, TurnMachine, machine_ahead, trace_ahead};
+pub use machine::{
+    KeptMachine, MOST_STEPS, TurnMachine, machine_after, machine_ahead, trace_ahead,
+};
 pub use traces::{Trace, Visit, instruction_at, trace_run};

@@ -1,13 +1,13 @@
 //! The machine of a terminal's next turn.
-ghost use Rattle.std.specs.Prelude.{◌≡◌, IfOk, OnErr, OnOk};
+ghost use Rattle.std.specs.Prelude.{◌≡◌, IfOk, MatchBool, OnErr, OnOk};
 ghost use Rattle.cx_exec.specs.Advance.{Advances, Passes};
 ghost use Rattle.cx_exec.specs.Machine.{machine};
 ghost use Rattle.cx_exec.specs.Step.{Steps};
 ghost use Rattle.cx_exec.specs.Tallies.{IsTallied};
 ghost use Rattle.cx_exec.specs.Watches.{IsWatched};
 ghost use Rattle.cx_region_task.specs.Turn.{most_steps};
-ghost use Rattle.cx_look_turn.specs.NextTurn.{IsAhead, machine_ahead};
-ghost use Rattle.cx_look_turn.specs.Traces.{ComesPast, IsTrace, Leaves};
+ghost use Rattle.cx_look_turn.specs.NextTurn.{IsAhead, IsMachineAfter, machine_ahead};
+ghost use Rattle.cx_look_turn.specs.Traces.{ComesPast, IsTrace, Leaves, PassesFewer};
 
 use crate::traces::{Trace, trace_run};
 use cx_ebcdic::Name4;
@@ -46,6 +46,26 @@ fn pass<S: Store>(cpu: &mut Cpu, store: &mut S, count: usize)
         let _end = step(cpu, store);
         done += 1;
     }
+}
+
+/// Performs so many instructions, and tells whether all of them were done. It ends at the entry, and at one that is
+/// interrupted.
+#[tactic(auto, using(crate::specs::Facts::Left::passes_none))]
+fn pass_all<S: Store>(cpu: &mut Cpu, store: &mut S, count: u32) -> bool
+    ensures { let before = machine cpu.old (S.storage store.old) in
+        let after = machine cpu.new (S.storage store.new) in
+        MatchBool result (Passes count before after) (PassesFewer count before) }
+{
+    cx_exec_laws::laws::steps_decide();
+    let mut passed = 0;
+    while passed < count {
+        match step(cpu, store) {
+            Step::Done => passed += 1,
+            Step::AtEntry => return false,
+            Step::Interrupt(_) => return false,
+        }
+    }
+    true
 }
 
 /// A machine as it was: its processor, and its storage.
@@ -182,6 +202,14 @@ impl<S: Store + Drop> TurnMachine<S> {
     {
         pass(&mut self.cpu, &mut self.store, count);
     }
+
+    /// Performs so many instructions, and tells whether all of them were done. It ends at the entry, and at one that is
+    /// interrupted.
+    pub fn pass_all(&mut self, count: u32) -> bool
+        ensures { MatchBool result (Passes count self.old self.new) (PassesFewer count self.old) }
+    {
+        pass_all(&mut self.cpu, &mut self.store, count)
+    }
 }
 
 /// The machine that a terminal's next turn runs on, over a store like the region's, which stays as it is; None where a
@@ -205,6 +233,28 @@ pub fn machine_ahead<S: Store + Drop>(
         return Ok(None);
     }
     let machine = TurnMachine::apart(alloc, &task.cpu, &region.shared().store)?;
+    Ok(Some(machine))
+}
+
+/// The machine after so many instructions of a terminal's next turn, over a store like the region's, which stays as it
+/// is; None where fewer of them are done, a command is due, or there is no task.
+///
+/// An error comes only where memory for that store was refused.
+#[tactic(auto, unfolding(crate::specs::NextTurn::IsMachineAfter))]
+pub fn machine_after<S: Store + Drop>(
+    alloc: Global,
+    region: &Region<S>,
+    name: Name4,
+    count: u32,
+) -> Result<Option<TurnMachine<S>>, AllocError>
+    ensures { IfOk result (λ there. IsMachineAfter (machine_ahead region.now name) count there) }
+{
+    let Some(mut machine) = machine_ahead(alloc, region, name)? else {
+        return Ok(None);
+    };
+    if !machine.pass_all(count) {
+        return Ok(None);
+    }
     Ok(Some(machine))
 }
 

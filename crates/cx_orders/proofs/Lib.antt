@@ -1,3 +1,4 @@
 pub mod KeyLemmas
 pub mod MoveLemmas
 pub mod RunLemmas
+mod TypedLemmas

@@ -1,6 +1,6 @@
 -- One text is written of every list of keys.
-use Rattle.std.proofs.Common.{◌≡◌, ℕ, ◌+◌, ◌≤◌, List, ◌++◌, length, Bool, true, false, Option, inl, inr, ap, refl, sym, subst, ◌∙◌, arith}
-use Rattle.std.specs.Prelude.{MatchBool}
+use Rattle.std.proofs.Common.{◌≡◌, ℕ, ◌+◌, ◌≤◌, List, ◌++◌, ◌&&◌, length, Bool, true, false, Option, inl, inr, ap, refl, sym, subst, ◌∙◌, arith}
+use Rattle.std.specs.Prelude.{MatchBool, not}
 use Rattle.std.proofs.lemmas.Bool.{cases_order}
 use Rattle.cx_search.specs.Laws.{SoonerOrders}
 use Rattle.cx_search.specs.Within.{IsClosed, IsNear, IsOpen}
@@ -14,7 +14,7 @@ use Rattle.cx_choices.specs.Moves.{Goes, begun}
 use Rattle.cx_choices.specs.declared.states.ChoicesState.{ChoicesState}
 use Rattle.cx_look_steps.specs.Facts.Items.{at_most}
 use Rattle.cx_look_choices.specs.Laws.{ReportsDecide}
-use Rattle.cx_look_choices.specs.Report.{ChoicesText, CutText, HasFew, HasMany, WholeText, cut_line, states_lines, whole_line}
+use Rattle.cx_look_choices.specs.Report.{ChoicesText, CutText, HasFew, HasMany, WholeText, cut_line, numbers_show, states_lines, whole_line}
 use Rattle.cx_look_choices.specs.Rows.{AreRows}
 use Rattle.cx_look_choices.specs.declared.rows.StateRow.{StateRow}
 use Rattle.cx_look_choices.specs.Facts.Rows.{rows_decide, texts_decide}
@@ -72,14 +72,14 @@ module _ (decide : PassagesDecide) (sooner : SoonerOrders) (waits : WaitsTextsDe
       → WholeText Shows choices one_number region edf keys most other → one ≡ other
   whole_decides keys most one other p q =
       p.is
-      ∙ ap (λ (rows : List StateRow). whole_line keys (length rows) (length p.texts) one_number p.is_closed
-      ++ states_lines region choices edf p.texts rows)
+      ∙ ap (λ (rows : List StateRow). whole_line keys (length rows) (length p.texts) one_number (numbers_show rows)
+      (p.is_closed && not (numbers_show rows)) ++ states_lines region choices edf p.texts rows)
       (same_rows keys p.texts q.texts p.rows q.rows p.are q.are)
-      ∙ ap (λ (texts : List Lines). whole_line keys (length q.rows) (length texts) one_number p.is_closed
-      ++ states_lines region choices edf texts q.rows)
+      ∙ ap (λ (texts : List Lines). whole_line keys (length q.rows) (length texts) one_number (numbers_show q.rows)
+      (p.is_closed && not (numbers_show q.rows)) ++ states_lines region choices edf texts q.rows)
       (same_texts keys p.texts q.texts p.rows q.rows p.are q.are)
-      ∙ ap (λ b. whole_line keys (length q.rows) (length q.texts) one_number b
-      ++ states_lines region choices edf q.texts q.rows)
+      ∙ ap (λ b. whole_line keys (length q.rows) (length q.texts) one_number (numbers_show q.rows)
+      (b && not (numbers_show q.rows)) ++ states_lines region choices edf q.texts q.rows)
       (closed_decides choices one_number region keys p.is_closed q.is_closed p.closed q.closed)
       ∙ sym q.is
 
@@ -89,11 +89,12 @@ module _ (decide : PassagesDecide) (sooner : SoonerOrders) (waits : WaitsTextsDe
       let at = cuts_decide choices one_number region most p.at q.at p.count p.more q.count q.more in
       let are = subst (λ n. AreRows Shows choices one_number region n p.texts p.rows) at p.are in
       p.is
-      ∙ ap (λ n. cut_line most n (length p.texts) one_number ++ states_lines region choices edf p.texts p.rows) at
-      ∙ ap (λ (rows : List StateRow). cut_line most q.at (length p.texts) one_number
+      ∙ ap (λ n. cut_line most n (length p.texts) one_number (numbers_show p.rows)
+      ++ states_lines region choices edf p.texts p.rows) at
+      ∙ ap (λ (rows : List StateRow). cut_line most q.at (length p.texts) one_number (numbers_show rows)
       ++ states_lines region choices edf p.texts rows)
       (same_rows q.at p.texts q.texts p.rows q.rows are q.are)
-      ∙ ap (λ (texts : List Lines). cut_line most q.at (length texts) one_number
+      ∙ ap (λ (texts : List Lines). cut_line most q.at (length texts) one_number (numbers_show q.rows)
       ++ states_lines region choices edf texts q.rows)
       (same_texts q.at p.texts q.texts p.rows q.rows are q.are)
       ∙ sym q.is

@@ -29,7 +29,7 @@ same_press one other p q = λ i. record { choice = p i; made = q i }
 
 module _ (decide : PassagesDecide) (choices : List KeyLine) (one_number : Option ℕ) where
   -- the press of one move is one, and leads to one state
-  one_press : (from s t : ChoicesState) (one other : Press) → IsPress choices one_number from one s
+  pub one_press : (from s t : ChoicesState) (one other : Press) → IsPress choices one_number from one s
       → IsPress choices one_number from other t → one.choice ≡ other.choice → (one ≡ other) × (s ≡ t)
   one_press from s t one other is too e =
       let same = decide choices one_number from.region other.choice is.passage too.passage
@@ -37,6 +37,16 @@ module _ (decide : PassagesDecide) (choices : List KeyLine) (one_number : Option
         same_press one other e (is.made ∙ ap (λ (p : Passage). p.made) same ∙ sym too.made),
         same_state s t (is.leads ∙ ap (λ (p : Passage). numbered one_number p.after) same ∙ sym too.leads),
       )
+
+  -- presses lead to one state
+  pub ends_decide : (from s t : ChoicesState) (presses : List Press) → ArePresses choices one_number from presses s
+      → ArePresses choices one_number from presses t → s ≡ t
+  unfolding ArePresses
+  ends_decide from s t [] are too = are ∙ sym too
+  ends_decide from s t (press ∷ presses) are too =
+      let first = one_press from are.between too.between press press are.is too.is refl in
+      ends_decide too.between s t presses (subst (λ x. ArePresses choices one_number x presses s) first.1 are.rest)
+      too.rest
 
   pub presses_decide : (from s t : ChoicesState) (ones others : List Press)
       → ArePresses choices one_number from ones s → ArePresses choices one_number from others t

@@ -18,7 +18,7 @@ use Rattle.cx_look_steps.specs.Facts.Lists.{same_lists}
 use Rattle.cx_look_steps.specs.Facts.Items.{item_too, same_items}
 use Rattle.cx_look_steps.specs.Facts.Soonest.{both_soonest}
 use Rattle.cx_look_choices.specs.Presses.{moves_of}
-use Rattle.cx_look_choices.specs.Rows.{AreArrows, AreRows, AreScreens, IsArrow, IsPlace, IsRow, passage_incidents}
+use Rattle.cx_look_choices.specs.Rows.{AreArrows, AreRows, AreSameKeys, AreScreens, Differs, IsArrow, IsPlace, IsRow, IsSameList, passage_incidents}
 use Rattle.cx_look_choices.specs.States.{StateText, running_line}
 use Rattle.cx_look_choices.specs.declared.rows.Arrow.{Arrow}
 use Rattle.cx_look_choices.specs.declared.rows.StateRow.{StateRow}
@@ -150,10 +150,22 @@ module _ (decide : PassagesDecide) (choices : List KeyLine) (one_number : Option
       (λ x y z l m. omega (arith, l, m)) ones others are.ordered too.ordered
       (arrows_within from ones others are too) (arrows_within from others ones too are)
 
+-- ---- whether something differs is one
+differs_decides : (one_number : Option ℕ) (Same : Type 0) (one other : Bool) → Differs one_number Same one
+    → Differs one_number Same other → one ≡ other
+unfolding Differs
+differs_decides None Same one other p q = p ∙ sym q
+differs_decides (Some number) Same true true p q = refl
+differs_decides (Some number) Same false false p q = refl
+differs_decides (Some number) Same true false p q = absurd (p q)
+differs_decides (Some number) Same false true p q = absurd (q p)
+
 -- ---- rows
 same_row : (one other : StateRow) → one.presses ≡ other.presses → one.screen ≡ other.screen
-    → one.arrows ≡ other.arrows → one ≡ other
-same_row one other p q r = λ i. record { presses = p i; screen = q i; arrows = r i }
+    → one.arrows ≡ other.arrows → one.list_differs ≡ other.list_differs → one.keys_differ ≡ other.keys_differ
+    → one ≡ other
+same_row one other p q r s t =
+    λ i. record { presses = p i; screen = q i; arrows = r i; list_differs = s i; keys_differ = t i }
 
 module _ (decide : PassagesDecide) (sooner : SoonerOrders) (waits : WaitsTextsDecide)
     (Shows : RegionState → Lines → Type 0)
@@ -264,13 +276,21 @@ module _ (decide : PassagesDecide) (sooner : SoonerOrders) (waits : WaitsTextsDe
         let it = rows_of ts us ones others r q k one other at there in
         let moves = one_list it.state (moves_of one.presses) (moves_of other.presses)
         (first_of_row r.states ts it.state one it.is) (first_of_row r.states us it.state other it.too) in
-        same_row one other
-        (presses_decide decide choices one_number (begun region) it.state it.state one.presses other.presses
-        it.is.presses it.too.presses moves)
+        let presses = presses_decide decide choices one_number (begun region) it.state it.state one.presses
+        other.presses it.is.presses it.too.presses moves in
+        same_row one other presses
         (screens_decide ts us ones others (have_texts ts us ones others r q) r.screens q.screens
         (as_many ts us ones others r q) k one other at there)
         (arrows_decide decide choices one_number region r.states r.near.once it.state one.arrows other.arrows
         it.is.arrows it.too.arrows)
+        (differs_decides one_number (IsSameList Shows choices one_number region it.state other.presses)
+        one.list_differs other.list_differs
+        (subst (λ ps. Differs one_number (IsSameList Shows choices one_number region it.state ps) one.list_differs)
+        presses it.is.listed) it.too.listed)
+        (differs_decides one_number (AreSameKeys Shows choices one_number region it.state other.presses)
+        one.keys_differ other.keys_differ
+        (subst (λ ps. Differs one_number (AreSameKeys Shows choices one_number region it.state ps) one.keys_differ)
+        presses it.is.pressed) it.too.pressed)
 
     rows_within : (ts us : List Lines) (ones others : List StateRow) → Are ts ones → Are us others
         → (k : ℕ) (one : StateRow) → slice_get ones k ≡ Some one → slice_get others k ≡ Some one

@@ -1,5 +1,5 @@
 -- The presses of a list of moves, where keys lead among the first states that a search found, and the rows of these.
-use Rattle.std.specs.Prelude.{◌≡◌, ◌⊎◌, ℕ, ◌+◌, ◌<◌, ◌≤◌, Bool, true, false, List, [], ◌∷◌, ◌++◌, Option, Some, MatchOption, codes, length, map, slice_get, take}
+use Rattle.std.specs.Prelude.{◌≡◌, ◌⊎◌, ℕ, ◌+◌, ◌<◌, ◌≤◌, ◌&&◌, not, Bool, true, false, List, [], ◌∷◌, ◌++◌, Option, Some, MatchOption, codes, length, map, slice_get, take}
 use Rattle.std.specs.Fmt.{decimal}
 use Rattle.cx_look_lines.specs.Words.{Lines, look_line}
 use Rattle.cx_region.specs.State.{RegionState}
@@ -14,8 +14,8 @@ use Rattle.cx_choices.specs.Moves.{Chooses, Goes, begun}
 use Rattle.cx_choices.specs.declared.states.ChoicesState.{ChoicesState}
 use Rattle.cx_choices.specs.declared.states.Passage.{Passage}
 use Rattle.cx_look_choices.specs.Presses.{ArePresses, IsPress, moves_of}
-use Rattle.cx_look_choices.specs.Report.{cut_line, states_lines, target_word, whole_line}
-use Rattle.cx_look_choices.specs.Rows.{AreArrows, AreScreens, HasArrow, IsArrow}
+use Rattle.cx_look_choices.specs.Report.{cut_line, numbers_show, states_lines, target_word, whole_line}
+use Rattle.cx_look_choices.specs.Rows.{AreArrows, AreSameKeys, AreScreens, Differs, HasArrow, IsArrow, IsSameList}
 use Rattle.cx_look_choices.specs.States.{StateText}
 use Rattle.cx_look_choices.specs.declared.presses.Press.{Press}
 use Rattle.cx_look_choices.specs.declared.rows.Arrow.{Arrow}
@@ -97,6 +97,12 @@ pub record Numbers (before after : List Lines) (text : Lines) (number : ℕ) : T
   pub how : (after ≡ before) ⊎ IsNew before after text number
 
 -- ---- rows
+-- whether a list and the keys after it are the same with numbers that count on
+pub record AreCompared (Shows : RegionState → Lines → Type 0) (choices : List KeyLine) (one_number : Option ℕ)
+    (region : RegionState) (state : ChoicesState) (presses : List Press) (list_differs keys_differ : Bool) : Type 0 where
+  pub listed : Differs one_number (IsSameList Shows choices one_number region state presses) list_differs
+  pub pressed : Differs one_number (AreSameKeys Shows choices one_number region state presses) keys_differ
+
 module _ (Shows : RegionState → Lines → Type 0) (choices : List KeyLine) (one_number : Option ℕ)
     (region : RegionState) (found : List (ChoicesState × Origin)) (many : ℕ) where
   -- of the state at a place
@@ -108,6 +114,8 @@ module _ (Shows : RegionState → Lines → Type 0) (choices : List KeyLine) (on
     pub shows : StateText Shows state text
     pub screen : slice_get texts row.screen ≡ Some text
     pub arrows : AreArrows choices one_number region (states_of many found) state row.arrows
+    pub compared :
+        AreCompared Shows choices one_number region state row.presses row.list_differs row.keys_differ
 
   -- of the states at the first places
   pub record AreFirstRows (done : ℕ) (texts : List Lines) (rows : List StateRow) : Type 0 where
@@ -129,10 +137,12 @@ module _ (region : RegionState) (choices : List KeyLine) (one_number : Option �
     (texts : List Lines) (rows : List StateRow) where
   abbrev pub whole_report : ℕ → Bool → Lines
   whole_report keys is_closed =
-      whole_line keys (length rows) (length texts) one_number is_closed ++ states_lines region choices edf texts rows
+      whole_line keys (length rows) (length texts) one_number (numbers_show rows)
+      (is_closed && not (numbers_show rows)) ++ states_lines region choices edf texts rows
 
   abbrev pub cut_report : ℕ → ℕ → Lines
-  cut_report most at = cut_line most at (length texts) one_number ++ states_lines region choices edf texts rows
+  cut_report most at =
+      cut_line most at (length texts) one_number (numbers_show rows) ++ states_lines region choices edf texts rows
 
   -- of what a search came to
   abbrev pub report_of : ℕ → ℕ → Reach → Lines

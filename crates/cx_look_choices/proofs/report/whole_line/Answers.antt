@@ -10,10 +10,10 @@ pub returns : goal.returns
 returns c =
     let keys = c.as_slice.ensures.value ∙ c.in_ok-keys.ensures in
     let states = c.as_slice-2.ensures.value ∙ c.in_ok-states.ensures in
-    let tail = screens_words c.args.counts.screens ++ number_words c.args.one_number ++ closed_words c.args.is_closed in
+    let tail = screens_words c.args.counts.screens ++ number_words c.args.one_number c.args.counts.shows ++ closed_words c.args.is_closed in
     let line = four_added (codes "CHOICES KEYS") c.in_ok-line.line.items c.push_words.new.text.items c.push_screens.new.line.items c.push_number.new.line.items c.push_closed.new.line.items
     (c.as_slice.result.now ∷ codes "STATES" ∷ c.as_slice-2.result.now ∷ []) (screens_words c.args.counts.screens)
-    (number_words c.args.one_number) (closed_words c.args.is_closed) (c.in_ok-line.ensures.items_if_clones_equal (λ x y e. e))
+    (number_words c.args.one_number c.args.counts.shows) (closed_words c.args.is_closed) (c.in_ok-line.ensures.items_if_clones_equal (λ x y e. e))
     c.in_ok-push_words.ensures c.in_ok-push_screens.ensures c.in_ok-push_number.ensures c.in_ok-push_closed.ensures in
     ok_on (λ _. c.push.new.self ≡ c.args.report.now ++ c.push_closed.new.line.items ∷ [])
     (λ _. c.push.new.self ≡ c.args.report.now

@@ -9,5 +9,5 @@ returns g c = λ region.
     let looking = c.args.self.now.looking.now in
     all_decide (λ (k : Look). AreLookLines k (at_region looking region)) region
     (λ l. same_lines c.texts_decide.ensures.tasks c.texts_decide.ensures.resources c.the_next_turn_is_shown.ensures.decides
-    c.turns_reach_it.ensures.decides l (at_region looking region))
+    c.turns_reach_it.ensures.decides c.turns_reach_it.ensures.after l (at_region looking region))
     c.args.self.now.sights.now
