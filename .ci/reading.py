@@ -4,27 +4,11 @@ Words at which he may stop are not entered, and have no lines."""
 import functools
 import os
 import re
-import textwrap
 from collections.abc import Collection, Iterable
 
-from trusted import cites, filled, imports_of, paths_in, types_in, without_comments, without_imports
+from rattle import blocks_in, cites, filled, imports_of, paths_in, without_comments, without_imports
 from repository import Repository, text_of
-
-DEFINED = re.compile(r"(?:(?:abbrev|unfoldable|pub|record|data) )*([^\W\d][\w'-]*)")
-HEAD = re.compile(r"module _ .*? where\n", re.S)  # of a module whose words all have its parameters
-
-
-def blocks_in(text: str) -> dict[str, tuple[str, list[str]]]:
-    """Returns the text of each word that a text defines, and the heads of the modules that the word stands in."""
-    found: dict[str, tuple[str, list[str]]] = {}
-    for block in re.split(r"(?m)^(?=[^\s)\]}])", text):
-        head = HEAD.match(block)
-        if head:
-            for word, (inner, heads) in blocks_in(textwrap.dedent(block[head.end() :])).items():
-                found[word] = inner, [head[0], *heads]
-        elif name := DEFINED.match(block):
-            found[name[1]] = found.get(name[1], ("", []))[0] + block, []
-    return found
+from trusted import types_in
 
 
 def words_through(module: str, text: str) -> list[str]:

@@ -17,65 +17,19 @@ import os
 import re
 from collections.abc import Iterable, Iterator
 
-from interface import Span, functions_in, items_at
+from rattle import USE, USED, Span, cites, filled, imports_of, items_of, paths_in, without_comments, without_imports
 from repository import Repository, text_of
 
 PROGRAMS = ("cicsedf", "cicslook")
 HEADLINE = "cx_headline"  # laws too, of all of it
 MACHINE = ("cx_script_main", "Machine")  # the type that stands for the machine
-Import = tuple[str, str, str]  # crate, path in it, and what this is called here
 APART = ("Laws", "Facts", "Parts")  # modules of specs/ without definitions: statements of laws, lemmas, words of private functions
-IMPORT = re.compile(r"^[ \t]*(?:pub )?(?:use|mod)\b[^{\n]*(?:\{[^}]*\})?[^\n]*\n?", re.M)
-USE = re.compile(r"\buse Rattle\.(\w+)\.([\w.]+?)(?:\.\{([^}]*)\})?(?: as (\w+))?[ \t]*(?:;|$)", re.M)
-BEFORE, AFTER = r"[\s(){}\[\],;]", r"[\s(){}\[\],;.]"  # what may be before a word and after it
-
-
-@functools.cache
-def without_comments(text: str) -> str:
-    return re.sub(r"(?m)^[ \t]*--(?:[ \t].*)?$", "", re.sub(r"\{-.*?-\}", "", text, flags=re.S))
-
-
-@functools.cache
-def without_imports(text: str) -> str:
-    """Returns a text of definitions without comments and imports."""
-    return IMPORT.sub("", without_comments(text))
-
-
-def filled(text: str, comment: str | tuple[str, ...] = "--") -> int:
-    """Returns how many lines of a text are neither blank nor begin as a comment does."""
-    return sum(bool(it.strip()) and not it.strip().startswith(comment) for it in text.split("\n"))
-
-
-def cites(text: str, word: str) -> bool:
-    return word in text and re.search(rf"(?:^|(?<={BEFORE})){re.escape(word)}(?={AFTER}|$)", text) is not None
-
-
-@functools.cache
-def imports_of(text: str) -> list[Import]:
-    """Returns what a text imports: the crate, the path in it, and what this is called here."""
-    found = []
-    for crate, path, items, renamed in USE.findall(text):
-        if items:
-            words = [it.strip().partition(" as ") for it in items.split(",") if it.strip()]
-            found += [(crate, f"{path}.{word}", name or word) for word, _, name in words]
-        else:
-            found.append((crate, path, renamed or path.rpartition(".")[2]))
-    return found
-
-
-def paths_in(text: str) -> list[Import]:
-    """Returns what a text without imports cites by its whole path, in the form of an import."""
-    return [(crate, path, path.rpartition(".")[2]) for crate, path in re.findall(r"\bRattle\.(\w+)\.([\w.]+)", text)]
-
-
-clauses_in = functools.cache(functions_in)
 DECLARED = re.compile(r"specs\.declared\.(?:\w+\.)*?([A-Z]\w*)(?:\.|$)")  # a type of a source, in the path of an import
 
 
-@functools.cache
 def types_in(text: str) -> dict[str, str]:
-    """Returns the text of each enum and struct of a source, by its name."""
-    return {str(name): text[start:end] for start, end, kind, name in items_at(text) if kind in ("enum", "struct")}
+    """The text of each enum and struct of a source, by its name."""
+    return {it.name: text[it.start : it.end] for it in items_of(text) if it.kind in ("enum", "struct")}
 
 
 class Crate:
@@ -134,7 +88,8 @@ class Crate:
         for path in sorted(glob.glob(f"{self.sources}/*.rt")):
             own = declared - names if os.path.basename(path)[: -len(".rt")] not in whole else set()
             text = text_of(path)
-            seen = [spans for by, spans in clauses_in(text) if not by & own or "Model" in by and by & own <= shown]
+            said = [(it.names(), it.clauses) for it in items_of(text) if it.is_seen()]
+            seen = [spans for by, spans in said if not by & own or "Model" in by and by & own <= shown]
             yield path, text, [it for spans in seen for it in spans]
 
 
@@ -174,13 +129,13 @@ class Believed:
     def unstated(self, crate: str) -> int:
         """Returns how many lines a crate has of code of which nothing is stated."""
         if crate in PROGRAMS:
-            return filled(IMPORT.sub("", text_of(f"{self.crates[crate].sources}/main.rt")), ("//", "#"))
+            return filled(USED.sub("", text_of(f"{self.crates[crate].sources}/main.rt")), ("//", "#"))
         return sum(self.of_machine(text, spans) for _, text, spans in self.crates[crate].clauses()) if crate == MACHINE[0] else 0
 
     @staticmethod
     def of_machine(text: str, clauses: list[Span]) -> int:
         """Returns how many lines a source has of the type that stands for the machine, without those of its clauses."""
-        places = [(it.start, it.end) for it in items_at(text) if MACHINE[1] in ([it.name] if it.kind == "struct" else it.name)]
+        places = [(it.start, it.end) for it in items_of(text) if it.kind in ("struct", "impl") and MACHINE[1] in (it.name, it.trait)]
         within = [(start, end) for start, end in clauses if any(first <= start and end <= last for first, last in places)]
         return sum(filled(text[start:end], ("//", "#")) for start, end in places) - sum(filled(text[start:end], "//") for start, end in within)
 
