@@ -12,7 +12,7 @@ from trusted import types_in
 
 
 def words_through(module: str, text: str) -> list[str]:
-    """Returns the words that a text writes through a module's name."""
+    """The words that a text writes through a module's name."""
     return re.findall(rf"(?<![\w.]){re.escape(module)}\.([^\W\d][\w'-]*)", text)
 
 
@@ -29,7 +29,7 @@ class Module:
         self.passed = {name: (crate, module) for crate, module, name in imports_of(text)}
 
     def cited(self, word: str) -> list[tuple[str | None, str]]:
-        """Returns what the text of a word cites: words and heads of this file, and crates with paths."""
+        """What the text of a word cites: words and heads of this file, and crates with paths."""
         block = self.blocks[word]
         found: list[tuple[str | None, str]] = [(None, it) for it in self.heads if it != word and cites(block, it)]
         found += [(None, it) for it in self.heads.get(word, [])]
@@ -46,7 +46,7 @@ class Reading:
 
     @functools.cache
     def module(self, crate: str, path: str) -> tuple[Module, str, str] | None:
-        """Returns the module of a path as imports write it, and the word after it; of a word that a crate passes on, where it is defined."""
+        """The module of a path as imports write it, and the word after it; of a word that a crate passes on, where it is defined."""
         parts = path.split(".")
         for cut in range(len(parts) - 1, 0, -1):
             at = f"{self.root}/crates/{crate}/{'/'.join(parts[:cut])}.antt"
@@ -57,7 +57,7 @@ class Reading:
         return self.module(passed[0], f"{passed[1]}.{'.'.join(parts[2:])}") if passed else None
 
     def type_lines(self, crate: str, path: str) -> tuple[str, int] | None:
-        """Returns the name and the lines of a type of a source."""
+        """The name and the lines of a type of a source."""
         found = re.match(r"specs\.declared\.((?:\w+\.)*?)([A-Z]\w*)(?:\.|$)", path)
         if not found:
             return None
@@ -66,7 +66,7 @@ class Reading:
         return (f"{crate}/{found[2]}", filled(types[found[2]], ("//", "#["))) if found[2] in types else None
 
     def reached(self, begin: Iterable[tuple[str, str]], stops: Collection[str] = ()) -> dict[str, int]:
-        """Returns the lines of each word reached from these (crate, path), by where it stands; a word of `stops` is left unread, with 0."""
+        """The lines of each word reached from these (crate, path), by where it stands; a word of `stops` is left unread, with 0."""
         found, waiting = dict[str, int](), [*begin]
         while waiting:
             crate, path = waiting.pop()

@@ -11,8 +11,8 @@ PROOF = "rt ci"
 
 @dataclass(frozen=True)
 class Step:
-    """A command of the gate, where a check or a measurement stands for the command that starts it, and its limit. It waits for the programs that it names, or for `after`: crates, or all of `rt ci`. One that
-    takes less than a twentieth of a processor for `idle` seconds hangs."""
+    """A command of the gate, where a check or a measurement stands for the command that starts it, and its limit. It waits for the programs
+    that it names, or for `after`: crates, or all of `rt ci`. One that takes less than a twentieth of a processor for `idle` seconds hangs."""
 
     command: str
     limit: int = 900
