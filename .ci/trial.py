@@ -95,9 +95,9 @@ def attempt_built(repository: Edits, edits: Collection[str], at_once: int = 1) -
     return refused
 
 
-def attempt(repository: Edits, edits: Collection[str]) -> int:
-    """Has `rt ci` prove a copy of the crates that edits need, tries there those of the crates that are proved, and records those that are refused;
-    the status."""
+def attempt(repository: Edits, edits: Collection[str]) -> dict[str, int | None]:
+    """Has `rt ci` prove a copy of the crates that edits need, tries there those of the crates that are proved, and records those that are
+    refused, which it gives."""
     jobs, progress = measured.one_job_each(), Progress()
     with tempfile.TemporaryDirectory(prefix="wrong-bodies-") as room:
         os.chmod(room, 0o711)  # `rt ci` runs programs as nobody
@@ -110,5 +110,5 @@ def attempt(repository: Edits, edits: Collection[str]) -> int:
         refused = attempt_built(Edits(copy, repository.logic, repository.costs), [it for it in edits if crate_of(it) in proved], int(jobs["RT_JOBS"]))
     repository.write(refused, repository.now())
     unproved = sorted({crate_of(it) for it in edits} - proved)
-    print("".join(f"{it}: not proved, so its edits aren't tried\n" for it in unproved) + f"{len(refused)} of {len(edits)} edits refused")
-    return int(len(refused) < len(edits))
+    print("".join(f"{it}: not proved, so its edits aren't tried\n" for it in unproved) + f"{len(refused)} of {len(edits)} edits refused", flush=True)
+    return refused
