@@ -26,7 +26,6 @@ class Module:
         self.heads = {word: [names[head] for head in heads] for word, (_, heads) in defined.items()}
         self.blocks = {word: block for word, (block, _) in defined.items()} | {name: head for head, name in names.items()}
         self.imports = {name: (crate, module) for crate, module, name in imports_of(text)}
-        self.passed = {name: (crate, module) for crate, module, name in imports_of(text)}
 
     def cited(self, word: str) -> list[tuple[str | None, str]]:
         """What the text of a word cites: words and heads of this file, and crates with paths."""
@@ -53,7 +52,7 @@ class Reading:
             if os.path.isfile(at):
                 return Module(at), f"{crate}/{'/'.join(parts[1:cut])}", parts[cut]
         lib = f"{self.root}/crates/{crate}/specs/Lib.antt"
-        passed = Module(lib).passed.get(parts[1]) if os.path.isfile(lib) and len(parts) > 2 else None
+        passed = Module(lib).imports.get(parts[1]) if os.path.isfile(lib) and len(parts) > 2 else None
         return self.module(passed[0], f"{passed[1]}.{'.'.join(parts[2:])}") if passed else None
 
     def type_lines(self, crate: str, path: str) -> tuple[str, int] | None:

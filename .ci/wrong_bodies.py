@@ -258,9 +258,9 @@ class Edits(Repository):
             wrong += [f"{it}: due: what the prover reads has changed since it was refused; .ci/wrong tries it" for it in self.due]
         return wrong + [f"{it}: the record has a line for it, and there is no such edit" for it in self.recorded if it not in self.edits]
 
-    def copy_with(self, folder: str, edits: Iterable[str], crates: Collection[str] | None = None) -> None:
-        """Copies the repository, or just these crates of it, and puts the edits where `rt ci` tries them."""
-        self.copy(folder, crates)
+    def copy_with(self, folder: str, edits: Iterable[str]) -> None:
+        """Copies the repository, and puts the edits where `rt ci` tries them."""
+        self.copy(folder)
         for edit in edits:
             crate, name = edit.split("/")
             os.makedirs(f"{folder}/crates/{crate}/must-fail", exist_ok=True)
