@@ -1,5 +1,5 @@
 """The one reader of Rattle's files: the items of a source, each with its clauses, and of a file of definitions the words that it defines,
-imports and cites. A text that it can't tell apart raises Unclear."""
+imports and cites. A source whose brackets don't pair is Unclear."""
 import functools
 import re
 import textwrap
@@ -95,7 +95,9 @@ def block_end(tokens: list[Token], at: int) -> int:
 
 
 def next_block(tokens: list[Token], at: int) -> int:
-    return next(index for index in range(at, len(tokens)) if tokens[index].word == "{")
+    while tokens[at].word != "{":
+        at += 1
+    return at
 
 
 def is_body(tokens: list[Token], at: int) -> bool:
@@ -164,11 +166,10 @@ def item_at(tokens: list[Token], at: int, within: Item | None) -> tuple[Item, in
     head, clauses = head_of(tokens, at + 1)
     end = block_end(tokens, head) if tokens[head].word == "{" else head + 1
     name, trait = owners([it.word for it in tokens[at + 1 : head]]) if kind == "impl" else (tokens[at + 1].word, "")
-    if within:
-        item = Item(kind, name, tokens[start].start, tokens[at].start, tokens[head].start, tokens[end - 1].end, is_public, within.name, within.trait,
-                    within.kind == "trait" or bool(within.trait), tuple(clauses))
-    else:
-        item = Item(kind, name, tokens[start].start, tokens[at].start, tokens[head].start, tokens[end - 1].end, is_public, "", trait, False, tuple(clauses))
+    owner, trait = (within.name, within.trait) if within else ("", trait)
+    is_of_trait = within is not None and (within.kind == "trait" or bool(trait))
+    item = Item(kind, name, tokens[start].start, tokens[at].start, tokens[head].start, tokens[end - 1].end, is_public, owner, trait, is_of_trait,
+                tuple(clauses))
     return item, head, end
 
 
@@ -197,7 +198,10 @@ def items_in(tokens: list[Token], at: int, end: int, within: Item | None = None)
 def items_of(text: str) -> tuple[Item, ...]:
     """The items of a source, in their order: those of an impl or a trait after it."""
     tokens = tokens_of(text)
-    return (*items_in(tokens, 0, len(tokens)),)
+    try:
+        return (*items_in(tokens, 0, len(tokens)),)
+    except IndexError:
+        raise Unclear from None
 
 
 # Definitions
