@@ -8,13 +8,16 @@ import subprocess
 import tarfile
 from dataclasses import dataclass
 
+from believed_lines import page_of
 from cics.child import PROGRAMS, TOP
 from cics.cli import Failure
 from manual import Page, one_page
+from promised import Promised
+from trusted import Believed
 
 FOLDERS = ("companions/", "completion/", "docs/", "examples/")
 SINGLE = ("README.md", "VERSION", ".ci/MEASURED.md", ".ci/assumed.list")  # the last two since pages link to them
-LEFT_OUT = re.compile(r"companions/tests?(/|$)|docs/(man/|index$)")
+LEFT_OUT = re.compile(r"companions/tests?(/|$)|docs/(man/|(index|made)$)")
 MAN = re.compile(r"docs/man/(?P<name>[a-z-]+\.1)$")
 VERSIONS = re.compile(r"\(?(GLIBC(?:XX)?_[0-9.]+|GCC_[0-9.]+)\)?")
 
@@ -43,6 +46,12 @@ def of_repository(paths: list[str]) -> list[Content]:
             found.append(Content(f"man/man1/{page['name']}", file_content(path).data))
             found.append(Content(path, f"../../man/man1/{page['name']}".encode(), is_link=True))  # where the manual's pages link to it
     return found
+
+
+def made_pages() -> list[Content]:
+    """The pages that the repository makes on demand, by `docs/made promises` and `docs/made definitions`."""
+    pages = {"PROMISES": Promised(TOP).page(), "DEFINITIONS": page_of(Believed(TOP).crates)}
+    return [Content(f"docs/{name}.md", text.encode()) for name, text in pages.items()]
 
 
 def manual_of(contents: list[Content], version: str) -> Content:

@@ -1,4 +1,5 @@
-"""What a reader must believe, counted, and the page of definitions that is made of their head comments: `.ci/believed` prints and compares it."""
+"""What a reader must believe, counted, which `.ci/believed` prints and compares, and the page of definitions that `docs/made definitions` makes of
+their head comments."""
 import os
 import re
 from collections.abc import Iterable, Iterator
@@ -7,14 +8,14 @@ from trusted import MACHINE, PROGRAMS, Believed, Crate
 from repository import Repository, text_of, write
 
 LEMMA = re.compile(r"(pub )?(?!abbrev|unfoldable|pub|record|data|use|unfolding|where)\S+ :( |$)")
-PAGE = "docs/DEFINITIONS.md"
 TRUST = "docs/TRUST.md"
 README = "README.md"
 RULES = re.compile(r"some [\d,]+ lines, and(\s+)some [\d,]+ more for looks")
 HEAD = """# The definitions, in reading order
 
-What a reader must believe: the definitions that the public contracts reach. This page is made from their head comments, each of which names
-the manual that its rules are from; "own" marks what is a rule of this product, about which those manuals are silent or say otherwise.
+What a reader must believe: the definitions that the public contracts reach. `docs/made definitions` makes this page from their head comments, each
+of which names the manual that its rules are from; "own" marks what is a rule of this product, about which those manuals are silent or say
+otherwise.
 
 ## Read these ten first
 
@@ -38,19 +39,19 @@ OF_MACHINE = 45  # so many of these lines the type that stands for the machine m
 
 
 def phrases(numbers: Iterable[int]) -> list[str]:
-    """Returns what that page says of each number."""
+    """What TRUST says of each number."""
     return [f"{number:,} lines of {what}" for number, what in zip(numbers, WHAT)]
 
 
 def rules_of(definitions: dict[str, int]) -> str:
-    """Returns what README says of the lines of definitions, by their crates: of what the first program uses, and of the others."""
+    """What README says of the lines of definitions, by their crates: of what the first program uses, and of the others."""
     first = sum(n for name, n in definitions.items() if name in Repository().below(PROGRAMS[0]))
     more = sum(definitions.values()) - first
     return rf"some {round(first, -2):,} lines, and\1some {round(more, -2):,} more for looks"
 
 
 def head_of(path: str, text: str) -> tuple[str, list[str]]:
-    """Returns a definition file's head comment, and what is wrong with it."""
+    """A definition file's head comment, and what is wrong with it."""
     head = re.match(r"(?:--.*\n)+", text)
     if not head:
         return "", [f"{path}: no head comment"]
@@ -59,24 +60,25 @@ def head_of(path: str, text: str) -> tuple[str, list[str]]:
     return comment, [] if named else [f"{path}: its head comment names no manual, nor says that it is our own"]
 
 
-def page_of(crates: dict[str, Crate]) -> tuple[str, list[str]]:
-    """Returns the page of definitions, and what is wrong with their head comments."""
-    page = [HEAD, *(f"- `{path}`: {what}\n" for path, what in TEN.items())]
-    wrong = [f"{path}, of the ten to read first, isn't there" for path in TEN if not os.path.exists(path)]
-    for name, crate in crates.items():
-        rows = []
-        for module in crate.modules():
-            path = f"crates/{name}/specs/{module}.antt"
-            comment, faults = head_of(path, crate.texts[module])
-            rows.append(f"- `{path}`: {comment}\n")
-            wrong += faults
-        if rows:
-            page.append(f"\n## {name}\n\n{''.join(rows)}")
-    return "".join(page), wrong
+def heads_of(name: str, crate: Crate) -> dict[str, tuple[str, list[str]]]:
+    """The head comment of each of a crate's definition files, and what is wrong with it."""
+    paths = {f"crates/{name}/specs/{module}.antt": crate.texts[module] for module in crate.modules()}
+    return {path: head_of(path, text) for path, text in paths.items()}
+
+
+def section_of(name: str, crate: Crate) -> str:
+    """What the page has of a crate's definitions."""
+    rows = "".join(f"- `{path}`: {comment}\n" for path, (comment, _) in heads_of(name, crate).items())
+    return f"\n## {name}\n\n{rows}" if rows else ""
+
+
+def page_of(crates: dict[str, Crate]) -> str:
+    """The page of definitions."""
+    return "".join([HEAD, *(f"- `{path}`: {what}\n" for path, what in TEN.items()), *(section_of(*it) for it in crates.items())])
 
 
 def lemmas_outside(name: str, crate: Crate) -> Iterator[str]:
-    """Returns the lines of a crate that state a lemma outside Facts."""
+    """The lines of a crate that state a lemma outside Facts."""
     for path, kind in crate.kinds():
         if kind != "Facts":
             lines = enumerate(crate.texts[path].split("\n"), 1)
@@ -84,10 +86,11 @@ def lemmas_outside(name: str, crate: Crate) -> Iterator[str]:
 
 
 def judged(writes: bool = False) -> tuple[list[int], list[str], list[str]]:
-    """Returns the five numbers, a line of each crate, and what is wrong."""
+    """The five numbers, a line of each crate, and what is wrong."""
     believed = Believed()
-    page, wrong = page_of(believed.crates)
+    wrong = [f"{path}, of the ten to read first, isn't there" for path in TEN if not os.path.exists(path)]
     for name, crate in believed.crates.items():
+        wrong += [fault for _, faults in heads_of(name, crate).values() for fault in faults]
         wrong += lemmas_outside(name, crate)
     lines = {name: believed.lines(name) for name in believed.counted}
     for name in believed.counted:
@@ -101,9 +104,6 @@ def judged(writes: bool = False) -> tuple[list[int], list[str], list[str]]:
         for line, what in zip(phrases(total), WHAT):
             trust = re.sub(rf"[\d,]+ lines of {what}", line, trust)
         write(TRUST, trust)
-        write(PAGE, page)
-    if text_of(PAGE) != page:
-        wrong.append(f"{PAGE} isn't what .ci/believed --write makes")
     if not RULES.search(text_of(README)) or RULES.sub(rules, text_of(README)) != text_of(README):
         wrong.append(f"{README} doesn't say {rules.replace(chr(92) + '1', ' ')}")
     wrong += [f"{TRUST} doesn't say that there are {it}" for it in phrases(total) if not re.search(rf"(?<![\d,]){it}", trust)]

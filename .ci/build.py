@@ -17,7 +17,7 @@ class Build:
         self.noted = f"{root}/{OUT}/proved"
 
     def stamp(self) -> str:
-        """Returns the hash of all that the proof reads, and of the programs that were built."""
+        """The hash of all that the proof reads, and of the programs that were built."""
         total = hashlib.sha256(toolchain().encode())
         built = [it for it in self.built if os.path.exists(f"{self.root}/{it}")]
         for path in [*sorted(self.repository.files(self.crates)), "crates.txt", *built]:
@@ -26,7 +26,7 @@ class Build:
         return total.hexdigest()
 
     def is_there(self) -> bool:
-        """Returns whether the programs are there, as ./prove built them of what stands here."""
+        """Whether the programs are there, as ./prove built them of what stands here."""
         paths = [self.noted, *(f"{self.root}/{it}" for it in self.built)]
         return all(map(os.path.exists, paths)) and text_of(self.noted) == self.stamp()
 

@@ -100,7 +100,7 @@ class Runner:
         return job.step.needs() <= self.proved
 
     def lanes(self, running: dict[Future[Result], Job]) -> int:
-        """Returns how many more jobs may begin."""
+        """How many more jobs may begin."""
         proves = any(it.step == PROVING for it in running.values())
         return max(1, self.processors // 4) + 1 - len(running) if proves else max(2, self.processors - 1) - len(running)
 
@@ -133,7 +133,7 @@ class Runner:
 
     @staticmethod
     def free() -> float:
-        """Returns the bytes of disk that are free where copies are made."""
+        """The bytes of disk that are free where copies are made."""
         return float(shutil.disk_usage(tempfile.gettempdir()).free)
 
     def is_over(self) -> bool:
@@ -170,7 +170,7 @@ class Runner:
 
 
 def expected(choice: Choice, costs: measured.Measured, edits: Edits, processors: int) -> str:
-    """Returns what a run is likely to take."""
+    """What a run is likely to take."""
     steps = sum(costs.steps.values())
     total = costs.whole + steps + choice.seconds
     chain = max((costs.chain(edits, it) for it in edits.libraries), default=0)
@@ -180,14 +180,14 @@ def expected(choice: Choice, costs: measured.Measured, edits: Edits, processors:
 
 
 def table(results: list[Result]) -> str:
-    """Returns what the steps took but the proof, which has a table of its own, and the trials of wrong bodies, which are others each time."""
+    """What the steps took but the proof, which has a table of its own, and the trials of wrong bodies, which are others each time."""
     rows = [it for it in results if it.job.step != PROVING and not isinstance(it.job.step, Trial)]
     lines = [f"| `{it.job.step.command}` | {it.ended.seconds:.0f} | {it.elapsed:.0f} |\n" for it in rows]
     return "\n| Step | Processor, s | Elapsed, s |\n|---|---|---|\n" + "".join(lines)
 
 
 def counts(results: list[Result], is_red: bool) -> str:
-    """Returns the last line: the steps, and what others count: `rt ci` crates, and trials wrong bodies."""
+    """The last line: the steps, and what others count: `rt ci` crates, and trials wrong bodies."""
     passed = failed = 0
     for it in results:
         counts_itself = it.job.step == PROVING or isinstance(it.job.step, Trial)

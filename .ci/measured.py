@@ -34,12 +34,12 @@ class Measured:
         return self.crates.get(crate, Cost())
 
     def chain(self, repository: Repository, crate: str) -> int:
-        """Returns the seconds of the longest chain of crates that are proved one after the other, up to this one."""
+        """The seconds of the longest chain of crates that are proved one after the other, up to this one."""
         below = [self.chain(repository, it) for it in repository.libraries[crate] if it in repository.libraries]
         return self.of(crate).proof + max(below, default=0)
 
     def minutes(self, seconds: int, chain: int, processors: int) -> int:
-        """Returns how long so many processor seconds take by the clock, where that chain of them can't be cut."""
+        """How long so many processor seconds take by the clock, where that chain of them can't be cut."""
         return round(max(seconds / processors, chain) / 60)
 
 
@@ -54,7 +54,7 @@ def noted(path: str = NOTED) -> Measured:
 
 
 def note(log: str, path: str = NOTED) -> list[str]:
-    """Puts the last table of each kind of a run's log in place of the one that is noted, and returns what can't be noted: a table that the log
+    """Puts the last table of each kind of a run's log in place of the one that is noted; what can't be noted: a table that the log
     lacks, or one of a run that proved nothing of some crate, since that was kept."""
     said, page, lacking = text_of(log, "replace"), text_of(path), []
     for kind, table in (("crates", CRATES), ("steps", STEPS)):
@@ -71,7 +71,7 @@ def note(log: str, path: str = NOTED) -> list[str]:
 
 
 def available() -> float:
-    """Returns the memory that is free, in GB."""
+    """The memory that is free, in GB."""
     found = re.search(r"^MemAvailable:\s+(\d+) kB", text_of("/proc/meminfo"), re.M)
     return int(found[1]) * 1024 / 1e9 if found else 0.0
 
@@ -81,6 +81,6 @@ def processors() -> int:
 
 
 def one_job_each() -> dict[str, str]:
-    """Returns the setting by which `rt ci` gives each proof one job, as many proofs at once as processors and memory allow. Without it a proof
+    """The setting by which `rt ci` gives each proof one job, as many proofs at once as processors and memory allow. Without it a proof
     that begins gets the processors that are idle then: each of its jobs loads all for itself, and a longer chain waits for them."""
     return {"RT_JOBS": str(max(1, min(processors(), int(available() / HELD))))}

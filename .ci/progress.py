@@ -22,7 +22,7 @@ class Progress:
         self.report: list[str] = []
 
     def read(self, line: str) -> Told | None:
-        """Returns what a line tells, if it tells something of a crate."""
+        """What a line tells, if it tells something of a crate."""
         if line.startswith("== "):
             self.report.clear()
         self.report.append(line)

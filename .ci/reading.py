@@ -4,31 +4,15 @@ Words at which he may stop are not entered, and have no lines."""
 import functools
 import os
 import re
-import textwrap
 from collections.abc import Collection, Iterable
 
-from trusted import cites, filled, imports_of, paths_in, types_in, without_comments, without_imports
+from rattle import blocks_in, cites, filled, imports_of, paths_in, without_comments, without_imports
 from repository import Repository, text_of
-
-DEFINED = re.compile(r"(?:(?:abbrev|unfoldable|pub|record|data) )*([^\W\d][\w'-]*)")
-HEAD = re.compile(r"module _ .*? where\n", re.S)  # of a module whose words all have its parameters
-
-
-def blocks_in(text: str) -> dict[str, tuple[str, list[str]]]:
-    """Returns the text of each word that a text defines, and the heads of the modules that the word stands in."""
-    found: dict[str, tuple[str, list[str]]] = {}
-    for block in re.split(r"(?m)^(?=[^\s)\]}])", text):
-        head = HEAD.match(block)
-        if head:
-            for word, (inner, heads) in blocks_in(textwrap.dedent(block[head.end() :])).items():
-                found[word] = inner, [head[0], *heads]
-        elif name := DEFINED.match(block):
-            found[name[1]] = found.get(name[1], ("", []))[0] + block, []
-    return found
+from trusted import types_in
 
 
 def words_through(module: str, text: str) -> list[str]:
-    """Returns the words that a text writes through a module's name."""
+    """The words that a text writes through a module's name."""
     return re.findall(rf"(?<![\w.]){re.escape(module)}\.([^\W\d][\w'-]*)", text)
 
 
@@ -42,10 +26,9 @@ class Module:
         self.heads = {word: [names[head] for head in heads] for word, (_, heads) in defined.items()}
         self.blocks = {word: block for word, (block, _) in defined.items()} | {name: head for head, name in names.items()}
         self.imports = {name: (crate, module) for crate, module, name in imports_of(text)}
-        self.passed = {name: (crate, module) for crate, module, name in imports_of(text)}
 
     def cited(self, word: str) -> list[tuple[str | None, str]]:
-        """Returns what the text of a word cites: words and heads of this file, and crates with paths."""
+        """What the text of a word cites: words and heads of this file, and crates with paths."""
         block = self.blocks[word]
         found: list[tuple[str | None, str]] = [(None, it) for it in self.heads if it != word and cites(block, it)]
         found += [(None, it) for it in self.heads.get(word, [])]
@@ -62,18 +45,18 @@ class Reading:
 
     @functools.cache
     def module(self, crate: str, path: str) -> tuple[Module, str, str] | None:
-        """Returns the module of a path as imports write it, and the word after it; of a word that a crate passes on, where it is defined."""
+        """The module of a path as imports write it, and the word after it; of a word that a crate passes on, where it is defined."""
         parts = path.split(".")
         for cut in range(len(parts) - 1, 0, -1):
             at = f"{self.root}/crates/{crate}/{'/'.join(parts[:cut])}.antt"
             if os.path.isfile(at):
                 return Module(at), f"{crate}/{'/'.join(parts[1:cut])}", parts[cut]
         lib = f"{self.root}/crates/{crate}/specs/Lib.antt"
-        passed = Module(lib).passed.get(parts[1]) if os.path.isfile(lib) and len(parts) > 2 else None
+        passed = Module(lib).imports.get(parts[1]) if os.path.isfile(lib) and len(parts) > 2 else None
         return self.module(passed[0], f"{passed[1]}.{'.'.join(parts[2:])}") if passed else None
 
     def type_lines(self, crate: str, path: str) -> tuple[str, int] | None:
-        """Returns the name and the lines of a type of a source."""
+        """The name and the lines of a type of a source."""
         found = re.match(r"specs\.declared\.((?:\w+\.)*?)([A-Z]\w*)(?:\.|$)", path)
         if not found:
             return None
@@ -82,7 +65,7 @@ class Reading:
         return (f"{crate}/{found[2]}", filled(types[found[2]], ("//", "#["))) if found[2] in types else None
 
     def reached(self, begin: Iterable[tuple[str, str]], stops: Collection[str] = ()) -> dict[str, int]:
-        """Returns the lines of each word reached from these (crate, path), by where it stands; a word of `stops` is left unread, with 0."""
+        """The lines of each word reached from these (crate, path), by where it stands; a word of `stops` is left unread, with 0."""
         found, waiting = dict[str, int](), [*begin]
         while waiting:
             crate, path = waiting.pop()

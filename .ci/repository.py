@@ -18,23 +18,23 @@ def write(path: str, text: str) -> None:
 
 
 def libraries_of(text: str) -> dict[str, list[str]]:
-    """Returns the libraries that each crate names, by crates.txt's text."""
+    """The libraries that each crate names, by crates.txt's text."""
     lines = [it.partition("#")[0].partition(":") for it in text.splitlines()]
     return {name.split()[0]: libraries.split() for name, _, libraries in lines if name.strip()}
 
 
 def toolchain() -> str:
-    """Returns the toolchain's line."""
+    """The toolchain's line."""
     return subprocess.run(["rt", "version"], capture_output=True, text=True, check=True).stdout.strip()
 
 
 def kit() -> str:
-    """Returns the folder of the toolchain: that of the page which is read first."""
+    """The folder of the toolchain: that of the page which is read first."""
     return os.path.dirname(subprocess.run(["rt", "doc"], capture_output=True, text=True, check=True).stdout.strip())
 
 
 def logic() -> str:
-    """Returns the sum of the toolchain's logic, by which each verdict names what it is proved in."""
+    """The sum of the toolchain's logic, by which each verdict names what it is proved in."""
     return toolchain().partition(" logic ")[2] or toolchain()
 
 
@@ -45,7 +45,7 @@ class Repository:
         self.root, self.libraries = root, libraries_of(text_of(f"{root}/crates.txt"))
 
     def below(self, crate: str) -> set[str]:
-        """Returns the repository's crates that this one uses, and it."""
+        """The repository's crates that this one uses, and it."""
         found: set[str] = set()
         waiting = [crate]
         while waiting:
@@ -56,7 +56,7 @@ class Repository:
         return found
 
     def files(self, crates: Collection[str] | None = None) -> list[str]:
-        """Returns the files of the repository that git keeps or would keep, or just what `rt ci` reads of these crates."""
+        """The files of the repository that git keeps or would keep, or just what `rt ci` reads of these crates."""
         listed = subprocess.run(["git", "ls-files", "-zco", "--exclude-standard"], cwd=self.root, capture_output=True, check=True)
         paths = [it for it in listed.stdout.decode().split("\0") if it and os.path.isfile(f"{self.root}/{it}")]
         if crates is None:
@@ -71,3 +71,16 @@ class Repository:
         if crates is not None:
             with open(f"{folder}/crates.txt", "w", encoding="utf-8") as it:
                 it.writelines(f"{name}: {' '.join(self.libraries[name])}\n" for name in self.libraries if name in crates)
+
+
+def check_words(repository: Repository, crate: str) -> list[str]:
+    """The command that checks a crate over the libraries that `rt ci` has built, as `rt ci` writes it."""
+    its_kit, root = kit(), os.path.abspath(repository.root)
+    built = {it: f"{root}/crates/{it}/out/rlib" for it in repository.below(crate) - {crate}}
+    libraries = {it: f"{built.get(it, f'{its_kit}/rlibs')}/{it}.rlib" for it in ("std", *repository.libraries[crate])}
+    source = "src/main.rt" if os.path.exists(f"{root}/crates/{crate}/src/main.rt") else "src/lib.rt"
+    words = [f"{its_kit}/bin/rattle", "check", "--crate-name", crate, source]
+    words += [word for name, path in libraries.items() for word in ("--extern", f"{name}={path}")]
+    words += [word for folder in (*built.values(), f"{its_kit}/rlibs") for word in ("-L", f"dependency={folder}")]
+    words += ["--antt-project", f"{its_kit}/rattle/logic/antt-project.json", "--logic-built", f"{its_kit}/logic_built"]
+    return [*words, "--links", f"{crate}=", "--jobs", "1"]

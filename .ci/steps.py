@@ -11,8 +11,8 @@ PROOF = "rt ci"
 
 @dataclass(frozen=True)
 class Step:
-    """A command of the gate, and its limit. It waits for the programs that it names, or for `after`: crates, or all of `rt ci`. One that
-    takes less than a twentieth of a processor for `idle` seconds hangs."""
+    """A command of the gate, where a check or a measurement stands for the command that starts it, and its limit. It waits for the programs
+    that it names, or for `after`: crates, or all of `rt ci`. One that takes less than a twentieth of a processor for `idle` seconds hangs."""
 
     command: str
     limit: int = 900
@@ -20,10 +20,11 @@ class Step:
     idle: int = 180
 
     def words(self) -> list[str]:
-        return self.command.split()
+        words = self.command.split()
+        return ["checks/check", *words] if words[0].startswith(("checks/", "bench/")) else words
 
     def needs(self) -> set[str]:
-        """Returns the crates that must be proved before it begins, or `rt ci`."""
+        """The crates that must be proved before it begins, or `rt ci`."""
         return {*self.after, *re.findall(r"crates/(\w+)/out/", self.command)}
 
 

@@ -12,11 +12,10 @@ import time
 from dataclasses import asdict, dataclass
 from types import FrameType
 
+from processes import below
 from repository import write
 
 SUBREAPER, DEATH_SIGNAL = 36, 1  # of prctl
-TICKS = os.sysconf("SC_CLK_TCK")
-PAGE = os.sysconf("SC_PAGE_SIZE")
 WORK = 0.05  # of a processor, below which nothing is done, unless something of it waits for one
 STOPS = (signal.SIGTERM, signal.SIGINT, signal.SIGHUP)
 GRACE = 2.0  # seconds in which what a command left may end by itself
@@ -59,48 +58,8 @@ def end_with(parent: int) -> None:
         raise Stop
 
 
-@dataclass(frozen=True)
-class Process:
-    """A process: its parent, the seconds that it and those of its children that have ended took, the memory that it holds, and whether it
-    runs, or would if a processor or a disk were free."""
-
-    number: int
-    parent: int
-    seconds: float
-    memory: int
-    is_active: bool
-
-
-def processes() -> dict[int, Process]:
-    found: dict[int, Process] = {}
-    for number in map(int, filter(str.isdigit, os.listdir("/proc"))):
-        try:
-            with open(f"/proc/{number}/stat", "rb") as file:
-                words = file.read().rpartition(b")")[2].split()
-        except OSError:
-            continue
-        if words[0] != b"Z":
-            seconds, memory = sum(map(int, words[11:15])) / TICKS, int(words[21]) * PAGE
-            found[number] = Process(number, int(words[1]), seconds, memory, words[0] in (b"R", b"D"))
-    return found
-
-
-def below(above: int) -> list[Process]:
-    """Returns the processes that a process has begun, and those that these have."""
-    every = processes()
-    children: dict[int, list[Process]] = {}
-    for it in every.values():
-        children.setdefault(it.parent, []).append(it)
-    found, waiting = list[Process](), [above]
-    while waiting:
-        its = children.get(waiting.pop(), [])
-        found += its
-        waiting += [it.number for it in its]
-    return found
-
-
 def reaped() -> dict[int, int]:
-    """Takes note of the children that have ended, and returns their statuses."""
+    """The statuses of the children that have ended since, of which note is taken."""
     found: dict[int, int] = {}
     while True:
         try:
@@ -128,7 +87,7 @@ def end_all() -> None:
 
 
 def spent() -> float:
-    """Returns the processor seconds of this process's children that have ended."""
+    """The processor seconds of this process's children that have ended."""
     usage = resource.getrusage(resource.RUSAGE_CHILDREN)
     return usage.ru_utime + usage.ru_stime
 
@@ -143,7 +102,7 @@ class Watch:
 
     def fault(self) -> str:
         found = below(os.getpid())
-        self.seconds = max(self.seconds, spent() + sum(it.seconds for it in found))
+        self.seconds = max(self.seconds, spent() + sum(it.own + it.ended for it in found))
         self.memory = max([self.memory, *(it.memory for it in found)])
         now = time.monotonic()
         if self.seconds > self.limits.processor:
@@ -160,7 +119,7 @@ class Watch:
 
 
 def outlived() -> int:
-    """Returns how many processes a command left that don't end by themselves, and ends them."""
+    """Ends the processes that a command left and that don't end by themselves; how many they are."""
     until = time.monotonic() + GRACE
     while (left := len(below(os.getpid()))) and time.monotonic() < until:
         reaped()
@@ -170,7 +129,7 @@ def outlived() -> int:
 
 
 def supervised(command: list[str], limits: Limits) -> Ended:
-    """Runs a command, and returns how it ended once nothing of it runs."""
+    """Runs a command; how it ended, once nothing of it runs."""
     watch, why, status, pause, left = Watch(limits), "", None, 0.02, 0
     try:
         begun = os.posix_spawnp(command[0], command, os.environ, setsigdef=[signal.SIGPIPE, signal.SIGXFSZ])

@@ -1,101 +1,114 @@
-"""Tries wrong bodies in a copy of the repository: what their crates use is built, then each crate's edits are tried, as many crates at once
-as processors and memory allow; or those of crates that `rt ci` has proved, over what it has built."""
-import contextlib
+"""Tries wrong bodies over what `rt ci` has proved in a folder. A check of the crate with an edit is asked for the functions that it edits alone,
+with what these call; where it edits something else, as a type or a constant, for the whole crate. The edit is refused where a goal is left
+that isn't proved, in whatever function or lemma; a proof file that names what the edit took away says little of the contract."""
 import os
+import re
+import shutil
+import subprocess
 import tempfile
-import threading
-from collections.abc import Callable, Collection, Iterator
-from concurrent.futures import Future, ThreadPoolExecutor
-from typing import TypeVar
+from collections.abc import Collection
+from concurrent.futures import ThreadPoolExecutor
+from functools import partial
 
 import measured
-from batch_edits import Built, Room
-from wrong_bodies import Edits, by_crate
+from progress import Progress
+from rattle import Item, Unclear, items_of
+from repository import check_words, text_of, write
+from wrong_bodies import Edits, by_crate, crate_of, pairs_of
 
-Result = TypeVar("Result")
-SHARE = 0.85  # of the memory that is free
+UNPROVED = re.compile(r"(?m)^note: src/\S+:\d+:\d+: (?:it is not proved |`search` found no proof )")
+UNADMITTED = re.compile(r"(?m)^(?:\./)?proofs/\S+\.antt:\d+:\d+: error: (.*)")  # of any file of proofs, as of a lemma on a constant
+NAMES = re.compile(r"has no field|is not in scope|has no `|(was|were) not (admitted|checked)")
+NOT_PROVED = re.compile(r"(?m)^logic=not-proved\b")
+ASKED = re.compile(r"(?m)^only=(\d+) proved=(\d+)$")  # of a check of some functions: how many were asked for, and how many are proved
+NO_FUNCTION = re.compile(r"(?m)^rattle: error: `\w+` has no function `[^`]+`")
 
 
-class Memory:
-    """The memory that is free, in GB, of which each check takes what its crate took when it was measured."""
+def is_unproved(said: str) -> bool:
+    """Whether a check, of a crate or of some functions of it, ends with something that isn't proved."""
+    asked = ASKED.search(said)
+    return bool(NOT_PROVED.search(said) or asked and int(asked[2]) < int(asked[1]))
 
-    def __init__(self, free: float) -> None:
-        self.free, self.held, self.given_back = free, 0.0, threading.Condition()
 
-    @contextlib.contextmanager
-    def of(self, needed: float) -> Iterator[None]:
-        """Waits until so much is free; a check that needs more than there is goes alone."""
-        with self.given_back:
-            self.given_back.wait_for(lambda: not self.held or self.held + needed <= self.free)
-            self.held += needed
+def is_refused(said: str) -> bool:
+    """Whether it ends so, and finds a goal that isn't proved."""
+    goals = UNPROVED.search(said) or any(not NAMES.search(it[1]) for it in UNADMITTED.finditer(said))
+    return bool(goals) and is_unproved(said)
+
+
+def path_of(path: str, function: Item) -> str:
+    """The path by which a check calls a function of a source: a trait's name stands after its type's."""
+    module = re.sub(r"(^|/)(lib|main|mod)$", "", path.removeprefix("src/").removesuffix(".rt")).replace("/", "::")
+    return "::".join(filter(None, (module, function.owner + function.trait, function.name)))
+
+
+def functions_edited(edit: str, crate: str) -> list[str]:
+    """The paths of the functions that an edit of the crate in a folder edits; none where it edits something else too."""
+    found = list[str]()
+    for path, old, _ in pairs_of(text_of(edit)):
+        text = text_of(f"{crate}/{path}")
+        at, many = text.find(old), text.count(old)
         try:
-            yield
-        finally:
-            with self.given_back:
-                self.held -= needed
-                self.given_back.notify_all()
+            around = [it for it in items_of(text) if it.kind == "fn" and it.start < at + len(old) and at < it.end]
+        except Unclear:
+            around = []
+        if many != 1 or not around:
+            return []
+        found += [path_of(path, it) for it in around]
+    return [*dict.fromkeys(found)]
 
 
-class Trial:
-    """A trial of edits in a copy of the repository."""
-
-    def __init__(self, repository: Edits, folder: str, edits: Collection[str]) -> None:
-        self.repository, self.folder = repository, folder
-        self.edits = {crate: [repository.edits[it] for it in its] for crate, its in by_crate(edits).items()}
-        self.libraries = set[str]().union(*map(self.below, self.edits))
-        self.memory = Memory(SHARE * measured.available())
-        repository.copy_with(folder, [], self.libraries | {*self.edits})
-
-    def below(self, crate: str) -> set[str]:
-        return self.repository.below(crate) - {crate}
-
-    def in_room(self, crate: str, work: Callable[[Room], Result]) -> Result:
-        with (self.memory.of(self.repository.costs.of(crate).memory),
-              tempfile.TemporaryDirectory(prefix="room-", dir=os.path.dirname(self.folder)) as room):
-            return work(Room(self.folder, crate, self.repository.below(crate), room))
-
-    def build(self, crate: str, below: list[Future[bool]]) -> bool:
-        return all(it.result() for it in below) and self.in_room(crate, Room.build)
-
-    def tried_in(self, crate: str) -> Callable[[Room], dict[str, int | None]]:
-        def work(room: Room) -> dict[str, int | None]:
-            return {it: round(room.took[it]) for it in room.refused(self.edits[crate])}
-
-        return work
-
-    def refused(self, crate: str, below: list[Future[bool]]) -> dict[str, int | None]:
-        """Returns those of a crate's edits that are refused, with the seconds that they took, once the libraries below it are built."""
-        paths = self.in_room(crate, self.tried_in(crate)) if all(it.result() for it in below) else {}
-        print(f"{crate}: {len(paths)} of {len(self.edits[crate])} edits refused", flush=True)
-        return {f"{crate}/{os.path.basename(it)[: -len('.edit')]}": seconds for it, seconds in paths.items()}
-
-    def result(self) -> dict[str, int | None]:
-        """Tries all, lowest crates first: what waits, waits for what began before it."""
-        with ThreadPoolExecutor(measured.processors()) as pool:
-            built: dict[str, Future[bool]] = {}
-            for crate in sorted(self.libraries, key=lambda it: len(self.below(it))):
-                built[crate] = pool.submit(self.build, crate, [built[it] for it in self.below(crate)])
-            tried = [pool.submit(self.refused, crate, [built[it] for it in self.below(crate)]) for crate in self.edits]
-            return {edit: seconds for it in tried for edit, seconds in it.result().items()}
+def ran(words: list[str], folder: str) -> tuple[int, str, float]:
+    """A command's status, what it says, and the processor seconds that it and all that it began took."""
+    with tempfile.TemporaryFile() as said:
+        begun = subprocess.Popen(words, cwd=folder, stdin=subprocess.DEVNULL, stdout=said, stderr=subprocess.STDOUT)
+        _, status, usage = os.wait4(begun.pid, 0)
+        begun.returncode = os.waitstatus_to_exitcode(status)
+        said.seek(0)
+        return begun.returncode, said.read().decode(errors="replace"), usage.ru_utime + usage.ru_stime
 
 
-def attempt(repository: Edits, edits: Collection[str]) -> int:
-    """Tries these edits and records those that are refused; returns the status."""
+def tried(repository: Edits, edit: str) -> tuple[bool, int]:
+    """Whether an edit is refused, and the processor seconds of the check."""
+    crate = crate_of(edit)
+    words, functions = check_words(repository, crate), functions_edited(repository.edits[edit], f"{repository.root}/crates/{crate}")
     with tempfile.TemporaryDirectory(prefix="wrong-bodies-") as room:
-        refused = Trial(repository, f"{room}/copy", edits).result()
-    repository.write(refused, repository.now())
-    left = sorted({*edits} - refused.keys())
-    print("\n".join([*(f"{it}: NOT REFUSED" for it in left), f"{len(refused)} of {len(edits)} edits refused"]))
-    return 1 if left else 0
+        shutil.copytree(f"{repository.root}/crates/{crate}", room, ignore=shutil.ignore_patterns("out"), dirs_exist_ok=True)
+        for path, text in repository.edited(edit).items():
+            write(f"{room}/{path}", text)
+        _, said, seconds = ran([*words, *(word for it in functions for word in ("--only", it))], room)
+        if NO_FUNCTION.search(said):
+            _, said, more = ran(words, room)
+            seconds += more
+    return is_refused(said), round(seconds)
 
 
-def attempt_built(repository: Edits, edits: Collection[str]) -> int:
-    """Tries these edits over what `rt ci` has built in the repository's folder, and says of each whether it is refused; returns the status."""
-    refused: dict[str, int] = {}
-    for crate, its in by_crate(edits).items():
-        with tempfile.TemporaryDirectory(prefix="wrong-bodies-") as folder:
-            room, names = Built(repository, crate, folder), {repository.edits[it]: it for it in its}
-            refused |= {names[it]: round(room.took[it]) for it in room.refused_each([*names])}
-    print("\n".join(f"wrong body {it}: {f'refused, {refused[it]} s' if it in refused else 'NOT REFUSED'}" for it in edits))
+def attempt_built(repository: Edits, edits: Collection[str], at_once: int = 1) -> dict[str, int | None]:
+    """Tries edits over what `rt ci` has built in the repository's folder, says of each whether it is refused, and how many are and aren't. Gives
+    those that are, with the seconds that they took."""
+    refused: dict[str, int | None] = {}
+    with ThreadPoolExecutor(at_once) as pool:
+        for edit, (is_well, seconds) in zip(edits, pool.map(partial(tried, repository), edits)):
+            refused |= {edit: seconds} if is_well else {}
+            print(f"wrong body {edit}: {f'refused, {seconds} s' if is_well else 'NOT REFUSED'}", flush=True)
     print(f"{len(refused)} passed, {len(edits) - len(refused)} failed")
-    return int(len(refused) < len(edits))
+    return refused
+
+
+def attempt(repository: Edits, edits: Collection[str]) -> dict[str, int | None]:
+    """Has `rt ci` prove a copy of the crates that edits need, tries there those of the crates that are proved, and records those that are
+    refused, which it gives."""
+    jobs, progress = measured.one_job_each(), Progress()
+    with tempfile.TemporaryDirectory(prefix="wrong-bodies-") as room:
+        os.chmod(room, 0o711)  # `rt ci` runs programs as nobody
+        copy = f"{room}/copy"
+        repository.copy(copy, set[str]().union(*map(repository.below, by_crate(edits))))
+        said = subprocess.run(["rt", "ci"], cwd=copy, env={**os.environ, **jobs}, capture_output=True, text=True, errors="replace", check=False).stdout
+        told = [it for line in said.splitlines(True) if (it := progress.read(line))]
+        print("".join(it.report for it in told), end="")
+        proved = {it.crate for it in told if it.is_proved()}
+        refused = attempt_built(Edits(copy, repository.logic, repository.costs), [it for it in edits if crate_of(it) in proved], int(jobs["RT_JOBS"]))
+    repository.write(refused, repository.now())
+    unproved = sorted({crate_of(it) for it in edits} - proved)
+    print("".join(f"{it}: not proved, so its edits aren't tried\n" for it in unproved) + f"{len(refused)} of {len(edits)} edits refused", flush=True)
+    return refused

@@ -17,65 +17,19 @@ import os
 import re
 from collections.abc import Iterable, Iterator
 
-from interface import Span, functions_in, items_at
+from rattle import USE, USED, Span, cites, filled, imports_of, items_of, paths_in, without_comments, without_imports
 from repository import Repository, text_of
 
 PROGRAMS = ("cicsedf", "cicslook")
 HEADLINE = "cx_headline"  # laws too, of all of it
 MACHINE = ("cx_script_main", "Machine")  # the type that stands for the machine
-Import = tuple[str, str, str]  # crate, path in it, and what this is called here
 APART = ("Laws", "Facts", "Parts")  # modules of specs/ without definitions: statements of laws, lemmas, words of private functions
-IMPORT = re.compile(r"^[ \t]*(?:pub )?(?:use|mod)\b[^{\n]*(?:\{[^}]*\})?[^\n]*\n?", re.M)
-USE = re.compile(r"\buse Rattle\.(\w+)\.([\w.]+?)(?:\.\{([^}]*)\})?(?: as (\w+))?[ \t]*(?:;|$)", re.M)
-BEFORE, AFTER = r"[\s(){}\[\],;]", r"[\s(){}\[\],;.]"  # what may be before a word and after it
-
-
-@functools.cache
-def without_comments(text: str) -> str:
-    return re.sub(r"(?m)^[ \t]*--(?:[ \t].*)?$", "", re.sub(r"\{-.*?-\}", "", text, flags=re.S))
-
-
-@functools.cache
-def without_imports(text: str) -> str:
-    """Returns a text of definitions without comments and imports."""
-    return IMPORT.sub("", without_comments(text))
-
-
-def filled(text: str, comment: str | tuple[str, ...] = "--") -> int:
-    """Returns how many lines of a text are neither blank nor begin as a comment does."""
-    return sum(bool(it.strip()) and not it.strip().startswith(comment) for it in text.split("\n"))
-
-
-def cites(text: str, word: str) -> bool:
-    return word in text and re.search(rf"(?:^|(?<={BEFORE})){re.escape(word)}(?={AFTER}|$)", text) is not None
-
-
-@functools.cache
-def imports_of(text: str) -> list[Import]:
-    """Returns what a text imports: the crate, the path in it, and what this is called here."""
-    found = []
-    for crate, path, items, renamed in USE.findall(text):
-        if items:
-            words = [it.strip().partition(" as ") for it in items.split(",") if it.strip()]
-            found += [(crate, f"{path}.{word}", name or word) for word, _, name in words]
-        else:
-            found.append((crate, path, renamed or path.rpartition(".")[2]))
-    return found
-
-
-def paths_in(text: str) -> list[Import]:
-    """Returns what a text without imports cites by its whole path, in the form of an import."""
-    return [(crate, path, path.rpartition(".")[2]) for crate, path in re.findall(r"\bRattle\.(\w+)\.([\w.]+)", text)]
-
-
-clauses_in = functools.cache(functions_in)
 DECLARED = re.compile(r"specs\.declared\.(?:\w+\.)*?([A-Z]\w*)(?:\.|$)")  # a type of a source, in the path of an import
 
 
-@functools.cache
 def types_in(text: str) -> dict[str, str]:
-    """Returns the text of each enum and struct of a source, by its name."""
-    return {str(name): text[start:end] for start, end, kind, name in items_at(text) if kind in ("enum", "struct")}
+    """The text of each enum and struct of a source, by its name."""
+    return {it.name: text[it.start : it.end] for it in items_of(text) if it.kind in ("enum", "struct")}
 
 
 class Crate:
@@ -91,20 +45,20 @@ class Crate:
             self.passed[renamed or path.rpartition(".")[2]] = of, path
 
     def modules(self, within: str = "Lib", folder: str = "") -> Iterator[str]:
-        """Returns its definition files in reading order, which Lib and the files that hold others give."""
+        """Its definition files in reading order, which Lib and the files that hold others give."""
         for module in re.findall(r"^pub mod (\w+)", self.texts.get(within, ""), re.M):
             if f"{folder}{module}" in self.texts and (folder or module not in APART):
                 yield f"{folder}{module}"
                 yield from self.modules(f"{folder}{module}", f"{folder}{module}/")
 
     def kinds(self) -> Iterator[tuple[str, str | None]]:
-        """Returns each definition file with the module that gives its kind: Laws, Facts, Parts, or None where it has definitions."""
+        """Each definition file with the module that gives its kind: Laws, Facts, Parts, or None where it has definitions."""
         for path in self.texts:
             first = path.partition("/")[0]
             yield path, first if first in APART else None
 
     def exports(self) -> tuple[set[str], set[str], set[str]]:
-        """Returns the names that it gives to other crates, the modules that it gives whole, and all names that its sources declare. A
+        """The names that it gives to other crates, the modules that it gives whole, and all names that its sources declare. A
         program gives what its root uses of its other modules."""
         texts = {os.path.basename(it)[: -len(".rt")]: text_of(it) for it in glob.glob(f"{self.sources}/*.rt")}
         root, use = (texts["lib"], "pub use ") if "lib" in texts else (texts["main"], "use crate::")
@@ -118,7 +72,7 @@ class Crate:
         return {name: text for it in glob.glob(f"{self.sources}/*.rt") for name, text in types_in(text_of(it)).items()}
 
     def shown(self, names: Iterable[str]) -> set[str]:
-        """Returns these types of the crate, and those that their fields have, and theirs."""
+        """These types of the crate, and those that their fields have, and theirs."""
         types, found, waiting = self.types(), set[str](), [*names]
         while waiting:
             it = waiting.pop()
@@ -128,13 +82,14 @@ class Crate:
         return found
 
     def clauses(self) -> Iterator[tuple[str, str, list[Span]]]:
-        """Returns the clauses of its public functions: the source's path, its text, and their places in it."""
+        """The clauses of its public functions: the source's path, its text, and their places in it."""
         names, whole, declared = self.exports()
         shown = self.shown(names)
         for path in sorted(glob.glob(f"{self.sources}/*.rt")):
             own = declared - names if os.path.basename(path)[: -len(".rt")] not in whole else set()
             text = text_of(path)
-            seen = [spans for by, spans in clauses_in(text) if not by & own or "Model" in by and by & own <= shown]
+            said = [(it.names(), it.clauses) for it in items_of(text) if it.is_seen()]
+            seen = [spans for by, spans in said if not by & own or "Model" in by and by & own <= shown]
             yield path, text, [it for spans in seen for it in spans]
 
 
@@ -148,7 +103,7 @@ class Believed:
         self.counted = [it for it in self.crates if it in below or it.endswith("_laws") or it == HEADLINE]
 
     def kind(self, crate: str, path: str) -> str | None:
-        """Returns what a path of a crate names: Laws, Facts, Parts, proofs, or None for definitions, declarations and what is the kit's."""
+        """What a path of a crate names: Laws, Facts, Parts, proofs, or None for definitions, declarations and what is the kit's."""
         if crate not in self.crates:
             return None
         at, _, inner = path.partition(".")
@@ -162,7 +117,7 @@ class Believed:
         return first if first in APART else None
 
     def lines(self, crate: str) -> tuple[int, int, int, int, int]:
-        """Returns how many lines a crate has of definitions, of statements of laws, of clauses, of types that are cited, and of code of which
+        """How many lines a crate has of definitions, of statements of laws, of clauses, of types that are cited, and of code of which
         nothing is stated."""
         texts = [(kind, filled(without_imports(self.crates[crate].texts[path]))) for path, kind in self.crates[crate].kinds()]
         clauses = sum(filled(text[start:end], "//") for _, text, spans in self.crates[crate].clauses() for start, end in spans)
@@ -172,26 +127,26 @@ class Believed:
         return definitions, laws, clauses, types, self.unstated(crate)
 
     def unstated(self, crate: str) -> int:
-        """Returns how many lines a crate has of code of which nothing is stated."""
+        """How many lines a crate has of code of which nothing is stated."""
         if crate in PROGRAMS:
-            return filled(IMPORT.sub("", text_of(f"{self.crates[crate].sources}/main.rt")), ("//", "#"))
+            return filled(USED.sub("", text_of(f"{self.crates[crate].sources}/main.rt")), ("//", "#"))
         return sum(self.of_machine(text, spans) for _, text, spans in self.crates[crate].clauses()) if crate == MACHINE[0] else 0
 
     @staticmethod
     def of_machine(text: str, clauses: list[Span]) -> int:
-        """Returns how many lines a source has of the type that stands for the machine, without those of its clauses."""
-        places = [(it.start, it.end) for it in items_at(text) if MACHINE[1] in ([it.name] if it.kind == "struct" else it.name)]
+        """How many lines a source has of the type that stands for the machine, without those of its clauses."""
+        places = [(it.start, it.end) for it in items_of(text) if it.kind in ("struct", "impl") and MACHINE[1] in (it.name, it.trait)]
         within = [(start, end) for start, end in clauses if any(first <= start and end <= last for first, last in places)]
         return sum(filled(text[start:end], ("//", "#")) for start, end in places) - sum(filled(text[start:end], "//") for start, end in within)
 
     @functools.cached_property
     def types(self) -> set[tuple[str, str]]:
-        """Returns the types of sources that are cited, each with its crate."""
+        """The types of sources that are cited, each with its crate."""
         cited = [it for crate in self.counted for it in self.citations(crate)]
         return {(of, it[1]) for _, of, module, _ in cited for it in [DECLARED.match(module)] if it and of in self.crates}
 
     def citations(self, crate: str) -> Iterator[tuple[tuple[str, str | None], str, str, str]]:
-        """Returns what a crate's definitions, laws and public clauses cite: where, and the crate, path and word that it names."""
+        """What a crate's definitions, laws and public clauses cite: where, and the crate, path and word that it names."""
         it = self.crates[crate]
         for path, kind in it.kinds():
             if kind in (None, "Laws"):
@@ -204,7 +159,7 @@ class Believed:
                 yield (path, "clauses"), of, module, word
 
     def cited_apart(self, crate: str) -> Iterator[str]:
-        """Returns the words that are cited where they mustn't be. A definition cites definitions; a law or a public clause also laws."""
+        """The words that are cited where they mustn't be. A definition cites definitions; a law or a public clause also laws."""
         for (path, by), of, module, word in self.citations(crate):
             stands = self.kind(of, module)
             if by == "clauses" and stands not in (None, "Laws"):

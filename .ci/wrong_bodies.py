@@ -3,10 +3,9 @@ and edit; the hash of all that the prover read then; the processor seconds that 
 which it was tried, or `-`. These need no clock: they are compared with each other and with HEAD's alone. A merge may leave two lines of an
 edit: the one with today's hash counts, and else the one tried later.
 
-What the prover reads of an edit is the edit, its crate's sources, definitions and proofs, of the crates below their definitions and all of
-their sources except comments, bodies and private functions, the lines of crates.txt, and the toolchain's logic (a release of the
-toolchain with the same logic changes what its search finds, not what is true of a wrong body). An edit is due where that hash isn't
-today's."""
+What the prover reads of an edit is the edit, its crate's sources, definitions and proofs, of the crates below their sources and definitions,
+all without comments, the lines of crates.txt, and the toolchain's logic (a release of the toolchain with the same logic changes what its
+search finds, not what is true of a wrong body). An edit is due where that hash isn't today's."""
 import datetime
 import functools
 import glob
@@ -16,13 +15,12 @@ import random
 import re
 import shutil
 import subprocess
-import tempfile
-from collections.abc import Callable, Collection, Iterable
+from collections.abc import Collection, Iterable
 from dataclasses import dataclass
 from typing import NamedTuple
 
-import interface
 import measured
+from rattle import Unclear, read_of
 from repository import Repository, logic, text_of, write
 
 RECORD = ".ci/wrong.record"
@@ -68,6 +66,31 @@ class Choice:
                 f"{len(self.changed)} added or changed in the last hours before this commit, {len(self.oldest)} of those that are due")
 
 
+class Misplaced(Exception):
+    """Why an edit doesn't apply."""
+
+
+def pairs_of(text: str) -> list[tuple[str, str, str]]:
+    """An edit's pairs of old and new text, each with its file. A new text is on the line after its old one: of two old ones that follow each
+    other the first would not be read, and what is tried would be no Rust."""
+    path, found, waiting = "", list[tuple[str, str, str]](), list[str]()
+    for line in [*text.splitlines(), ""]:
+        word, _, rest = line.partition(":")
+        if waiting and word != "new":
+            raise Misplaced(f"an old text has no new one: {waiting[0][:60]}")
+        if word == "file":
+            path = rest.strip()
+        elif word == "old":
+            waiting.append(rest[1:])
+        elif word == "new":
+            if not waiting:
+                raise Misplaced(f"no old text stands in front of: {line[:60]}")
+            found.append((path, waiting.pop(), rest[1:]))
+    if not found:
+        raise Misplaced("it has no pair of old and new")
+    return found
+
+
 def crate_of(edit: str) -> str:
     return edit.split("/")[0]
 
@@ -90,29 +113,26 @@ class Edits(Repository):
 
     # What is read of an edit
 
-    def read(self, crate: str, folders: tuple[str, ...], of_source: Callable[[str], str]) -> str:
-        """Returns the hash of the crate's files in these folders as the prover reads them."""
-        total = hashlib.sha256()
-        for folder in folders:
-            for path in sorted(glob.glob(f"{self.root}/crates/{crate}/{folder}/**/*.*t", recursive=True)):
-                text = of_source(text_of(path)) if path.endswith(".rt") else interface.antt_text(text_of(path))
-                if not text and of_source is interface.interface:
-                    continue
-                total.update(f"{os.path.relpath(path, self.root)}\n{len(text)}\n{text}\n".encode())
+    @functools.cache
+    def read(self, crate: str, *folders: str) -> str:
+        """The hash of what the prover reads of the crate's files in these folders, and of its line of crates.txt."""
+        total = hashlib.sha256(f"{crate}: {' '.join(self.libraries[crate])}\n".encode())
+        for path in sorted(it for folder in folders for it in glob.glob(f"{self.root}/crates/{crate}/{folder}/**/*.*t", recursive=True)):
+            try:
+                text = read_of(path, text_of(path))
+            except Unclear:
+                text = text_of(path)
+            total.update(f"{os.path.relpath(path, self.root)}\n{len(text)}\n{text}\n".encode())
         return total.hexdigest()
 
     @functools.cache
-    def seen_above(self, crate: str) -> str:
-        return f"{crate}: {' '.join(self.libraries[crate])} {self.read(crate, ('specs', 'src'), interface.interface)}\n"
-
-    @functools.cache
-    def seen_whole(self, crate: str) -> str:
-        own = self.read(crate, ("specs", "src", "proofs"), interface.own_text)
-        return own + "".join(map(self.seen_above, sorted(self.below(crate))))
+    def seen(self, crate: str) -> str:
+        below = sorted(self.below(crate) - {crate})
+        return "\n".join([self.read(crate, "specs", "src", "proofs"), *(self.read(it, "specs", "src") for it in below)])
 
     @functools.cache
     def hash_of(self, edit: str) -> str:
-        read = f"{self.logic}\n{text_of(self.edits[edit])}\n{self.seen_whole(crate_of(edit))}"
+        read = f"{self.logic}\n{text_of(self.edits[edit])}\n{self.seen(crate_of(edit))}"
         return hashlib.sha256(read.encode()).hexdigest()[:32]
 
     # The record
@@ -154,7 +174,7 @@ class Edits(Repository):
         return random.Random(self.git("rev-parse", "HEAD"))
 
     def now(self) -> str:
-        """Returns the time of the commit over which edits are tried, to the minute."""
+        """The time of the commit over which edits are tried, to the minute."""
         time = self.git("log", "-1", "--format=%cI")
         return datetime.datetime.fromisoformat(time).astimezone(datetime.timezone.utc).strftime("%Y-%m-%dT%H:%MZ") if time else "-"
 
@@ -162,7 +182,7 @@ class Edits(Repository):
         return self.draw.sample(sorted(self.edits), min(DRAWN, len(self.edits)))
 
     def changed(self) -> list[str]:
-        """Returns the edits that a commit of the last hours before HEAD's, HEAD's itself, or what isn't committed yet, adds or changes; one that
+        """The edits that a commit of the last hours before HEAD's, HEAD's itself, or what isn't committed yet, adds or changes; one that
         only has another name is as it was. So it makes no difference in how many commits a change is made."""
         before = self.before_changes() or "HEAD"
         paths = self.git("diff", "--name-only", "-M100%", "--diff-filter=AM", before, "--", WRONG).splitlines()
@@ -170,24 +190,24 @@ class Edits(Repository):
         return sorted({name_of(it) for it in paths} & self.edits.keys())
 
     def before_changes(self) -> str:
-        """Returns the newest commit that is older than HEAD's by RECENT, else the first one."""
+        """The newest commit that is older than HEAD's by RECENT, else the first one."""
         time = self.git("log", "-1", "--format=%ct")
         older = time and self.git("rev-list", "-1", f"--before={int(time) - RECENT}", "HEAD")
         return older or self.git("rev-list", "--max-parents=0", "HEAD").rpartition("\n")[2]
 
     def by_age(self) -> list[str]:
-        """Returns the edits that are due: those that were never tried, and then the others from the one on that was tried the longest ago; of
+        """The edits that are due: those that were never tried, and then the others from the one on that was tried the longest ago; of
         one time those of a crate together."""
         return sorted(self.due, key=lambda it: (self.recorded[it].tried if it in self.recorded else "", it))
 
     def seconds_of(self, edits: Collection[str]) -> int:
-        """Returns the processor seconds that a trial of these edits is likely to take, once their crates are proved: of each what it took when it was
+        """The processor seconds that a trial of these edits is likely to take, once their crates are proved: of each what it took when it was
         last tried, and a part of its crate's proof where that isn't known."""
         lines = {it: self.recorded.get(it, Line("")) for it in edits}
         return sum(self.costs.of(crate_of(it)).proof // PART if line.seconds is None else line.seconds for it, line in lines.items())
 
     def choice(self, budget: int | None = None) -> Choice:
-        """Returns what a run of the gate tries, by a budget of processor seconds, else by the share of each processor. The oldest of those that are
+        """What a run of the gate tries, by a budget of processor seconds, else by the share of each processor. The oldest of those that are
         due goes in wherever anything is left of the budget, so none waits for ever; each other one where it fits."""
         budget = BUDGET * measured.processors() if budget is None else budget
         drawn, changed = sorted(self.drawn()), self.changed()
@@ -200,7 +220,7 @@ class Edits(Repository):
         return Choice(drawn, changed, oldest, left, self.seconds_of(chosen))
 
     def words_on(self, left: Collection[str]) -> str:
-        """Returns how many edits are due and weren't tried, and how old the oldest of them is."""
+        """How many edits are due and weren't tried, and how old the oldest of them is."""
         tried = sorted(self.recorded[it].tried for it in left if it in self.recorded and self.recorded[it].tried)
         never = sum(it not in self.recorded for it in left)
         said = f"wrong bodies: {len(left)} are due and not tried, of which {never} never were; .ci/wrong tries them"
@@ -210,81 +230,41 @@ class Edits(Repository):
         now = self.now()
         return (datetime.datetime.fromisoformat(now) - datetime.datetime.fromisoformat(tried)).days if now != "-" else 0
 
+    def edited(self, edit: str) -> dict[str, str]:
+        """The texts that an edit makes, by their paths in its crate. Each old text is once in what the pairs before it made."""
+        texts = dict[str, str]()
+        for path, old, new in pairs_of(text_of(self.edits[edit])):
+            file = f"{self.root}/crates/{crate_of(edit)}/{path}"
+            if not path.startswith("src/") or not os.path.isfile(file):
+                raise Misplaced(f"{path} is no source of the crate")
+            text = texts[path] if path in texts else text_of(file)
+            if text.count(old) != 1:
+                raise Misplaced(f"an old text stands {text.count(old)} times: {old[:60]}")
+            texts[path] = text.replace(old, new)
+        return texts
+
     def fault_of(self, edit: str) -> str | None:
-        """Returns why the edit doesn't apply, if so: each `old:` is once in what the pairs before it made, and has its `new:` on the next
-        line. Each text is one line: of two that follow each other the first would not be read, and what is tried would be no Rust."""
-        texts, path, pairs, old, waits = dict[str, str](), "", 0, "", False
-        for line in text_of(self.edits[edit]).splitlines():
-            word, _, rest = line.partition(":")
-            if waits != (word == "new"):
-                return f"an old text has no new one: {old[:60]}" if waits else f"no old text stands in front of: {line[:60]}"
-            waits = word == "old"
-            if word == "file":
-                path = f"{self.root}/crates/{crate_of(edit)}/{rest.strip()}"
-                if not rest.strip().startswith("src/") or not os.path.isfile(path):
-                    return f"{rest.strip()} is no source of the crate"
-                texts.setdefault(path, text_of(path))
-            elif word == "old":
-                old = rest[1:]
-                if not path or texts[path].count(old) != 1:
-                    return f"an old text stands {texts[path].count(old) if path else 0} times: {old[:60]}"
-            elif word == "new":
-                texts[path], pairs = texts[path].replace(old, rest[1:]), pairs + 1
-        if waits:
-            return f"an old text has no new one: {old[:60]}"
-        return None if pairs else "it has no pair of old and new"
+        """Why the edit doesn't apply, if so."""
+        try:
+            self.edited(edit)
+        except Misplaced as why:
+            return str(why)
+        return None
 
     def faults(self, none_due: bool = True) -> list[str]:
-        """Returns what is wrong with the edits and their record; an edit that is due is a fault where none may be."""
+        """What is wrong with the edits and their record; an edit that is due is a fault where none may be."""
         wrong = [f"{it}: {why}" for it in self.edits if (why := self.fault_of(it))]
         if none_due:
             wrong += [f"{it}: due: what the prover reads has changed since it was refused; .ci/wrong tries it" for it in self.due]
         return wrong + [f"{it}: the record has a line for it, and there is no such edit" for it in self.recorded if it not in self.edits]
 
-    def copy_with(self, folder: str, edits: Iterable[str], crates: Collection[str] | None = None) -> None:
-        """Copies the repository, or just these crates of it, and puts the edits where `rt ci` tries them."""
-        self.copy(folder, crates)
+    def copy_with(self, folder: str, edits: Iterable[str]) -> None:
+        """Copies the repository, and puts the edits where `rt ci` tries them."""
+        self.copy(folder)
         for edit in edits:
             crate, name = edit.split("/")
             os.makedirs(f"{folder}/crates/{crate}/must-fail", exist_ok=True)
             shutil.copy2(self.edits[edit], f"{folder}/crates/{crate}/must-fail/{name}.edit")
-
-    # What is only added
-
-    @functools.cache
-    def texts(self, crate: str, folders: tuple[str, ...]) -> dict[str, str]:
-        """Returns the texts of the crate's files in these folders by their paths."""
-        paths = [it for folder in folders for it in glob.glob(f"{self.root}/crates/{crate}/{folder}/**/*.*t", recursive=True)]
-        return {os.path.relpath(it, self.root): text_of(it) for it in paths}
-
-    @functools.cache
-    def has_gained(self, old: "Edits", crate: str, folders: tuple[str, ...], of_source: Callable[[str], str]) -> bool:
-        """Returns whether the crate's files in these folders are those of the old repository, except what is added."""
-        before, now = old.texts(crate, folders), self.texts(crate, folders)
-        has_lines = {*old.libraries.get(crate, ())} <= {*self.libraries[crate]}
-        return has_lines and {*before} <= {*now} and all(interface.has_gained(it, before.get(it, ""), now[it], of_source) for it in now)
-
-    def gained_since(self, old: "Edits") -> list[str]:
-        """Returns the edits that are due, weren't in the old repository, and for which no more is read than what is added."""
-
-        def is_same(crate: str) -> bool:
-            above = self.has_gained(old, crate, ("src", "specs", "proofs"), interface.own_text)
-            return above and all(self.has_gained(old, it, ("src", "specs"), interface.interface) for it in self.below(crate) - {crate})
-
-        settled = {it for it in old.edits if it in self.edits and text_of(old.edits[it]) == text_of(self.edits[it])} - {*old.due}
-        return [it for it in self.due if it in settled and is_same(crate_of(it))]
-
-    def note_gained(self, commit: str) -> list[str]:
-        """Writes the lines of the edits that are due for what the crates have gained since a commit alone, and returns those edits. They keep the
-        seconds and the time of their trial."""
-        with tempfile.TemporaryDirectory(prefix="wrong-bodies-") as folder:
-            packed = subprocess.run(["git", "archive", commit], cwd=self.root, capture_output=True, check=True)
-            subprocess.run(["tar", "x"], cwd=folder, input=packed.stdout, check=True)
-            old = Edits(folder, self.logic)
-            gained = self.gained_since(old)
-            self.recorded.update({it: self.recorded.get(it, old.recorded[it])._replace(read=self.hash_of(it)) for it in gained})
-        self.write({}, "-")
-        return gained
 
 
 def name_of(path: str) -> str:
@@ -292,5 +272,5 @@ def name_of(path: str) -> str:
 
 
 def refused_in(said: str) -> dict[str, int | None]:
-    """Returns the edits that are refused by what a run of the gate says, with the seconds that each took."""
+    """The edits that are refused by what a run of the gate says, with the seconds that each took."""
     return {edit: int(seconds) for edit, seconds in REFUSED.findall(said)}

@@ -5,7 +5,8 @@ source of the longest. No part of the gate."""
 from collections.abc import Callable
 
 from bench import sizes
-from bench.sizes import SIZES, line
+from bench.sizes import SIZES
+from checks.assembling import line_of
 from checks.common import Check
 from checks.examples import text_of
 from checks.measuring import Taken, failing, taken, well
@@ -16,8 +17,8 @@ LINES_IN_ALL = 200_000
 
 def made(lines: list[str], text: str, places: str, words: list[int] | None = None) -> Source:
     """A source of these lines in a section with twelve bases, and what they must be assembled to."""
-    head = [line("P", "CSECT"), line("", "USING", "P,12,11,10,9,8,7,6,5,4,3,2,1")]
-    return Source("made", [*head, *lines, line("", "END")], bytes.fromhex(text), words or [], 0, places)
+    head = [line_of("P", "CSECT"), line_of("", "USING", "P,12,11,10,9,8,7,6,5,4,3,2,1")]
+    return Source("made", [*head, *lines, line_of("", "END")], bytes.fromhex(text), words or [], 0, places)
 
 
 def placed(count: int) -> str:
@@ -38,16 +39,16 @@ def instructions(count: int) -> Source:
         if k % 2:
             literal = k % 500
             at = pool + 4 * literals.setdefault(literal, len(literals))
-            lines.append(line("", "L", f"1,=F'{literal}'"))
+            lines.append(line_of("", "L", f"1,=F'{literal}'"))
             text += "5810" + address(at)
         else:
-            lines.append(line("", "ST", f"1,P+{k * 4 % 4096}"))
+            lines.append(line_of("", "ST", f"1,P+{k * 4 % 4096}"))
             text += "5010" + address(k * 4 % 4096)
     return made(lines, text + "00" * (pool - 4 * count) + "".join(f"{literal:08X}" for literal in literals), placed(count))
 
 
 def labels(count: int) -> Source:
-    return made([line(f"L{k}", "DC", f"F'{k}'") for k in range(count)], "".join(f"{k:08X}" for k in range(count)), placed(count))
+    return made([line_of(f"L{k}", "DC", f"F'{k}'") for k in range(count)], "".join(f"{k:08X}" for k in range(count)), placed(count))
 
 
 def forward(count: int) -> Source:
@@ -58,7 +59,7 @@ def forward(count: int) -> Source:
 
 def with_a_word(lines: list[str]) -> Source:
     """Lines that make no text, and a word."""
-    return made([*lines, line("", "DC", "F'0'")], "00000000", f"{len(lines) + 3}:000000")
+    return made([*lines, line_of("", "DC", "F'0'")], "00000000", f"{len(lines) + 3}:000000")
 
 
 def comments(count: int) -> Source:

@@ -2,7 +2,8 @@
 in milliseconds, with the growth for twice as many. No part of the gate."""
 from collections.abc import Callable
 
-from bench.sizes import SIZES, equates, head, labels, line, row
+from bench.sizes import SIZES, equates, head, labels, row
+from checks.assembling import line_of
 from checks.common import Check
 from checks.examples import text_of
 from checks.measuring import taken, well
@@ -12,11 +13,11 @@ Kind = Callable[[int], list[str]]
 
 
 def literals(count: int) -> list[str]:
-    return [line("", "L", f"1,=F'{k}'") for k in range(count)]
+    return [line_of("", "L", f"1,=F'{k}'") for k in range(count)]
 
 
 def sections(count: int) -> list[str]:
-    return [text for k in range(count // 2) for text in (line(f"D{k}", "DSECT"), line(f"F{k}", "DS", "F"))]
+    return [text for k in range(count // 2) for text in (line_of(f"D{k}", "DSECT"), line_of(f"F{k}", "DS", "F"))]
 
 
 def items(count: int) -> list[str]:
@@ -27,12 +28,12 @@ def items(count: int) -> list[str]:
 
 
 def pools(count: int) -> list[str]:
-    return [text for pool in range(count // 50) for text in [*(line("", "L", f"1,=F'{pool * 100 + k}'") for k in range(49)), line("", "LTORG")]]
+    return [text for pool in range(count // 50) for text in [*(line_of("", "L", f"1,=F'{pool * 100 + k}'") for k in range(49)), line_of("", "LTORG")]]
 
 
 def once(program: str, kind: Kind, count: int) -> tuple[float, str]:
     """The milliseconds of placing a source once, and what the program says of it."""
-    lines, turns = [line("P", "CSECT"), *kind(count - 2), line("", "END")], max(2, LINES_IN_ALL // count)
+    lines, turns = [line_of("P", "CSECT"), *kind(count - 2), line_of("", "END")], max(2, LINES_IN_ALL // count)
     few, many = (well("places", taken([program], text_of(["MEASURE pass1", str(times), *lines]))) for times in (0, turns))
     return (many.user - few.user) / turns * 1000, many.ended.lines()[-1]
 

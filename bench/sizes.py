@@ -2,6 +2,7 @@
 from collections.abc import Callable, Sequence
 
 from cics.cli import say
+from checks.assembling import line_of
 from checks.measuring import growth
 
 SIZES = (1250, 2500, 5000, 10000)
@@ -9,16 +10,12 @@ SIZES = (1250, 2500, 5000, 10000)
 
 def labels(count: int) -> list[str]:
     """Lines with a name and a full word."""
-    return [line(f"L{k}", "DS", "F") for k in range(count)]
-
-
-def line(name: str, operation: str, operand: str = "") -> str:
-    return f"{name:8} {operation:5} {operand}".rstrip()
+    return [line_of(f"L{k}", "DS", "F") for k in range(count)]
 
 
 def equates(count: int) -> list[str]:
     """EQUs, each on the name of the one before."""
-    return [line("E0", "EQU", "1"), *(line(f"E{k}", "EQU", f"E{k - 1}") for k in range(1, count))]
+    return [line_of("E0", "EQU", "1"), *(line_of(f"E{k}", "EQU", f"E{k - 1}") for k in range(1, count))]
 
 
 def comments(count: int) -> list[str]:
@@ -28,7 +25,7 @@ def comments(count: int) -> list[str]:
 def forward(count: int) -> list[str]:
     """Addresses of labels that stand further on."""
     half = count // 2
-    return [line("", "DC", f"A(N{k})") for k in range(half)] + [line(f"N{k}", "DS", "F") for k in range(count - half)]
+    return [line_of("", "DC", f"A(N{k})") for k in range(half)] + [line_of(f"N{k}", "DS", "F") for k in range(count - half)]
 
 
 def head(last: str) -> None:

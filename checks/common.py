@@ -108,7 +108,7 @@ class Check:
     def __init__(self, module: str, text: str | None, words: Sequence[str], *programs: str, flags: Mapping[str, str] | None = None,
                  numbers: Mapping[str, tuple[int, str]] | None = None, texts: Mapping[str, str] | None = None, required: Sequence[str] = ()) -> None:
         self.name, self.given, self.crates = module.replace(".", "/").replace("_", "-"), words, programs
-        parser = Words(self.name, text or "")
+        parser = Words(self.command(), text or "")
         for word in required:
             parser.add_argument(word, metavar=word.upper())
         for program in programs:
@@ -125,6 +125,10 @@ class Check:
         self.asked: argparse.Namespace = parser.parse_intermixed_args(list(words))
         self.jobs, self.only = max(1, self.asked.jobs), self.asked.only
         resource.setrlimit(resource.RLIMIT_FSIZE, (BYTES, resource.getrlimit(resource.RLIMIT_FSIZE)[1]))
+
+    def command(self) -> str:
+        """How it is started."""
+        return f"checks/check {self.name.removeprefix('checks/')}"
 
     def program(self, at: int = 0) -> str:
         """A program that was given, or else that of its crate."""
@@ -170,7 +174,7 @@ class Check:
         first, *others = outcome.wrong
         yield f"{outcome.name}: FAILED, {first}"
         yield from others
-        yield f"  alone: {self.name} {shlex.join([*self.words_of_all(), '--only', outcome.name])}"
+        yield f"  alone: {self.command()} {shlex.join([*self.words_of_all(), '--only', outcome.name])}"
 
     def words_of_all(self) -> list[str]:
         """The words without those that ask for a case alone."""

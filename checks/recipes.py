@@ -184,7 +184,7 @@ def faults_of_rows(recipe: Recipe, found: Mapping[str, list[str]], texts: Texts)
             yield f"{path}: {recipe.shown} is found there, in {cell(path, places)}, and its recipe doesn't name it"
     for path, said in rows:
         if path in found and said != cell(path, found[path]):
-            yield f"{path}: {recipe.shown} is found in {cell(path, found[path])}, and its recipe has {said}: checks/recipes --write"
+            yield f"{path}: {recipe.shown} is found in {cell(path, found[path])}, and its recipe has {said}: checks/check recipes --write"
 
 
 def faults_of(recipe: Recipe, texts: Texts, found: Standing) -> list[str]:
@@ -192,7 +192,7 @@ def faults_of(recipe: Recipe, texts: Texts, found: Standing) -> list[str]:
     faults = [*faults_of_rows(recipe, found.places, texts)]
     numbers = NUMBERS.search(section_of(texts[PAGE], recipe.heading))
     if not numbers or numbers["said"] != numbers_of(recipe, found.places, texts):
-        faults.append(f"{PAGE}, {recipe.heading}: the numbers are others: checks/recipes --write")
+        faults.append(f"{PAGE}, {recipe.heading}: the numbers are others: checks/check recipes --write")
     unused = [it for it in recipe.uses if not any(re.match(it, path) for path in found.used)]
     return faults + [f"{recipe.shown} isn't used in {it}, which is left out" for it in unused]
 

@@ -1,4 +1,4 @@
-"""Regions by rows worked by hand, for `checks/scripts --looks`: what is done to a region and what it answers, and by looks what is to be seen
+"""Regions by rows worked by hand, for `checks/check scripts --looks`: what is done to a region and what it answers, and by looks what is to be seen
 then of its tasks, areas, storage and screens."""
 from collections.abc import Iterable, Iterator
 

@@ -1,4 +1,4 @@
-"""Sources by rows worked by hand, for `checks/scripts --looks`: what is loaded of them, their listings, their disassemblies and their faults."""
+"""Sources by rows worked by hand, for `checks/check scripts --looks`: what is loaded of them, their listings, their disassemblies and their faults."""
 import re
 from collections.abc import Iterator
 from typing import NamedTuple

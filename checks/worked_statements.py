@@ -1,4 +1,4 @@
-"""Single statements by rows worked by hand, for `checks/scripts --looks`: the bytes of instructions and constants, the values of expressions,
+"""Single statements by rows worked by hand, for `checks/check scripts --looks`: the bytes of instructions and constants, the values of expressions,
 bases in use, entries, and the fault of each statement that is refused."""
 from collections.abc import Iterator, Sequence
 
