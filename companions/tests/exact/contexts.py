@@ -303,6 +303,7 @@ def executed(draw: Draw) -> list[Context]:
     found = []
     chosen = [(target, draw.of(list(LABELS))) for target in TARGETS] + [(draw.of(list(TARGETS)), label) for label in LABELS]
     chosen += [("a label", label) for label in LABELS]
+    chosen += [("a DSECT", label) for label in LABELS]
     for target, label in dict.fromkeys(chosen):
         text = f"SETUP\n{TARGETS[target]}{trace(1)} B #END\n{LABELS[label]}#END DS 0H\n"
         behind = "#DS DSECT\n#DF DS H\n" if target == "a DSECT" else ""

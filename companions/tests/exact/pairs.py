@@ -215,7 +215,7 @@ def compared(segment: list[str], hidden: set[int]) -> list[str]:
     for line in segment[1:]:
         if line.startswith(PLACES):
             continue
-        line = re.sub(r" TASK \d+", "", line)
+        line = re.sub(r" (TASK|LINE) \d+", "", line)
         if REGISTER.match(line):
             line = " ".join("PLACE" if len(word) == 8 and first <= int(word, 16) % 2**24 < first + length else word for word in line.split())
         row = ROW.match(line)

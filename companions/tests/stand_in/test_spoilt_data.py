@@ -121,7 +121,8 @@ class SpoiltDataTest(TestCase):
 
     def test_nothing_is_written(self) -> None:
         """By the command: a fault of a mapset or of data is a line, its status is 1, and no folder is made."""
-        good: dict[str, str | bytes] = {"p.asm": "\n".join([*RECORD[:-1], "         EXEC  CICS RETURN", "         END", ""]), "d.csv": GOOD[0], "m.bms": MAPSETS[0].lstrip()}
+        source = "\n".join([*RECORD[:-1], "         EXEC  CICS RETURN", "         END", ""])
+        good: dict[str, str | bytes] = {"p.asm": source, "d.csv": GOOD[0], "m.bms": MAPSETS[0].lstrip()}
         words = ["--stand-in", "p.asm", "--bms", "m.bms", "--file", "REC=d.csv,key=RKEY", "--out", "made"]
         for name, old, new, due in [("d.csv", "RKEY,", "rkey,", "d.csv:1:1: refused: rkey is no field of the record; RKEY?"),
                                     ("m.bms", "POS=(3,10)", "POS=(3,81)", "m.bms:7:24: refused: POS"),
