@@ -10,6 +10,7 @@ from cics.exact.places import BRANCHES, LINKS, based, length_of, number_of, part
 from cics.exact.sizes import Sizes
 from cics.expressions import Kind, Term, Value, leftmost, read_expression, terms_of, value_of
 from cics.instructions import INSTRUCTIONS
+from cics.layout import WORKING_STORAGE
 from cics.program import Program
 from cics.statements import Statement
 from cics.texts import cut
@@ -79,6 +80,8 @@ class Marking:
         for at, one in enumerate(statements):
             if not one.is_comment and one.operation not in NO_PLACES:
                 self.statement(at, one)
+            elif one.operation == "EQU" and one.operand:
+                self.lengths(one)
         self.computed()
 
     # ---- operands
@@ -140,7 +143,10 @@ class Marking:
         return first is not None and any(spot.begin == first and self.statements[at].operation in INSTRUCTIONS for at, spot in self.sizes.spots.items())
 
     def named(self, one: Statement, text: str, place: Value, length: int, way: Way, *, is_indexed: bool) -> None:
-        if is_indexed and self.is_code(place):
+        if way is Way.EXECUTING and not self.is_code(place) and WORKING_STORAGE not in place.sections():
+            # a DSECT may be based on the code
+            self.found.ranges.append(Range(0, way, one.origin.number, f"the EX in line {one.origin.number} goes by a register"))
+        elif is_indexed and self.is_code(place):
             if way is not Way.USING or self.is_in_code(text):
                 self.found.ranges.append(Range(place.number, way, one.origin.number, f"line {one.origin.number} {VERBS[way]} by an index"))
         else:
