@@ -1,7 +1,7 @@
 """Lists of keys of a script, each tried by runs of its own, and how an answer of CHOICES differs from what they lead to."""
 import itertools
 import re
-from collections.abc import Iterator
+from collections.abc import Iterator, Sequence
 from dataclasses import dataclass
 
 from cics.choices import KEYS_SHOW, RUNNING, SHOW, Arrow, Choices, State, read_choices
@@ -11,6 +11,8 @@ from cics.transcripts import RESTS
 from checks.choices_drawn import Script, parts_of, turns_of
 from checks.common import Wrong, require
 
+SCREEN_ROW = re.compile(r"ROW \d\d X'[0-9A-F]+'")  # a row of a screen, and an item with its rows, in digits
+ITEM, ITEM_ROW = re.compile(r"QUEUE .* ITEM \d+ LENGTH \d+"), re.compile(r"[0-9A-F]{4} [0-9A-F]{2}")
 SHORT, AGAIN = 40, 12  # turns of the first terminal that are tried at first, and after each turn of another one
 Keys = tuple[int, ...]  # a list of keys, by their numbers
 
@@ -165,6 +167,16 @@ def written(choices: Choices) -> list[str]:
     return [f"> {line}" for line in lines]
 
 
+def in_characters(text: Sequence[str]) -> list[str]:
+    """A text without the bytes in digits that a block shows besides: no look of a script shows those of a screen."""
+    found, is_item = [], False
+    for line in text:
+        is_item = ITEM.fullmatch(line) is not None or is_item and ITEM_ROW.match(line) is not None
+        if not is_item and not SCREEN_ROW.fullmatch(line):
+            found.append(line)
+    return found
+
+
 # How an answer differs from what was tried.
 
 
@@ -234,7 +246,7 @@ class Walk:
                 yield f"{keys}: is the first list of state {state.number}, and {len(self.first)} states have one"
             if turns_of(state.moves) != end.moves:
                 yield f"{keys}: is the first list of state {state.number}, whose lines are {state.moves}, and not {end.moves}"
-        if state.text != end.text:
+        if in_characters(state.text) != in_characters(end.text):
             yield f"{keys}: {end.text} is seen, and of state {state.number} {state.text} is written"
         first = self.lists.end(self.first[state.number])
         if first and first.looks != end.looks:
@@ -243,11 +255,11 @@ class Walk:
     def of_screens(self) -> Iterator[str]:
         """Texts that are the same have one number, in the order in which they come first."""
         numbers: dict[tuple[str, ...], int] = {}
-        for number, keys in sorted(self.first.items()):
-            end = self.lists.end(keys)
-            due = numbers.setdefault(tuple(end.text if end else []), len(numbers) + 1)
-            if self.choices.state(number).screen != due:
-                yield f"state {number}: screen {self.choices.state(number).screen}, and not {due}"
+        for number in sorted(self.first):
+            state = self.choices.state(number)
+            due = numbers.setdefault(tuple(state.text), len(numbers) + 1)
+            if state.screen != due:
+                yield f"state {number}: screen {state.screen}, and not {due}"
         if len(numbers) != self.choices.screens:
             yield f"{self.choices.screens} screens, and not {len(numbers)}"
 

@@ -120,7 +120,7 @@ class KeptTest(TestCase):
         with folder_of({"s.script": SCRIPT, "s.screens": "MY OWN NOTES\n", "t.script": SCRIPT, "t.screens": "KEY T001 ENTER Q\nSCREEN T001\n"}) as folder:
             ended = called("cics-test", ["s.script", "--write", *PROGRAMS], folder)
             self.assertEqual((ended.status, read(os.path.join(folder, "s.screens"))), (3, b"MY OWN NOTES\n"), ended)
-            self.assertIn(b"s.screens: it is there, and doesn't begin as screens do; write another name, or --force", ended.reported)
+            self.assertIn(b"s.screens: it is there, and doesn't begin as screens do; write another name, or --force", ended.out)
             self.assertEqual(called("cics-test", ["t.script", "--write", *PROGRAMS], folder).out, b"t.script: written\n1 script: 1 written\n")
             self.assertEqual(called("cics-test", ["s.script", "--write", "--force", *PROGRAMS], folder).out, b"s.script: written\n1 script: 1 written\n")
             os.remove(os.path.join(folder, "t.screens"))

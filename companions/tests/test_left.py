@@ -122,7 +122,7 @@ Q        CSECT                                               | CSECT Q: a second
          IHAPSA                                              | IHAPSA: no operation that is here
          COPY  NONE                                          | COPY NONE: no folder is given by --copy
          COPY  DFHBMSCA                                      | COPY DFHBMSCA: no folder is given by --copy
-         COPY                                                | COPY : no folder is given by --copy
+         COPY                                                | COPY : a member's name has 1 to 8 letters, digits, @, # and $
          EXEC  CICS                                          | EXEC CICS: no command that can be read here
          EXEC                                                | EXEC : no command that can be read here
          EXEC  CICS SEND MAP('M')                            | EXEC CICS SEND MAP: no command that is here
