@@ -125,7 +125,7 @@ class KeptTest(TestCase):
             self.assertEqual(called("cics-test", ["s.script", "--write", "--force", *PROGRAMS], folder).out, b"s.script: written\n1 script: 1 written\n")
             os.remove(os.path.join(folder, "t.screens"))
             os.symlink("t.script", os.path.join(folder, "t.screens"))
-            self.assertIn(b"t.screens: it is read, so it isn't written", called("cics-test", ["t.script", "--write", *PROGRAMS], folder).reported)
+            self.assertIn(b"t.screens: it is read, so it isn't written", called("cics-test", ["t.script", "--write", *PROGRAMS], folder).out)
             self.assertEqual(read(os.path.join(folder, "t.script")).decode(), SCRIPT)
 
 
