@@ -116,9 +116,12 @@ BY_HAND = [  # with the answers to the two
     (ALONE, ALONE, Call("one state alone", "cics-same", [*FRONT, "c.asm"], 2, ["no key leads to another state, so nothing is seen: choose other keys"], FILES)),
     (ALONE, TWO, Call("one state alone with the old", "cics-same", [*FRONT, "text.asm"], 1,
                       ["by 1 key, one of 3: what comes of the last key differs", *LINES[:1], f"old: {REFUSED}", "new: "], FILES)),
-    (TWO, two(text=("SCREEN T001", "01|COUNT 00", "> QUEUE 'Q' ITEMS 1 BYTES 2 READ 0")), Call(
-        "what a look shows", "cics-same", [*FRONT, "text.asm"], 1,
-        ["by 1 key, one of 3: what is seen differs", *LINES[:1], "old: ", "new: > QUEUE *"], FILES)),
+    (TWO, two(text=("SCREEN T001", "01|COUNT 00", "QUEUE 'Q' ITEMS 1 BYTES 2 READ 0")), Call(
+        "what a look shows of a queue", "cics-same", [*FRONT, "text.asm"], 1,
+        ["by 1 key, one of 3: a queue differs", *LINES[:1], "old: ", "new: QUEUE *"], FILES)),
+    (TWO, two(text=("SCREEN T001", "01|COUNT 00", "TASK T001 NONE")), Call(
+        "what another look shows", "cics-same", [*FRONT, "text.asm"], 1,
+        ["by 1 key, one of 3: what is seen differs", *LINES[:1], "old: ", "new: TASK *"], FILES)),
     ("> bad", TWO, Call("another answer", "cics-same", [*FRONT, "c.asm"], 2, ["c.asm can't be run: bad"], FILES)),
     (TWO, TWO, Call("json", "cics-same", [*FRONT, "c.asm", "--json"], 0, ["{", ' "outcome": "same",', *["*"] * 10], FILES)),
 ]
