@@ -1,15 +1,24 @@
 //! What follows from the definitions of a script with looks.
 
+ghost use Rattle.std.specs.Prelude.{IfOk};
+ghost use Rattle.cx_look_script.specs.Allowed.{IsAllowedLook};
 ghost use Rattle.cx_look_script.specs.Laws.Choices.{ChoicesAreReportedOnce};
 ghost use Rattle.cx_look_script.specs.Laws.Covers.{CoverAddsUp};
 ghost use Rattle.cx_look_script.specs.Laws.Looks.{ChoicesAreMarked, LooksAreMarked, LooksAreReportedOnce, LooksChangeNothing, OrdersAreMarked};
 ghost use Rattle.cx_look_script.specs.Laws.Marks.{FaultsAreMarked};
 ghost use Rattle.cx_look_script.specs.Laws.Notes.{NotesRefuseNothing, RefusalsAreWritten};
 ghost use Rattle.cx_look_script.specs.Laws.Orders.{OrdersAreReportedOnce, ScriptsAskForEvents, ScriptsLeadThere};
-ghost use Rattle.cx_look_script.specs.Laws.Outcomes.{LookActionsDecide, LookInputsDecide, LookTranscriptsDecide, ScriptsNameTheirTerminals};
+ghost use Rattle.cx_look_script.specs.Laws.Outcomes.{HasOutcome, LookActionsDecide, LookInputsDecide, LookTranscriptsDecide, ScriptsNameTheirTerminals};
 ghost use Rattle.cx_look_script.specs.Laws.Scripts.{ActionsStay, ScriptsStay};
 ghost use Rattle.cx_look_script.specs.Laws.Turns.{RunsEndBeforeAbends, RunsEndBeforeLines, RunsTakeTurns, StopsDecide};
 ghost use Rattle.cx_look_script.specs.Laws.Watches.{WatchedTextsDecide, WatchesChangeNothing, WatchesStay};
+
+use crate::action::LookAction;
+use crate::performer::LookedRegion;
+use cx_edf::MakesDisplays;
+use cx_script_actions::Performer;
+use cx_storage::Store;
+use std::alloc::{AllocError, Global};
 
 /// A look changes nothing. Each run has for each of its actions a part, in which an action of `cicsedf` stands for
 /// itself, RUN for as many TURNs as it did, and a look for nothing: the actions of all parts are a run of `cicsedf`
@@ -113,6 +122,22 @@ pub fn an_action_has_one_outcome()
     choices_are_reported_once();
     watched_texts_decide();
     cx_exec_laws::laws::tallies_decide();
+}
+
+/// And it has one at all, wherever memory isn't refused: what an action that a script may ask does to a region that is
+/// looked at, with what is written for it, is an outcome of the action in the state of before.
+///
+/// An error comes only where memory was refused.
+pub fn an_action_has_an_outcome<S: Store + Drop, M: MakesDisplays>(
+    alloc: Global,
+    looked: &mut LookedRegion<S, M>,
+    action: LookAction,
+) -> Result<(), AllocError>
+    requires { IsAllowedLook action }
+    ensures { IfOk result (λ _. HasOutcome M.make looked.old action) }
+{
+    let _text = looked.perform(alloc, action)?;
+    Ok(())
 }
 
 /// A list of actions has one outcome: where no two terminals share a name, the state and the list determine the

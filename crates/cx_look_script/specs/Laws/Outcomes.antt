@@ -49,6 +49,12 @@ LookInputsDecide = (make : DisplayMaker)
     → was_stopped answer ≡ false → was_stopped other ≡ false
     → (answer ≡ other) × (taken calls ≡ taken others)
 
+-- An action has an outcome in a state: something is written for it, and it leads to a state.
+pub record HasOutcome (make : DisplayMaker) (old : LookState) (a : LookAction) : Type 0 where
+  pub text : List ℕ
+  pub new : LookState
+  pub performs : LookPerforms make old a text new
+
 -- ---- the states of scripts
 -- the first actions of a script, where displays are made so, lead there
 pub record IsScriptState (make : DisplayMaker) (state : LookState) : Type 0 where
