@@ -371,7 +371,7 @@ def within(areas: dict[str, str], most: int) -> dict[str, str]:
 def areas_in(terminal: str, lines: Lines) -> dict[str, str]:
     """What is asked of a task's areas, by what AREAS writes: its last level's DFHEISTG, those of GETMAIN and others, levels before."""
     found = Area.all_in(lines)
-    storages = [(f"storage {terminal} {it.level:02}", it, SHOWN) for it in sorted(found, key=lambda it: -(it.level or 0)) if it.level]
+    storages = [(f"storage {terminal} {it.level}", it, SHOWN) for it in sorted(found, key=lambda it: -(it.level or 0)) if it.level]
     others = [(f"area {terminal} {it.address:06X}", it, IN_AREA) for it in found if not it.level]
     ordered = [*storages[:1], *others, *storages[1:]]
     return within({key: f"STORAGE {it.address:06X} {min(it.length, most)}" for key, it, most in ordered}, OWN)
