@@ -148,7 +148,7 @@ def ended_of(companion: Companion, way: Way, path: str, folder: str, typed: str 
 
 
 def drawn_pairs() -> Iterator[Pair]:
-    """Every pair, by one of the names, of which each is drawn as often as any other."""
+    """Every pair of options. Each is tried by one spelling of the file's name, drawn so that all spellings come equally often."""
     draw, names = random.Random(SEED), list[Named]()
     for companion in COMPANIONS:
         for reads in companion.reads:

@@ -225,7 +225,7 @@ class QueuesTest(TestCase):
         self.assertEqual(found.unseen, ["queues weren't compared: a block has at most 64 looks, and this one has them"])
 
     def test_unseen(self) -> None:
-        """The same, but for what can't be looked at, isn't status 0: not even where changed lines may never have been run."""
+        """Sides that are the same but for what can't be looked at give status 4, with --even-unrun too."""
         for even_unrun in (False, True):
             self.assertEqual(Report(True, [], None, ["bytes"]).status(even_unrun=even_unrun), 4)
 

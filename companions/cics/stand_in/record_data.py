@@ -103,7 +103,7 @@ class Data:
         return found
 
     def of_line(self, line: str, number: int) -> Read:
-        """A line that is a record: constants after =, else a text, of which one that begins with = is given by two of them."""
+        """Reads a line as a record: constants follow =; anything else is text. A text that begins with = is written with two."""
         if not line:
             raise Odd(0, "an empty line; a record of blanks is =C' '")
         if line.startswith("=") and not line.startswith("=="):
@@ -284,7 +284,7 @@ def lacking_key(file: FileDefinition, fields: list[RecordField]) -> str:
 
 
 def shifted(text: str, skipped: int) -> bytes:
-    """A text's bytes; what is wrong with it is told by its place in a line, of which some characters are in front."""
+    """A text's bytes. A fault's column counts the skipped characters, which stand in front of the text in its line."""
     try:
         return coded(text)
     except Odd as why:

@@ -92,7 +92,7 @@ LIMITS = [
     (["         B     M", "L        BAL   14,X", "X        OR    4,5", "M        BAL   14,X"], "no instruction stands beside it"),
 ]
 
-# Statements that are changed, of which it isn't shown that they are exact, each with words of what is told.
+# Statements that are changed without being shown to be exact. Each has words of the reason that the tool gives.
 NOT_SHOWN = [
     (["         EX    0,T(5)", "T        DS    0H", "         AP    A,B", "         SP    A,B"], "executes by an index"),
     (["         L     5,F", "         EX    0,0(,5)", "         AP    A,B"], "goes by a register"),

@@ -31,7 +31,7 @@ class Ran:
 
 
 def read_of(text: str) -> tuple[Mapset | None, list[str]]:
-    """What is read of a BMS source, and what is told of it: the line, perhaps the column, and why."""
+    """Reads a BMS source. Returns its mapset, and the faults: each with its line, perhaps its column, and the reason."""
     log = Log()
     with folder_of({"set.bms": text}) as folder:
         mapset = read_mapset(os.path.join(folder, "set.bms"), log)
